@@ -13,7 +13,7 @@
 //! ever. Its theorem (`TurnAhead`): before the turn nothing was taken, said or sent, and the answers to the batch were learnt; the batch is
 //! just the requests among what was looked at, and each connection takes a beginning of what was looked at of it, and nothing else; where
 //! the answers were not learnt in time, nothing is sent to any, and whoever has a line in the batch is at fault (`Unlearnt`). That nothing
-//! of what was looked at is left over is not promised but shown by running it (`tests_turns`).
+//! of what was looked at is left over is not promised but shown by running it (`tests_log`).
 //!
 //! `law_of_sharing` in `player` makes such turns, one after another, one log.
 //!

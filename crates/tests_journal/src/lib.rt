@@ -1,5 +1,5 @@
-//! Trials of `journal_disk` and `journal` through their public calls: journals that are torn at each byte, whose disk fails at each call,
-//! of other runs, and compacted; and a file as a disk.
+//! Trials of `journal_disk`, `journal` and `hall_compaction` through their public calls: journals that are torn at each byte, whose disk
+//! fails at each call, of other runs, and compacted; a file as a disk; and drawn halls of every size, built anew.
 //!
 //! They stand in a crate of their own, as a package's integration tests do, so that proving them does not prove the journal again. A
 //! trial that is proved returns and breaks no caller's condition; that it passes is seen by running it.
@@ -9,6 +9,10 @@
 mod compaction_tests;
 #[cfg(test)]
 mod disk_tests;
+#[cfg(test)]
+mod drawn;
+#[cfg(test)]
+mod drawn_tests;
 #[cfg(test)]
 mod journal_tests;
 #[cfg(test)]

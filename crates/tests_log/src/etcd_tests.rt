@@ -1,6 +1,6 @@
 //! The store over etcd's gateway, by texts in place of members.
 
-use crate::doubles::Script;
+use crate::log_doubles::Script;
 use etcd_log::EtcdStore;
 use one_log::{Put, Store, StoreFault};
 use std::alloc::{AllocError, Global};

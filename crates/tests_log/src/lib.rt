@@ -1,10 +1,21 @@
-//! Trials of one log for several machines, through public calls: replicas that a drawn schedule interleaves, stores that fail, and
-//! etcd's answers cut at each byte.
+//! Trials of one log for several machines, of halls that follow it, and of turns whose answers are learnt before, through public calls:
+//! replicas and halls that a drawn schedule interleaves, stores that fail, etcd's answers cut at each byte; and that what is told to a keeper
+//! is just what is taken then, however bytes are cut, and whatever lines are.
 #![tactic(auto)]
 
 #[cfg(test)]
-mod doubles;
-#[cfg(test)]
 mod etcd_tests;
 #[cfg(test)]
+mod front_doubles;
+#[cfg(test)]
+mod front_tests;
+#[cfg(test)]
+mod keeper_tests;
+#[cfg(test)]
+mod log_doubles;
+#[cfg(test)]
 mod replica_tests;
+#[cfg(test)]
+mod turn_doubles;
+#[cfg(test)]
+mod turn_tests;

@@ -1,6 +1,6 @@
 //! Replicas over a log in memory.
 
-use crate::doubles::{Lossy, Notebook};
+use crate::log_doubles::{Lossy, Notebook};
 use one_log::{Cause, Group, MemoryStore, Replica, ServeFault, Step, StoreFault};
 use std::alloc::{AllocError, Global};
 use std::process::Abort;

@@ -2,41 +2,53 @@
 
 ghost use Rattle.std.specs.Prelude.{◌≡◌};
 
+use crate::word_pool_tests::SIZES;
 use std::alloc::Global;
 use std::sync::atomic::AtomicU64;
 use std::sync::atomic::Ordering::SeqCst;
-use std::test::Fail;
 use std::thread::{self, Threads};
 use step_memory::Refusal;
+use tests_doubles::same;
 use word_pool::{LinePool, Ticket, Tickets};
 
-#[test]
-fn none_and_too_many_are_refused(rt: HostRuntime) -> Result<(), Fail> {
-    for numbers in [0, 4097, u64::MAX] {
-        let refused = LinePool::new(rt.alloc(), numbers).err();
-        assert_eq!(rt; refused, Some(Refusal::OutOfRange));
+/// The number that the next ticket of a line has.
+fn next_number(line: &LinePool<Global>, tickets: &mut Tickets) -> Option<u64>
+    requires ours { tickets.old.table ≡ line.now.table }
+    ensures ours { tickets.new.table ≡ line.now.table }
+{
+    let ticket = line.deal(tickets)?;
+    Some(line.acquire(ticket).number())
+}
+
+/// How many tickets of a line, one after another, have numbers that rise from 1.
+fn held_in_turn(line: &LinePool<Global>, mut tickets: Tickets) -> u64
+    requires ours { tickets.table ≡ line.now.table }
+{
+    for before in 0..=line.numbers() {
+        if next_number(line, &mut tickets) != Some(before.saturating_add(1)) {
+            return before;
+        }
     }
-    Ok(())
+    u64::MAX
+}
+
+/// How many numbers a line for so many has: as it says, as it has tickets, and as these have them.
+fn numbers_of(alloc: Global, numbers: u64) -> Result<(u64, u64, u64), Refusal> {
+    let (line, tickets) = LinePool::new(alloc, numbers)?;
+    let count = tickets.count();
+    Ok((line.numbers(), count, held_in_turn(&line, tickets)))
 }
 
 #[test]
-fn each_ticket_has_a_number(rt: HostRuntime) -> Result<(), Fail> {
-    for numbers in [1, 2, 63, 64, 65, 4096u64] {
-        let (line, mut tickets) = LinePool::new(rt.alloc(), numbers)?;
-        assert_eq!(rt; (line.numbers(), tickets.count()), (numbers, numbers));
-        let mut last = None;
-        for due in 1..=numbers {
-            let Some(ticket) = line.deal(&mut tickets) else {
-                panic!(rt; "too few tickets");
-            };
-            let held = line.acquire(ticket);
-            assert_eq!(rt; held.number(), due);
-            last = Some(held);
-        }
-        assert!(rt; line.deal(&mut tickets).is_none(), "too many tickets");
-        drop(last);
+fn each_ticket_has_a_number(rt: HostRuntime) {
+    for (numbers, is_made) in SIZES {
+        let due = if is_made {
+            Ok((numbers, numbers, numbers))
+        } else {
+            Err(Refusal::OutOfRange)
+        };
+        same(&rt, numbers_of(rt.alloc(), numbers), due);
     }
-    Ok(())
 }
 
 /// A thread's part: the line, a ticket of it, and a mark for each number.
@@ -49,7 +61,7 @@ struct Stayer<'a> {
 }
 
 /// What a thread saw: how often it found its number in another's hands, and its greatest number.
-#[derive(Drop, PartialEq, Eq, Debug)]
+#[derive(Drop)]
 struct Stays {
     clashes: u64,
     greatest: u64,
@@ -123,18 +135,20 @@ fn stay_at_once<R: Threads + Sync>(
     Some((seen, words))
 }
 
+/// Whether none of so many threads found its number in another's hands, none had a number above their count, and no word is still set.
+fn are_apart(seen: &[Stays], words: &[u64], numbers: u64, threads: usize) -> bool {
+    let apart = seen.iter().all(|stays| stays.clashes == 0 && stays.greatest <= threads as u64);
+    let ended = words.iter().all(|word| *word == 0);
+    apart && ended && seen.len() == threads && words.len() == numbers as usize
+}
+
 #[test]
 fn threads_have_distinct_small_numbers_and_give_them_back(rt: HostRuntime) {
     for (numbers, threads) in [(2, 2), (8, 8), (64, 8), (4096, 3)] {
-        let Some((seen, words)) = stay_at_once(&rt, rt.alloc(), numbers, threads) else {
-            panic!(rt; "no line of {numbers}");
+        let is_so = match stay_at_once(&rt, rt.alloc(), numbers, threads) {
+            Some((seen, words)) => are_apart(&seen, &words, numbers, threads),
+            None => false,
         };
-        assert_eq!(rt; seen.len(), threads);
-        assert!(rt;
-            seen.iter().all(|stays| stays.clashes == 0 && stays.greatest <= threads as u64),
-            "{threads} threads in a line of {numbers}: {seen:?}"
-        );
-        assert_eq!(rt; words.len(), numbers as usize);
-        assert!(rt; words.iter().all(|word| *word == 0), "a word is still set");
+        assert!(rt; is_so, "{threads} threads in a line of {numbers}");
     }
 }

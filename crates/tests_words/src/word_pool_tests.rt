@@ -8,42 +8,67 @@ use std::sync::atomic::Ordering::SeqCst;
 use std::test::Fail;
 use std::thread::{self, Threads, join};
 use step_memory::Refusal;
+use tests_doubles::same;
 use word_pool::{AllHeld, Held, WordPool};
 
-#[test]
-fn none_and_too_many_are_refused(rt: HostRuntime) -> Result<(), Fail> {
-    for numbers in [0, 4097, u64::MAX] {
-        let refused = WordPool::new(rt.alloc(), numbers).err();
-        assert_eq!(rt; refused, Some(Refusal::OutOfRange));
+/// For how many numbers a pool or a line is asked, and whether it is made.
+pub(crate) const SIZES: [(u64, bool); 9] = [
+    (0, false),
+    (1, true),
+    (2, true),
+    (63, true),
+    (64, true),
+    (65, true),
+    (4096, true),
+    (4097, false),
+    (u64::MAX, false),
+];
+
+/// How many calls of a pool, one after another, have numbers that rise from 1.
+fn given_in_turn(pool: &WordPool<Global>) -> u64 {
+    for before in 0..=pool.numbers() {
+        let got = pool.acquire().map(|held| held.number()).ok();
+        if got != Some(before.saturating_add(1)) {
+            return before;
+        }
     }
-    Ok(())
+    u64::MAX
+}
+
+/// How many numbers a pool for so many has: as it says, as it gives them, and how many words are set then.
+fn numbers_of(alloc: Global, numbers: u64) -> Result<(u64, u64, usize), Refusal> {
+    let pool = WordPool::new(alloc, numbers)?;
+    let (says, gives) = (pool.numbers(), given_in_turn(&pool));
+    let (words, _) = pool.close(alloc, Vec::new(alloc))?;
+    let set = words.iter().filter(|word| **word == 1).count();
+    Ok((says, gives, set))
 }
 
 #[test]
-fn each_number_is_given_in_turn(rt: HostRuntime) -> Result<(), Fail> {
-    for numbers in [1, 2, 63, 64, 65, 4096u64] {
-        let pool = WordPool::new(rt.alloc(), numbers)?;
-        assert_eq!(rt; pool.numbers(), numbers);
-        for due in 1..=numbers {
-            let got = pool.acquire().map(|held| held.number()).ok();
-            assert_eq!(rt; got, Some(due));
-        }
-        assert!(rt; pool.acquire().is_err(), "one number too many");
-        let (words, _) = pool.close(rt.alloc(), Vec::new(rt.alloc()))?;
-        assert_eq!(rt; words.len(), numbers as usize);
-        assert!(rt; words.iter().all(|word| *word == 1), "all are out");
+fn each_number_is_given_in_turn(rt: HostRuntime) {
+    for (numbers, is_made) in SIZES {
+        let due = if is_made {
+            Ok((numbers, numbers, numbers as usize))
+        } else {
+            Err(Refusal::OutOfRange)
+        };
+        same(&rt, numbers_of(rt.alloc(), numbers), due);
     }
-    Ok(())
 }
 
 #[test]
 fn a_hint_is_tried_first(rt: HostRuntime) -> Result<(), Fail> {
     let pool = WordPool::new(rt.alloc(), 4)?;
-    for (hint, due) in [(3, 3), (3, 1), (0, 2), (5, 4)] {
+    for (hint, due) in [
+        (3, Some(3)),
+        (3, Some(1)),
+        (0, Some(2)),
+        (5, Some(4)),
+        (2, None),
+    ] {
         let got = pool.acquire_near(hint).map(|held| held.number()).ok();
-        assert_eq!(rt; got, Some(due));
+        same(&rt, got, due);
     }
-    assert!(rt; pool.acquire_near(2).is_err(), "all are held");
     Ok(())
 }
 
@@ -70,13 +95,11 @@ fn give_back<R: Threads + Sync>(rt: &R, alloc: Global) -> Option<Vec<u64, Global
 
 #[test]
 fn a_number_is_given_back_by_another_thread(rt: HostRuntime) {
-    let Some(words) = give_back(&rt, rt.alloc()) else {
-        panic!(rt; "two are free");
+    let is_given_back = match give_back(&rt, rt.alloc()) {
+        Some(words) => words.as_slice() == [0, 0].as_slice(),
+        None => false,
     };
-    assert!(rt;
-        words.as_slice() == [0, 0].as_slice(),
-        "a word is still set"
-    );
+    assert!(rt; is_given_back);
 }
 
 /// How often a stay of many found its number in another's hands, or none at a walk from 1, which finds one wherever no more
@@ -121,19 +144,23 @@ fn stay_at_once<R: Threads + Sync>(
     Some((clashes, words))
 }
 
+/// Whether eight threads that stay at once in a pool of so many numbers never find their own in another's hands, and no word is set then.
+fn eight_are_apart<R: Threads + Sync>(rt: &R, alloc: Global, numbers: u64, near: bool) -> bool {
+    match stay_at_once(rt, alloc, numbers, 8, near) {
+        Some((clashes, words)) => {
+            let apart = clashes.as_slice() == [0; 8].as_slice();
+            let ended = words.iter().all(|word| *word == 0);
+            apart && ended && words.len() == numbers as usize
+        }
+        None => false,
+    }
+}
+
 #[test]
 fn eight_threads_have_distinct_numbers_and_give_them_back(rt: HostRuntime) {
     for numbers in [8, 9, 64] {
-        for near in [false, true] {
-            let Some((clashes, words)) = stay_at_once(&rt, rt.alloc(), numbers, 8, near) else {
-                panic!(rt; "no pool of {numbers}");
-            };
-            assert!(rt;
-                clashes.as_slice() == [0; 8].as_slice(),
-                "a pool of {numbers}: {clashes:?}"
-            );
-            assert_eq!(rt; words.len(), numbers as usize);
-            assert!(rt; words.iter().all(|word| *word == 0), "a word is still set");
-        }
+        let walks = eight_are_apart(&rt, rt.alloc(), numbers, false);
+        let near = eight_are_apart(&rt, rt.alloc(), numbers, true);
+        assert!(rt; walks && near, "a pool of {numbers}: {walks} {near}");
     }
 }

@@ -8,6 +8,7 @@ use std::alloc::Global;
 use std::process::Abort;
 use std::test::Fail;
 use step_memory::{Place, Refusal};
+use tests_doubles::same;
 use word_grid::{Dealer, EnteredSeat, WordGrid};
 
 /// Enters with the next seat, where there is one.
@@ -37,53 +38,70 @@ fn one_alone_has_the_corner(rt: HostRuntime) {
         Some(entered) => Some(entered.place()),
         None => None,
     };
-    assert_eq!(rt; place, Some(0));
+    same(&rt, place, Some(0));
+}
+
+/// Enters with the next seat: the depth and the column of its door, its place, and its number.
+fn walk_next(grid: &WordGrid<Global>, dealer: &mut Dealer) -> Option<(u8, u8, Place, u64)>
+    requires ours { dealer.old.grid ≡ grid.now }
+    ensures ours { dealer.new.grid ≡ grid.now }
+{
+    let mut entered = enter_next(grid, dealer)?;
+    grid.tally(dealer, &mut entered);
+    let door = entered.door();
+    Some((door.depth, door.column, entered.place(), entered.number()))
 }
 
 #[test]
 fn each_that_comes_later_goes_right(rt: HostRuntime) -> Result<(), Fail> {
     let (grid, mut dealer) = WordGrid::new(rt.alloc(), 64)?;
     for before in 0u8..64 {
-        let Some(mut entered) = enter_next(&grid, &mut dealer) else {
-            panic!(rt; "no seat {before}");
-        };
-        grid.tally(&mut dealer, &mut entered);
-        let door = entered.door();
-        assert_eq!(rt; (door.depth, door.column), (before, 0));
-        assert_eq!(rt; entered.place(), Place::from(door.number()));
-        assert_eq!(rt; entered.number(), u64::from(before));
+        let place = Place::from(u16::from(before) * (u16::from(before) + 1) / 2);
+        let due = Some((before, 0, place, u64::from(before)));
+        same(&rt, walk_next(&grid, &mut dealer), due);
     }
-    assert_eq!(rt; dealer.dealt(), 64);
-    assert!(rt; grid.deal(&mut dealer).is_none(), "a seat too many");
+    same(&rt, walk_next(&grid, &mut dealer), None);
+    same(&rt, dealer.dealt(), 64);
     Ok(())
 }
 
-/// Deals all seats of a grid, by rising number, and no more.
-fn deals_all(rt: &impl Abort, grid: &WordGrid<Global>, mut dealer: Dealer)
+/// How many seats of a grid are dealt by rising number, and how many its dealer then says were.
+fn dealt(grid: &WordGrid<Global>, mut dealer: Dealer) -> (u64, u64)
     requires ours { dealer.grid ≡ grid.now }
 {
-    for number in 0..grid.most() {
-        let Some(fresh) = grid.deal(&mut dealer) else {
-            panic!(rt; "no seat {number}");
-        };
-        assert_eq!(rt; fresh.number(), number);
+    for number in 0..=grid.most() {
+        match grid.deal(&mut dealer) {
+            Some(fresh) if fresh.number() == number => {}
+            _ => return (number, dealer.dealt()),
+        }
     }
-    assert!(rt; grid.deal(&mut dealer).is_none(), "a seat too many");
-    assert_eq!(rt; dealer.dealt(), grid.most());
+    (u64::MAX, dealer.dealt())
+}
+
+/// How many seats a grid for so many has: as it says, as they are dealt, and as its dealer then says.
+fn seats_of(alloc: Global, most: u64) -> Result<(u64, (u64, u64)), Refusal> {
+    let (grid, dealer) = WordGrid::new(alloc, most)?;
+    Ok((grid.most(), dealt(&grid, dealer)))
 }
 
 #[test]
-fn one_to_sixty_four_seats(rt: HostRuntime) -> Result<(), Fail> {
-    for most in [0, 65, u64::MAX] {
-        let refused = WordGrid::new(rt.alloc(), most).err();
-        assert_eq!(rt; refused, Some(Refusal::OutOfRange));
+fn one_to_sixty_four_seats(rt: HostRuntime) {
+    for (most, is_made) in [
+        (0, false),
+        (1, true),
+        (2, true),
+        (63, true),
+        (64, true),
+        (65, false),
+        (u64::MAX, false),
+    ] {
+        let due = if is_made {
+            Ok((most, (most, most)))
+        } else {
+            Err(Refusal::OutOfRange)
+        };
+        same(&rt, seats_of(rt.alloc(), most), due);
     }
-    for most in [1, 2, 63, 64] {
-        let (grid, dealer) = WordGrid::new(rt.alloc(), most)?;
-        assert_eq!(rt; grid.most(), most);
-        deals_all(&rt, &grid, dealer);
-    }
-    Ok(())
 }
 
 /// Whether a grid was made: if not, then for want of memory.
@@ -111,6 +129,6 @@ fn each_want_of_memory_is_told(rt: HostRuntime) -> Result<(), Fail> {
         }
         drop(others);
     }
-    assert_eq!(rt; (refused, made), (true, true));
+    same(&rt, (refused, made), (true, true));
     Ok(())
 }

@@ -3,7 +3,7 @@
 ghost use Rattle.std.specs.Prelude.{◌<◌};
 ghost use Rattle.player.specs.Knows.{Knows};
 
-use crate::doubles::Lossy;
+use crate::front_doubles::Lossy;
 use commands::{Config, WorldKind};
 use hall_log::{HallMachine, Tape};
 use locked_world::Hall;

@@ -1,6 +1,6 @@
 //! Connections over a service that is told before what it is asked.
 
-use crate::doubles::{Piped, Teller, Told};
+use crate::turn_doubles::{Piped, Teller, Told};
 use commands::WorldKind;
 use event_server::{Batch, Called, Connection, Room, Stage, Wire, turn_ahead};
 use std::alloc::Global;

@@ -1,6 +1,6 @@
 //! Front ends over a log in which others have written.
 
-use crate::doubles::{Lossy, Tries};
+use crate::front_doubles::{Lossy, Tries};
 use crate::front_tests::{answers, config};
 use event_server::{Ahead, Keep};
 use hall_log::{LogFault, LogKeeper, Tape};
