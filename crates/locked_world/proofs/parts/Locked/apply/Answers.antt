@@ -90,3 +90,35 @@ returns-clause-taken g c =
     taken_accepted g.L.LockName.config h c.args.event r u c.args.clerk.now (caller_of c.push_reserved.new.self.items c.again-2.result) c.args.self.now.config c.len-place.ensures.lawful longer fits c.apply_short-reply.ensures accepted
     (seen ∙ sym (goes_by h c.args.event r u c.len-place.ensures.lawful c.apply_short-reply.ensures accepted))
     (kept ∙ ap (λ n. c.args.clerk.now.kept ++ kept_of n x ∷ []) c.len-place.ensures.count)
+
+pub invariant_of-self : goal.invariant_of-self
+invariant_of-self g c =
+    let old = c.args.self.now in
+    record { counted = old.counted; clear = old.clear; parts = old.parts; few = old.few; none = old.none; config = old.config; whole = old.whole }
+
+pub invariant_of-self-then-not-reserve : goal.invariant_of-self-then-not-reserve
+invariant_of-self-then-not-reserve g c =
+    let old = c.args.self.now in
+    record { counted = old.counted; clear = old.clear; parts = old.parts; few = old.few; none = old.none; config = old.config; whole = old.whole }
+
+pub invariant_of-self-then-is_err : goal.invariant_of-self-then-is_err
+invariant_of-self-then-is_err g c =
+    let old = c.args.self.now in
+    record {
+      counted = old.counted;
+      clear = c.reserve-else-not-reserve.ensures.items ∙ old.clear;
+      parts = old.parts;
+      few = old.few;
+      none = old.none;
+      config = old.config;
+      whole = old.whole;
+    }
+
+pub invariant_of-clerk : goal.invariant_of-clerk
+invariant_of-clerk g c =
+    let k = c.clerk.inside in
+    let h = c.args.self.now.hall in
+    let inv = c.clerk.invariant in
+    let longer : IsPrefix k.seen h.history = subst (λ (l : List Exchange). IsPrefix k.seen l) c.args.self.now.whole c.begins.ensures in
+    let s = stands_seen g.L.LockName.config h k.seen k.kept.items k.next c.args.self.now.config c.len-place.ensures.lawful longer inv.4 inv.3 in
+    rw (c.again.ensures, c.args.self.now.whole) (inv.0, inv.1, inv.2, s.within, s.fits, s.lawful)
