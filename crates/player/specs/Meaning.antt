@@ -77,17 +77,22 @@ abbrev pub quit_of : List (List ℕ) → Result Command Bad
 quit_of [] = Ok command.Quit
 quit_of (word ∷ more) = Err WrongCount
 
+-- the words of slots, and those that ask for more numbers or for an owner
+abbrev pub slot_command_of : List ℕ → List (List ℕ) → Result Command Bad
+slot_command_of word others =
+    if same_bytes word (codes "put") then event_of_two Put others
+    else if same_bytes word (codes "get") then event_of_one Get others
+    else if same_bytes word (codes "widen") then event_of_one Widen others
+    else if same_bytes word (codes "owner") then command_of_one command.Owner others
+    else Err UnknownWord
+
 -- the words that only a desk knows
 abbrev pub desk_command_of : List ℕ → List (List ℕ) → Result Command Bad
 desk_command_of word others =
     if same_bytes word (codes "enter") then event_of_one Enter others
     else if same_bytes word (codes "probe") then event_of_one Probe others
     else if same_bytes word (codes "leave") then event_of_one Leave others
-    else if same_bytes word (codes "put") then event_of_two Put others
-    else if same_bytes word (codes "get") then event_of_one Get others
-    else if same_bytes word (codes "widen") then event_of_one Widen others
-    else if same_bytes word (codes "owner") then command_of_one command.Owner others
-    else Err UnknownWord
+    else slot_command_of word others
 
 -- by the first word, and the others
 abbrev pub command_of : WorldKind → List ℕ → List (List ℕ) → Result Command Bad

@@ -3,7 +3,7 @@
 ghost use Rattle.std.specs.Prelude.{◌≡◌, ◌∷◌};
 ghost use Rattle.std.specs.List.{list_all};
 ghost use Rattle.std.specs.Option.{option_copied};
-ghost use Rattle.player.specs.Meaning.{meaning, command_of, desk_command_of, words, is_printable};
+ghost use Rattle.player.specs.Meaning.{meaning, command_of, desk_command_of, slot_command_of, words, is_printable};
 ghost use Rattle.player.specs.WordsLeft.{words_left, no_word, one_number, two_numbers};
 
 use crate::words::{cut, is_word, number};
@@ -52,7 +52,6 @@ fn command_of(word: &[u8], others: Option<&[u8]>, world: WorldKind) -> Result<Co
 }
 
 // By its first word, of those that only a desk knows, and the others, what a line means.
-#[tactic(auto, using(crate::proofs::WordLemmas::event_by_two))]
 fn desk_command_of(word: &[u8], others: Option<&[u8]>) -> Result<Command, Bad>
     ensures { result ≡ desk_command_of word.now (words_left (option_copied others.entry)) }
 {
@@ -65,6 +64,13 @@ fn desk_command_of(word: &[u8], others: Option<&[u8]>) -> Result<Command, Bad>
     if is_word(word, b"leave") {
         return Ok(Command::Event(Event::Leave(only_number(others)?)));
     }
+    slot_command_of(word, others)
+}
+
+// The same of the words of slots, and of those that ask for more numbers or for an owner.
+fn slot_command_of(word: &[u8], others: Option<&[u8]>) -> Result<Command, Bad>
+    ensures { result ≡ slot_command_of word.now (words_left (option_copied others.entry)) }
+{
     if is_word(word, b"put") {
         let (id, value) = two_numbers(others)?;
         return Ok(Command::Event(Event::Put(id, value)));
