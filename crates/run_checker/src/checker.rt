@@ -23,11 +23,21 @@ use std::alloc::{AllocError, Global};
 use step_memory::{Place, Refusal};
 
 /// What is kept of the lines so far: the renaming object, the pool and the slots, without what they show to nobody again.
-#[derive(Drop)]
 pub struct Checker {
     names: Names,
     stays: Stays,
     grows: bool,
+}
+
+// By hand, so that a checker is taken apart here alone, and not wherever one is dropped.
+impl Drop for Checker {
+    fn drop(self) {
+        let Checker {
+            names: _,
+            stays: _,
+            grows: _,
+        } = self;
+    }
 }
 
 /// Whether a refusal is told as it is due; where none is, want of memory may be told where there may be one.
