@@ -4,7 +4,6 @@ use crate::log_doubles::Script;
 use etcd_log::EtcdStore;
 use one_log::{Put, Store, StoreFault};
 use std::alloc::{AllocError, Global};
-use std::process::Abort;
 
 // The answer to a transaction that put its value.
 const WRITTEN: &[u8] =
@@ -104,41 +103,53 @@ fn answers(etcd: &mut EtcdStore<Script<'_>>, entry: &mut Vec<u8>, call: &Call) -
     }
 }
 
-/// Makes the calls of a trial.
-fn makes(rt: &impl Abort, alloc: Global, trial: &Trial) -> Result<(), AllocError> {
-    let mut etcd = store(alloc, trial.texts)?;
+/// How many calls of a store answer as they should, up to the first that does not.
+fn answered(alloc: Global, etcd: &mut EtcdStore<Script<'_>>, calls: &[Call]) -> usize {
     let mut entry = Vec::new(alloc);
-    for (i, call) in trial.calls.iter().enumerate() {
+    for (i, call) in calls.iter().enumerate() {
+        if !answers(etcd, &mut entry, call) {
+            return i;
+        }
+    }
+    calls.len()
+}
+
+/// How many calls of a trial do.
+fn made(alloc: Global, trial: &Trial) -> Result<usize, AllocError> {
+    let mut etcd = store(alloc, trial.texts)?;
+    Ok(answered(alloc, &mut etcd, trial.calls))
+}
+
+#[test]
+fn answers_are_read(rt: HostRuntime) {
+    for trial in &TRIALS {
         assert!(rt;
-            answers(&mut etcd, &mut entry, call),
-            "{}: call {i}",
+            made(rt.alloc(), trial) == Ok(trial.calls.len()),
+            "{}",
             trial.title
         );
     }
-    Ok(())
 }
 
-#[test]
-fn answers_are_read(rt: HostRuntime) -> Result<(), AllocError> {
-    for trial in &TRIALS {
-        makes(&rt, rt.alloc(), trial)?;
-    }
-    Ok(())
+/// Whether a get tells that the answer is lost, with nothing found.
+fn tells_a_loss(alloc: Global, etcd: &mut EtcdStore<Script<'_>>) -> bool {
+    let mut entry = Vec::new(alloc);
+    etcd.get(42, &mut entry) == Err(StoreFault::Lost) && entry.is_empty()
 }
 
-/// What a get answers where each text is this, and how many bytes it then has found.
-fn found(alloc: Global, text: &[u8]) -> Result<(Result<bool, StoreFault>, usize), AllocError> {
+/// Whether it does where each text is this.
+fn is_lost(alloc: Global, text: &[u8]) -> Result<bool, AllocError> {
     let texts = [text; 4];
     let mut etcd = store(alloc, &texts)?;
-    let mut entry = Vec::new(alloc);
-    Ok((etcd.get(42, &mut entry), entry.len()))
+    Ok(tells_a_loss(alloc, &mut etcd))
 }
 
 #[test]
-fn an_answer_that_is_cut_is_none(rt: HostRuntime) -> Result<(), AllocError> {
+fn an_answer_that_is_cut_is_none(rt: HostRuntime) {
     for end in 0..FOUND.len() {
-        let found = found(rt.alloc(), &FOUND[..end])?;
-        assert_eq!(rt; found, (Err(StoreFault::Lost), 0), "cut at {end}");
+        assert!(rt;
+            is_lost(rt.alloc(), &FOUND[..end]) == Ok(true),
+            "cut at {end}"
+        );
     }
-    Ok(())
 }

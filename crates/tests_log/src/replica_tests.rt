@@ -3,7 +3,6 @@
 use crate::log_doubles::{Lossy, Notebook};
 use one_log::{Cause, Group, MemoryStore, Replica, ServeFault, Step, StoreFault};
 use std::alloc::{AllocError, Global};
-use std::process::Abort;
 
 /// A machine to which nothing was applied.
 fn notebook(alloc: Global, refusals: u64) -> Notebook {
@@ -23,31 +22,20 @@ fn three(alloc: Global) -> Result<Group<Notebook>, AllocError> {
     Ok(group)
 }
 
-/// A step of a replica for its next batch, told if it is answered; one that is not gives no replies.
-fn steps(
-    rt: &impl Abort,
-    group: &mut Group<Notebook>,
-    at: u8,
-    count: &mut u8,
-    replies: &mut Vec<u8>,
-) -> bool {
+/// Whether a step of a replica for its next batch tells something. One that is not answered has to tell nothing: else more is told than
+/// stands in the log.
+fn tells(group: &mut Group<Notebook>, at: u8, count: &mut u8, replies: &mut Vec<u8>) -> bool {
     let batch = [at, *count];
     let at = usize::from(at);
     let answered = at < group.len() && group.step(at, &batch, replies) == Ok(Step::Answered);
     if answered {
         *count = count.wrapping_add(1);
-    } else {
-        assert_eq!(rt; replies.len(), 0);
     }
-    answered
+    answered || !replies.is_empty()
 }
 
 /// Steps of replicas in a drawn order: the replies to each batch that was answered.
-fn told(
-    rt: &impl Abort,
-    alloc: Global,
-    group: &mut Group<Notebook>,
-) -> Result<Vec<Vec<u8>>, AllocError> {
+fn told(alloc: Global, group: &mut Group<Notebook>) -> Result<Vec<Vec<u8>>, AllocError> {
     let mut told = Vec::new(alloc);
     let mut counts = [0u8; 3];
     let mut replies = Vec::new(alloc);
@@ -55,7 +43,7 @@ fn told(
     for _ in 0..700 {
         drawn = drawn.wrapping_mul(1_664_525).wrapping_add(1_013_904_223);
         let at = ((drawn >> 24) % 3) as u8;
-        if steps(rt, group, at, &mut counts[usize::from(at)], &mut replies) {
+        if tells(group, at, &mut counts[usize::from(at)], &mut replies) {
             told.push(Vec::from_slice(alloc, &replies)?)?;
         }
     }
@@ -70,17 +58,36 @@ fn stands(log: &MemoryStore, replies: &[u8]) -> bool {
     }
 }
 
-#[test]
-fn three_replicas_tell_what_one_machine_tells(rt: HostRuntime) -> Result<(), AllocError> {
-    let mut group = three(rt.alloc())?;
-    assert_eq!(rt; group.len(), 3);
-    let told = told(&rt, rt.alloc(), &mut group)?;
-    assert!(rt; told.len() > 50, "few were answered");
-    for replies in &told {
-        assert!(rt; stands(group.log(), replies), "{replies:?}");
+/// How many of the replies, up to the first that does not, tell what stands in the log.
+fn stand(log: &MemoryStore, told: &[Vec<u8>]) -> usize {
+    for (i, replies) in told.iter().enumerate() {
+        if !stands(log, replies) {
+            return i;
+        }
     }
-    assert_eq!(rt; group.log().len(), told.len());
-    Ok(())
+    told.len()
+}
+
+/// How many batches of three replicas stand in their log, how many of them were told, and how many of these as they stand.
+fn tell_together(
+    alloc: Global,
+    group: &mut Group<Notebook>,
+) -> Result<(usize, usize, usize), AllocError> {
+    let told = told(alloc, group)?;
+    let log = group.log();
+    Ok((log.len(), told.len(), stand(log, &told)))
+}
+
+/// Whether what they tell is all that stands, and is not little.
+fn is_one_history(alloc: Global) -> Result<bool, AllocError> {
+    let mut group = three(alloc)?;
+    let (stored, told, stands) = tell_together(alloc, &mut group)?;
+    Ok(group.len() == 3 && 50 < told && stored == told && stands == told)
+}
+
+#[test]
+fn three_replicas_tell_what_one_machine_tells(rt: HostRuntime) {
+    assert!(rt; is_one_history(rt.alloc()) == Ok(true));
 }
 
 /// A call of a replica: to serve a batch, or to catch up, and what it answers; and how things stand then.
@@ -174,45 +181,69 @@ fn answers(
     }
 }
 
-/// Makes the calls of a trial.
-fn makes(rt: &impl Abort, alloc: Global, trial: &Trial) {
+/// Whether a call of one of some replicas answers as it should.
+fn answers_of(
+    replicas: &mut [Replica<Notebook>],
+    at: usize,
+    store: &mut Lossy,
+    call: Call,
+    replies: &mut Vec<u8>,
+) -> bool {
+    match replicas.get_mut(at) {
+        Some(replica) => answers(replica, store, call, replies),
+        None => false,
+    }
+}
+
+/// How many rows of calls answer as they should, with the replies that they should, up to the first that does not.
+fn answered(
+    replicas: &mut [Replica<Notebook>],
+    store: &mut Lossy,
+    replies: &mut Vec<u8>,
+    rows: &[Row],
+) -> usize {
+    for i in 0..rows.len() {
+        let (at, call, want) = rows[i];
+        let is_so = answers_of(replicas, at, store, call, replies);
+        if !is_so || replies.as_slice() != want {
+            return i;
+        }
+    }
+    rows.len()
+}
+
+/// How many rows of a trial do.
+fn made(alloc: Global, trial: &Trial) -> usize {
     let mut store = lossy(alloc, trial.losses);
     let mut replies = Vec::new(alloc);
     let one = Replica::new(alloc, notebook(alloc, trial.refusals));
     let two = Replica::new(alloc, notebook(alloc, trial.refusals));
-    let mut replicas = [one, two];
-    for (i, (at, call, want)) in trial.rows.iter().enumerate() {
-        let Some(replica) = replicas.get_mut(*at) else {
-            panic!(rt; "there are two");
-        };
-        let told = answers(replica, &mut store, *call, &mut replies);
-        assert!(rt;
-            told && replies.as_slice() == *want,
-            "{}: row {i}",
-            trial.title
-        );
-    }
+    answered(&mut [one, two], &mut store, &mut replies, trial.rows)
 }
 
 #[test]
 fn replies_of_two_over_one_store(rt: HostRuntime) {
     for trial in &TRIALS {
-        makes(&rt, rt.alloc(), trial);
+        let made = made(rt.alloc(), trial);
+        assert!(rt; made == trial.rows.len(), "{}: row {made}", trial.title);
     }
+}
+
+/// Whether a batch is too long, and the same without its first byte is served.
+fn is_one_too_long(alloc: Global, long: &[u8]) -> bool {
+    let mut store = lossy(alloc, 0);
+    let mut replies = Vec::new(alloc);
+    let mut one = Replica::new(alloc, notebook(alloc, 0));
+    let refused = one.serve(&mut store, long, &mut replies) == Err(ServeFault::TooLong);
+    let none = store.store.len() == 0;
+    let shorter = long.get(1..).unwrap_or(&[]);
+    let served = one.serve(&mut store, shorter, &mut replies) == Ok(());
+    refused && none && served && store.store.len() == 1
 }
 
 #[test]
 fn a_long_batch_is_refused(rt: HostRuntime) -> Result<(), AllocError> {
-    let mut store = lossy(rt.alloc(), 0);
-    let mut replies = Vec::new(rt.alloc());
-    let mut one = Replica::new(rt.alloc(), notebook(rt.alloc(), 0));
     let long = vec![in rt.alloc(); 7u8; 65_537]?;
-    for (batch, want) in [
-        (long.as_slice(), (Err(ServeFault::TooLong), 0)),
-        (&long[1..], (Ok(()), 1)),
-    ] {
-        let served = one.serve(&mut store, batch, &mut replies);
-        assert_eq!(rt; (served, store.store.len()), want);
-    }
+    assert!(rt; is_one_too_long(rt.alloc(), &long));
     Ok(())
 }
