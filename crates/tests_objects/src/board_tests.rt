@@ -2,6 +2,7 @@
 
 ghost use Rattle.std.specs.Prelude.{◌≡◌, IfSome};
 
+use crate::common::same;
 use raw_parts::{Board, Grant, ReaderSeat};
 use std::alloc::Global;
 use std::process::Abort;
@@ -10,35 +11,53 @@ use std::thread::{Threads, join};
 use step_memory::Refusal;
 
 /// Whose name it is, by a grant, if there is one.
-fn granted(grant: Option<Grant>) -> Option<(u64, u64)> {
-    grant.map(|grant| (grant.name(), grant.identity()))
+type Granted = Option<(u64, u64)>;
+
+fn granted(grant: Option<Grant>) -> Granted {
+    let grant = grant?;
+    Some((grant.name(), grant.identity()))
+}
+
+/// How many names a board for so many has, and what one is granted who posts at the first, past the last and at the last.
+fn first_and_last(alloc: Global, names: u64) -> Result<(u64, [Granted; 3]), Refusal> {
+    let (board, mut seat) = Board::new(alloc, names)?;
+    let told = [
+        granted(board.post(&mut seat, 1, 5)),
+        granted(board.post(&mut seat, names.saturating_add(1), 7)),
+        granted(board.post(&mut seat, names, 7)),
+    ];
+    Ok((board.names(), told))
 }
 
 #[test]
-fn one_to_127_names(rt: HostRuntime) -> Result<(), Fail> {
-    for names in [0, 128] {
-        let refused = Board::new(rt.alloc(), names).err();
-        assert_eq!(rt; refused, Some(Refusal::OutOfRange));
-    }
+fn one_to_127_names(rt: HostRuntime) {
     for names in 1..=127 {
-        let (board, mut seat) = Board::new(rt.alloc(), names)?;
-        let told = [
-            granted(board.post(&mut seat, 1, 5)),
-            granted(board.post(&mut seat, names + 1, 7)),
-            granted(board.post(&mut seat, names, 7)),
-        ];
-        let last = if names == 1 { None } else { Some((names, 7)) };
-        assert_eq!(rt; (board.names(), told), (names, [Some((1, 5)), None, last]));
+        let last = (names != 1).then_some((names, 7));
+        let due = Ok((names, [Some((1, 5)), None, last]));
+        same(&rt, names as usize, first_and_last(rt.alloc(), names), due);
     }
-    Ok(())
 }
 
-/// What a reader is granted where 1 is held by 10 and 3 by 20, and nothing is due.
-fn tries(board: &Board<Global>, reader: &mut ReaderSeat) -> [Option<(u64, u64)>; 8]
+/// What is due of these tries: the first alone is granted.
+const DUE: [Granted; 9] = [
+    Some((3, 20)),
+    None,
+    None,
+    None,
+    None,
+    None,
+    None,
+    None,
+    None,
+];
+
+/// What a reader is granted where 1 is held by 10 and 3 by 20.
+fn tries(board: &Board<Global>, reader: &mut ReaderSeat) -> [Granted; 9]
     requires { reader.old.board ≡ board.now }
 {
-    // Held by another, free, past the last, the least that is no name, and nobody's.
+    // Held by it, held by another, free, past the last, the least that is no name, and nobody's.
     [
+        granted(board.confirm(reader, 3, 20)),
         granted(board.confirm(reader, 1, 20)),
         granted(board.confirm(reader, 2, 10)),
         granted(board.confirm(reader, 9, 10)),
@@ -47,22 +66,6 @@ fn tries(board: &Board<Global>, reader: &mut ReaderSeat) -> [Option<(u64, u64)>;
         granted(board.post(reader, 0, 10)),
         granted(board.post(reader, 4, 10)),
         granted(board.post(reader, 2, 0)),
-    ]
-}
-
-/// What is told of the name that a second holds, as it posts it again and a third looks.
-fn looks(
-    board: &Board<Global>,
-    second: &mut ReaderSeat,
-    third: &mut ReaderSeat,
-) -> [Option<(u64, u64)>; 2]
-    requires second { second.old.board ≡ board.now }
-    requires third { third.old.board ≡ board.now }
-    ensures { third.new.board ≡ board.now }
-{
-    [
-        granted(board.post(second, 3, 20)),
-        granted(board.confirm(third, 3, 20)),
     ]
 }
 
@@ -76,63 +79,53 @@ fn owners(board: &Board<Global>) -> [Option<u64>; 4] {
     ]
 }
 
-/// Posts a name that is free.
-fn posted(
+/// What a further seat, split off this one, finds.
+fn looks(rt: &impl Abort, board: &Board<Global>, seat: &mut ReaderSeat)
+    requires { seat.old.board ≡ board.now }
+    ensures { seat.new ≡ seat.old }
+{
+    let mut third = board.reader(seat);
+    same(rt, 1, tries(board, &mut third), DUE);
+    same(rt, 2, owners(board), [Some(20), None, None, None]);
+}
+
+/// Two names, posted by a seat and by a further one, of which the second post is beside the first and the last is again the same.
+fn posts(
     rt: &impl Abort,
     board: &Board<Global>,
     seat: &mut ReaderSeat,
-    name: u64,
-    identity: u64,
-) -> Grant
+) -> (Option<Grant>, Option<Grant>)
     requires { seat.old.board ≡ board.now }
-    ensures seat { seat.new.board ≡ board.now }
-    ensures grant { result.board ≡ board.now }
+    ensures one { IfSome result.0 (λ grant. grant.board ≡ board.now) }
+    ensures two { IfSome result.1 (λ grant. grant.board ≡ board.now) }
 {
-    let Some(grant) = board.post(seat, name, identity) else {
-        panic!(rt; "{name} was free");
-    };
-    assert_eq!(rt; (grant.name(), grant.identity()), (name, identity));
-    grant
-}
-
-/// The words of a board as it ends, where two grants have met and are handed in.
-fn words_at_end(
-    alloc: Global,
-    board: Board<Global>,
-    mut one: Grant,
-    mut two: Grant,
-) -> Result<Vec<u64>, Fail>
-    requires one { one.board ≡ board }
-    requires two { two.board ≡ board }
-{
-    board.meet(&mut one, &mut two);
-    let mut out = Vec::new(alloc);
-    out.push(one)?;
-    out.push(two)?;
-    let (words, _) = board.close_all(alloc, out)?;
-    Ok(words)
+    let mut second = board.reader(seat);
+    let one = board.post(seat, 1, 10);
+    let beside = granted(board.post(&mut second, 1, 20));
+    let two = board.post(&mut second, 3, 20);
+    let again = granted(board.post(&mut second, 3, 20));
+    same(rt, 3, [beside, again], [None, Some((3, 20))]);
+    looks(rt, board, &mut second);
+    (one, two)
 }
 
 /// Two names on a board of three, posted, confirmed and closed.
 #[test]
 fn two_post_their_names(rt: HostRuntime) -> Result<(), Fail> {
     let (board, mut seat) = Board::new(rt.alloc(), 3)?;
-    let mut second = board.reader(&mut seat);
-    let mut third = board.reader(&mut second);
-    let one = posted(&rt, &board, &mut seat, 1, 10);
-    let beside = granted(board.post(&mut second, 1, 20));
-    let two = posted(&rt, &board, &mut second, 3, 20);
-    let looked = looks(&board, &mut second, &mut third);
-    assert_eq!(rt; (beside, looked), (None, [Some((3, 20)); 2]));
-    assert_eq!(rt; tries(&board, &mut third), [None; 8]);
-    assert_eq!(rt; owners(&board), [Some(20), None, None, None]);
-    let words = words_at_end(rt.alloc(), board, one, two)?;
-    assert_eq!(rt; words.as_slice(), [10, 0, 20].as_slice());
+    let (one, two) = posts(&rt, &board, &mut seat);
+    let (Some(mut one), Some(mut two)) = (one, two) else {
+        panic!(rt; "a name was not free");
+    };
+    board.meet(&mut one, &mut two);
+    same(&rt, 4, granted(Some(one)), Some((1, 10)));
+    let words = board.close(two)?;
+    assert!(rt; words.as_slice() == [10, 0, 20].as_slice());
     Ok(())
 }
 
-/// Two threads post at one name at once: one of them gets it, and both are told so.
-fn race<R: Threads + Sync>(rt: &R, alloc: Global) -> Result<(Option<u64>, Option<u64>), Refusal> {
+/// Two threads post at one name at once: what both are granted.
+fn race<R: Threads + Sync>(rt: &R, alloc: Global) -> Result<[Granted; 2], Refusal> {
     let (board, mut one) = Board::new(alloc, 1)?;
     let mut other = board.reader(&mut one);
     let shared = &board;
@@ -147,20 +140,14 @@ fn race<R: Threads + Sync>(rt: &R, alloc: Global) -> Result<(Option<u64>, Option
             ensures { IfSome result (λ g. g.board ≡ shared.entry.now) }
         { shared.post(&mut other, 1, 20) },
     );
-    Ok((
-        first.map(|grant| grant.identity()),
-        second.map(|grant| grant.identity()),
-    ))
+    Ok([granted(first), granted(second)])
 }
 
 #[test]
-fn one_of_two_threads_gets_the_name(rt: HostRuntime) -> Result<(), Fail> {
-    for _ in 0..1000 {
-        let told = race(&rt, rt.alloc())?;
-        assert!(rt;
-            matches!(told, (Some(10), None) | (None, Some(20))),
-            "{told:?}"
-        );
+fn one_of_two_threads_gets_the_name(rt: HostRuntime) {
+    for turn in 0..1000 {
+        let told = race(&rt, rt.alloc());
+        let is_one = told == Ok([Some((1, 10)), None]) || told == Ok([None, Some((1, 20))]);
+        same(&rt, turn, is_one, true);
     }
-    Ok(())
 }

@@ -1,54 +1,40 @@
 //! Desks of every size and limit, and views beside replies. What a desk answers to whole schedules is tried where they are
 //! played as lines, in `tests_player`.
 
+use crate::common::same;
 use commands::{Config, Event, Reply, WorldKind};
 use desk::{Desk, law_of_desk, law_of_names};
 use std::alloc::Global;
 use std::process::Abort;
 use step_memory::{Refusal, View};
 
-/// Why a reply is a refusal, want of memory aside.
-fn refusal_in(reply: &Reply<View>) -> Option<Refusal> {
-    match reply {
-        Reply::Refused(Refusal::NoMemory) => None,
-        Reply::Refused(refusal) => Some(*refusal),
-        _ => None,
-    }
+/// Whether an event is done or refused so, and would be where it is.
+fn applies(desk: &mut Desk<Global>, event: Event, refused: Option<Refusal>) -> bool {
+    let due = match refused {
+        None => Reply::Ok,
+        Some(refusal) => Reply::Refused(refusal),
+    };
+    desk.refusal(event) == refused && desk.apply(event) == due
 }
 
-/// Whether an event is answered so, and would be refused where it is.
-fn applies(desk: &mut Desk<Global>, event: Event, want: &Reply<View>) -> bool {
-    let due = desk.refusal(event);
-    let reply = desk.apply(event);
-    reply == *want && refusal_in(&reply) == due
-}
-
-/// So many begin, and nobody more.
-fn all_begin(desk: &mut Desk<Global>, most: u64) -> bool {
-    for id in 1..=most {
-        if !applies(desk, Event::Begin(id), &Reply::Ok) {
+/// Whether a desk takes as many to be named and as many to compete for its pool as it is for, and nobody more.
+fn takes_all(desk: &mut Desk<Global>, config: Config) -> bool {
+    for id in 1..66 {
+        let full = (config.m < id).then_some(Refusal::Full);
+        let crowded = (config.k < id).then_some(Refusal::Crowded);
+        let begins = applies(desk, Event::Begin(id), full);
+        let enters = applies(desk, Event::Enter(id), crowded);
+        if !(begins && enters) {
             return false;
         }
     }
-    let full = Reply::Refused(Refusal::Full);
-    applies(desk, Event::Begin(most.saturating_add(1)), &full)
+    true
 }
 
-/// So many enter the pool, and nobody more.
-fn all_enter(desk: &mut Desk<Global>, most: u64) -> bool {
-    for id in 1..=most {
-        if !applies(desk, Event::Enter(id), &Reply::Ok) {
-            return false;
-        }
-    }
-    let crowded = Reply::Refused(Refusal::Crowded);
-    applies(desk, Event::Enter(most.saturating_add(1)), &crowded)
-}
-
-/// A desk of this config is made, takes as many to be named and as many to compete for its pool as it is for, and nobody more.
-fn takes_all(alloc: Global, config: Config) -> Result<bool, Refusal> {
+/// The same of a new desk.
+fn is_made(alloc: Global, config: Config) -> Result<bool, Refusal> {
     let mut desk = Desk::new(alloc, config)?;
-    Ok(all_begin(&mut desk, config.m) && all_enter(&mut desk, config.k))
+    Ok(takes_all(&mut desk, config))
 }
 
 /// Numbers of participants and sizes of a pool: the ends of each range, and some between them.
@@ -58,7 +44,7 @@ const SIZES: [u64; 9] = [1, 2, 7, 8, 13, 16, 17, 63, 64];
 fn desks_for(rt: &impl Abort, alloc: Global, world: WorldKind, m: u64) {
     for k in SIZES {
         if let Ok(config) = Config::new(world, m, k, 1_000) {
-            assert!(rt; takes_all(alloc, config) == Ok(true), "{config:?}");
+            same(rt, m as usize, is_made(alloc, config), Ok(true));
         }
     }
 }
@@ -82,9 +68,9 @@ fn refusal_of(rt: &impl Abort, alloc: Global, world: WorldKind) -> Option<Refusa
 fn a_desk_for_two_worlds(rt: HostRuntime) {
     law_of_desk();
     law_of_names();
-    for world in WorldKind::all() {
-        let want = (!world.gives_names()).then_some(Refusal::OutOfRange);
-        assert!(rt; refusal_of(&rt, rt.alloc(), world) == want, "{world:?}");
+    for (i, world) in WorldKind::all().iter().enumerate() {
+        let due = (!world.gives_names()).then_some(Refusal::OutOfRange);
+        same(&rt, i, refusal_of(&rt, rt.alloc(), *world), due);
     }
 }
 
@@ -115,21 +101,26 @@ fn is_named(reply: Reply<()>, view: &View) -> bool {
     whole == Reply::Named(1, seven_alone()) && again == reply && beside == seven_alone()
 }
 
-/// The replies of a step that gives a name and of one that is refused: whether the view is beside the first, and stays.
-fn short_replies(desk: &mut Desk<Global>, view: &mut View) -> bool {
-    let named = desk.apply_short(Event::Step(7), view);
-    let was_beside = is_named(named, view);
-    let refused = desk.apply_short(Event::Step(7), view);
+/// Whether no view is beside the replies before a name, and that of the name stays beside a refusal.
+fn short_replies(desk: &mut Desk<Global>) -> bool {
+    let mut view = View::new();
+    let was_empty = leave_no_view(desk, &mut view);
+    let named = desk.apply_short(Event::Step(7), &mut view);
+    let was_beside = is_named(named, &view);
+    let refused = desk.apply_short(Event::Step(7), &mut view);
     let is_refused = refused == Reply::Refused(Refusal::Finished) && refused.is_refusal();
-    was_beside && is_named(named, view) && !named.is_refusal() && is_refused
+    was_empty && was_beside && is_named(named, &view) && !named.is_refusal() && is_refused
+}
+
+/// The same of a new desk.
+fn are_short(alloc: Global) -> Result<bool, Refusal> {
+    let config = Config::new(WorldKind::Tree, 2, 4, 1000)?;
+    let mut desk = Desk::new(alloc, config)?;
+    Ok(short_replies(&mut desk))
 }
 
 /// A reply of a few bytes has its view beside it, and with it is the whole reply.
 #[test]
 fn a_view_beside_its_reply(rt: HostRuntime) {
-    let config = Config::new(WorldKind::Tree, 2, 4, 1000).expect(&rt, "a config in range");
-    let mut desk = Desk::new(rt.alloc(), config).expect(&rt, "a desk");
-    let mut view = View::new();
-    assert!(rt; leave_no_view(&mut desk, &mut view));
-    assert!(rt; short_replies(&mut desk, &mut view));
+    same(&rt, 7, are_short(rt.alloc()), Ok(true));
 }

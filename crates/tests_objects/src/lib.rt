@@ -10,15 +10,21 @@ mod alone_tests;
 #[cfg(test)]
 mod board_tests;
 #[cfg(test)]
+mod common;
+#[cfg(test)]
 mod desk_tests;
 #[cfg(test)]
 mod grid_tests;
+#[cfg(test)]
+mod heap_tests;
 #[cfg(test)]
 mod memory_tests;
 #[cfg(test)]
 mod places_tests;
 #[cfg(test)]
 mod pool_tests;
+#[cfg(test)]
+mod ranges_tests;
 #[cfg(test)]
 mod raw_splitter_tests;
 #[cfg(test)]

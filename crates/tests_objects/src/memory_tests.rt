@@ -3,6 +3,7 @@
 ghost use Rattle.std.specs.Prelude.{◌≡◌, IsErr};
 ghost use Rattle.step_memory.specs.declared.note.Note.TheVariants as note;
 
+use crate::common::same;
 use std::alloc::{AllocError, Global};
 use std::process::Abort;
 use std::test::Fail;
@@ -14,7 +15,7 @@ use step_memory::{
 };
 
 /// A program of one access, which ends with its answer.
-#[derive(Clone, Copy, Debug, Drop, PartialEq, Eq)]
+#[derive(Clone, Copy, Drop)]
 struct Once {
     access: Access<usize, u64>,
 }
@@ -40,18 +41,6 @@ impl StepProgram for Once {
     }
 }
 
-fn making(access: Access<usize, u64>) -> Once {
-    Once { access }
-}
-
-/// One step through the bounds of a world.
-fn stepped<P: StepProgram + Drop, S: StepMemory<Reg = P::Reg, Value = P::Value> + Drop>(
-    world: &mut World<P, S, Global>,
-    id: u64,
-) -> Result<Note<P::Output>, Refusal> {
-    world.step(id)
-}
-
 /// A call of a world whose programs make one access: to begin, to be set to it, a step, or a look at a register of values or
 /// of bits.
 #[derive(Clone, Copy, Drop)]
@@ -66,29 +55,15 @@ enum Call {
 /// What a call answers; one that only asks says nothing.
 type Told = Result<Note<Answer<u64>>, Refusal>;
 
-/// What a call that only asks answers.
-fn asked(answer: Result<(), Refusal>) -> Told {
-    match answer {
-        Ok(()) => Ok(Note::Quiet),
-        Err(refusal) => Err(refusal),
-    }
-}
-
 fn told(world: &mut World<Once, Memory<u64, Global>, Global>, id: u64, call: Call) -> Told {
     match call {
-        Call::Begin(access) => asked(world.begin(id, making(access))),
-        Call::Set(access) => asked(world.set(id, making(access))),
-        Call::Step => stepped(world, id),
-        Call::Value(r) => Ok(Note::Ended(Answer::Value(world.memory().value(r)))),
-        Call::Bit(r) => Ok(Note::Ended(Answer::WasSet(world.memory().bit(r)))),
+        Call::Begin(access) => world.begin(id, Once { access })?,
+        Call::Set(access) => world.set(id, Once { access })?,
+        Call::Step => return world.step(id),
+        Call::Value(r) => return Ok(Note::Ended(Answer::Value(world.memory().value(r)))),
+        Call::Bit(r) => return Ok(Note::Ended(Answer::WasSet(world.memory().bit(r)))),
     }
-}
-
-/// Makes these calls, each of which answers what stands beside it.
-fn plays(rt: &impl Abort, world: &mut World<Once, Memory<u64, Global>, Global>, calls: &[Row]) {
-    for (i, (id, call, want)) in calls.iter().enumerate() {
-        assert_eq!(rt; told(world, *id, *call), *want, "row {i}");
-    }
+    Ok(Note::Quiet)
 }
 
 /// A call, of whom it is made, and what it answers.
@@ -121,14 +96,29 @@ const EACH: [Row; 21] = [
     (0, Call::Bit(1), Ok(Note::Ended(Answer::WasSet(false)))),
 ];
 
+/// The access that a participant makes next.
+fn next_of(
+    world: &World<Once, Memory<u64, Global>, Global>,
+    id: u64,
+) -> Option<Access<usize, u64>> {
+    Some(world.program(id)?.access)
+}
+
+/// Makes these calls, each of which answers what stands beside it.
+fn plays(rt: &impl Abort, world: &mut World<Once, Memory<u64, Global>, Global>) {
+    for (i, (id, call, due)) in EACH.iter().enumerate() {
+        same(rt, i, told(world, *id, *call), *due);
+    }
+    let programs = [next_of(world, 10), next_of(world, 30)];
+    same(rt, 21, programs, [Some(Access::Clear(1)), None]);
+    same(rt, 22, world.participants().len(), 2);
+}
+
 #[test]
 fn each_call_and_each_refusal(rt: HostRuntime) -> Result<(), Fail> {
-    let mut world = World::new(rt.alloc(), Memory::new(rt.alloc(), 3, 2, 2)?, 2)?;
-    plays(&rt, &mut world, &EACH);
-    for (id, want) in [(10, Some(making(Access::Clear(1)))), (30, None)] {
-        assert_eq!(rt; world.program(id).copied(), want, "{id}");
-    }
-    assert_eq!(rt; world.participants().len(), 2);
+    let memory = Memory::new(rt.alloc(), 3, 2, 2)?;
+    let mut world = World::new(rt.alloc(), memory, 2)?;
+    plays(&rt, &mut world);
     Ok(())
 }
 
@@ -160,10 +150,10 @@ impl StepMemory for Refusing {
 #[test]
 fn want_of_memory_may_be_asked_again(rt: HostRuntime) -> Result<(), Fail> {
     let mut world = World::new(rt.alloc(), Refusing, 1)?;
-    assert_eq!(rt; world.begin(10, making(Access::Write(0, 7))), Ok(()));
-    for _ in 0..2 {
-        assert_eq!(rt; stepped(&mut world, 10), Err(Refusal::NoMemory));
-    }
+    let access = Access::Write(0, 7);
+    same(&rt, 0, world.begin(10, Once { access }), Ok(()));
+    let told = [world.step(10), world.step(10)];
+    same(&rt, 1, told, [Err(Refusal::NoMemory); 2]);
     Ok(())
 }
 
@@ -187,18 +177,19 @@ const REFUSALS: [Refusal; 14] = [
 
 #[test]
 fn refusals_have_numbers(rt: HostRuntime) -> Result<(), Fail> {
-    let mut number = 1;
-    for refusal in &REFUSALS {
-        assert_eq!(rt; refusal.number(), number);
-        number = number.wrapping_add(1);
+    for (i, refusal) in REFUSALS.iter().enumerate() {
+        same(&rt, i, usize::from(refusal.number()), i + 1);
     }
+    let grown = [Refusal::from(AllocError), Refusal::from(NoMemory)];
+    same(&rt, 14, grown, [Refusal::NoMemory; 2]);
     let text = format!(in rt.alloc(); "{}", Refusal::Crowded)?;
-    assert_eq!(rt; text.as_str(), "as many compete as there are numbers");
+    let is_told = text.as_str() == "as many compete as there are numbers";
+    same(&rt, 15, is_told, true);
     Ok(())
 }
 
 #[test]
-fn laws_of_calls_and_views() {
+fn laws_of_calls_views_and_worlds() {
     law_of_one_place::<u64>();
     law_of_what_is_seen::<u64, bool>();
     law_of_counts();
@@ -208,10 +199,6 @@ fn laws_of_calls_and_views() {
     law_of_rosters::<u64, bool>();
     law_of_refusals::<u64, u64, u64>();
     law_of_views();
-}
-
-#[test]
-fn laws_of_worlds_of_one_access() {
     law_of_beginners::<Once, u64>();
     law_of_participants::<Once>();
     law_of_steps::<Once, u64, usize, u64, u64, u64>();
@@ -241,17 +228,13 @@ fn three_falling() -> View {
 #[test]
 fn views_are_kept_in_order(rt: HostRuntime) {
     let (none, view) = (View::new(), three());
-    assert_eq!(rt; view.pairs(), [(10, 1), (20, 5), (30, 3)].as_slice());
-    assert_eq!(rt;
+    let is_kept = view.pairs() == [(10, 1), (20, 5), (30, 3)].as_slice();
+    let are_told = none.is_empty() && !view.is_full() && view != none && view == three_falling();
+    same(&rt, 0, is_kept && are_told, true);
+    same(
+        &rt,
+        1,
         (view.len(), view.get(20), view.get(25)),
-        (3, Some(5), None)
+        (3, Some(5), None),
     );
-    assert!(rt; none.is_empty() && !view.is_full() && view != none);
-    assert!(rt; view == three_falling());
-}
-
-#[test]
-fn a_refused_growth_is_a_refusal(rt: HostRuntime) {
-    assert_eq!(rt; Refusal::from(AllocError), Refusal::NoMemory);
-    assert_eq!(rt; Refusal::from(NoMemory), Refusal::NoMemory);
 }

@@ -1,5 +1,6 @@
 //! Updates and scans over a grid and a tree.
 
+use crate::common::same;
 use crate::snapshot_tests::{Call, Row, Told, plays};
 use snapshot_core::{SnapWorld, law_of_clients, law_of_snapshot_calls};
 use snapshot_places::{Grid, TreePlaces, grid_snapshot_law, tree_snapshot_law};
@@ -29,7 +30,7 @@ fn value_at(places: &Grid<Global>, place: Place) -> Option<u64> {
 /// Two in a grid: the values at places 0, 1 and 3.
 fn two_in_a_grid(rt: &impl Abort, alloc: Global) -> Result<[Option<u64>; 3], Refusal> {
     let mut world = SnapWorld::new(alloc, Grid::new(alloc, 2)?)?;
-    plays(rt, &mut world, "two", 0, TWO_IN_A_GRID);
+    plays(rt, &mut world, TWO_IN_A_GRID);
     grid_snapshot_law(&world);
     let places = world.places();
     Ok([
@@ -42,7 +43,7 @@ fn two_in_a_grid(rt: &impl Abort, alloc: Global) -> Result<[Option<u64>; 3], Ref
 #[test]
 fn two_over_a_grid(rt: HostRuntime) {
     let values = two_in_a_grid(&rt, rt.alloc());
-    assert!(rt; values == Ok([None, Some(5), None]));
+    same(&rt, 2, values, Ok([None, Some(5), None]));
     law_of_snapshot_calls::<Grid<Global>>();
     law_of_clients::<Grid<Global>>();
 }
@@ -63,30 +64,14 @@ const TWO_IN_A_TREE: &[Row] = &[
 /// Two in a tree.
 fn two_in_a_tree(rt: &impl Abort, alloc: Global) -> Result<(), Refusal> {
     let mut world = SnapWorld::new(alloc, TreePlaces::new(alloc, 2)?)?;
-    plays(rt, &mut world, "two", 0, TWO_IN_A_TREE);
+    plays(rt, &mut world, TWO_IN_A_TREE);
     tree_snapshot_law(&world);
     Ok(())
 }
 
 #[test]
 fn two_over_a_tree(rt: HostRuntime) {
-    assert!(rt; two_in_a_tree(&rt, rt.alloc()) == Ok(()));
+    same(&rt, 2, two_in_a_tree(&rt, rt.alloc()), Ok(()));
     law_of_snapshot_calls::<TreePlaces<Global>>();
     law_of_clients::<TreePlaces<Global>>();
-}
-
-#[test]
-fn sizes_of_a_grid(rt: HostRuntime) {
-    for most in [0, 17] {
-        let refused = Grid::new(rt.alloc(), most).err();
-        assert!(rt; refused == Some(Refusal::OutOfRange), "at {most}");
-    }
-}
-
-#[test]
-fn sizes_of_a_tree(rt: HostRuntime) {
-    for most in [0, 65] {
-        let refused = TreePlaces::new(rt.alloc(), most).err();
-        assert!(rt; refused == Some(Refusal::OutOfRange), "at {most}");
-    }
 }

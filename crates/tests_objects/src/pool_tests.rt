@@ -1,5 +1,6 @@
 //! Stays in a pool of numbers, which may widen meanwhile.
 
+use crate::common::same;
 use bit_allocator::{Pool, Probe, Stay, law_of_own_accesses, law_of_pool_calls};
 use std::alloc::Global;
 use std::process::Abort;
@@ -26,14 +27,13 @@ type Answer = Result<Option<u64>, Refusal>;
 /// Calls of a pool of this size.
 #[derive(Drop)]
 struct Schedule {
-    title: &'static str,
     size: u64,
     rows: &'static [(Call, Answer)],
 }
 
 const SCHEDULES: &[Schedule] = &[
+    // The pool widens before the only number is held.
     Schedule {
-        title: "the pool widens before the only number is held",
         size: 1,
         rows: &[
             (Call::Enter(5), Ok(None)),
@@ -43,8 +43,8 @@ const SCHEDULES: &[Schedule] = &[
             (Call::Probe(6), Ok(Some(2))),
         ],
     },
+    // The pool widens while the last number is held.
     Schedule {
-        title: "the pool widens while the last number is held",
         size: 2,
         rows: &[
             (Call::Enter(5), Ok(None)),
@@ -67,8 +67,8 @@ const SCHEDULES: &[Schedule] = &[
             (Call::Widen(65), Err(Refusal::OutOfRange)),
         ],
     },
+    // Whole stays.
     Schedule {
-        title: "whole stays",
         size: 3,
         rows: &[
             (Call::Acquire(0), Err(Refusal::ZeroIdentity)),
@@ -87,16 +87,16 @@ const SCHEDULES: &[Schedule] = &[
             (Call::Probe(8), Err(Refusal::Holding)),
         ],
     },
+    // A whole stay in a pool of one number.
     Schedule {
-        title: "a whole stay in a pool of one number",
         size: 1,
         rows: &[
             (Call::Acquire(9), Ok(Some(1))),
             (Call::Acquire(5), Err(Refusal::Crowded)),
         ],
     },
+    // Two take turns.
     Schedule {
-        title: "two take turns",
         size: 2,
         rows: &[
             (Call::Size, Ok(Some(2))),
@@ -171,29 +171,17 @@ fn answer(pool: &mut Pool<Global>, call: &Call) -> Answer {
 /// Makes the calls of a schedule one by one, and compares what they answer.
 fn plays(rt: &impl Abort, alloc: Global, schedule: &Schedule) -> Result<(), Refusal> {
     let mut pool = Pool::new(alloc, schedule.size)?;
-    for (i, (call, want)) in schedule.rows.iter().enumerate() {
-        assert!(rt;
-            answer(&mut pool, call) == *want,
-            "{}: row {i}",
-            schedule.title
-        );
+    for (i, (call, due)) in schedule.rows.iter().enumerate() {
+        same(rt, i, answer(&mut pool, call), *due);
     }
     Ok(())
 }
 
 #[test]
 fn schedules_of_a_pool(rt: HostRuntime) {
-    for schedule in SCHEDULES {
-        assert!(rt; plays(&rt, rt.alloc(), schedule) == Ok(()));
+    for (i, schedule) in SCHEDULES.iter().enumerate() {
+        same(&rt, i, plays(&rt, rt.alloc(), schedule), Ok(()));
     }
     law_of_pool_calls();
     law_of_own_accesses();
-}
-
-#[test]
-fn sizes(rt: HostRuntime) {
-    for size in 0..66 {
-        let made = Pool::new(rt.alloc(), size).is_ok();
-        assert!(rt; made == (1..65).contains(&size), "at {size}");
-    }
 }

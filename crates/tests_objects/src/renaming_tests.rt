@@ -1,10 +1,10 @@
 //! Worlds of every size and kind, and two participants over segments in a row. Schedules over a grid and over a tree are tried
 //! where they are played as lines, in `tests_player`.
 
+use crate::common::same;
 use commands::{Config, WorldKind};
 use rename_core::{
-    RenamePlaces, RenameWorld, Reply, fixed_rename_law, grid_rename_law, next_proposal,
-    tree_rename_law,
+    RenameWorld, Reply, fixed_rename_law, grid_rename_law, next_proposal, tree_rename_law,
 };
 use snapshot_core::Fixed;
 use snapshot_places::{Grid, TreePlaces};
@@ -51,103 +51,69 @@ fn goes(world: &mut RenameWorld<Fixed<Global>, Global>, row: &Row) -> bool {
 }
 
 /// The names of two in a new world, who go as the rows say.
-fn names_in(
-    rt: &impl Abort,
-    world: &mut RenameWorld<Fixed<Global>, Global>,
-) -> Result<(Option<u64>, Option<u64>), Refusal> {
-    world.begin(20)?;
-    world.begin(10)?;
+fn names_in(rt: &impl Abort, world: &mut RenameWorld<Fixed<Global>, Global>) -> [Option<u64>; 2] {
+    same(rt, 0, [world.begin(20), world.begin(10)], [Ok(()); 2]);
     for (i, row) in SEGMENTS.iter().enumerate() {
-        assert!(rt; goes(world, row), "row {i}");
+        same(rt, i, goes(world, row), true);
     }
-    Ok((world.name_of(10), world.name_of(20)))
+    [world.name_of(10), world.name_of(20)]
 }
 
 /// The same where the world is made first.
-fn two_go(rt: &impl Abort, alloc: Global) -> Result<(Option<u64>, Option<u64>), Refusal> {
-    let config = config_of(rt, WorldKind::Rename, 2, 2);
+fn two_go(rt: &impl Abort, alloc: Global) -> Result<[Option<u64>; 2], Refusal> {
+    let config = Config::new(WorldKind::Rename, 2, 4, 2)?;
     let mut world = RenameWorld::<Fixed<Global>, Global>::new(alloc, config)?;
-    names_in(rt, &mut world)
+    Ok(names_in(rt, &mut world))
 }
 
 #[test]
 fn two_over_segments_in_a_row(rt: HostRuntime) {
-    assert!(rt; two_go(&rt, rt.alloc()) == Ok((Some(2), Some(3))));
+    same(&rt, 2, two_go(&rt, rt.alloc()), Ok([Some(2), Some(3)]));
 }
 
-/// The law of a new world over a grid.
-fn law_over_a_grid(alloc: Global, config: Config) -> Result<(), Refusal> {
-    let world = RenameWorld::<Grid<Global>, Global>::new(alloc, config)?;
+/// What the first to begin is answered in a new world for so many over a grid, which keeps the law, or why there is none.
+fn begun_over_a_grid(alloc: Global, most: u64) -> Result<(), Refusal> {
+    let config = Config::new(WorldKind::Rename, most, 4, 1)?;
+    let mut world = RenameWorld::<Grid<Global>, Global>::new(alloc, config)?;
     grid_rename_law(&world);
-    Ok(())
-}
-
-/// The law of a new world over segments in a row.
-fn law_over_segments(alloc: Global, config: Config) -> Result<(), Refusal> {
-    let world = RenameWorld::<Fixed<Global>, Global>::new(alloc, config)?;
-    fixed_rename_law(&world);
-    Ok(())
-}
-
-/// The law of a new world over a tree.
-fn law_over_a_tree(alloc: Global, config: Config) -> Result<(), Refusal> {
-    let world = RenameWorld::<TreePlaces<Global>, Global>::new(alloc, config)?;
-    tree_rename_law(&world);
-    Ok(())
-}
-
-/// A config of so many participants and rounds.
-fn config_of(rt: &impl Abort, kind: WorldKind, m: u64, limit: u64) -> Config {
-    Config::new(kind, m, 4, limit).expect(rt, "a config in range")
-}
-
-#[test]
-fn laws_of_worlds(rt: HostRuntime) {
-    let config = config_of(&rt, WorldKind::Rename, 2, 1000);
-    assert!(rt; law_over_a_grid(rt.alloc(), config) == Ok(()));
-    assert!(rt; law_over_segments(rt.alloc(), config) == Ok(()));
-    let config = config_of(&rt, WorldKind::Tree, 2, 1000);
-    assert!(rt; law_over_a_tree(rt.alloc(), config) == Ok(()));
-}
-
-/// What the first to begin is answered in a new world, or why there is none.
-fn begun<W: RenamePlaces<Global> + Drop>(alloc: Global, config: Config) -> Result<(), Refusal>
-where
-    W::Walker: Copy,
-    W::Walk: Copy,
-    W::Value: Drop,
-{
-    let mut world = RenameWorld::<W, Global>::new(alloc, config)?;
     world.begin(7)
 }
 
-/// One begins in a world of each size.
-fn begins_in_each<W: RenamePlaces<Global> + Drop>(
-    rt: &impl Abort,
-    alloc: Global,
-    kind: WorldKind,
-    limit: u64,
-)
-where
-    W::Walker: Copy,
-    W::Walk: Copy,
-    W::Value: Drop,
-{
-    for m in 1..=kind.most() {
-        let config = config_of(rt, kind, m, limit);
-        assert!(rt; begun::<W>(alloc, config) == Ok(()), "at {m}");
-    }
+/// The same over segments in a row.
+fn begun_over_segments(alloc: Global, most: u64) -> Result<(), Refusal> {
+    let config = Config::new(WorldKind::Rename, most, 4, 1)?;
+    let mut world = RenameWorld::<Fixed<Global>, Global>::new(alloc, config)?;
+    fixed_rename_law(&world);
+    world.begin(7)
+}
+
+/// The same over a tree.
+fn begun_over_a_tree(alloc: Global, most: u64) -> Result<(), Refusal> {
+    let config = Config::new(WorldKind::Tree, most, 4, 1000)?;
+    let mut world = RenameWorld::<TreePlaces<Global>, Global>::new(alloc, config)?;
+    tree_rename_law(&world);
+    world.begin(7)
 }
 
 #[test]
 fn worlds_of_every_size(rt: HostRuntime) {
-    begins_in_each::<Grid<Global>>(&rt, rt.alloc(), WorldKind::Rename, 1);
-    begins_in_each::<Fixed<Global>>(&rt, rt.alloc(), WorldKind::Rename, 1);
-    begins_in_each::<TreePlaces<Global>>(&rt, rt.alloc(), WorldKind::Tree, 1000);
+    for most in 1..=64u64 {
+        let begun = [
+            begun_over_a_grid(rt.alloc(), most),
+            begun_over_segments(rt.alloc(), most),
+            begun_over_a_tree(rt.alloc(), most),
+        ];
+        let small = if most <= 16 {
+            Ok(())
+        } else {
+            Err(Refusal::OutOfRange)
+        };
+        same(&rt, most as usize, begun, [small, small, Ok(())]);
+    }
 }
 
 /// Most participants, the pool's size and the round limit, and why they are refused.
-const SIZES: &[(WorldKind, u64, u64, u64, Option<Refusal>)] = &[
+const SIZES: [(WorldKind, u64, u64, u64, Option<Refusal>); 7] = [
     (WorldKind::Rename, 0, 4, 1000, Some(Refusal::OutOfRange)),
     (WorldKind::Rename, 4, 0, 1000, Some(Refusal::OutOfRange)),
     (WorldKind::Rename, 4, 65, 1000, Some(Refusal::OutOfRange)),
@@ -165,9 +131,8 @@ const SIZES: &[(WorldKind, u64, u64, u64, Option<Refusal>)] = &[
 
 #[test]
 fn ranges_of_a_config(rt: HostRuntime) {
-    for (kind, m, k, limit, want) in SIZES {
-        let refused = Config::new(*kind, *m, *k, *limit).err();
-        assert!(rt; refused == *want, "{m} {k} {limit}");
+    for (i, (kind, m, k, limit, due)) in SIZES.iter().enumerate() {
+        same(&rt, i, Config::new(*kind, *m, *k, *limit).err(), *due);
     }
 }
 
@@ -188,5 +153,5 @@ fn the_next_proposal_of_each_rank(rt: HostRuntime) {
         next_proposal(&view, 20),
         next_proposal(&view, 30),
     ];
-    assert!(rt; next == [2, 3, 4]);
+    same(&rt, 3, next, [2, 3, 4]);
 }

@@ -1,5 +1,6 @@
 //! Updates and scans over segments in a row, and what plays calls of a snapshot object.
 
+use crate::common::same;
 use snapshot_core::{
     Fixed, Places, SnapReply, SnapWorld, law_of_clients, law_of_snapshot_calls, snapshot_law,
 };
@@ -7,15 +8,13 @@ use std::alloc::{Allocator, Global};
 use std::process::Abort;
 use step_memory::{Place, Refusal};
 
-/// A call: of steps so many, of which those before the last are quiet; or the steps of one collect;
-/// or the question where one is.
+/// A call: of steps so many, of which those before the last are quiet; or the question where one is.
 #[derive(Clone, Copy, Drop)]
 pub enum Call {
     Begin,
     Update(u64),
     Scan,
     Steps(usize),
-    Collect,
     Place,
 }
 
@@ -59,31 +58,8 @@ fn is_stepped(answer: &Result<SnapReply, Refusal>, told: Told) -> bool {
 /// Who makes a call, and what it answers.
 pub type Row = (u64, Call, Told);
 
-/// Whether so many steps of a participant are quiet.
-fn are_quiet<W: Places + Drop, A: Allocator>(
-    world: &mut SnapWorld<W, A>,
-    id: u64,
-    count: usize,
-) -> bool
-where
-    W::Walker: Copy,
-    W::Walk: Copy,
-    W::Value: Drop,
-{
-    for _ in 0..count {
-        if !is_stepped(&world.step(id), Told::Quiet) {
-            return false;
-        }
-    }
-    true
-}
-
-/// Whether a call of a participant is told so, over any places; a collect makes so many reads.
-fn answers<W: Places + Drop, A: Allocator>(
-    world: &mut SnapWorld<W, A>,
-    reads: usize,
-    row: &Row,
-) -> bool
+/// Whether a call of a participant is told so, over any places.
+fn answers<W: Places + Drop, A: Allocator>(world: &mut SnapWorld<W, A>, row: &Row) -> bool
 where
     W::Walker: Copy,
     W::Walk: Copy,
@@ -94,19 +70,21 @@ where
         Call::Begin => return is_asked(world.begin(id), told),
         Call::Update(value) => return is_asked(world.update(id, value), told),
         Call::Scan => return is_asked(world.scan(id), told),
-        Call::Steps(count) => count,
-        Call::Collect => reads,
         Call::Place => return is_placed(world.place_of(id), told),
+        Call::Steps(count) => count,
     };
-    are_quiet(world, id, count.saturating_sub(1)) && is_stepped(&world.step(id), told)
+    for _ in 1..count {
+        if !is_stepped(&world.step(id), Told::Quiet) {
+            return false;
+        }
+    }
+    is_stepped(&world.step(id), told)
 }
 
-/// Makes these calls, each of which answers what stands beside it; a collect makes so many reads.
+/// Makes these calls, each of which answers what stands beside it.
 pub fn plays<W: Places + Drop, A: Allocator>(
     rt: &impl Abort,
     world: &mut SnapWorld<W, A>,
-    title: &str,
-    reads: usize,
     rows: &[Row],
 )
 where
@@ -115,7 +93,7 @@ where
     W::Value: Drop,
 {
     for (i, row) in rows.iter().enumerate() {
-        assert!(rt; answers(world, reads, row), "{title}: row {i} at {reads}");
+        same(rt, i, answers(world, row), true);
     }
 }
 
@@ -125,15 +103,14 @@ type Written = (u64, u64, u32, usize);
 /// Calls over so many segments, and the record that is then in the first.
 #[derive(Drop)]
 struct Schedule {
-    title: &'static str,
     most: usize,
     rows: &'static [Row],
     record: Option<Written>,
 }
 
 const SCHEDULES: &[Schedule] = &[
+    // A scan shows what was written.
     Schedule {
-        title: "a scan shows what was written",
         most: 2,
         rows: &[
             (10, Call::Begin, Told::Done),
@@ -148,8 +125,8 @@ const SCHEDULES: &[Schedule] = &[
         ],
         record: Some((10, 5, 1, 0)),
     },
+    // A stale view is refused.
     Schedule {
-        title: "a stale view is refused",
         most: 2,
         rows: &[
             (10, Call::Begin, Told::Done),
@@ -165,8 +142,8 @@ const SCHEDULES: &[Schedule] = &[
         ],
         record: Some((10, 5, 1, 0)),
     },
+    // A view is borrowed.
     Schedule {
-        title: "a view is borrowed",
         most: 2,
         rows: &[
             (10, Call::Begin, Told::Done),
@@ -184,8 +161,8 @@ const SCHEDULES: &[Schedule] = &[
         ],
         record: Some((10, 7, 3, 1)),
     },
+    // Refusals.
     Schedule {
-        title: "refusals",
         most: 2,
         rows: &[
             (10, Call::Begin, Told::Done),
@@ -201,8 +178,8 @@ const SCHEDULES: &[Schedule] = &[
         ],
         record: None,
     },
+    // One alone over as many as there may be.
     Schedule {
-        title: "one alone over as many as there may be",
         most: 16,
         rows: &[
             (7, Call::Begin, Told::Done),
@@ -232,26 +209,17 @@ fn recorded(
 ) -> Result<(usize, Option<Written>), Refusal> {
     let places = Fixed::new(alloc, schedule.most)?;
     let mut world = SnapWorld::new(alloc, places)?;
-    plays(rt, &mut world, schedule.title, 0, schedule.rows);
+    plays(rt, &mut world, schedule.rows);
     snapshot_law(&world);
     Ok((world.places().most(), first_record(world.places())))
 }
 
 #[test]
 fn schedules_over_a_row(rt: HostRuntime) {
-    for schedule in SCHEDULES {
-        let want = (schedule.most, schedule.record);
-        let found = recorded(&rt, rt.alloc(), schedule);
-        assert!(rt; found == Ok(want), "{}", schedule.title);
+    for (i, schedule) in SCHEDULES.iter().enumerate() {
+        let due = (schedule.most, schedule.record);
+        same(&rt, i, recorded(&rt, rt.alloc(), schedule), Ok(due));
     }
     law_of_snapshot_calls::<Fixed<Global>>();
     law_of_clients::<Fixed<Global>>();
-}
-
-#[test]
-fn sizes_of_a_row(rt: HostRuntime) {
-    for most in [0, 17] {
-        let refused = Fixed::new(rt.alloc(), most).err();
-        assert!(rt; refused == Some(Refusal::OutOfRange), "at {most}");
-    }
 }

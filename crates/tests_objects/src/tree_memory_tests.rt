@@ -1,5 +1,6 @@
 //! Examples of accesses to a tree: how deep it goes, and want of memory.
 
+use crate::common::same;
 use linked_list_allocator::LocalHeap;
 use splitter_tree::{Tree, TreeRegister, TreeValue};
 use std::alloc::{AllocError, Allocator, Global};
@@ -41,7 +42,7 @@ fn is_so<A: Allocator + Clone>(tree: &mut Tree<A>, row: Row) -> bool {
 /// Takes rows in turn, each of which is so.
 fn takes<A: Allocator + Clone>(rt: &impl Abort, tree: &mut Tree<A>, rows: &[Row]) {
     for (i, row) in rows.iter().enumerate() {
-        assert!(rt; is_so(tree, *row), "row {i}");
+        same(rt, i, is_so(tree, *row), true);
     }
 }
 
@@ -49,7 +50,8 @@ fn takes<A: Allocator + Clone>(rt: &impl Abort, tree: &mut Tree<A>, rows: &[Row]
 fn as_deep_as_numbers_go(rt: HostRuntime) {
     let mut tree = Tree::new(rt.alloc());
     for depth in 0..128u32 {
-        assert!(rt; !refuses(&mut tree, TreeRegister::Mark(1 << depth), 1));
+        let refused = refuses(&mut tree, TreeRegister::Mark(1 << depth), 1);
+        same(&rt, depth as usize, refused, false);
     }
     let deepest = 1u128 << 127;
     takes(
@@ -68,15 +70,22 @@ const FULL: [Row; 5] = [
     Row::Lacking(3),
 ];
 
-/// Boxes that take what the heap has left.
-fn filling(alloc: Global, heap: &LocalHeap) -> Result<Vec<Box<[u64; 2], &LocalHeap>>, AllocError> {
+/// Takes rows in turn while boxes have taken what the heap has left.
+fn takes_in_full(
+    rt: &impl Abort,
+    alloc: Global,
+    heap: &LocalHeap,
+    tree: &mut Tree<&LocalHeap>,
+) -> Result<(), AllocError> {
     let mut boxes = Vec::new(alloc);
     for _ in 0..512 {
         if let Ok(filled) = Box::new(heap, [0u64; 2]) {
             boxes.push(filled)?;
         }
     }
-    Ok(boxes)
+    takes(rt, tree, &FULL);
+    drop(boxes);
+    Ok(())
 }
 
 #[test]
@@ -84,9 +93,7 @@ fn a_growth_that_was_refused(rt: HostRuntime) -> Result<(), Fail> {
     let heap = LocalHeap::new(rt.alloc(), 8_192)?;
     let mut tree = Tree::new(&heap);
     takes(&rt, &mut tree, &[Row::Written(TreeRegister::Mark(1), 1)]);
-    let boxes = filling(rt.alloc(), &heap).expect(&rt, "the room for the boxes");
-    takes(&rt, &mut tree, &FULL);
-    drop(boxes);
+    takes_in_full(&rt, rt.alloc(), &heap, &mut tree)?;
     takes(
         &rt,
         &mut tree,

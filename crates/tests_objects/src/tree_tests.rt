@@ -1,27 +1,28 @@
 //! Worked examples of `splitter_tree`: walks, stores and collects of one to three participants, and refusals.
 
+use crate::common::{same, take};
 use splitter_tree::{
     Client, TreeRegister, TreeValue, TreeWorld, Walker, law_of_collect_calls, law_of_collects,
     law_of_collects_at_places, law_of_nodes_and_walks, law_of_own_accesses, law_of_places,
     law_of_tree_calls, law_of_tree_memory,
 };
-use std::alloc::Allocator;
+use std::alloc::Global;
 use std::process::Abort;
 use std::test::Fail;
 use step_memory::{Access, Answer, Note, Place, Refusal, StepProgram, View};
 
-/// A call: of steps so many, of which those before the last are quiet.
+/// A call.
 #[derive(Clone, Copy, Drop)]
 enum Call {
     Begin,
-    Steps(usize),
+    Step,
     Place,
     Store(u64),
     Collect,
-    CollectSteps(usize),
+    CollectStep,
 }
 
-/// What a call answers, of steps the last.
+/// What a call answers.
 #[derive(Clone, Copy, Drop)]
 enum Told {
     Done,
@@ -60,139 +61,97 @@ fn is_collected(answer: &Result<Option<View>, Refusal>, told: Told) -> bool {
     }
 }
 
-/// Whether so many steps are quiet, but for the last, which is told so.
-fn walks<A: Allocator + Clone>(
-    world: &mut TreeWorld<A>,
-    id: u64,
-    count: usize,
-    told: Told,
-) -> bool {
-    for _ in 1..count {
-        if !is_walked(world.step(id), Told::Quiet) {
-            return false;
-        }
-    }
-    is_walked(world.step(id), told)
-}
-
-/// The same of steps of a collect.
-fn collects<A: Allocator + Clone>(
-    world: &mut TreeWorld<A>,
-    id: u64,
-    count: usize,
-    told: Told,
-) -> bool {
-    for _ in 1..count {
-        if !is_collected(&world.collect_step(id), Told::Quiet) {
-            return false;
-        }
-    }
-    is_collected(&world.collect_step(id), told)
-}
-
 /// Whether a call of a participant is told so.
-fn answers<A: Allocator + Clone>(
-    world: &mut TreeWorld<A>,
-    id: u64,
-    call: Call,
-    told: Told,
-) -> bool {
+fn answers(world: &mut TreeWorld<Global>, id: u64, call: Call, told: Told) -> bool {
     match call {
         Call::Begin => is_asked(world.begin(id), told),
-        Call::Steps(count) => walks(world, id, count, told),
+        Call::Step => is_walked(world.step(id), told),
         Call::Place => is_walked(Ok(world.place_of(id)), told),
         Call::Store(value) => is_asked(world.store(id, value), told),
         Call::Collect => is_asked(world.collect_begin(id), told),
-        Call::CollectSteps(count) => collects(world, id, count, told),
+        Call::CollectStep => is_collected(&world.collect_step(id), told),
     }
 }
 
-/// A call, of whom it is made, and what it tells.
-type Row = (u64, Call, Told);
+/// How often a call is made, of whom, and what it tells the last time; before it is quiet.
+type Row = (usize, u64, Call, Told);
 
-/// Makes these calls, each of which answers what stands beside it.
-fn plays<A: Allocator + Clone>(rt: &impl Abort, world: &mut TreeWorld<A>, calls: &[Row]) {
-    for (i, (id, call, told)) in calls.iter().enumerate() {
-        assert!(rt; answers(world, *id, *call, *told), "row {i}");
+/// Whether a row goes so.
+fn goes(world: &mut TreeWorld<Global>, row: &Row) -> bool {
+    let (count, id, call, told) = *row;
+    for _ in 1..count {
+        if !answers(world, id, call, Told::Quiet) {
+            return false;
+        }
     }
+    answers(world, id, call, told)
+}
+
+/// Takes the rows of a schedule in turn in a new world for so many, each of which goes so.
+fn plays(rt: &impl Abort, alloc: Global, most: usize, rows: &[Row]) -> Result<(), Refusal> {
+    let mut world = TreeWorld::new(alloc, most)?;
+    for (i, row) in rows.iter().enumerate() {
+        same(rt, i, goes(&mut world, row), true);
+    }
+    Ok(())
 }
 
 /// 10 is alone until it has collected.
 const ONE: [Row; 14] = [
-    (10, Call::Begin, Told::Done),
-    (10, Call::Place, Told::Quiet),
-    (10, Call::Steps(5), Told::Placed(1)),
-    (10, Call::Place, Told::Placed(1)),
-    (10, Call::Steps(1), Told::Refused(Refusal::Finished)),
-    (10, Call::Store(5), Told::Done),
-    (10, Call::Collect, Told::Done),
-    (10, Call::Steps(1), Told::Refused(Refusal::Finished)),
-    (10, Call::CollectSteps(4), Told::Shown(&[(10, 5)])),
-    (10, Call::CollectSteps(1), Told::Refused(Refusal::Finished)),
-    (20, Call::Begin, Told::Done),
-    (20, Call::Store(1), Told::Refused(Refusal::AlreadyBegun)),
-    (20, Call::Collect, Told::Refused(Refusal::AlreadyBegun)),
-    (30, Call::Collect, Told::Refused(Refusal::NotBegun)),
+    (1, 10, Call::Begin, Told::Done),
+    (1, 10, Call::Place, Told::Quiet),
+    (5, 10, Call::Step, Told::Placed(1)),
+    (1, 10, Call::Place, Told::Placed(1)),
+    (1, 10, Call::Step, Told::Refused(Refusal::Finished)),
+    (1, 10, Call::Store(5), Told::Done),
+    (1, 10, Call::Collect, Told::Done),
+    (1, 10, Call::Step, Told::Refused(Refusal::Finished)),
+    (4, 10, Call::CollectStep, Told::Shown(&[(10, 5)])),
+    (1, 10, Call::CollectStep, Told::Refused(Refusal::Finished)),
+    (1, 20, Call::Begin, Told::Done),
+    (1, 20, Call::Store(1), Told::Refused(Refusal::AlreadyBegun)),
+    (1, 20, Call::Collect, Told::Refused(Refusal::AlreadyBegun)),
+    (1, 30, Call::Collect, Told::Refused(Refusal::NotBegun)),
 ];
-
-#[test]
-fn one_who_stores_and_collects(rt: HostRuntime) -> Result<(), Fail> {
-    let mut world = TreeWorld::new(rt.alloc(), 2)?;
-    plays(&rt, &mut world, &ONE);
-    Ok(())
-}
 
 /// 20 collects while 10 has stored, and then 10.
 const TWO: [Row; 13] = [
-    (20, Call::Begin, Told::Done),
-    (10, Call::Begin, Told::Done),
-    (20, Call::Steps(3), Told::Quiet),
-    (10, Call::Steps(5), Told::Placed(1)),
-    (20, Call::Steps(7), Told::Placed(2)),
-    (10, Call::Store(7), Told::Done),
-    (20, Call::Collect, Told::Done),
-    (20, Call::CollectSteps(1), Told::Quiet),
-    (20, Call::Store(8), Told::Refused(Refusal::AlreadyBegun)),
-    (20, Call::CollectSteps(6), Told::Shown(&[(10, 7)])),
-    (20, Call::Store(8), Told::Done),
-    (10, Call::Collect, Told::Done),
-    (10, Call::CollectSteps(7), Told::Shown(&[(10, 7), (20, 8)])),
+    (1, 20, Call::Begin, Told::Done),
+    (1, 10, Call::Begin, Told::Done),
+    (3, 20, Call::Step, Told::Quiet),
+    (5, 10, Call::Step, Told::Placed(1)),
+    (7, 20, Call::Step, Told::Placed(2)),
+    (1, 10, Call::Store(7), Told::Done),
+    (1, 20, Call::Collect, Told::Done),
+    (1, 20, Call::CollectStep, Told::Quiet),
+    (1, 20, Call::Store(8), Told::Refused(Refusal::AlreadyBegun)),
+    (6, 20, Call::CollectStep, Told::Shown(&[(10, 7)])),
+    (1, 20, Call::Store(8), Told::Done),
+    (1, 10, Call::Collect, Told::Done),
+    (7, 10, Call::CollectStep, Told::Shown(&[(10, 7), (20, 8)])),
 ];
-
-#[test]
-fn two_who_collect_each_other(rt: HostRuntime) -> Result<(), Fail> {
-    let mut world = TreeWorld::new(rt.alloc(), 2)?;
-    plays(&rt, &mut world, &TWO);
-    Ok(())
-}
 
 /// Each refusal of a world of one.
 const REFUSALS: [Row; 10] = [
-    (7, Call::Steps(1), Told::Refused(Refusal::NotBegun)),
-    (7, Call::Store(1), Told::Refused(Refusal::NotBegun)),
-    (7, Call::CollectSteps(1), Told::Refused(Refusal::NotBegun)),
-    (0, Call::Begin, Told::Refused(Refusal::ZeroIdentity)),
-    (7, Call::Begin, Told::Done),
-    (0, Call::Begin, Told::Refused(Refusal::ZeroIdentity)),
-    (7, Call::Begin, Told::Refused(Refusal::AlreadyBegun)),
-    (8, Call::Begin, Told::Refused(Refusal::Full)),
-    (7, Call::CollectSteps(1), Told::Refused(Refusal::Finished)),
-    (8, Call::Place, Told::Quiet),
+    (1, 7, Call::Step, Told::Refused(Refusal::NotBegun)),
+    (1, 7, Call::Store(1), Told::Refused(Refusal::NotBegun)),
+    (1, 7, Call::CollectStep, Told::Refused(Refusal::NotBegun)),
+    (1, 0, Call::Begin, Told::Refused(Refusal::ZeroIdentity)),
+    (1, 7, Call::Begin, Told::Done),
+    (1, 0, Call::Begin, Told::Refused(Refusal::ZeroIdentity)),
+    (1, 7, Call::Begin, Told::Refused(Refusal::AlreadyBegun)),
+    (1, 8, Call::Begin, Told::Refused(Refusal::Full)),
+    (1, 7, Call::CollectStep, Told::Refused(Refusal::Finished)),
+    (1, 8, Call::Place, Told::Quiet),
 ];
 
-#[test]
-fn refusals_in_their_order(rt: HostRuntime) -> Result<(), Fail> {
-    let mut world = TreeWorld::new(rt.alloc(), 1)?;
-    plays(&rt, &mut world, &REFUSALS);
-    Ok(())
-}
+/// How many a world is for, and its schedule.
+const SCHEDULES: [(usize, &[Row]); 3] = [(2, &ONE), (2, &TWO), (1, &REFUSALS)];
 
 #[test]
-fn ranges_of_a_tree(rt: HostRuntime) {
-    for most in [0, 1, 16, 17, 63, 64, 65, 1_000] {
-        let refusal = TreeWorld::new(rt.alloc(), most).err();
-        let due = (most == 0 || 64 < most).then_some(Refusal::OutOfRange);
-        assert_eq!(rt; refusal, due, "at {most}");
+fn schedules_of_a_tree(rt: HostRuntime) {
+    for (i, (most, rows)) in SCHEDULES.iter().enumerate() {
+        same(&rt, i, plays(&rt, rt.alloc(), *most, rows), Ok(()));
     }
 }
 
@@ -209,12 +168,12 @@ fn laws_of_trees_and_collects() {
 }
 
 /// One who comes behind so many others: whether it goes past each of them to this place, and no further.
-fn goes_past<A: Allocator + Clone>(world: &mut TreeWorld<A>, passed: u64, place: Place) -> bool {
+fn goes_past(world: &mut TreeWorld<Global>, passed: u64, place: Place) -> bool {
     let id = passed.saturating_add(1);
     let steps = (passed as usize).saturating_mul(3).saturating_add(5);
     answers(world, id, Call::Begin, Told::Done)
-        && answers(world, id, Call::Steps(steps), Told::Placed(place))
-        && answers(world, id, Call::Steps(1), Told::Refused(Refusal::Finished))
+        && goes(world, &(steps, id, Call::Step, Told::Placed(place)))
+        && answers(world, id, Call::Step, Told::Refused(Refusal::Finished))
 }
 
 #[test]
@@ -222,16 +181,13 @@ fn sixty_four_down_the_deepest_walk(rt: HostRuntime) -> Result<(), Fail> {
     let mut world = TreeWorld::new(rt.alloc(), 64)?;
     let mut place: Place = 1;
     for passed in 0..64u64 {
-        assert!(rt; goes_past(&mut world, passed, place), "past {passed}");
+        let past = goes_past(&mut world, passed, place);
+        same(&rt, passed as usize, past, true);
         place = place.saturating_mul(2).saturating_add(1);
     }
-    assert_eq!(rt; world.place_of(64), Some(18_446_744_073_709_551_615));
+    let deepest = world.place_of(64);
+    same(&rt, 64, deepest, Some(18_446_744_073_709_551_615));
     Ok(())
-}
-
-/// Takes a step of any program.
-fn take<P: StepProgram>(program: &mut P, got: Answer<P::Value>) -> Note<P::Output> {
-    program.resume(got)
 }
 
 /// Whether an access writes this word to the register, or with none reads it.
@@ -247,16 +203,21 @@ fn is_access(access: Access<TreeRegister, TreeValue>, at: TreeRegister, word: Op
 fn a_walk_as_a_program(rt: HostRuntime) {
     let mut walker = Walker::new(9);
     let mut client = Client::new(9);
-    assert!(rt; matches!(take(&mut client, Answer::Done), Note::Quiet));
-    for (at, word, got) in [
+    let rows = [
         (TreeRegister::Mark(1), Some(1), Answer::Done),
         (TreeRegister::X(1), Some(9), Answer::Done),
         (TreeRegister::Y(1), None, Answer::Value(TreeValue::Word(1))),
-    ] {
-        assert!(rt; is_access(walker.next(), at, word), "{at:?}");
-        assert_eq!(rt; take(&mut walker, got), Note::Quiet, "{at:?}");
+    ];
+    for (i, (at, word, got)) in rows.iter().enumerate() {
+        let is_next = is_access(walker.next(), *at, *word);
+        let told = (is_next, take(&mut walker, *got));
+        same(&rt, i, told, (true, Note::Quiet));
     }
-    assert!(rt; is_access(walker.next(), TreeRegister::Mark(3), Some(1)));
-    assert_eq!(rt; walker.place(), None);
-    assert!(rt; client.is_placing());
+    let told = [
+        is_access(walker.next(), TreeRegister::Mark(3), Some(1)),
+        walker.place().is_none(),
+        matches!(take(&mut client, Answer::Done), Note::Quiet),
+        client.is_placing(),
+    ];
+    same(&rt, 3, told, [true; 4]);
 }

@@ -1,0 +1,41 @@
+//! Objects that are made in heaps with more and more room: each want of memory is told.
+
+use crate::common::same;
+use linked_list_allocator::LocalHeap;
+use raw_parts::RawSplitter;
+use splitter::SplitterWorld;
+use std::alloc::{AllocError, Global};
+use step_memory::Refusal;
+
+/// The bytes of a heap in which each of these objects finds room.
+const ROOM: usize = 1_600;
+
+/// Whether an object is made, or else want of memory is told; in the whole heap it is made, and with no room it is not.
+fn is_told<T: Drop>(made: Result<T, Refusal>, taken: usize) -> bool {
+    match made {
+        Ok(_) => taken < ROOM,
+        Err(refusal) => 0 < taken && refusal == Refusal::NoMemory,
+    }
+}
+
+/// Whether each is made or told of in a heap of which so much is taken.
+fn are_told(alloc: Global, taken: usize) -> Result<[bool; 3], AllocError> {
+    let heap = LocalHeap::new(alloc, ROOM)?;
+    let others = Vec::<u8, &LocalHeap>::with_capacity(&heap, taken)?;
+    let told = [
+        is_told(SplitterWorld::new(&heap, 16), taken),
+        is_told(RawSplitter::new(&heap, 64), taken),
+        is_told(RawSplitter::pair(&heap), taken),
+    ];
+    drop(others);
+    Ok(told)
+}
+
+/// A heap gives a growth at least 16 bytes, so each growth in turn is the first that finds no room.
+#[test]
+fn each_want_of_memory_is_told(rt: HostRuntime) {
+    for blocks in 0..=100usize {
+        let told = are_told(rt.alloc(), 16 * blocks).ok();
+        same(&rt, blocks, told, Some([true; 3]));
+    }
+}
