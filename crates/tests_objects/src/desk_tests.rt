@@ -1,5 +1,5 @@
-//! Desks of every size and limit, and views beside replies. What a desk answers to whole schedules is tried where they are
-//! played as lines, in `tests_player`.
+//! Desks of every size and limit, one who steps alone at a desk wherever another has stopped, and views beside replies. What a desk
+//! answers to whole schedules is tried where they are played as lines, in `tests_player`.
 
 use crate::common::same;
 use commands::{Config, Event, Reply, WorldKind};
@@ -7,6 +7,38 @@ use desk::{Desk, law_of_desk, law_of_names};
 use std::alloc::Global;
 use std::process::Abort;
 use step_memory::{Refusal, View};
+
+/// What is tried at a new desk.
+#[derive(Clone, Copy, Drop)]
+enum Trial {
+    /// It takes as many as it is for, and nobody more.
+    Full,
+    /// One stops after so many steps, and another is then alone.
+    Alone(u64),
+    /// A view stands beside a reply.
+    Short,
+}
+
+/// Whether a new desk goes so.
+fn goes_so(
+    alloc: Global,
+    world: WorldKind,
+    (m, k): (u64, u64),
+    trial: Trial,
+) -> Result<bool, Refusal> {
+    let config = Config::new(world, m, k, 1_000)?;
+    let mut desk = Desk::new(alloc, config)?;
+    Ok(goes(&mut desk, config, trial))
+}
+
+/// The same where the desk was made.
+fn goes(desk: &mut Desk<Global>, config: Config, trial: Trial) -> bool {
+    match trial {
+        Trial::Full => takes_all(desk, config),
+        Trial::Alone(stopped) => goes_behind(desk, config.world, stopped),
+        Trial::Short => short_replies(desk),
+    }
+}
 
 /// Whether an event is done or refused so, and would be where it is.
 fn applies(desk: &mut Desk<Global>, event: Event, refused: Option<Refusal>) -> bool {
@@ -31,46 +63,79 @@ fn takes_all(desk: &mut Desk<Global>, config: Config) -> bool {
     true
 }
 
-/// The same of a new desk.
-fn is_made(alloc: Global, config: Config) -> Result<bool, Refusal> {
-    let mut desk = Desk::new(alloc, config)?;
-    Ok(takes_all(&mut desk, config))
-}
-
-/// Numbers of participants and sizes of a pool: the ends of each range, and some between them.
+/// Sizes of a pool: the ends of the range, and some between them.
 const SIZES: [u64; 9] = [1, 2, 7, 8, 13, 16, 17, 63, 64];
 
-/// Desks with pools of each size.
+/// Desks of a world for so many, with pools of each size. Where names are given they are made for as many as the world may take, and
+/// elsewhere there are none.
 fn desks_for(rt: &impl Abort, alloc: Global, world: WorldKind, m: u64) {
+    let due = if world.gives_names() && m <= world.most() {
+        Ok(true)
+    } else {
+        Err(Refusal::OutOfRange)
+    };
     for k in SIZES {
-        if let Ok(config) = Config::new(world, m, k, 1_000) {
-            same(rt, m as usize, is_made(alloc, config), Ok(true));
-        }
+        same(
+            rt,
+            k as usize,
+            goes_so(alloc, world, (m, k), Trial::Full),
+            due,
+        );
     }
 }
 
 #[test]
 fn desks_of_every_size(rt: HostRuntime) {
-    for m in SIZES {
-        desks_for(&rt, rt.alloc(), WorldKind::Rename, m);
-        desks_for(&rt, rt.alloc(), WorldKind::Tree, m);
+    for m in 1..=64 {
+        for world in WorldKind::all() {
+            desks_for(&rt, rt.alloc(), world, m);
+        }
+    }
+    law_of_desk();
+    law_of_names();
+}
+
+/// At most so many steps of a participant, until it is named or refused one. How many there were.
+fn steps_of(desk: &mut Desk<Global>, id: u64, most: u64) -> u64 {
+    for steps in 0..most {
+        if desk.name_of(id).is_some() || desk.apply(Event::Step(id)).is_refusal() {
+            return steps;
+        }
+    }
+    most
+}
+
+/// How many steps the second of two makes alone where the first has stopped after so many, and its name.
+fn due_alone(world: WorldKind, stopped: u64) -> (u64, Option<u64>) {
+    match (world.is_tree(), stopped) {
+        (false, 0..=2) => (17, Some(1)),
+        (false, 3..=10) => (19, Some(1)),
+        (false, _) => (32, Some(3)),
+        (true, 0..=3) => (22, Some(1)),
+        (true, 4..=13) => (37, Some(1)),
+        (true, _) => (66, Some(3)),
     }
 }
 
-/// Why a desk of this world is refused, if it is.
-fn refusal_of(rt: &impl Abort, alloc: Global, world: WorldKind) -> Option<Refusal> {
-    let config = Config::new(world, 2, 64, 1000).expect(rt, "in range");
-    Desk::new(alloc, config).err()
+/// Whether the first of two makes so many steps, and the other those that are due of it alone, with the name that is due.
+fn goes_behind(desk: &mut Desk<Global>, world: WorldKind, stopped: u64) -> bool {
+    let begun = applies(desk, Event::Begin(10), None) && applies(desk, Event::Begin(20), None);
+    let went = steps_of(desk, 10, stopped);
+    let alone = steps_of(desk, 20, 1_000);
+    begun && went == stopped && (alone, desk.name_of(20)) == due_alone(world, stopped)
 }
 
-/// The worlds in which names are given have a desk, and the others have none.
+/// Of two one stops after each number of steps up to that at which it is named: over a grid 17, over a tree 22.
 #[test]
-fn a_desk_for_two_worlds(rt: HostRuntime) {
-    law_of_desk();
-    law_of_names();
-    for (i, world) in WorldKind::all().iter().enumerate() {
-        let due = (!world.gives_names()).then_some(Refusal::OutOfRange);
-        same(&rt, i, refusal_of(&rt, rt.alloc(), *world), due);
+fn one_stops_and_another_is_alone(rt: HostRuntime) {
+    for stopped in 0..=22u64 {
+        let in_grid = Trial::Alone(stopped.min(17));
+        let in_tree = Trial::Alone(stopped);
+        let told = [
+            goes_so(rt.alloc(), WorldKind::Rename, (2, 4), in_grid),
+            goes_so(rt.alloc(), WorldKind::Tree, (2, 4), in_tree),
+        ];
+        same(&rt, stopped as usize, told, [Ok(true); 2]);
     }
 }
 
@@ -112,15 +177,9 @@ fn short_replies(desk: &mut Desk<Global>) -> bool {
     was_empty && was_beside && is_named(named, &view) && !named.is_refusal() && is_refused
 }
 
-/// The same of a new desk.
-fn are_short(alloc: Global) -> Result<bool, Refusal> {
-    let config = Config::new(WorldKind::Tree, 2, 4, 1000)?;
-    let mut desk = Desk::new(alloc, config)?;
-    Ok(short_replies(&mut desk))
-}
-
 /// A reply of a few bytes has its view beside it, and with it is the whole reply.
 #[test]
 fn a_view_beside_its_reply(rt: HostRuntime) {
-    same(&rt, 7, are_short(rt.alloc()), Ok(true));
+    let told = goes_so(rt.alloc(), WorldKind::Tree, (2, 4), Trial::Short);
+    same(&rt, 7, told, Ok(true));
 }

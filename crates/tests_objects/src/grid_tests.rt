@@ -40,18 +40,18 @@ fn doors_are_numbered_by_diagonals(rt: HostRuntime) {
     let right = Door::corner().right();
     let down = Door::corner().down();
     let doors = [
-        Door::corner(),
-        right,
-        down,
-        right.right(),
-        right.down(),
-        down.down(),
+        (0, Door::corner()),
+        (1, right),
+        (2, down),
+        (3, right.right()),
+        (4, right.down()),
+        (4, down.right()),
+        (5, down.down()),
     ];
-    for (k, door) in doors.iter().enumerate() {
+    for (k, door) in doors {
         let told = (usize::from(door.number()), door.x(), door.y());
         same(&rt, k, told, (k, 2 * k, 2 * k + 1));
     }
-    same(&rt, 4, right.down(), down.right());
 }
 
 #[test]
@@ -71,12 +71,12 @@ fn a_walk_as_a_program(rt: HostRuntime) {
         (Access::Write(0, 9), Note::Quiet),
         (Access::Read(1), Note::Quiet),
     ];
-    same(&rt, 1, told, due);
-    same(&rt, 2, walker, Walker::new(9, Door::corner().right()));
+    let right = Walker::new(9, Door::corner().right());
+    let ended = (walker.next(), walker.place());
     same(
         &rt,
-        3,
-        (walker.next(), walker.place()),
-        (Access::Write(2, 9), None),
+        2,
+        (told, walker, ended),
+        (due, right, (Access::Write(2, 9), None)),
     );
 }

@@ -6,8 +6,6 @@
 #![tactic(auto)]
 
 #[cfg(test)]
-mod alone_tests;
-#[cfg(test)]
 mod board_tests;
 #[cfg(test)]
 mod common;

@@ -50,70 +50,68 @@ fn goes(world: &mut RenameWorld<Fixed<Global>, Global>, row: &Row) -> bool {
     }
 }
 
-/// The names of two in a new world, who go as the rows say.
-fn names_in(rt: &impl Abort, world: &mut RenameWorld<Fixed<Global>, Global>) -> [Option<u64>; 2] {
+/// Two go as the rows say, and have the names that they told last.
+fn two_go(rt: &impl Abort, world: &mut RenameWorld<Fixed<Global>, Global>) {
     same(rt, 0, [world.begin(20), world.begin(10)], [Ok(()); 2]);
     for (i, row) in SEGMENTS.iter().enumerate() {
         same(rt, i, goes(world, row), true);
     }
-    [world.name_of(10), world.name_of(20)]
+    same(
+        rt,
+        2,
+        [world.name_of(10), world.name_of(20)],
+        [Some(2), Some(3)],
+    );
 }
 
-/// The same where the world is made first.
-fn two_go(rt: &impl Abort, alloc: Global) -> Result<[Option<u64>; 2], Refusal> {
-    let config = Config::new(WorldKind::Rename, 2, 4, 2)?;
-    let mut world = RenameWorld::<Fixed<Global>, Global>::new(alloc, config)?;
-    Ok(names_in(rt, &mut world))
-}
-
-#[test]
-fn two_over_segments_in_a_row(rt: HostRuntime) {
-    same(&rt, 2, two_go(&rt, rt.alloc()), Ok([Some(2), Some(3)]));
-}
-
-/// What the first to begin is answered in a new world for so many over a grid, which keeps the law, or why there is none.
-fn begun_over_a_grid(alloc: Global, most: u64) -> Result<(), Refusal> {
-    let config = Config::new(WorldKind::Rename, most, 4, 1)?;
-    let mut world = RenameWorld::<Grid<Global>, Global>::new(alloc, config)?;
-    grid_rename_law(&world);
-    world.begin(7)
-}
-
-/// The same over segments in a row.
-fn begun_over_segments(alloc: Global, most: u64) -> Result<(), Refusal> {
-    let config = Config::new(WorldKind::Rename, most, 4, 1)?;
+/// In a new world over segments in a row for so many one begins; where it is for two, two go. Or why there is none.
+fn goes_over_segments(rt: &impl Abort, alloc: Global, most: u64) -> Result<(), Refusal> {
+    let config = Config::new(WorldKind::Rename, most, 4, 2)?;
     let mut world = RenameWorld::<Fixed<Global>, Global>::new(alloc, config)?;
     fixed_rename_law(&world);
+    if most == 2 {
+        two_go(rt, &mut world);
+        return Ok(());
+    }
     world.begin(7)
+}
+
+/// Why no world for so many is made over a grid, if none is; a new one keeps the law.
+fn made_over_a_grid(alloc: Global, most: u64) -> Result<(), Refusal> {
+    let config = Config::new(WorldKind::Rename, most, 4, 1)?;
+    let world = RenameWorld::<Grid<Global>, Global>::new(alloc, config)?;
+    grid_rename_law(&world);
+    Ok(())
 }
 
 /// The same over a tree.
-fn begun_over_a_tree(alloc: Global, most: u64) -> Result<(), Refusal> {
+fn made_over_a_tree(alloc: Global, most: u64) -> Result<(), Refusal> {
     let config = Config::new(WorldKind::Tree, most, 4, 1000)?;
-    let mut world = RenameWorld::<TreePlaces<Global>, Global>::new(alloc, config)?;
+    let world = RenameWorld::<TreePlaces<Global>, Global>::new(alloc, config)?;
     tree_rename_law(&world);
-    world.begin(7)
+    Ok(())
 }
 
+/// Over a grid and over a tree as many as there may be begin at desks, which are tried in `desk_tests`.
 #[test]
 fn worlds_of_every_size(rt: HostRuntime) {
     for most in 1..=64u64 {
-        let begun = [
-            begun_over_a_grid(rt.alloc(), most),
-            begun_over_segments(rt.alloc(), most),
-            begun_over_a_tree(rt.alloc(), most),
+        let made = [
+            made_over_a_grid(rt.alloc(), most),
+            goes_over_segments(&rt, rt.alloc(), most),
+            made_over_a_tree(rt.alloc(), most),
         ];
         let small = if most <= 16 {
             Ok(())
         } else {
             Err(Refusal::OutOfRange)
         };
-        same(&rt, most as usize, begun, [small, small, Ok(())]);
+        same(&rt, most as usize, made, [small, small, Ok(())]);
     }
 }
 
 /// Most participants, the pool's size and the round limit, and why they are refused.
-const SIZES: [(WorldKind, u64, u64, u64, Option<Refusal>); 7] = [
+const SIZES: [(WorldKind, u64, u64, u64, Option<Refusal>); 9] = [
     (WorldKind::Rename, 0, 4, 1000, Some(Refusal::OutOfRange)),
     (WorldKind::Rename, 4, 0, 1000, Some(Refusal::OutOfRange)),
     (WorldKind::Rename, 4, 65, 1000, Some(Refusal::OutOfRange)),
@@ -127,6 +125,8 @@ const SIZES: [(WorldKind, u64, u64, u64, Option<Refusal>); 7] = [
     ),
     (WorldKind::Tree, 64, 64, 1_000_000, None),
     (WorldKind::Splitter, 1, 1, 1, None),
+    (WorldKind::Splitter, 16, 64, 1_000, None),
+    (WorldKind::Grid, 16, 64, 1_000, None),
 ];
 
 #[test]

@@ -3,7 +3,7 @@
 use crate::common::same;
 use linked_list_allocator::LocalHeap;
 use splitter_tree::{Tree, TreeRegister, TreeValue};
-use std::alloc::{AllocError, Allocator, Global};
+use std::alloc::{AllocError, Allocator};
 use std::process::Abort;
 use std::test::Fail;
 use step_memory::{Access, NoMemory, Place, StepMemory};
@@ -70,21 +70,15 @@ const FULL: [Row; 5] = [
     Row::Lacking(3),
 ];
 
-/// Takes rows in turn while boxes have taken what the heap has left.
+/// Takes rows in turn while others have what the heap has left.
 fn takes_in_full(
     rt: &impl Abort,
-    alloc: Global,
     heap: &LocalHeap,
     tree: &mut Tree<&LocalHeap>,
 ) -> Result<(), AllocError> {
-    let mut boxes = Vec::new(alloc);
-    for _ in 0..512 {
-        if let Ok(filled) = Box::new(heap, [0u64; 2]) {
-            boxes.push(filled)?;
-        }
-    }
+    let others = Vec::<u8, &LocalHeap>::with_capacity(heap, heap.free())?;
     takes(rt, tree, &FULL);
-    drop(boxes);
+    drop(others);
     Ok(())
 }
 
@@ -93,7 +87,7 @@ fn a_growth_that_was_refused(rt: HostRuntime) -> Result<(), Fail> {
     let heap = LocalHeap::new(rt.alloc(), 8_192)?;
     let mut tree = Tree::new(&heap);
     takes(&rt, &mut tree, &[Row::Written(TreeRegister::Mark(1), 1)]);
-    takes_in_full(&rt, rt.alloc(), &heap, &mut tree)?;
+    takes_in_full(&rt, &heap, &mut tree)?;
     takes(
         &rt,
         &mut tree,
