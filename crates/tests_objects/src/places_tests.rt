@@ -40,12 +40,6 @@ fn two_in_a_grid(rt: &impl Abort, alloc: Global) -> Result<[Option<u64>; 3], Ref
     ])
 }
 
-#[test]
-fn two_over_a_grid(rt: HostRuntime) {
-    let due = Ok([None, Some(5), None]);
-    same(&rt, 2, two_in_a_grid(&rt, rt.alloc()), due);
-}
-
 /// 20 comes while 10 scans in a tree.
 const TWO_IN_A_TREE: &[Row] = &[
     (10, Call::Begin, Told::Done),
@@ -68,6 +62,10 @@ fn two_in_a_tree(rt: &impl Abort, alloc: Global) -> Result<(), Refusal> {
 }
 
 #[test]
-fn two_over_a_tree(rt: HostRuntime) {
-    same(&rt, 2, two_in_a_tree(&rt, rt.alloc()), Ok(()));
+fn two_over_a_grid_and_over_a_tree(rt: HostRuntime) {
+    let told = (
+        two_in_a_grid(&rt, rt.alloc()),
+        two_in_a_tree(&rt, rt.alloc()),
+    );
+    same(&rt, 2, told, (Ok([None, Some(5), None]), Ok(())));
 }

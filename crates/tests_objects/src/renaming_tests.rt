@@ -1,13 +1,10 @@
-//! Worlds of every size and kind, and two participants over segments in a row. Schedules over a grid and over a tree are tried
-//! where they are played as lines, in `tests_player`.
+//! Worlds of every size over segments in a row, and two participants there. Worlds of every size over a grid and over a tree are tried
+//! at desks, in `desk_tests`, and schedules over these where they are played as lines, in `tests_player`.
 
 use crate::common::same;
 use commands::{Config, WorldKind};
-use rename_core::{
-    RenameWorld, Reply, fixed_rename_law, grid_rename_law, next_proposal, tree_rename_law,
-};
+use rename_core::{RenameWorld, Reply, fixed_rename_law, next_proposal};
 use snapshot_core::Fixed;
-use snapshot_places::{Grid, TreePlaces};
 use std::alloc::Global;
 use std::process::Abort;
 use step_memory::{Refusal, View};
@@ -35,7 +32,7 @@ const SEGMENTS: [Row; 10] = [
     (20, 4, Reply::Named(3, ()), APART),
 ];
 
-/// Whether the steps of a row are answered as it says.
+/// Whether the steps of a row are answered as it says, and the participant then has the name that it was told, and else none.
 fn goes(world: &mut RenameWorld<Fixed<Global>, Global>, row: &Row) -> bool {
     let (id, count, last, shown) = *row;
     for _ in 1..count {
@@ -44,28 +41,27 @@ fn goes(world: &mut RenameWorld<Fixed<Global>, Global>, row: &Row) -> bool {
         }
     }
     let mut view = View::new();
-    match world.step(id) {
+    let told = match world.step(id) {
         Ok(reply) => reply.shorten(&mut view) == last && view.pairs() == shown,
         Err(_) => false,
-    }
+    };
+    let named = match last {
+        Reply::Named(name, ()) => Some(name),
+        _ => None,
+    };
+    told && world.name_of(id) == named
 }
 
-/// Two go as the rows say, and have the names that they told last.
+/// Two begin and go as the rows say.
 fn two_go(rt: &impl Abort, world: &mut RenameWorld<Fixed<Global>, Global>) {
     same(rt, 0, [world.begin(20), world.begin(10)], [Ok(()); 2]);
     for (i, row) in SEGMENTS.iter().enumerate() {
         same(rt, i, goes(world, row), true);
     }
-    same(
-        rt,
-        2,
-        [world.name_of(10), world.name_of(20)],
-        [Some(2), Some(3)],
-    );
 }
 
-/// In a new world over segments in a row for so many one begins; where it is for two, two go. Or why there is none.
-fn goes_over_segments(rt: &impl Abort, alloc: Global, most: u64) -> Result<(), Refusal> {
+/// In a new world for so many one begins; where it is for two, two go. Or why there is none.
+fn goes_on(rt: &impl Abort, alloc: Global, most: u64) -> Result<(), Refusal> {
     let config = Config::new(WorldKind::Rename, most, 4, 2)?;
     let mut world = RenameWorld::<Fixed<Global>, Global>::new(alloc, config)?;
     fixed_rename_law(&world);
@@ -76,37 +72,15 @@ fn goes_over_segments(rt: &impl Abort, alloc: Global, most: u64) -> Result<(), R
     world.begin(7)
 }
 
-/// Why no world for so many is made over a grid, if none is; a new one keeps the law.
-fn made_over_a_grid(alloc: Global, most: u64) -> Result<(), Refusal> {
-    let config = Config::new(WorldKind::Rename, most, 4, 1)?;
-    let world = RenameWorld::<Grid<Global>, Global>::new(alloc, config)?;
-    grid_rename_law(&world);
-    Ok(())
-}
-
-/// The same over a tree.
-fn made_over_a_tree(alloc: Global, most: u64) -> Result<(), Refusal> {
-    let config = Config::new(WorldKind::Tree, most, 4, 1000)?;
-    let world = RenameWorld::<TreePlaces<Global>, Global>::new(alloc, config)?;
-    tree_rename_law(&world);
-    Ok(())
-}
-
-/// Over a grid and over a tree as many as there may be begin at desks, which are tried in `desk_tests`.
 #[test]
 fn worlds_of_every_size(rt: HostRuntime) {
-    for most in 1..=64u64 {
-        let made = [
-            made_over_a_grid(rt.alloc(), most),
-            goes_over_segments(&rt, rt.alloc(), most),
-            made_over_a_tree(rt.alloc(), most),
-        ];
-        let small = if most <= 16 {
-            Ok(())
-        } else {
+    for most in 0..18u64 {
+        let due = if most == 0 || most == 17 {
             Err(Refusal::OutOfRange)
+        } else {
+            Ok(())
         };
-        same(&rt, most as usize, made, [small, small, Ok(())]);
+        same(&rt, most as usize, goes_on(&rt, rt.alloc(), most), due);
     }
 }
 

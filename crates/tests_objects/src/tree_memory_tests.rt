@@ -70,15 +70,21 @@ const FULL: [Row; 5] = [
     Row::Lacking(3),
 ];
 
-/// Takes rows in turn while others have what the heap has left.
-fn takes_in_full(
+/// Takes rows in turn, of which others have what the heap has left, and then again nothing.
+fn takes_beside(
     rt: &impl Abort,
     heap: &LocalHeap,
     tree: &mut Tree<&LocalHeap>,
 ) -> Result<(), AllocError> {
+    takes(rt, tree, &[Row::Written(TreeRegister::Mark(1), 1)]);
     let others = Vec::<u8, &LocalHeap>::with_capacity(heap, heap.free())?;
     takes(rt, tree, &FULL);
     drop(others);
+    takes(
+        rt,
+        tree,
+        &[Row::Written(TreeRegister::Mark(3), 1), Row::There(3)],
+    );
     Ok(())
 }
 
@@ -86,12 +92,6 @@ fn takes_in_full(
 fn a_growth_that_was_refused(rt: HostRuntime) -> Result<(), Fail> {
     let heap = LocalHeap::new(rt.alloc(), 8_192)?;
     let mut tree = Tree::new(&heap);
-    takes(&rt, &mut tree, &[Row::Written(TreeRegister::Mark(1), 1)]);
-    takes_in_full(&rt, &heap, &mut tree)?;
-    takes(
-        &rt,
-        &mut tree,
-        &[Row::Written(TreeRegister::Mark(3), 1), Row::There(3)],
-    );
+    takes_beside(&rt, &heap, &mut tree)?;
     Ok(())
 }

@@ -174,19 +174,18 @@ fn goes_past(world: &mut TreeWorld<Global>, passed: u64, place: Place) -> bool {
     answers(world, id, Call::Begin, Told::Done)
         && goes(world, &(steps, id, Call::Step, Told::Placed(place)))
         && answers(world, id, Call::Step, Told::Refused(Refusal::Finished))
+        && answers(world, id, Call::Place, Told::Placed(place))
 }
 
+/// Each goes right of those before it, from node 1 to node 2^64 - 1.
 #[test]
 fn sixty_four_down_the_deepest_walk(rt: HostRuntime) -> Result<(), Fail> {
     let mut world = TreeWorld::new(rt.alloc(), 64)?;
-    let mut place: Place = 1;
     for passed in 0..64u64 {
+        let place = Place::from(u64::MAX >> (63 - passed));
         let past = goes_past(&mut world, passed, place);
         same(&rt, passed as usize, past, true);
-        place = place.saturating_mul(2).saturating_add(1);
     }
-    let deepest = world.place_of(64);
-    same(&rt, 64, deepest, Some(18_446_744_073_709_551_615));
     Ok(())
 }
 
@@ -208,16 +207,17 @@ fn a_walk_as_a_program(rt: HostRuntime) {
         (TreeRegister::X(1), Some(9), Answer::Done),
         (TreeRegister::Y(1), None, Answer::Value(TreeValue::Word(1))),
     ];
-    for (i, (at, word, got)) in rows.iter().enumerate() {
-        let is_next = is_access(walker.next(), *at, *word);
-        let told = (is_next, take(&mut walker, *got));
-        same(&rt, i, told, (true, Note::Quiet));
+    let mut are_next = true;
+    for (at, word, got) in &rows {
+        are_next = are_next && is_access(walker.next(), *at, *word);
+        are_next = are_next && take(&mut walker, *got) == Note::Quiet;
     }
     let told = [
+        are_next,
         is_access(walker.next(), TreeRegister::Mark(3), Some(1)),
         walker.place().is_none(),
         matches!(take(&mut client, Answer::Done), Note::Quiet),
         client.is_placing(),
     ];
-    same(&rt, 3, told, [true; 4]);
+    same(&rt, 3, told, [true; 5]);
 }
