@@ -1,7 +1,7 @@
 //! Desks of every size and limit, one who steps alone at a desk wherever another has stopped, and views beside replies. What a desk
 //! answers to whole schedules is tried where they are played as lines, in `tests_player`.
 
-use crate::common::same;
+use crate::common::{lent, same};
 use commands::{Config, Event, Reply, WorldKind};
 use desk::{Desk, law_of_desk, law_of_names};
 use std::alloc::Global;
@@ -27,8 +27,7 @@ fn goes_so(
     trial: Trial,
 ) -> Result<bool, Refusal> {
     let config = Config::new(world, m, k, 1_000)?;
-    let mut desk = Desk::new(alloc, config)?;
-    Ok(goes(&mut desk, config, trial))
+    lent(Desk::new(alloc, config), |desk| goes(desk, config, trial))
 }
 
 /// The same where the desk was made.
