@@ -38,26 +38,13 @@ fn one_to_127_names(rt: HostRuntime) {
     }
 }
 
-/// What is due of these tries: the first alone is granted.
-const DUE: [Granted; 9] = [
-    Some((3, 20)),
-    None,
-    None,
-    None,
-    None,
-    None,
-    None,
-    None,
-    None,
-];
-
-/// What a reader is granted where 1 is held by 10 and 3 by 20.
-fn tries(board: &Board<Global>, reader: &mut ReaderSeat) -> [Granted; 9]
+/// What a reader is granted where 1 is held by 10 and 3 by 20: of the name that is held, and of others.
+fn tries(board: &Board<Global>, reader: &mut ReaderSeat) -> (Granted, [Granted; 8])
     requires { reader.old.board ≡ board.now }
 {
-    // Held by it, held by another, free, past the last, the least that is no name, and nobody's.
-    [
-        granted(board.confirm(reader, 3, 20)),
+    let held = granted(board.confirm(reader, 3, 20));
+    // Held by another, free, past the last, the least that is no name, and nobody's.
+    let others = [
         granted(board.confirm(reader, 1, 20)),
         granted(board.confirm(reader, 2, 10)),
         granted(board.confirm(reader, 9, 10)),
@@ -66,7 +53,8 @@ fn tries(board: &Board<Global>, reader: &mut ReaderSeat) -> [Granted; 9]
         granted(board.post(reader, 0, 10)),
         granted(board.post(reader, 4, 10)),
         granted(board.post(reader, 2, 0)),
-    ]
+    ];
+    (held, others)
 }
 
 /// The owners of a name that is held, of one that is free, and of the numbers next to the names.
@@ -85,7 +73,8 @@ fn looks(rt: &impl Abort, board: &Board<Global>, seat: &mut ReaderSeat)
     ensures { seat.new ≡ seat.old }
 {
     let mut third = board.reader(seat);
-    same(rt, 1, tries(board, &mut third), DUE);
+    let due = (Some((3, 20)), [None; 8]);
+    same(rt, 1, tries(board, &mut third), due);
     same(rt, 2, owners(board), [Some(20), None, None, None]);
 }
 

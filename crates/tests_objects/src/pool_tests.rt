@@ -1,7 +1,7 @@
 //! Stays in a pool of numbers, which may widen meanwhile.
 
 use crate::common::same;
-use bit_allocator::{Pool, Probe, Stay, law_of_own_accesses, law_of_pool_calls};
+use bit_allocator::{Competitor, Pool, Probe, Stay, law_of_own_accesses, law_of_pool_calls};
 use std::alloc::Global;
 use std::process::Abort;
 use step_memory::Refusal;
@@ -127,14 +127,9 @@ const SCHEDULES: &[Schedule] = &[
     },
 ];
 
-/// Who a competitor is.
-fn competing(pool: &Pool<Global>, at: usize) -> Option<u64> {
-    Some(pool.competitors().get(at)?.identity)
-}
-
 /// The number that a competitor has settled on.
-fn settled(pool: &Pool<Global>, at: usize) -> Option<u64> {
-    match pool.competitors().get(at)?.stay {
+fn settled(competitor: &Competitor) -> Option<u64> {
+    match competitor.stay {
         Stay::Settled(number) => Some(u64::from(number)),
         Stay::Seeking(_) => None,
     }
@@ -145,8 +140,14 @@ fn told(pool: &Pool<Global>, call: &Call) -> Answer {
     match *call {
         Call::Number(id) => Ok(Some(u64::from(pool.number_of(id)?))),
         Call::Holder(number) => Ok(pool.holder_of(number)),
-        Call::Competitor(at) => Ok(competing(pool, at)),
-        Call::Settled(at) => Ok(settled(pool, at)),
+        Call::Competitor(at) => Ok(match pool.competitors().get(at) {
+            Some(competitor) => Some(competitor.identity),
+            None => None,
+        }),
+        Call::Settled(at) => Ok(match pool.competitors().get(at) {
+            Some(competitor) => settled(competitor),
+            None => None,
+        }),
         _ => Ok(Some(pool.size())),
     }
 }

@@ -1,6 +1,6 @@
 //! Worked examples of `splitter_tree`: walks, stores and collects of one to three participants, and refusals.
 
-use crate::common::{same, take};
+use crate::common::{lent, same, take};
 use splitter_tree::{
     Client, TreeRegister, TreeValue, TreeWorld, Walker, law_of_collect_calls, law_of_collects,
     law_of_collects_at_places, law_of_nodes_and_walks, law_of_own_accesses, law_of_places,
@@ -8,7 +8,6 @@ use splitter_tree::{
 };
 use std::alloc::Global;
 use std::process::Abort;
-use std::test::Fail;
 use step_memory::{Access, Answer, Note, Place, Refusal, StepProgram, View};
 
 /// A call.
@@ -177,16 +176,21 @@ fn goes_past(world: &mut TreeWorld<Global>, passed: u64, place: Place) -> bool {
         && answers(world, id, Call::Place, Told::Placed(place))
 }
 
-/// Each goes right of those before it, from node 1 to node 2^64 - 1.
-#[test]
-fn sixty_four_down_the_deepest_walk(rt: HostRuntime) -> Result<(), Fail> {
-    let mut world = TreeWorld::new(rt.alloc(), 64)?;
+/// Whether each goes right of those before it, from node 1 to node 2^64 - 1.
+fn go_right(world: &mut TreeWorld<Global>) -> bool {
     for passed in 0..64u64 {
         let place = Place::from(u64::MAX >> (63 - passed));
-        let past = goes_past(&mut world, passed, place);
-        same(&rt, passed as usize, past, true);
+        if !goes_past(world, passed, place) {
+            return false;
+        }
     }
-    Ok(())
+    true
+}
+
+#[test]
+fn sixty_four_down_the_deepest_walk(rt: HostRuntime) {
+    let world = TreeWorld::new(rt.alloc(), 64);
+    same(&rt, 64, lent(world, go_right), Ok(true));
 }
 
 /// Whether an access writes this word to the register, or with none reads it.
