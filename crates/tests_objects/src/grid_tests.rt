@@ -1,11 +1,9 @@
 //! How the doors of a grid are numbered, walks one after another, and a walk as a program. Walks of several participants are tried
 //! where they are played as lines, in `tests_player`.
 
-use crate::common::{same, take};
+use crate::common::{lent, same, take};
 use splitter_grid::{Door, GridWorld, Walker, law_of_doors_and_walks, law_of_grid_calls};
 use std::alloc::Global;
-use std::process::Abort;
-use std::test::Fail;
 use step_memory::{Access, Answer, Note, StepProgram};
 
 /// One begins and takes 64 steps, which are enough for any place.
@@ -16,23 +14,28 @@ fn goes_to_its_place(world: &mut GridWorld<Global>, id: u64) {
     }
 }
 
-/// Compares the places that 16 have, each of whom came when those before it had theirs.
-fn have_places(rt: &impl Abort, world: &GridWorld<Global>) {
+/// Whether 16 have the places of those who came when all before them had theirs.
+fn have_places(world: &GridWorld<Global>) -> bool {
     for id in 1..17u64 {
-        let due = u128::from(id * (id - 1) / 2);
-        same(rt, id as usize, world.place_of(id), Some(due));
+        if world.place_of(id) != Some(u128::from(id * (id - 1) / 2)) {
+            return false;
+        }
     }
+    world.doors_entered() == 16
+}
+
+/// Whether 16 who go one after another have their places at the end.
+fn all_go(world: &mut GridWorld<Global>) -> bool {
+    for id in 1..17 {
+        goes_to_its_place(world, id);
+    }
+    have_places(world)
 }
 
 #[test]
-fn sixteen_one_after_another(rt: HostRuntime) -> Result<(), Fail> {
-    let mut world = GridWorld::new(rt.alloc(), 16)?;
-    for id in 1..17 {
-        goes_to_its_place(&mut world, id);
-    }
-    have_places(&rt, &world);
-    same(&rt, 16, world.doors_entered(), 16);
-    Ok(())
+fn sixteen_one_after_another(rt: HostRuntime) {
+    let world = GridWorld::new(rt.alloc(), 16);
+    same(&rt, 16, lent(world, all_go), Ok(true));
 }
 
 #[test]
