@@ -1,4 +1,4 @@
-//! Desks of every size and limit, one who steps alone at a desk wherever another has stopped, and views beside replies. What a desk
+//! Desks of every size, one who steps alone at a desk wherever another has stopped, and views beside replies. What a desk
 //! answers to whole schedules is tried where they are played as lines, in `tests_player`.
 
 use crate::common::{lent, same};
@@ -65,8 +65,8 @@ fn takes_all(desk: &mut Desk<Global>, config: Config) -> bool {
 /// Sizes of a pool: the ends of the range, and some between them.
 const SIZES: [u64; 9] = [1, 2, 7, 8, 13, 16, 17, 63, 64];
 
-/// Desks of a world for so many, with pools of each size. Where names are given they are made for as many as the world may take, and
-/// elsewhere there are none.
+/// Desks of a world for so many, with pools of each size. Where names are given they are made for as many as the world may
+/// take, and elsewhere there are none.
 fn desks_for(rt: &impl Abort, alloc: Global, world: WorldKind, m: u64) {
     let due = if world.gives_names() && m <= world.most() {
         Ok(true)

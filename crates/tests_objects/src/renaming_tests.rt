@@ -1,5 +1,5 @@
-//! Worlds of every size over segments in a row, and two participants there. Worlds of every size over a grid and over a tree are tried
-//! at desks, in `desk_tests`, and schedules over these where they are played as lines, in `tests_player`.
+//! Worlds of every size over segments in a row, and two participants there. Those over a grid and over a tree are tried at
+//! desks, in `desk_tests`, and schedules over these where they are played as lines, in `tests_player`.
 
 use crate::common::same;
 use commands::{Config, WorldKind};
