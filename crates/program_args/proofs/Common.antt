@@ -15,4 +15,4 @@ pub use Rattle.program_args.specs.declared.asked.Hosting.{Hosting}
 pub use Rattle.program_args.specs.declared.asked.Playing.{Playing}
 pub use Rattle.program_args.specs.declared.asked.Serving.{Serving}
 pub use Rattle.program_args.specs.declared.asked.Showing.{Showing}
-pub use Rattle.program_args.specs.CommandLine.{slotctl_app}
+pub use Rattle.program_args.specs.CommandLine.{IsCommandOf, slotctl_app}

@@ -1,9 +1,8 @@
 //! The command line of the program, for `clap`.
 
 ghost use Rattle.std.specs.Prelude.{◌≡◌, false, IfOk};
-ghost use Rattle.clap.specs.Words.{app_of, rule_of};
-ghost use Rattle.clap.specs.declared.builder.command.Command.TheViews.{out-Command};
-ghost use Rattle.program_args.specs.CommandLine.{address_option, check_app, config_app, draw_app, draw_needs_app, flag, host_app, host_keeping_app, host_network_app, limit_option, m_option, migrate_app, needed_option, number_option, play_app, records_app, serve_app, show_app, slotctl_app, text_option, world_option};
+ghost use Rattle.clap.specs.Words.{App, Rule, app_of, rule_of, with_rule, with_subcommand};
+ghost use Rattle.program_args.specs.CommandLine.{IsCommandOf, address_option, check_app, config_app, draw_app, draw_needs_app, flag, host_app, host_keeping_app, host_network_app, limit_option, m_option, migrate_app, needed_option, number_option, play_app, port_option, records_app, serve_app, show_app, slotctl_app, text_option, world_option};
 
 use clap::builder::ValueParser;
 use clap::{Arg, ArgAction, Command};
@@ -124,6 +123,21 @@ fn limit_option<'a>(alloc: Global) -> Arg<'a>
     )
 }
 
+// `--port NUMBER`.
+fn port_option<'a>(alloc: Global) -> Arg<'a>
+    ensures rule { rule_of result ≡ port_option }
+    ensures local { result.global ≡ false }
+{
+    number_option(
+        alloc,
+        "port",
+        0,
+        65_535,
+        "0",
+        "the port, or 0 for one that is free",
+    )
+}
+
 // An option with no value.
 fn flag<'a>(alloc: Global, name: &'a str, help: &'a str) -> Arg<'a>
     ensures rule { rule_of result ≡ flag name.now }
@@ -162,6 +176,29 @@ fn text_option<'a>(alloc: Global, name: &'a str, value: &'a str, help: &'a str) 
         .help(help)
 }
 
+// A command with one option more, where it was made. What makes a command passes it on as it was made, so that it is dropped
+// here alone, and not at each way out of each of them.
+fn add_option<'a>(
+    made: Result<Command<'a>, AllocError>,
+    option: Arg<'a>,
+) -> Result<Command<'a>, AllocError>
+    ensures { (app : App) (rule : Rule) → IfOk made.entry (IsCommandOf app) → rule_of option.entry ≡ rule → option.entry.global ≡ false →
+        IfOk result (IsCommandOf (with_rule app rule)) }
+{
+    made?.arg(option)
+}
+
+// A program with one subcommand more, where both were made.
+fn add_subcommand<'a>(
+    program: Result<Command<'a>, AllocError>,
+    made: Result<Command<'a>, AllocError>,
+) -> Result<Command<'a>, AllocError>
+    ensures { (app : App) (sub : App) → IfOk program.entry (λ c. app_of c ≡ app) → IfOk made.entry (IsCommandOf sub) →
+        IfOk result (λ c. app_of c ≡ with_subcommand app sub.top) }
+{
+    program?.subcommand(made?)
+}
+
 // A subcommand with a world and all its sizes.
 fn config_command<'a>(
     alloc: Global,
@@ -170,87 +207,89 @@ fn config_command<'a>(
     examples: &'a str,
     worlds: &'a str,
 ) -> Result<Command<'a>, AllocError>
-    ensures app { IfOk result (λ c. app_of c ≡ config_app name.now) }
-    ensures local { IfOk result (λ c. (out-Command c).has_globals ≡ false) }
+    ensures { IfOk result (IsCommandOf (config_app name.now)) }
 {
-    Command::new(alloc, name)
-        .about(about)
-        .after_help(examples)
-        .arg(world_option(alloc, worlds))?
-        .arg(m_option(alloc))?
-        .arg(number_option(alloc, "k", 1, 64, "4", "the size of the pool, from 1 to 64"))?
-        .arg(limit_option(alloc))
+    let made = Ok(Command::new(alloc, name).about(about).after_help(examples));
+    let made = add_option(made, world_option(alloc, worlds));
+    let made = add_option(made, m_option(alloc));
+    let size = number_option(alloc, "k", 1, 64, "4", "the size of the pool, from 1 to 64");
+    let made = add_option(made, size);
+    add_option(made, limit_option(alloc))
 }
 
 // The subcommand `play` with its options.
 fn play_command<'a>(alloc: Global) -> Result<Command<'a>, AllocError>
-    ensures app { IfOk result (λ c. app_of c ≡ play_app) }
-    ensures local { IfOk result (λ c. (out-Command c).has_globals ≡ false) }
+    ensures { IfOk result (IsCommandOf play_app) }
 {
-    config_command(
+    let made = config_command(
         alloc,
         "play",
         "Plays the commands of the standard input, and writes a reply to each",
         PLAY_EXAMPLES,
         ANY_WORLD,
-    )?
-    .arg(flag(
+    );
+    let record = flag(
         alloc,
         "record",
         "writes the record of the run in place of the replies",
-    ))
+    );
+    add_option(made, record)
 }
 
 // What `draw` has to be told.
 fn draw_needs<'a>(alloc: Global) -> Result<Command<'a>, AllocError>
-    ensures app { IfOk result (λ c. app_of c ≡ draw_needs_app) }
-    ensures local { IfOk result (λ c. (out-Command c).has_globals ≡ false) }
+    ensures { IfOk result (IsCommandOf draw_needs_app) }
 {
-    Command::new(alloc, "draw")
-        .about("Draws schedules, and writes one, or a line for each of many that are played")
-        .after_help(DRAW_EXAMPLES)
-        .arg(needed_option(alloc, "seed", 0, u64::MAX, "the seed of the generator"))?
-        .arg(needed_option(alloc, "ids", 1, 64, "how many identities, from 1 to 64"))?
-        .arg(needed_option(
-            alloc,
-            "steps",
-            0,
-            1_000_000,
-            "how many steps, at most 1000000",
-        ))
+    let made = Ok(
+        Command::new(alloc, "draw")
+            .about("Draws schedules, and writes one, or a line for each of many that are played")
+            .after_help(DRAW_EXAMPLES),
+    );
+    let seed = needed_option(alloc, "seed", 0, u64::MAX, "the seed of the generator");
+    let made = add_option(made, seed);
+    let ids = needed_option(alloc, "ids", 1, 64, "how many identities, from 1 to 64");
+    let made = add_option(made, ids);
+    let steps = needed_option(
+        alloc,
+        "steps",
+        0,
+        1_000_000,
+        "how many steps, at most 1000000",
+    );
+    add_option(made, steps)
 }
 
 // The subcommand `draw` with its options.
 fn draw_command<'a>(alloc: Global) -> Result<Command<'a>, AllocError>
-    ensures app { IfOk result (λ c. app_of c ≡ draw_app) }
-    ensures local { IfOk result (λ c. (out-Command c).has_globals ≡ false) }
+    ensures { IfOk result (IsCommandOf draw_app) }
 {
-    draw_needs(alloc)?
-        .arg(number_option(
-            alloc,
-            "runs",
-            0,
-            1_000,
-            "0",
-            "how many are played, at most 1000",
-        ))?
-        .arg(number_option(
-            alloc,
-            "jobs",
-            0,
-            64,
-            "0",
-            "how many are played at once, at most 64, or 0 for as many as there are processors",
-        ))?
-        .arg(world_option(alloc, WORLD_OF_NAMES))?
-        .arg(m_option(alloc))?
-        .arg(limit_option(alloc))
+    let made = draw_needs(alloc);
+    let runs = number_option(
+        alloc,
+        "runs",
+        0,
+        1_000,
+        "0",
+        "how many are played, at most 1000",
+    );
+    let made = add_option(made, runs);
+    let jobs = number_option(
+        alloc,
+        "jobs",
+        0,
+        64,
+        "0",
+        "how many are played at once, at most 64, or 0 for as many as there are processors",
+    );
+    let made = add_option(made, jobs);
+    let made = add_option(made, world_option(alloc, WORLD_OF_NAMES));
+    let made = add_option(made, m_option(alloc));
+    add_option(made, limit_option(alloc))
 }
 
 // The subcommand `check`, which has no options.
 fn check_command<'a>(alloc: Global) -> Command<'a>
-    ensures app { app_of result ≡ check_app }
-    ensures local { (out-Command result).has_globals ≡ false }
+    ensures { IsCommandOf check_app result }
 {
     Command::new(alloc, "check")
         .about("Checks the record of the standard input, and writes its verdict")
@@ -259,8 +298,7 @@ fn check_command<'a>(alloc: Global) -> Command<'a>
 
 // The subcommand `migrate`, which has no options.
 fn migrate_command<'a>(alloc: Global) -> Command<'a>
-    ensures app { app_of result ≡ migrate_app }
-    ensures local { (out-Command result).has_globals ≡ false }
+    ensures { IsCommandOf migrate_app result }
 {
     Command::new(alloc, "migrate")
         .about("Writes the record of the standard input again, in version 2")
@@ -269,179 +307,176 @@ fn migrate_command<'a>(alloc: Global) -> Command<'a>
 
 // The subcommand `show` with its options.
 fn show_command<'a>(alloc: Global) -> Result<Command<'a>, AllocError>
-    ensures app { IfOk result (λ c. app_of c ≡ show_app) }
-    ensures local { IfOk result (λ c. (out-Command c).has_globals ≡ false) }
+    ensures { IfOk result (IsCommandOf show_app) }
 {
-    Command::new(alloc, "show")
-        .about("Writes the record of the standard input as a page that shows its run")
-        .after_help(SHOW_EXAMPLES)
-        .arg(number_option(
-            alloc,
-            "from",
-            1,
-            1_000_000,
-            "1",
-            "the first event that is shown, from 1 to 1000000",
-        ))?
-        .arg(number_option(
-            alloc,
-            "count",
-            1,
-            1_000_000,
-            "1000",
-            "how many events are shown, from 1 to 1000000",
-        ))
+    let made = Ok(
+        Command::new(alloc, "show")
+            .about("Writes the record of the standard input as a page that shows its run")
+            .after_help(SHOW_EXAMPLES),
+    );
+    let from = number_option(
+        alloc,
+        "from",
+        1,
+        1_000_000,
+        "1",
+        "the first event that is shown, from 1 to 1000000",
+    );
+    let made = add_option(made, from);
+    let count = number_option(
+        alloc,
+        "count",
+        1,
+        1_000_000,
+        "1000",
+        "how many events are shown, from 1 to 1000000",
+    );
+    add_option(made, count)
 }
 
 // The subcommand `serve` with its options.
 fn serve_command<'a>(alloc: Global) -> Result<Command<'a>, AllocError>
-    ensures app { IfOk result (λ c. app_of c ≡ serve_app) }
-    ensures local { IfOk result (λ c. (out-Command c).has_globals ≡ false) }
+    ensures { IfOk result (IsCommandOf serve_app) }
 {
-    config_command(
+    let made = config_command(
         alloc,
         "serve",
         "Serves the commands of connections to 127.0.0.1, over one hall",
         SERVE_EXAMPLES,
         WORLD_OF_NAMES,
-    )?
-    .arg(number_option(
-        alloc,
-        "port",
-        0,
-        65_535,
-        "0",
-        "the port, or 0 for one that is free",
-    ))?
-    .arg(number_option(
+    );
+    let made = add_option(made, port_option(alloc));
+    let workers = number_option(
         alloc,
         "workers",
         1,
         16,
         "2",
         "how many connections are served at once, from 1 to 16",
-    ))?
-    .arg(number_option(
+    );
+    let made = add_option(made, workers);
+    let count = number_option(
         alloc,
         "count",
         1,
         1_000_000,
         "1",
         "how many connections are served, from 1 to 1000000",
-    ))
+    );
+    add_option(made, count)
 }
 
 // The subcommand `host`, with the options of what is listened on and who is served.
 fn host_network<'a>(alloc: Global) -> Result<Command<'a>, AllocError>
-    ensures app { IfOk result (λ c. app_of c ≡ host_network_app) }
-    ensures local { IfOk result (λ c. (out-Command c).has_globals ≡ false) }
+    ensures { IfOk result (IsCommandOf host_network_app) }
 {
-    config_command(
+    let made = config_command(
         alloc,
         "host",
         "Hosts a hall: clients of a socket in one thread, with a journal or a log",
         HOST_EXAMPLES,
         WORLD_OF_NAMES,
-    )?
-    .arg(address_option(alloc))?
-    .arg(number_option(
-        alloc,
-        "port",
-        0,
-        65_535,
-        "0",
-        "the port, or 0 for one that is free",
-    ))?
-    .arg(number_option(
+    );
+    let made = add_option(made, address_option(alloc));
+    let made = add_option(made, port_option(alloc));
+    let clients = number_option(
         alloc,
         "clients",
         1,
         1_000_000,
         "10000",
         "how many clients are served at once, from 1 to 1000000",
-    ))
+    );
+    add_option(made, clients)
 }
 
 // The subcommand `host`, with the options of where its history is kept.
 fn host_keeping<'a>(alloc: Global) -> Result<Command<'a>, AllocError>
-    ensures app { IfOk result (λ c. app_of c ≡ host_keeping_app) }
-    ensures local { IfOk result (λ c. (out-Command c).has_globals ≡ false) }
+    ensures { IfOk result (IsCommandOf host_keeping_app) }
 {
-    host_network(alloc)?
-        .arg(number_option(
-            alloc,
-            "idle",
-            0,
-            31_536_000,
-            "0",
-            "after how many seconds a client that says nothing is closed, or 0 for never",
-        ))?
-        .arg(text_option(
-            alloc,
-            "journal",
-            "FILE",
-            "the file of the journal, made where it is missing; without one the history ends with the program",
-        ))?
-        .arg(text_option(
-            alloc,
-            "etcd",
-            "MEMBERS",
-            "the members of etcd that hold the history in place of a journal, as 10.0.0.1:2379,10.0.0.2:2379 (no names are looked up)",
-        ))?
-        .arg(text_option(
-            alloc,
-            "prefix",
-            "NAME",
-            "what the keys of the history in etcd begin with; all servers of one hall have the same, and nothing is deleted there",
-        ))
+    let made = host_network(alloc);
+    let idle = number_option(
+        alloc,
+        "idle",
+        0,
+        31_536_000,
+        "0",
+        "after how many seconds a client that says nothing is closed, or 0 for never",
+    );
+    let made = add_option(made, idle);
+    let journal = text_option(
+        alloc,
+        "journal",
+        "FILE",
+        "the file of the journal, made where it is missing; without one the history ends with the program",
+    );
+    let made = add_option(made, journal);
+    let etcd = text_option(
+        alloc,
+        "etcd",
+        "MEMBERS",
+        "the members of etcd that hold the history in place of a journal, as 10.0.0.1:2379,10.0.0.2:2379 (no names are looked up)",
+    );
+    let made = add_option(made, etcd);
+    let prefix = text_option(
+        alloc,
+        "prefix",
+        "NAME",
+        "what the keys of the history in etcd begin with; all servers of one hall have the same, and nothing is deleted there",
+    );
+    add_option(made, prefix)
 }
 
 // The subcommand `host` with its options.
 fn host_command<'a>(alloc: Global) -> Result<Command<'a>, AllocError>
-    ensures app { IfOk result (λ c. app_of c ≡ host_app) }
-    ensures local { IfOk result (λ c. (out-Command c).has_globals ≡ false) }
+    ensures { IfOk result (IsCommandOf host_app) }
 {
-    host_keeping(alloc)?
-        .arg(number_option(
-            alloc,
-            "patience",
-            1,
-            3_600,
-            "10",
-            "for how many seconds clients wait while etcd does not answer, before they are closed",
-        ))?
-        .arg(flag(
-            alloc,
-            "export",
-            "writes the accepted events of the history in etcd as commands, and serves nobody",
-        ))?
-        .arg(flag(
-            alloc,
-            "verbose",
-            "tells on standard error once a minute how many clients, events and bytes there are",
-        ))
+    let made = host_keeping(alloc);
+    let patience = number_option(
+        alloc,
+        "patience",
+        1,
+        3_600,
+        "10",
+        "for how many seconds clients wait while etcd does not answer, before they are closed",
+    );
+    let made = add_option(made, patience);
+    let export = flag(
+        alloc,
+        "export",
+        "writes the accepted events of the history in etcd as commands, and serves nobody",
+    );
+    let made = add_option(made, export);
+    let verbose = flag(
+        alloc,
+        "verbose",
+        "tells on standard error once a minute how many clients, events and bytes there are",
+    );
+    add_option(made, verbose)
 }
 
 // The program with its subcommands of runs and records, one of which has to be given.
 fn records_command<'a>(alloc: Global) -> Result<Command<'a>, AllocError>
     ensures { IfOk result (λ c. app_of c ≡ records_app) }
 {
-    Command::new(alloc, "slotctl")
-        .version(VERSION)
-        .about("Plays schedules of shared-memory algorithms, one access a step")
-        .subcommand_required(true)
-        .subcommand(play_command(alloc)?)?
-        .subcommand(check_command(alloc))?
-        .subcommand(migrate_command(alloc))?
-        .subcommand(show_command(alloc)?)
+    let made = Ok(
+        Command::new(alloc, "slotctl")
+            .version(VERSION)
+            .about("Plays schedules of shared-memory algorithms, one access a step")
+            .subcommand_required(true),
+    );
+    let made = add_subcommand(made, play_command(alloc));
+    let made = add_subcommand(made, Ok(check_command(alloc)));
+    let made = add_subcommand(made, Ok(migrate_command(alloc)));
+    add_subcommand(made, show_command(alloc))
 }
 
 /// The program with its subcommands, one of which has to be given.
 pub fn slotctl_command<'a>(alloc: Global) -> Result<Command<'a>, AllocError>
     ensures { IfOk result (λ c. app_of c ≡ slotctl_app) }
 {
-    records_command(alloc)?
-        .subcommand(draw_command(alloc)?)?
-        .subcommand(serve_command(alloc)?)?
-        .subcommand(host_command(alloc)?)
+    let made = records_command(alloc);
+    let made = add_subcommand(made, draw_command(alloc));
+    let made = add_subcommand(made, serve_command(alloc));
+    add_subcommand(made, host_command(alloc))
 }

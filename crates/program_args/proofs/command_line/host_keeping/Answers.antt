@@ -1,20 +1,8 @@
-use Rattle.std.proofs.Common.{ap₂, ◌||◌, ◌∙◌}
-use Rattle.program_args.proofs.Common.{IfOk-weaker, with_rule}
 use Rattle.program_args.proofs.command_line.host_keeping.Goals as goal
 
 pub returns : goal.returns
 returns c =
-    let network = c.in_ok-host_network.ensures in
-    let first = c.in_ok-arg.ensures in
-    let with_idle = first.shape c.number_option.ensures.local ∙ ap₂ with_rule network.app c.number_option.ensures.rule in
-    let idle_local = first.globals ∙ ap₂ ◌||◌ network.local c.number_option.ensures.local in
-    let second = c.in_ok-arg-2.ensures in
-    let with_journal = second.shape c.text_option.ensures.local ∙ ap₂ with_rule with_idle c.text_option.ensures.rule in
-    let journal_local = second.globals ∙ ap₂ ◌||◌ idle_local c.text_option.ensures.local in
-    let third = c.in_ok-arg-3.ensures in
-    let with_etcd = third.shape c.text_option-2.ensures.local ∙ ap₂ with_rule with_journal c.text_option-2.ensures.rule in
-    let etcd_local = third.globals ∙ ap₂ ◌||◌ journal_local c.text_option-2.ensures.local in
-    record {
-      app = IfOk-weaker c.arg-4.result _ _ (λ r h. h.shape c.text_option-3.ensures.local ∙ ap₂ with_rule with_etcd c.text_option-3.ensures.rule) c.arg-4.ensures;
-      local = IfOk-weaker c.arg-4.result _ _ (λ r h. h.globals ∙ ap₂ ◌||◌ etcd_local c.text_option-3.ensures.local) c.arg-4.ensures;
-    }
+    let with_idle = c.add_option-made.ensures _ _ c.host_network-made.ensures c.number_option-idle.ensures.rule c.number_option-idle.ensures.local in
+    let with_journal = c.add_option-made-2.ensures _ _ with_idle c.text_option-journal.ensures.rule c.text_option-journal.ensures.local in
+    let with_etcd = c.add_option-made-3.ensures _ _ with_journal c.text_option-etcd.ensures.rule c.text_option-etcd.ensures.local in
+    c.add_option.ensures _ _ with_etcd c.text_option-prefix.ensures.rule c.text_option-prefix.ensures.local
