@@ -115,8 +115,11 @@ takes_the_end turns left left' s s' gave end empty t = record {
 }
 
 -- nothing comes
-pub takes_no_end : (left left' : Option (List ℕ)) (s s' : WireState) → Consumes left left' [] → s' ≡ s → TakesEnd [] left s left' s'
-takes_no_end left left' s s' gave is = subst (λ (x : WireState). TakesEnd [] left s left' x) (sym is) (record { takes = takes_idle left left' s gave; none = refl })
+pub takes_no_end : (left left' : Option (List ℕ)) (s s' : WireState) → Consumes left left' [] → s' ≡ record s { broken = s'.broken } → (s'.broken ≡ false → s.broken ≡ false) → TakesEnd [] left s left' s'
+takes_no_end left left' s s' gave is whole = record {
+  takes = takes_none left left' s s' gave (ap (λ (q : WireState). q.talker) is) (ap (λ (q : WireState). q.ended) is) (λ h. (ap (λ (q : WireState). q.inbox) is, ap (λ (q : WireState). q.outbox) is, whole h));
+  none = refl;
+}
 
 -- what comes is not taken, and it is at fault
 pub takes_fault : (left left' : Option (List ℕ)) (came : List ℕ) (s s' : WireState) → length came ≤ 65536 → Consumes left left' came → s' ≡ record s { broken = true } → TakesEnd [] left s left' s'

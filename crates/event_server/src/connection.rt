@@ -20,7 +20,7 @@ use crate::wire::{MOST_LINES, UNSENT_ROOM, Wire};
 use commands::WorldKind;
 use player::{Service, TURN_ROOM};
 use std::alloc::Allocator;
-use std::io::ErrorKind;
+use std::io::{self, ErrorKind};
 
 /// Where a connection stands in a turn of the loop.
 #[derive(Clone, Copy, Debug, Drop, PartialEq, Eq)]
@@ -164,9 +164,7 @@ impl<S: Stream, A: Allocator> Connection<S, A> {
                 .wire
                 .finish(rt, service, &mut room.view, &mut room.replies),
             Ok(_) => self.wire.fail(),
-            Err(e) if e.kind() == ErrorKind::WouldBlock => self.readable = false,
-            Err(e) if e.kind() == ErrorKind::Interrupted => {}
-            Err(_) => self.wire.fail(),
+            Err(fault) => self.note_fault(&fault),
         }
     }
 
@@ -219,6 +217,21 @@ impl<S: Stream, A: Allocator> Connection<S, A> {
         self.readable = false;
         if let Some(look) = &mut self.look {
             look.at_end = true;
+        }
+    }
+
+    // A read gave nothing: it may give something later, or else it is at fault.
+    fn note_fault(&mut self, fault: &io::Error)
+        ensures wire { self.new.wire ≡ record self.old.wire { broken = self.new.wire.broken } }
+        ensures whole { self.new.wire.broken ≡ false → self.old.wire.broken ≡ false }
+        ensures stream { self.new.stream ≡ self.old.stream }
+        ensures stage { self.new.stage ≡ self.old.stage }
+        ensures look { self.new.look ≡ self.old.look }
+    {
+        match fault.kind() {
+            ErrorKind::WouldBlock => self.readable = false,
+            ErrorKind::Interrupted => {}
+            _ => self.wire.fail(),
         }
     }
 
@@ -289,9 +302,7 @@ impl<S: Stream, A: Allocator> Connection<S, A> {
                 self.readable = self.hung || count == free;
                 self.wire.add(&chunk[..count]);
             }
-            Err(e) if e.kind() == ErrorKind::WouldBlock => self.readable = false,
-            Err(e) if e.kind() == ErrorKind::Interrupted => {}
-            Err(_) => self.wire.fail(),
+            Err(fault) => self.note_fault(&fault),
         }
     }
 
@@ -322,9 +333,7 @@ impl<S: Stream, A: Allocator> Connection<S, A> {
                     &mut room.replies,
                 );
             }
-            Err(e) if e.kind() == ErrorKind::WouldBlock => self.readable = false,
-            Err(e) if e.kind() == ErrorKind::Interrupted => {}
-            Err(_) => self.wire.fail(),
+            Err(fault) => self.note_fault(&fault),
         }
     }
 

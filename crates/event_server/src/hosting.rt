@@ -16,7 +16,7 @@ use mio::unix::SourceFd;
 use mio::{Events, Interest, Poll, Token};
 use player::Service;
 use std::alloc::Global;
-use std::io::{ErrorKind, Write};
+use std::io::{self, ErrorKind, Write};
 use std::net::{Net, SocketAddr};
 use std::rt::Clock;
 use std::sync::Wait;
@@ -110,6 +110,18 @@ where
     hosting.run(rt, service, keep, output, errors)
 }
 
+// A listener at an address, of which it is told who waits there, and of standard input when it ends.
+fn listen<R: Net>(rt: &R, poll: &Poll, address: SocketAddr) -> io::Result<TcpListener> {
+    let mut listener = TcpListener::bind(rt, address)?;
+    poll.registry()
+        .register(&mut listener, LISTENER, Interest::READABLE)?;
+    // A file or the null device cannot be waited for, and never stops the server.
+    let _ = poll
+        .registry()
+        .register(&mut SourceFd(&0), STOPPER, Interest::READABLE);
+    Ok(listener)
+}
+
 impl Hosting {
     // Listens.
     fn new<R: Net + Clock, F>(
@@ -118,15 +130,9 @@ impl Hosting {
         options: HostOptions,
         most_ahead: Option<usize>,
     ) -> Result<Hosting, HostFault<F>> {
-        let poll = Poll::new(rt)?;
-        let mut listener = TcpListener::bind(rt, options.address)?;
-        poll.registry()
-            .register(&mut listener, LISTENER, Interest::READABLE)?;
-        // A file or the null device cannot be waited for, and never stops the server.
-        let _ = poll
-            .registry()
-            .register(&mut SourceFd(&0), STOPPER, Interest::READABLE);
         let start = Instant::now(rt)?;
+        let poll = Poll::new(rt)?;
+        let listener = listen(rt, &poll, options.address)?;
         let batch = most_ahead.map(|most| Batch::new(alloc, options.kind, most));
         Ok(Hosting {
             alloc,
@@ -161,14 +167,31 @@ impl Hosting {
             return Err(HostFault::Memory);
         };
         let mut room = Room::new(self.alloc)?;
+        self.run_over(rt, service, keep, &mut room, &mut events, output, errors)
+    }
+
+    // As `run`, over a room and a list of events that it has from there, and that are let go there.
+    fn run_over<R: Wait + Clock, D: Service<R>, K: Keep<D>, W: Write, E: Write>(
+        &mut self,
+        rt: &R,
+        service: &mut D,
+        keep: &mut K,
+        room: &mut Room<Global>,
+        events: &mut Events<Global>,
+        output: &mut W,
+        errors: &mut E,
+    ) -> Result<Hosted, HostFault<K::Fault>>
+        requires knows { (q : Request) → D.knows q ≡ true }
+        requires room { IsRoom room.old }
+    {
         self.tell_port(output)?;
         for _ in rt.forever() {
-            self.go_round(rt, service, keep, &mut room, &mut events, errors)?;
+            self.go_round(rt, service, keep, room, events, errors)?;
             if self.stop {
                 break;
             }
         }
-        self.finish(rt, service, keep, &mut room, &mut events)?;
+        self.finish(rt, service, keep, room, events)?;
         self.tell_end(output)
     }
 

@@ -1,4 +1,4 @@
-use Rattle.std.proofs.Common.{rules, ◌≤◌, [], length, take, refl, arith}
+use Rattle.std.proofs.Common.{rules, ◌≤◌, [], length, take, refl}
 use Rattle.std.specs.Io.KnownBytes.{Consumes, IsAtEnd}
 use Rattle.event_server.proofs.WireLemmas.{takes_the_end, takes_no_end, takes_fault, consumes_kept}
 use Rattle.event_server.proofs.connection.Connection.take_end.Goals as goal
@@ -19,10 +19,7 @@ returns-in-Ok-clause-takes g c =
     ([], refl, takes_fault _ _ came c.args.self.now.wire c.fail.new.self few c.in-Ok.ensures.bytes.0 c.fail.ensures)
 
 pub returns-in-Err-clause-takes : goal.returns-in-Err-clause-takes
-returns-in-Err-clause-takes g c = ([], refl, takes_no_end _ _ c.args.self.now.wire c.args.self.now.wire (consumes_kept _ _ c.in-Err.ensures.bytes) refl)
-
-pub returns-in-Err-2-clause-takes : goal.returns-in-Err-2-clause-takes
-returns-in-Err-2-clause-takes g c = ([], refl, takes_no_end _ _ c.args.self.now.wire c.args.self.now.wire (consumes_kept _ _ c.in-Err-2.ensures.bytes) refl)
-
-pub returns-in-Err-3-clause-takes : goal.returns-in-Err-3-clause-takes
-returns-in-Err-3-clause-takes g c = ([], refl, takes_fault _ _ [] c.args.self.now.wire c.fail-in-Err-3.new.self (omega arith) (consumes_kept _ _ c.in-Err-3.ensures.bytes) c.fail-in-Err-3.ensures)
+returns-in-Err-clause-takes g c =
+    let left = g.S.Stream.left c.args.self.now.stream in
+    let left' = g.S.Stream.left c.read_some.new.self in
+    ([], refl, rw c.note_fault.ensures.stream (takes_no_end left left' c.args.self.now.wire c.note_fault.new.self.wire (consumes_kept left left' c.in-Err.ensures.bytes) c.note_fault.ensures.wire c.note_fault.ensures.whole))
