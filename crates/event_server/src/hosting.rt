@@ -106,8 +106,13 @@ where
     R: Net + Wait + Clock,
     requires { (q : Request) → D.knows q ≡ true }
 {
+    // These come first, so that a server that listens is let go in one place.
+    let mut room = Room::new(alloc)?;
+    let Ok(mut events) = Events::with_capacity(alloc, EVENTS) else {
+        return Err(HostFault::Memory);
+    };
     let mut hosting = Hosting::new(rt, alloc, options, keep.most_ahead())?;
-    hosting.run(rt, service, keep, output, errors)
+    hosting.run(rt, service, keep, &mut room, &mut events, output, errors)
 }
 
 // A listener at an address, of which it is told who waits there, and of standard input when it ends.
@@ -154,24 +159,6 @@ impl Hosting {
 
     // Says where clients are listened for, goes round until it is to end, sends what waits then, and says how many were served.
     fn run<R: Wait + Clock, D: Service<R>, K: Keep<D>, W: Write, E: Write>(
-        &mut self,
-        rt: &R,
-        service: &mut D,
-        keep: &mut K,
-        output: &mut W,
-        errors: &mut E,
-    ) -> Result<Hosted, HostFault<K::Fault>>
-        requires { (q : Request) → D.knows q ≡ true }
-    {
-        let Ok(mut events) = Events::with_capacity(self.alloc, EVENTS) else {
-            return Err(HostFault::Memory);
-        };
-        let mut room = Room::new(self.alloc)?;
-        self.run_over(rt, service, keep, &mut room, &mut events, output, errors)
-    }
-
-    // As `run`, over a room and a list of events that it has from there, and that are let go there.
-    fn run_over<R: Wait + Clock, D: Service<R>, K: Keep<D>, W: Write, E: Write>(
         &mut self,
         rt: &R,
         service: &mut D,

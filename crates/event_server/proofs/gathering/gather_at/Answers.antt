@@ -1,6 +1,7 @@
+use Rattle.std.proofs.lemmas.List.{set-get_or, get_or_past}
 use Rattle.std.proofs.Common.{◌≡◌, ◌∙◌, inl, inr, None, refl, sym, subst}
-use Rattle.event_server.proofs.Common.{get_or_default, Consumes-nil, seats_of, SeatIdle, requests_seen}
-use Rattle.event_server.proofs.GatherLemmas.{gathered_at, gathers_none}
+use Rattle.event_server.proofs.Common.{get_or_default, Consumes-nil, seats_of, SeatIdle, requests_seen, Gathered}
+use Rattle.event_server.proofs.GatherLemmas.{gathered_at, gathers_none, gathered_none}
 use Rattle.event_server.proofs.ToldLemmas.{seat_looked, set_same}
 use Rattle.event_server.specs.declared.connection.Stage.TheVariants as stage
 use Rattle.event_server.proofs.gathering.gather_at.Goals as goal
@@ -38,3 +39,41 @@ returns-in-Queued-clause-looked g c =
       seat_looked (seats_of g.S.Stream.left g.S.Stream.gone) (λ q. q.look) (λ q. q.stage ≡ stage.Queued) c.args.batch.now.kind c.args.key c.args.seats.now was is (requests_seen c.args.batch.now.kind is.wire is.look) below there
           (c.gather.ensures.stage ∙ c.in-Queued.is) refl c.gather.ensures.asks,
     )
+
+pub bounds-seats-key : goal.bounds-seats-key
+bounds-seats-key g c = c.if-key-seats.true
+
+pub gather-requires : goal.gather-requires
+gather-requires g c = c.requires
+
+pub returns-in-Queued-clause-kind : goal.returns-in-Queued-clause-kind
+returns-in-Queued-clause-kind g c = refl
+
+pub returns-in-Queued-clause-room : goal.returns-in-Queued-clause-room
+returns-in-Queued-clause-room g c = c.gather.ensures.room
+
+pub returns-in_default-stage-clause-kind : goal.returns-in_default-stage-clause-kind
+returns-in_default-stage-clause-kind g c = refl
+
+pub returns-in_default-stage-clause-room : goal.returns-in_default-stage-clause-room
+returns-in_default-stage-clause-room g c = c.requires
+
+pub returns-else-key-seats : goal.returns-else-key-seats
+returns-else-key-seats g c = record {
+  gathered = gathered_none (seats_of g.S.Stream.left g.S.Stream.gone) c.args.seats.now;
+  looked = inl (refl, refl, subst (λ x. SeatIdle (λ q. q.stage ≡ stage.Queued) x) (sym (get_or_past c.args.seats.now c.args.key None c.if-key-seats.false)) tt);
+  kind = refl;
+  room = c.requires;
+}
+
+pub returns-in_default : goal.returns-in_default
+returns-in_default g c =
+    let on = seats_of g.S.Stream.left g.S.Stream.gone in
+    let back = set-get_or c.args.seats.now c.args.key c.index-seats-key.result in
+    let there = get_or_default c.args.seats.now c.args.key None c.index-seats-key.result c.if-key-seats.true ∙ c.in_default.is in
+    record {
+      gathered = subst (λ x. Gathered on c.args.seats.now x) (sym back) (gathered_none on c.args.seats.now);
+      looked = inl (refl, back, subst (λ x. SeatIdle (λ q. q.stage ≡ stage.Queued) x) (sym there) tt);
+      kind = refl;
+      room = c.requires;
+    }

@@ -1,6 +1,7 @@
-use Rattle.std.proofs.Common.{◌∙◌, [], Some, None, ap, subst, sym}
-use Rattle.event_server.proofs.Common.{get_or_default, get_or-set_same, get_or-set_other, Consumes, Consumes-nil, SeatAsks, SeatBroken, seats_of, WireState}
-use Rattle.event_server.proofs.GatherLemmas.{gathered_at, gathers_none}
+use Rattle.std.proofs.lemmas.List.{set-get_or, get_or_past}
+use Rattle.std.proofs.Common.{◌∙◌, [], Some, None, ap, subst, sym, get_or, refl}
+use Rattle.event_server.proofs.Common.{get_or_default, get_or-set_same, get_or-set_other, Consumes, Consumes-nil, SeatAsks, SeatBroken, seats_of, WireState, Gathered}
+use Rattle.event_server.proofs.GatherLemmas.{gathered_at, gathers_none, gathered_none}
 use Rattle.event_server.proofs.gathering.give_up_at.Goals as goal
 
 pub returns-in-Some : goal.returns-in-Some
@@ -19,4 +20,25 @@ returns-in-Some g c =
           (ap (λ s. g.S.Stream.gone s) c.give_up.ensures.stream);
       told = λ asks. subst (λ x. SeatBroken on x) (sym (get_or-set_same c.args.seats.now c.args.key (Some is) None below)) (c.give_up.ensures.told (subst (λ x. SeatAsks (λ q. q.look) x) there asks));
       others = λ i other. get_or-set_other c.args.seats.now c.args.key i (Some is) None other;
+    }
+
+pub bounds-seats-key : goal.bounds-seats-key
+bounds-seats-key g c = c.if-key-seats.true
+
+pub returns-else-key-seats : goal.returns-else-key-seats
+returns-else-key-seats g c = record {
+  gathered = gathered_none (seats_of g.S.Stream.left g.S.Stream.gone) c.args.seats.now;
+  told = λ asks. absurd (subst (λ x. SeatAsks (λ q. q.look) x) (get_or_past c.args.seats.now c.args.key None c.if-key-seats.false) asks);
+  others = λ i other. refl;
+}
+
+pub returns-in_default : goal.returns-in_default
+returns-in_default g c =
+    let on = seats_of g.S.Stream.left g.S.Stream.gone in
+    let back = set-get_or c.args.seats.now c.args.key c.index-seats-key.result in
+    let there = get_or_default c.args.seats.now c.args.key None c.index-seats-key.result c.if-key-seats.true ∙ c.in_default.is in
+    record {
+      gathered = subst (λ x. Gathered on c.args.seats.now x) (sym back) (gathered_none on c.args.seats.now);
+      told = λ asks. absurd (subst (λ x. SeatAsks (λ q. q.look) x) there asks);
+      others = λ i other. ap (λ x. get_or x i None) back;
     }

@@ -1,4 +1,5 @@
-use Rattle.std.proofs.Common.{◌≡◌, ◌∙◌, inr, None, sym}
+use Rattle.std.proofs.lemmas.List.{set-get_or}
+use Rattle.std.proofs.Common.{◌≡◌, ◌∙◌, inr, None, sym, inl, refl, subst, set}
 use Rattle.event_server.proofs.Common.{get_or_default, seats_of}
 use Rattle.event_server.specs.declared.connection.Stage.TheVariants as stage
 use Rattle.event_server.proofs.ToldLemmas.{seat_turn_looked}
@@ -10,3 +11,21 @@ returns-in-Queued-clause-took g c =
     inr (seat_turn_looked (seats_of g.S.Stream.left g.S.Stream.gone) (λ x. x.look) (λ x. x.stage ≡ stage.Queued) g.D.Service.may
     c.args.key c.args.service.now c.args.seats.now c.take_looked.new.service c.in-Some.connection c.take_looked.new.self below (get_or_default c.args.seats.now c.args.key None c.index-seats-key.result below ∙ c.in-Some.is) c.in-Queued.is
     (λ again. (let e : stage.Taken ≡ stage.Queued = sym c.take_looked.ensures.stage ∙ again in absurd cc)) c.take_looked.ensures.takes c.take_looked.ensures.unsent)
+
+pub bounds-seats-key : goal.bounds-seats-key
+bounds-seats-key g c = c.if-key-seats.true
+
+pub take_looked-requires : goal.take_looked-requires
+take_looked-requires g c = record { knows = c.requires.knows; room = c.requires.room }
+
+pub returns-in-Queued-clause-room : goal.returns-in-Queued-clause-room
+returns-in-Queued-clause-room g c = c.take_looked.ensures.room
+
+pub returns-else-key-seats : goal.returns-else-key-seats
+returns-else-key-seats g c = record { took = inl (refl, refl); room = c.requires.room }
+
+pub returns-in_default : goal.returns-in_default
+returns-in_default g c = record { took = inl (refl, set-get_or c.args.seats.now c.args.key c.index-seats-key.result); room = c.requires.room }
+
+pub returns-in_default-stage : goal.returns-in_default-stage
+returns-in_default-stage g c = record { took = inl (refl, subst (λ x. set c.args.seats.now c.args.key x ≡ c.args.seats.now) c.in-Some.is (set-get_or c.args.seats.now c.args.key c.index-seats-key.result)); room = c.requires.room }

@@ -1,7 +1,8 @@
 use Rattle.std.proofs.Common.{◌≡◌, Ok, ap, take}
 use Rattle.event_server.specs.declared.connection.Stage.TheVariants as stage
 use Rattle.event_server.specs.Seats.{seats_of}
-use Rattle.event_server.proofs.GatherLemmas.{gathered_unsent, gathered_more}
+use Rattle.event_server.proofs.GatherLemmas.{gathered_unsent, gathered_more, unsent_after}
+use Rattle.event_server.proofs.SeatLemmas.{so_on_err, taken_unsent}
 use Rattle.event_server.proofs.ToldLemmas.{told_broken, taken_told}
 use Rattle.event_server.proofs.gathering.turn_ahead.Goals as goal
 
@@ -35,3 +36,10 @@ returns-in-Ok-Lost-clause-unserved g c = λ called same.
 
 pub returns-in-Err-clause-unsent : goal.returns-in-Err-clause-unsent
 returns-in-Err-clause-unsent g c = gathered_unsent (seats_of g.S.Stream.left g.S.Stream.gone) c.args.seats.now c.gather-looked.new.seats c.gather-looked.ensures.gathered
+
+pub returns-in_err-keep-clause-unsent : goal.returns-in_err-keep-clause-unsent
+returns-in_err-keep-clause-unsent g c =
+    let on = seats_of g.S.Stream.left g.S.Stream.gone in
+    let k = c.take_looked.ensures.taken in
+    so_on_err c.from_residual.result _ (unsent_after on c.args.seats.now c.gather-looked.new.seats c.take_looked.new.seats c.gather-looked.ensures.gathered
+    (taken_unsent on g.D.Service.may c.learn.new.service c.gather-looked.new.seats k.0 c.take_looked.new.service c.take_looked.new.seats k.1))

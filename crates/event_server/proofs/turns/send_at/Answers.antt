@@ -1,4 +1,5 @@
-use Rattle.std.proofs.Common.{◌≡◌, ◌∙◌, inr, None, sym}
+use Rattle.std.proofs.lemmas.List.{set-get_or}
+use Rattle.std.proofs.Common.{◌≡◌, ◌∙◌, inr, None, sym, inl, refl, subst, set}
 use Rattle.event_server.proofs.Common.{get_or_default, seats_of}
 use Rattle.event_server.specs.declared.connection.Stage.TheVariants as stage
 use Rattle.event_server.proofs.SeatLemmas.{seat_sent}
@@ -12,3 +13,15 @@ returns-in-Taken g c =
           c.args.key c.args.seats.now c.in-Some.connection c.send.new.self below (get_or_default c.args.seats.now c.args.key None c.index-seats-key.result below ∙ c.in-Some.is) c.in-Taken.is
           (λ again. (let e : stage.Idle ≡ stage.Taken = sym c.send.ensures.stage ∙ again in absurd cc)) c.send.ensures.sends c.send.ensures.unread);
     }
+
+pub bounds-seats-key : goal.bounds-seats-key
+bounds-seats-key g c = c.if-key-seats.true
+
+pub returns-else-key-seats : goal.returns-else-key-seats
+returns-else-key-seats g c = record { sent = inl refl }
+
+pub returns-in_default : goal.returns-in_default
+returns-in_default g c = record { sent = inl (set-get_or c.args.seats.now c.args.key c.index-seats-key.result) }
+
+pub returns-in_default-stage : goal.returns-in_default-stage
+returns-in_default-stage g c = record { sent = inl (subst (λ x. set c.args.seats.now c.args.key x ≡ c.args.seats.now) c.in-Some.is (set-get_or c.args.seats.now c.args.key c.index-seats-key.result)) }

@@ -1,0 +1,13 @@
+use Rattle.event_server.specs.Seats.{seats_of}
+use Rattle.event_server.proofs.SeatLemmas.{so_on_err, taken_unsent}
+use Rattle.event_server.proofs.turns.turn.Goals as goal
+
+pub returns-clause-turned : goal.returns-clause-turned
+returns-clause-turned g c =
+    let t = c.take_turns-called.ensures.taken in
+    record { log = t.0; told = c.take_turns-called.new.service; between = c.take_turns-called.new.seats; taken = t.1; kept = c.in_ok-keep.ensures; sent = c.send_replies.ensures }
+
+pub returns-in_err-keep-clause-unsent : goal.returns-in_err-keep-clause-unsent
+returns-in_err-keep-clause-unsent g c =
+    let t = c.take_turns-called.ensures.taken in
+    so_on_err c.from_residual.result _ (taken_unsent (seats_of g.S.Stream.left g.S.Stream.gone) g.D.Service.may c.args.service.now c.args.seats.now t.0 c.take_turns-called.new.service c.take_turns-called.new.seats t.1)
