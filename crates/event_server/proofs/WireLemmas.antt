@@ -50,6 +50,14 @@ takes_none left left' s s' none talker ended kept = record {
 abbrev pub takes_idle : (left left' : Option (List ℕ)) (s : WireState) → Consumes left left' [] → TakesOf [] left s left' s
 takes_idle left left' s none = takes_none left left' s s none refl refl (λ h. (refl, refl, h))
 
+-- these bytes came
+pub takes_some : (turns : List Turn) (left left' : Option (List ℕ)) (came : List ℕ) (s s' : WireState) → length came ≤ 65536 → Consumes left left' came → Takes turns came false s s' → TakesOf turns left s left' s'
+takes_some turns left left' came s s' few gave t = record { came = came; ends = false; few = few; gave = gave; at_end = λ h. absurd cc; takes = t }
+
+-- the end came
+pub takes_at_end : (turns : List Turn) (left left' : Option (List ℕ)) (s s' : WireState) → Consumes left left' [] → IsAtEnd left' → Takes turns [] true s s' → TakesOf turns left s left' s'
+takes_at_end turns left left' s s' gave end t = record { came = []; ends = true; few = omega arith; gave = gave; at_end = λ h. end; takes = t }
+
 -- where what came cannot wait it is at fault
 abbrev pub takes_refused : (came : List ℕ) (s s' : WireState) → s' ≡ record s { broken = true } → Takes [] came false s s'
 takes_refused came s s' is = nothing_taken came s s' (ap (λ (q : WireState). q.talker) is) (ap (λ (q : WireState). q.ended) is) (λ h. let t : true ≡ false = sym (ap (λ (q : WireState). q.broken) is) ∙ h in absurd cc)

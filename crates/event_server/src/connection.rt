@@ -1,7 +1,8 @@
 //! A connection: its stream, and what is held of it.
 
 ghost use Rattle.std.specs.Prelude.{◌≡◌, ◌+◌, ◌++◌, ◌≤◌, true, false, List, [], length, take, drop, IsTrue};
-ghost use Rattle.std.specs.Io.KnownBytes.{Appends};
+ghost use Rattle.std.specs.Io.{ReadsAtMost};
+ghost use Rattle.std.specs.Io.KnownBytes.{Appends, ReadConsumes};
 ghost use Rattle.commands.specs.Requests.{Request};
 ghost use Rattle.player.specs.Lines.{with_ends};
 ghost use Rattle.player.specs.Runs.{Runs};
@@ -49,6 +50,17 @@ pub struct Connection<S, A: Allocator> {
     pub since: u64,
     /// What its next turn takes, where the service learns the answers before; `None` where it takes what comes.
     pub look: Option<Look>,
+}
+
+// Reads once into the room.
+fn read_into<S: Stream, B: Allocator>(stream: &mut S, room: &mut Room<B>) -> io::Result<usize>
+    requires { IsRoom room.old }
+    ensures bound { ReadsAtMost result room.new.chunk.items }
+    ensures bytes { ReadConsumes (S.left stream.old) (S.left stream.new) result room.new.chunk.items }
+    ensures same { S.gone stream.new ≡ S.gone stream.old }
+    ensures room { IsRoom room.new }
+{
+    stream.read_some(&mut room.chunk)
 }
 
 impl<S: Stream, A: Allocator> Connection<S, A> {
@@ -159,7 +171,7 @@ impl<S: Stream, A: Allocator> Connection<S, A> {
         ensures stage { self.new.stage ≡ self.old.stage }
         ensures room { IsRoom room.new }
     {
-        match self.stream.read_some(&mut room.chunk) {
+        match read_into(&mut self.stream, room) {
             Ok(0) => self
                 .wire
                 .finish(rt, service, &mut room.view, &mut room.replies),
@@ -319,7 +331,7 @@ impl<S: Stream, A: Allocator> Connection<S, A> {
         ensures stage { self.new.stage ≡ self.old.stage }
         ensures room { IsRoom room.new }
     {
-        match self.stream.read_some(&mut room.chunk) {
+        match read_into(&mut self.stream, room) {
             Ok(0) => self
                 .wire
                 .finish(rt, service, &mut room.view, &mut room.replies),

@@ -1,15 +1,53 @@
-use Rattle.std.proofs.Common.{[], refl, ap}
+use Rattle.std.proofs.Common.{rules, ◌≤◌, ◌∙◌, [], length, take, refl, ap}
+use Rattle.std.specs.Io.KnownBytes.{Consumes, IsAtEnd}
 use Rattle.event_server.specs.WireState.{WireState}
-use Rattle.event_server.proofs.WireLemmas.{takes_none, consumes_kept}
+use Rattle.event_server.proofs.WireLemmas.{takes_at_end, takes_none, takes_some, consumes_kept}
 use Rattle.event_server.proofs.connection.Connection.read.Goals as goal
 
 pub returns-in-Err-clause-takes : goal.returns-in-Err-clause-takes
 returns-in-Err-clause-takes g c =
     let left = g.S.Stream.left c.args.self.now.stream in
-    let left' = g.S.Stream.left c.read_some.new.self in
+    let left' = g.S.Stream.left c.read_into.new.stream in
     let is = c.note_fault.ensures.wire in (
       [],
       refl,
       rw c.note_fault.ensures.stream (takes_none left left' c.args.self.now.wire c.note_fault.new.self.wire (consumes_kept left left' c.in-Err.ensures.bytes) (ap (λ (q : WireState). q.talker) is) (ap (λ (q : WireState). q.ended) is)
           (λ h. (ap (λ (q : WireState). q.inbox) is, ap (λ (q : WireState). q.outbox) is, c.note_fault.ensures.whole h))),
     )
+
+pub returns-after-self-clause-takes : goal.returns-after-self-clause-takes
+returns-after-self-clause-takes g c =
+    let left = g.S.Stream.left c.args.self.now.stream in
+    let left' = g.S.Stream.left c.read_into.new.stream in
+    let came = take c.in-Ok.count c.deref.result.now in
+    let few : length came ≤ 65536 = search rules in
+    let gave : Consumes left left' came = rw c.deref.ensures.value c.in-Ok.ensures.bytes.0 in
+    let t = c.take.ensures.takes in
+    (t.0, t.1, takes_some t.0 left left' came c.args.self.now.wire c.take.new.self few gave t.2)
+
+pub returns-in-Ok-eq0-clause-takes : goal.returns-in-Ok-eq0-clause-takes
+returns-in-Ok-eq0-clause-takes g c =
+    let left = g.S.Stream.left c.args.self.now.stream in
+    let left' = g.S.Stream.left c.read_into.new.stream in
+    let gave : Consumes left left' [] = search rules in
+    let end : IsAtEnd left' = search rules in
+    let f = c.finish.ensures.takes in
+    (f.0, f.1, takes_at_end f.0 left left' c.args.self.now.wire c.finish.new.self gave end f.2)
+
+pub returns-after-self-clause-room : goal.returns-after-self-clause-room
+returns-after-self-clause-room g c = (c.read_into.ensures.room.0, c.take.ensures.empty)
+
+pub returns-in-Ok-eq0-clause-room : goal.returns-in-Ok-eq0-clause-room
+returns-in-Ok-eq0-clause-room g c = (c.read_into.ensures.room.0, c.finish.ensures.empty)
+
+pub returns-in-Err-clause-room : goal.returns-in-Err-clause-room
+returns-in-Err-clause-room g c = c.read_into.ensures.room
+
+pub returns-after-self-clause-unsent : goal.returns-after-self-clause-unsent
+returns-after-self-clause-unsent g c = c.read_into.ensures.same
+
+pub returns-in-Ok-eq0-clause-unsent : goal.returns-in-Ok-eq0-clause-unsent
+returns-in-Ok-eq0-clause-unsent g c = c.read_into.ensures.same
+
+pub returns-in-Err-clause-unsent : goal.returns-in-Err-clause-unsent
+returns-in-Err-clause-unsent g c = ap (λ s. g.S.Stream.gone s) c.note_fault.ensures.stream ∙ c.read_into.ensures.same

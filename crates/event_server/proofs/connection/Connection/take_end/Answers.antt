@@ -1,4 +1,4 @@
-use Rattle.std.proofs.Common.{rules, ◌≤◌, [], length, take, refl}
+use Rattle.std.proofs.Common.{rules, ◌≤◌, [], length, take, refl, ap, ◌∙◌}
 use Rattle.std.specs.Io.KnownBytes.{Consumes, IsAtEnd}
 use Rattle.event_server.proofs.WireLemmas.{takes_the_end, takes_no_end, takes_fault, consumes_kept}
 use Rattle.event_server.proofs.connection.Connection.take_end.Goals as goal
@@ -6,7 +6,7 @@ use Rattle.event_server.proofs.connection.Connection.take_end.Goals as goal
 pub returns-in-Ok-eq0-clause-takes : goal.returns-in-Ok-eq0-clause-takes
 returns-in-Ok-eq0-clause-takes g c =
     let left = g.S.Stream.left c.args.self.now.stream in
-    let left' = g.S.Stream.left c.read_some.new.self in
+    let left' = g.S.Stream.left c.read_into.new.stream in
     let f = c.finish.ensures.takes in
     let gave : Consumes left left' [] = search rules in
     let end : IsAtEnd left' = search rules in
@@ -14,12 +14,30 @@ returns-in-Ok-eq0-clause-takes g c =
 
 pub returns-in-Ok-clause-takes : goal.returns-in-Ok-clause-takes
 returns-in-Ok-clause-takes g c =
-    let came = take c.in-Ok.field-0 c.read_some.new.buf in
+    let came = take c.in-Ok.field-0 c.read_into.new.room.chunk.items in
     let few : length came ≤ 65536 = search rules in
     ([], refl, takes_fault _ _ came c.args.self.now.wire c.fail.new.self few c.in-Ok.ensures.bytes.0 c.fail.ensures)
 
 pub returns-in-Err-clause-takes : goal.returns-in-Err-clause-takes
 returns-in-Err-clause-takes g c =
     let left = g.S.Stream.left c.args.self.now.stream in
-    let left' = g.S.Stream.left c.read_some.new.self in
+    let left' = g.S.Stream.left c.read_into.new.stream in
     ([], refl, rw c.note_fault.ensures.stream (takes_no_end left left' c.args.self.now.wire c.note_fault.new.self.wire (consumes_kept left left' c.in-Err.ensures.bytes) c.note_fault.ensures.wire c.note_fault.ensures.whole))
+
+pub returns-in-Ok-eq0-clause-room : goal.returns-in-Ok-eq0-clause-room
+returns-in-Ok-eq0-clause-room g c = (c.read_into.ensures.room.0, c.finish.ensures.empty)
+
+pub returns-in-Ok-clause-room : goal.returns-in-Ok-clause-room
+returns-in-Ok-clause-room g c = c.read_into.ensures.room
+
+pub returns-in-Err-clause-room : goal.returns-in-Err-clause-room
+returns-in-Err-clause-room g c = c.read_into.ensures.room
+
+pub returns-in-Ok-eq0-clause-unsent : goal.returns-in-Ok-eq0-clause-unsent
+returns-in-Ok-eq0-clause-unsent g c = c.read_into.ensures.same
+
+pub returns-in-Ok-clause-unsent : goal.returns-in-Ok-clause-unsent
+returns-in-Ok-clause-unsent g c = c.read_into.ensures.same
+
+pub returns-in-Err-clause-unsent : goal.returns-in-Err-clause-unsent
+returns-in-Err-clause-unsent g c = ap (λ s. g.S.Stream.gone s) c.note_fault.ensures.stream ∙ c.read_into.ensures.same
