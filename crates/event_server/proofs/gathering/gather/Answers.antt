@@ -56,3 +56,30 @@ pub returns-after-loop-looked-clause-told : goal.returns-after-loop-looked-claus
 returns-after-loop-looked-clause-told g c =
     let i = c.loop-looked.invariant in
     (i.told.0, i.told.1, telling_all (seats_of g.S.Stream.left g.S.Stream.gone) (λ x. x.look) (λ x. x.stage ≡ stage.Queued) c.args.batch.now.kind c.args.ready.now c.loop-looked.looked i.told.0 c.loop-looked.seats i.inside i.told.2)
+
+pub gather_at-requires : goal.gather_at-requires
+gather_at-requires g c = c.loop-looked.invariant.room
+
+pub returns-else-has_room-clause-gathered : goal.returns-else-has_room-clause-gathered
+returns-else-has_room-clause-gathered g c = c.loop-looked.invariant.gathered
+
+pub returns-else-has_room-clause-kind : goal.returns-else-has_room-clause-kind
+returns-else-has_room-clause-kind g c = c.loop-looked.invariant.kind
+
+pub returns-else-has_room-clause-looked : goal.returns-else-has_room-clause-looked
+returns-else-has_room-clause-looked g c = c.loop-looked.invariant.inside
+
+pub returns-else-has_room-clause-room : goal.returns-else-has_room-clause-room
+returns-else-has_room-clause-room g c = c.loop-looked.invariant.room
+
+pub returns-after-loop-looked-clause-gathered : goal.returns-after-loop-looked-clause-gathered
+returns-after-loop-looked-clause-gathered g c = c.loop-looked.invariant.gathered
+
+pub returns-after-loop-looked-clause-kind : goal.returns-after-loop-looked-clause-kind
+returns-after-loop-looked-clause-kind g c = c.loop-looked.invariant.kind
+
+pub returns-after-loop-looked-clause-looked : goal.returns-after-loop-looked-clause-looked
+returns-after-loop-looked-clause-looked g c = c.loop-looked.invariant.inside
+
+pub returns-after-loop-looked-clause-room : goal.returns-after-loop-looked-clause-room
+returns-after-loop-looked-clause-room g c = c.loop-looked.invariant.room

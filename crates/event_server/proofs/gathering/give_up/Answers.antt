@@ -28,3 +28,6 @@ loop-at-preserved g c =
 pub returns-clause-told : goal.returns-clause-told
 returns-clause-told g c =
     giving_all (seats_of g.S.Stream.left g.S.Stream.gone) (λ x. x.look) (λ x. x.stage ≡ stage.Queued) c.args.called.now c.args.seats.now c.loop-at.at c.loop-at.seats c.loop-at-test.false c.loop-at.invariant.giving
+
+pub returns-clause-gathered : goal.returns-clause-gathered
+returns-clause-gathered g c = c.loop-at.invariant.gathered

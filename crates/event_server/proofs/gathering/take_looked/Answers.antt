@@ -45,3 +45,9 @@ returns-clause-taken g c =
       taking_all on (λ x. x.look) (λ x. x.stage ≡ stage.Queued) c.args.called.now c.args.seats.now i.so.0 c.loop-at.seats
           (subst (λ (n : ℕ). Taking on (λ x. x.look) (λ x. x.stage ≡ stage.Queued) c.args.called.now c.args.seats.now n i.so.0 c.loop-at.seats) all i.so.2),
     )
+
+pub returns-clause-room : goal.returns-clause-room
+returns-clause-room g c = c.loop-at.invariant.room
+
+pub take_looked_at-requires : goal.take_looked_at-requires
+take_looked_at-requires g c = record { knows = c.requires.knows; room = c.loop-at.invariant.room }

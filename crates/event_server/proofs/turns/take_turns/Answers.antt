@@ -23,3 +23,12 @@ loop-called-preserved g c =
       room = c.take_at.ensures.room;
       inside = omega (arith, c.loop-called-test.true);
     }
+
+pub take_at-requires : goal.take_at-requires
+take_at-requires g c = record { knows = c.requires.knows; room = c.loop-called.invariant.room }
+
+pub returns-else-not-is_full : goal.returns-else-not-is_full
+returns-else-not-is_full g c = record { taken = (c.loop-called.invariant.so.0, c.loop-called.invariant.so.1.taken); called = c.loop-called.invariant.inside; room = c.loop-called.invariant.room }
+
+pub returns-after-loop-called : goal.returns-after-loop-called
+returns-after-loop-called g c = record { taken = (c.loop-called.invariant.so.0, c.loop-called.invariant.so.1.taken); called = c.loop-called.invariant.inside; room = c.loop-called.invariant.room }
