@@ -169,3 +169,10 @@ pub looked_long : (kind : WorldKind) (long asks : Bool) (batch bytes : List ℕ)
 looked_long kind long asks batch bytes at long' asks' ends batch' so none ends_is =
     let all : requests_in kind long (take (length bytes) bytes) ends ≡ requests_in kind long (take at bytes) false = rw ends_is (looked_all kind long asks batch bytes at long' asks' batch' so none) in
     (so.added ∙ ap (λ l. batch ++ with_ends l) (sym all), λ h. (let b = so.asked h in (b.0, all ∙ b.1)))
+
+-- what a batch holds more than before
+pub kept_by : (old new xs : List ℕ) → new ≡ old ++ xs → (more : List ℕ) × (new ≡ old ++ more)
+kept_by old new xs is = (xs, is)
+
+pub kept_more : (old mid new xs ys : List ℕ) → mid ≡ old ++ xs → new ≡ mid ++ ys → (more : List ℕ) × (new ≡ old ++ more)
+kept_more old mid new xs ys is that = (xs ++ ys, that ∙ ap (λ l. l ++ ys) is ∙ append_assoc old xs ys)

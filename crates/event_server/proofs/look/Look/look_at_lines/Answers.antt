@@ -2,7 +2,7 @@
 use Rattle.std.proofs.Common.{rules, ◌-◌, length, take, drop, ap, refl}
 use Rattle.event_server.proofs.Common.{Look, Limits}
 use Rattle.std.proofs.lemmas.List.{take_rest}
-use Rattle.event_server.proofs.LookLemmas.{looked_next, looked_none, no_lf_in}
+use Rattle.event_server.proofs.LookLemmas.{kept_by, kept_more, looked_next, looked_none, no_lf_in}
 use Rattle.event_server.proofs.look.Look.look_at_lines.Goals as goal
 
 pub returns-in_default-clause-none : goal.returns-in_default-clause-none
@@ -40,3 +40,33 @@ loop-rest-preserved g c =
       rest = search rules;
       limits = search rules;
     }
+
+pub returns-clause-looked : goal.returns-clause-looked
+returns-clause-looked g c = c.loop-rest.invariant.looked
+
+pub returns-clause-rest : goal.returns-clause-rest
+returns-clause-rest g c = c.loop-rest.invariant.rest
+
+pub returns-clause-limits : goal.returns-clause-limits
+returns-clause-limits g c = c.loop-rest.invariant.limits
+
+pub returns-clause-kept : goal.returns-clause-kept
+returns-clause-kept g c = kept_by c.args.batch.now.items c.loop-rest.batch.items _ c.loop-rest.invariant.looked.added
+
+pub returns-in_default-clause-looked : goal.returns-in_default-clause-looked
+returns-in_default-clause-looked g c = c.loop-rest.invariant.looked
+
+pub returns-in_default-clause-rest : goal.returns-in_default-clause-rest
+returns-in_default-clause-rest g c = c.loop-rest.invariant.rest
+
+pub returns-in_default-clause-limits : goal.returns-in_default-clause-limits
+returns-in_default-clause-limits g c = c.loop-rest.invariant.limits
+
+pub returns-in_default-clause-kept : goal.returns-in_default-clause-kept
+returns-in_default-clause-kept g c = kept_by c.args.batch.now.items c.loop-rest.batch.items _ c.loop-rest.invariant.looked.added
+
+pub returns-in_err-take_line-clause-kept : goal.returns-in_err-take_line-clause-kept
+returns-in_err-take_line-clause-kept g c = kept_more c.args.batch.now.items c.loop-rest.batch.items c.take_line.new.batch.items _ c.take_line.ensures.kept.0 c.loop-rest.invariant.looked.added c.take_line.ensures.kept.1
+
+pub returns-then-not-branch-clause-kept : goal.returns-then-not-branch-clause-kept
+returns-then-not-branch-clause-kept g c = kept_more c.args.batch.now.items c.loop-rest.batch.items c.take_line.new.batch.items _ c.take_line.ensures.kept.0 c.loop-rest.invariant.looked.added c.take_line.ensures.kept.1
