@@ -121,10 +121,8 @@ fn give_up<S: Stream, A: Allocator>(seats: &mut [Option<Connection<S, A>>], call
     ensures told { (i : ℕ) → IsAmong i called.now → SeatAsks (λ c. c.look) (get_or seats.old i None) →
         SeatBroken (seats_of S.left S.gone) (get_or seats.new i None) }
 {
-    let mut at = 0;
-    while at < called.len() {
-        give_up_at(seats, called[at]);
-        at += 1;
+    for key in called {
+        give_up_at(seats, *key);
     }
 }
 
@@ -165,10 +163,8 @@ fn take_looked<R, D: Service<R>, S: Stream, A: Allocator, B: Allocator>(
         TakenLooked (seats_of S.left S.gone) (λ c. c.look) (λ c. c.stage ≡ Stage.Queued) called.now log seats.old seats.new }
     ensures room { IsRoom room.new }
 {
-    let mut at = 0;
-    while at < called.len() {
-        take_looked_at(rt, service, room, seats, called[at]);
-        at += 1;
+    for key in called {
+        take_looked_at(rt, service, room, seats, *key);
     }
 }
 

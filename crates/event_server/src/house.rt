@@ -116,7 +116,6 @@ impl House {
             return Ok(());
         };
         if connection.is_done() {
-            *seat = None;
             self.leave(key);
             return Ok(());
         }
@@ -134,8 +133,11 @@ impl House {
         Ok(())
     }
 
-    // A seat is empty now.
+    // Whoever sits there leaves, and the seat is empty then.
     fn leave(&mut self, key: usize) {
+        if let Some(seat) = self.seats.get_mut(key) {
+            *seat = None;
+        }
         let _ = self.empty.push(key);
         self.open = self.open.saturating_sub(1);
         self.served = self.served.saturating_add(1);
@@ -183,7 +185,6 @@ impl House {
         let leaving = connection.wire.is_over() || connection.wire.is_ended();
         let most = if leaving { Some(FLUSH_TICKS) } else { idle };
         if connection.stage == Stage::Idle && most.is_some_and(|most| most <= quiet) {
-            *seat = None;
             self.leave(key);
         }
     }

@@ -5,49 +5,47 @@ use Rattle.event_server.proofs.SeatLemmas.{Going, going_none, going_on}
 use Rattle.event_server.proofs.ToldLemmas.{Taking, taking_idle, taking_on, taking_all}
 use Rattle.event_server.proofs.gathering.take_looked.Goals as goal
 
-pub loop-at-init : goal.loop-at-init
-loop-at-init g c = record {
+pub loop-key-init : goal.loop-key-init
+loop-key-init g c = record {
   so = ([], going_none (seats_of g.S.Stream.left g.S.Stream.gone) g.D.Service.may (λ x. x.stage ≡ stage.Queued) c.args.service.now c.args.seats.now, λ i. inl refl);
   room = c.requires.room;
-  inside = omega arith;
 }
 
-pub loop-at-preserved : goal.loop-at-preserved
-loop-at-preserved g c =
+pub loop-key-preserved : goal.loop-key-preserved
+loop-key-preserved g c =
     let on = seats_of g.S.Stream.left g.S.Stream.gone in
-    let i = c.loop-at.invariant in
+    let i = c.loop-key.invariant in
     let log = i.so.0 in
-    let n = c.loop-at.at in
+    let n = c.loop-key.key-index in
     let keys = c.args.called.now in
     let seats = c.args.seats.now in
     let w = c.args.service.now in
     record {
       so = elim c.take_looked_at.ensures.took as (λ _. (l : TurnLog) × Going on g.D.Service.may (λ x. x.stage ≡ stage.Queued) w seats l c.take_looked_at.new.service c.take_looked_at.new.seats ×
           Taking on (λ x. x.look) (λ x. x.stage ≡ stage.Queued) keys seats (n + 1) l c.take_looked_at.new.seats) [
-            | inl same ↦ (log, rw (same.0, same.1) i.so.1, rw same.1 (taking_idle on (λ x. x.look) (λ x. x.stage ≡ stage.Queued) keys seats n log c.loop-at.seats i.so.2))
+            | inl same ↦ (log, rw (same.0, same.1) i.so.1, rw same.1 (taking_idle on (λ x. x.look) (λ x. x.stage ≡ stage.Queued) keys seats n log c.loop-key.seats i.so.2))
             | inr one ↦ (
               log ++ tagged (get_or keys n 0) one.turn.turns,
-              going_on on g.D.Service.may (λ x. x.stage ≡ stage.Queued) w seats log c.loop-at.service c.take_looked_at.new.service c.loop-at.seats c.take_looked_at.new.seats (get_or keys n 0) i.so.1 one.turn,
-              taking_on on (λ x. x.look) (λ x. x.stage ≡ stage.Queued) keys seats g.D.Service.may w n log c.loop-at.service c.take_looked_at.new.service c.loop-at.seats c.take_looked_at.new.seats i.so.1 i.so.2 one,
+              going_on on g.D.Service.may (λ x. x.stage ≡ stage.Queued) w seats log c.loop-key.service c.take_looked_at.new.service c.loop-key.seats c.take_looked_at.new.seats (get_or keys n 0) i.so.1 one.turn,
+              taking_on on (λ x. x.look) (λ x. x.stage ≡ stage.Queued) keys seats g.D.Service.may w n log c.loop-key.service c.take_looked_at.new.service c.loop-key.seats c.take_looked_at.new.seats i.so.1 i.so.2 one,
             )
           ];
       room = c.take_looked_at.ensures.room;
-      inside = omega (arith, c.loop-at-test.true);
     }
 
 pub returns-clause-taken : goal.returns-clause-taken
 returns-clause-taken g c =
     let on = seats_of g.S.Stream.left g.S.Stream.gone in
-    let i = c.loop-at.invariant in
-    let all : c.loop-at.at ≡ length c.args.called.now = (let le = i.inside in omega (arith, c.loop-at-test.false, le)) in (
+    let i = c.loop-key.invariant in
+    let all : c.loop-key.key-index ≡ length c.args.called.now = omega (arith, c.loop-key-test.false, c.loop-key.auto.key-index-end) in (
       i.so.0,
       i.so.1.taken,
-      taking_all on (λ x. x.look) (λ x. x.stage ≡ stage.Queued) c.args.called.now c.args.seats.now i.so.0 c.loop-at.seats
-          (subst (λ (n : ℕ). Taking on (λ x. x.look) (λ x. x.stage ≡ stage.Queued) c.args.called.now c.args.seats.now n i.so.0 c.loop-at.seats) all i.so.2),
+      taking_all on (λ x. x.look) (λ x. x.stage ≡ stage.Queued) c.args.called.now c.args.seats.now i.so.0 c.loop-key.seats
+          (subst (λ (n : ℕ). Taking on (λ x. x.look) (λ x. x.stage ≡ stage.Queued) c.args.called.now c.args.seats.now n i.so.0 c.loop-key.seats) all i.so.2),
     )
 
 pub returns-clause-room : goal.returns-clause-room
-returns-clause-room g c = c.loop-at.invariant.room
+returns-clause-room g c = c.loop-key.invariant.room
 
 pub take_looked_at-requires : goal.take_looked_at-requires
-take_looked_at-requires g c = record { knows = c.requires.knows; room = c.loop-at.invariant.room }
+take_looked_at-requires g c = record { knows = c.requires.knows; room = c.loop-key.invariant.room }
