@@ -9,13 +9,7 @@
 #[cfg(test)]
 mod drawn_tests;
 #[cfg(test)]
-mod fault_tests;
-#[cfg(test)]
 mod growth_tests;
-#[cfg(test)]
-mod line_buffer_tests;
-#[cfg(test)]
-mod order_tests;
 #[cfg(test)]
 mod parse_tests;
 #[cfg(test)]

@@ -1,14 +1,16 @@
-//! What lines mean.
+//! What lines mean, whole and as they come byte by byte.
 
 use commands::Event;
-use schedule_player::{Bad, Command, WorldKind, parse_line};
+use schedule_player::{Bad, Command, LineBuffer, WorldKind, parse_line};
+use std::alloc::Global;
 use std::process::Abort;
+use tests_doubles::FailingAllocator;
 
 /// A line, and what it means.
-pub(crate) type Row = (&'static [u8], Result<Command, Bad>);
+type Row = (&'static [u8], Result<Command, Bad>);
 
 /// Lines that mean the same in every world.
-pub(crate) const ROWS: [Row; 27] = [
+const ROWS: [Row; 27] = [
     (b"", Err(Bad::UnknownWord)),
     (
         b"aaaaaaaaaaaaaaaaaaaaaaaaaaaaaaaaaaaaaaaaaaaaaaaaaaaaaaaaaaaaaaaaaaaaaaaaaaaaaaaaaaaaaaaaaaaaaaaaaaaa",
@@ -82,7 +84,7 @@ fn means(rt: &impl Abort, line: &[u8], want: Result<Command, Bad>, is_of_names: 
         } else {
             Err(Bad::UnknownWord)
         };
-        assert_eq!(rt; parse_line(line, world), want, "at {line:?}");
+        assert!(rt; parse_line(line, world) == want, "at {line:?}");
     }
 }
 
@@ -98,4 +100,33 @@ fn a_desk_knows_more_words(rt: HostRuntime) {
     for (line, want) in &OF_NAMES {
         means(&rt, line, *want, true);
     }
+}
+
+/// Compares what a line means that comes byte by byte, where others may have come before.
+fn comes(
+    rt: &impl Abort,
+    buffer: &mut LineBuffer<&FailingAllocator<Global>>,
+    line: &[u8],
+    want: Result<Command, Bad>,
+) {
+    buffer.clear();
+    for byte in line {
+        buffer.push(*byte);
+    }
+    let is_so = buffer.meaning(WorldKind::Splitter) == want;
+    assert!(rt; is_so && buffer.is_empty() == line.is_empty(), "{want:?}");
+}
+
+/// However many bytes a line has, its room does not grow.
+#[test]
+fn lines_come_byte_by_byte(rt: HostRuntime) {
+    let heap = FailingAllocator::new(rt.alloc(), u64::MAX);
+    let mut buffer = LineBuffer::new(&heap).expect(&rt, "room for a line");
+    let left = heap.left();
+    for (line, want) in &ROWS {
+        comes(&rt, &mut buffer, line, *want);
+    }
+    let long = vec![in rt.alloc(); b'a'; 1_000_000].expect(&rt, "room for a long line");
+    comes(&rt, &mut buffer, &long, Err(Bad::TooLong));
+    assert!(rt; heap.left() == left);
 }

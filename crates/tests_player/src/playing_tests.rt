@@ -5,17 +5,26 @@ ghost use Rattle.std.specs.Prelude.{◌≡◌, true};
 use crate::toys::{Coin, Shelf};
 use crate::worlds_tests::{ROWS, spelled};
 use schedule_player::{
-    Config, Fault, MOST_READS, READ_BYTES, Summary, Tried, World, WorldKind, law_of_growths,
-    law_of_lines, law_of_play, law_of_world, play, play_in, play_on,
+    Config, Fault, MOST_READS, READ_BYTES, Tried, World, WorldKind, law_of_growths, law_of_lines,
+    law_of_play, law_of_world, play, play_in, play_on, record,
 };
 use std::alloc::{Allocator, Global};
 use std::process::Abort;
 use tests_doubles::{FailingAllocator, FaultyReader, FaultyWriter};
 
-/// What a run answers, what was written, and how often the reader and the writer were called.
+/// A run that is played, or recorded where it is kept: what it is asked, and what is written.
 #[derive(Drop)]
-pub(crate) struct Played<T> {
-    pub(crate) outcome: Result<T, Fault>,
+pub(crate) struct Case<'a> {
+    pub(crate) config: Config,
+    pub(crate) is_kept: bool,
+    pub(crate) input: &'a [u8],
+    pub(crate) text: &'a [u8],
+}
+
+/// What comes of a run: its fault, what was written, and how often the reader and the writer were called.
+#[derive(Drop)]
+pub(crate) struct Played {
+    pub(crate) fault: Option<Fault>,
     pub(crate) text: Vec<u8>,
     pub(crate) reads: u64,
     pub(crate) writes: u64,
@@ -28,50 +37,28 @@ pub(crate) fn config(rt: &impl Abort, world: WorldKind, m: u64) -> Config
     Config::new(world, m, 4, 1000).expect(rt, "a config in range")
 }
 
-pub(crate) fn run_of<A: Allocator + Clone>(
-    config: Config,
-    alloc: A,
-    reader: FaultyReader<'_>,
-    writer: FaultyWriter,
-) -> Played<Summary> {
-    let mut reader = Tried::new(reader);
-    let mut writer = Tried::new(writer);
-    let outcome = play(alloc, &mut reader, &mut writer, config);
-    what_is_left(outcome, reader, writer)
-}
-
-/// Where a reader or a writer fails: how many bytes it moves a call at most, and the call that fails; none where that is 0.
-pub(crate) type Cut = (usize, u64);
-
-/// A run that reads and writes so.
-fn run_cut(
+/// Runs a case over a heap: how many bytes a read gives at most and which fails; the same of the writes, and whether the one that
+/// fails takes nothing. None fails where it is 0.
+pub(crate) fn run<A: Allocator + Clone>(
+    heap: A,
     alloc: Global,
-    config: Config,
-    input: &[u8],
-    read: Cut,
-    written: Cut,
-) -> Played<Summary> {
-    run_of(
-        config,
-        alloc,
-        FaultyReader::new(input, read.0, read.1),
-        FaultyWriter::new(alloc, written.0, written.1, false),
-    )
-}
-
-/// What a run that answered this has left.
-pub(crate) fn what_is_left<T>(
-    outcome: Result<T, Fault>,
-    reader: Tried<FaultyReader<'_>>,
-    writer: Tried<FaultyWriter>,
-) -> Played<T> {
-    let faulty_reader = reader.into_inner();
-    let faulty_writer = writer.into_inner();
+    case: &Case<'_>,
+    (given, bad_read): (usize, u64),
+    (taken, bad_write, takes_nothing): (usize, u64, bool),
+) -> Played {
+    let mut reader = Tried::new(FaultyReader::new(case.input, given, bad_read));
+    let mut writer = Tried::new(FaultyWriter::new(alloc, taken, bad_write, takes_nothing));
+    let fault = if case.is_kept && case.config.world.gives_names() {
+        record(heap, &mut reader, &mut writer, case.config).err()
+    } else {
+        play(heap, &mut reader, &mut writer, case.config).err()
+    };
+    let writer = writer.into_inner();
     Played {
-        outcome,
-        text: faulty_writer.taken,
-        reads: faulty_reader.calls,
-        writes: faulty_writer.calls,
+        fault,
+        reads: reader.into_inner().calls,
+        writes: writer.calls,
+        text: writer.taken,
     }
 }
 
@@ -112,63 +99,26 @@ const VISITS: [Input; 4] = [
     ),
 ];
 
-/// Plays an input that is read and written in pieces of so many bytes, and compares what is written.
-fn is_played_by(rt: &impl Abort, alloc: Global, config: Config, row: (&[u8], &[u8]), piece: usize) {
-    let (input, text) = row;
-    let p = run_cut(alloc, config, input, (piece, 0), (piece, 0));
-    assert!(rt;
-        p.outcome.is_ok() && p.text.as_slice() == text,
-        "{piece} {input:?}"
-    );
-}
-
-/// The same however the bytes are cut.
-pub(crate) fn is_played(rt: &impl Abort, alloc: Global, config: Config, row: (&[u8], &[u8])) {
+/// The same is written however the bytes are cut.
+pub(crate) fn is_run(rt: &impl Abort, alloc: Global, case: &Case<'_>) {
     for piece in [1, 3, 7, READ_BYTES] {
-        is_played_by(rt, alloc, config, row, piece);
+        let p = run(alloc, alloc, case, (piece, 0), (piece, 0, false));
+        let is_so = p.fault.is_none() && p.text.as_slice() == case.text;
+        assert!(rt; is_so, "{piece} {:?}", case.input);
     }
 }
 
-/// Plays rows of a world for two participants.
-fn are_played(rt: &impl Abort, alloc: Global, world: WorldKind, rows: &[Input]) {
-    for (input, text) in rows {
-        is_played(rt, alloc, config(rt, world, 2), (input, text));
-    }
-}
-
-#[test]
-fn the_text_is_the_same_however_the_bytes_are_cut(rt: HostRuntime) {
-    for world in WorldKind::all() {
-        are_played(&rt, rt.alloc(), world, &INPUTS);
-    }
-}
-
-#[test]
-fn visits_of_a_splitter_end_by_a_way(rt: HostRuntime) {
-    are_played(&rt, rt.alloc(), WorldKind::Splitter, &VISITS);
-}
-
-/// Inputs, and how often a reader is read that gives four bytes of them a read.
-const READS: [(&[u8], u64); 4] = [
-    (b"", 1),
-    (b"step 70\nstep 7\n", 5),
-    (b"step 70\nstep 77", 5),
-    (b"begin 7\nquit\nbegin 8\nbegin 9\n", 4),
-];
-
-/// Compares how often readers are read in this world.
-fn reads_are_as_said(rt: &impl Abort, alloc: Global, world: WorldKind) {
-    for (input, reads) in &READS {
-        let p = run_cut(alloc, config(rt, world, 2), input, (4, 0), (64, 0));
-        assert_eq!(rt; p.reads, *reads, "at {input:?} in {world:?}");
-    }
-}
-
-#[test]
-fn nothing_is_read_after_the_end_or_after_quit(rt: HostRuntime) {
-    for world in WorldKind::all() {
-        reads_are_as_said(&rt, rt.alloc(), world);
-    }
+/// How often a run without a fault calls its reader and its writer.
+fn calls_of(
+    rt: &impl Abort,
+    alloc: Global,
+    case: &Case<'_>,
+    given: usize,
+    taken: usize,
+) -> (u64, u64) {
+    let p = run(alloc, alloc, case, (given, 0), (taken, 0, false));
+    assert!(rt; p.fault.is_none());
+    (p.reads, p.writes)
 }
 
 /// The first lines of a text, so many.
@@ -185,93 +135,141 @@ pub(crate) fn first_lines(text: &[u8], count: usize) -> &[u8] {
     text
 }
 
-/// One read of a run fails: the whole lines before it are answered.
-fn one_read_fails(rt: &impl Abort, alloc: Global, config: Config, row: (&[u8], &[u8]), at: u64) {
-    let (input, text) = row;
-    let p = run_cut(alloc, config, input, (4, at), (64, 0));
+/// Whether this is written where the read of this number fails: the replies to the whole lines before it, or whole lines of a
+/// record.
+fn is_left_by_read(case: &Case<'_>, text: &[u8], at: u64) -> bool {
+    if case.is_kept {
+        return case.text.starts_with(text) && text.ends_with(b"}\n");
+    }
     let given = (at as usize).saturating_sub(1).saturating_mul(4);
-    let lines = input
-        .iter()
-        .take(given)
-        .filter(|byte| **byte == b'\n')
-        .count();
-    let answered = p.text.as_slice() == first_lines(text, lines);
-    assert!(rt; p.outcome.err() == Some(Fault::Read) && answered, "at {at}");
+    let read = case.input.iter().take(given);
+    let lines = read.filter(|byte| **byte == b'\n').count();
+    text == first_lines(case.text, lines)
 }
 
-/// One write of a run fails: a beginning of the text is written.
-fn one_write_fails(
-    rt: &impl Abort,
-    alloc: Global,
-    config: Config,
-    row: (&[u8], &[u8]),
-    (at, takes_nothing): (u64, bool),
-) {
-    let (input, text) = row;
-    let p = run_of(
-        config,
-        alloc,
-        FaultyReader::new(input, 4, 0),
-        FaultyWriter::new(alloc, 3, at, takes_nothing),
-    );
-    let is_part = text.starts_with(&p.text) && p.text.len() < text.len();
-    assert!(rt; p.outcome.err() == Some(Fault::Write) && is_part, "at {at}");
+/// Whether this is left where the write of this number fails: a beginning of the text, before a read where it is less than the
+/// header of a record.
+fn is_left_by_write(case: &Case<'_>, p: &Played, at: u64) -> bool {
+    let header = if case.is_kept { 1 } else { 0 };
+    let before = first_lines(case.text, header).len().div_ceil(3) as u64;
+    let is_part = case.text.starts_with(&p.text) && p.text.len() < case.text.len();
+    is_part && (p.reads == 0) == (at <= before)
 }
 
-/// A run without a fault writes the whole text. How often it reads and writes.
-fn whole_calls(rt: &impl Abort, alloc: Global, config: Config, row: (&[u8], &[u8])) -> (u64, u64) {
-    let whole = run_cut(alloc, config, row.0, (4, 0), (3, 0));
-    assert!(rt; whole.outcome.is_ok() && whole.text.as_slice() == row.1);
-    (whole.reads, whole.writes)
+/// One read of a run fails.
+fn one_read_fails(rt: &impl Abort, alloc: Global, case: &Case<'_>, at: u64) {
+    let p = run(alloc, alloc, case, (4, at), (3, 0, false));
+    let is_so = p.fault == Some(Fault::Read) && is_left_by_read(case, &p.text, at);
+    assert!(rt; is_so, "at {at}");
 }
 
-/// Each read of a run fails in turn, and each write, by an error and by taking nothing.
-fn calls_fail_in_turn(rt: &impl Abort, alloc: Global, config: Config, row: (&[u8], &[u8])) {
-    let (reads, writes) = whole_calls(rt, alloc, config, row);
+/// One write of a run fails, by an error or by taking nothing.
+fn one_write_fails(rt: &impl Abort, alloc: Global, case: &Case<'_>, at: u64, takes_nothing: bool) {
+    let p = run(alloc, alloc, case, (4, 0), (3, at, takes_nothing));
+    let is_so = p.fault == Some(Fault::Write) && is_left_by_write(case, &p, at);
+    assert!(rt; is_so, "at {at}");
+}
+
+/// Each read of a run fails in turn, and each write.
+pub(crate) fn calls_fail_in_turn(rt: &impl Abort, alloc: Global, case: &Case<'_>) {
+    let (reads, writes) = calls_of(rt, alloc, case, 4, 3);
     for at in 1..=reads {
-        one_read_fails(rt, alloc, config, row, at);
+        one_read_fails(rt, alloc, case, at);
     }
     for at in 1..=writes {
-        one_write_fails(rt, alloc, config, row, (at, false));
-        one_write_fails(rt, alloc, config, row, (at, true));
+        one_write_fails(rt, alloc, case, at, false);
+        one_write_fails(rt, alloc, case, at, true);
     }
 }
 
-/// The calls of rows of a world for two participants fail in turn.
-fn rows_fail_in_turn(rt: &impl Abort, alloc: Global, world: WorldKind, rows: &[Input]) {
+/// Plays rows of a world for two participants however the bytes are cut, and then with each call failing in turn.
+fn are_played(rt: &impl Abort, alloc: Global, world: WorldKind, rows: &[Input]) {
     for (input, text) in rows {
-        calls_fail_in_turn(rt, alloc, config(rt, world, 2), (input, text));
+        let case = Case {
+            config: config(rt, world, 2),
+            is_kept: false,
+            input,
+            text,
+        };
+        is_run(rt, alloc, &case);
+        calls_fail_in_turn(rt, alloc, &case);
     }
+}
+
+#[test]
+fn inputs_are_answered_so_in_every_world(rt: HostRuntime) {
+    for world in WorldKind::all() {
+        are_played(&rt, rt.alloc(), world, &INPUTS);
+    }
+}
+
+#[test]
+fn visits_of_a_splitter_end_by_a_way(rt: HostRuntime) {
+    are_played(&rt, rt.alloc(), WorldKind::Splitter, &VISITS);
 }
 
 /// The calls of the row in which the name 2b - 1 is reached fail in turn.
-fn the_largest_name_fails_in_turn(rt: &impl Abort, alloc: Global) {
-    let asked = spelled(rt, alloc, ROWS[2].asked);
-    let said = spelled(rt, alloc, ROWS[2].said);
-    calls_fail_in_turn(rt, alloc, ROWS[2].config(rt), (&asked, &said));
+#[test]
+fn each_read_and_each_write_to_the_largest_name_fails_once(rt: HostRuntime) {
+    let asked = spelled(&rt, rt.alloc(), ROWS[2].asked);
+    let said = spelled(&rt, rt.alloc(), ROWS[2].said);
+    let case = Case {
+        config: ROWS[2].config(&rt),
+        is_kept: false,
+        input: &asked,
+        text: &said,
+    };
+    calls_fail_in_turn(&rt, rt.alloc(), &case);
 }
 
-/// In each world the rows that it answers as every other does, in a splitter its visits too, and in a world of names the row in
-/// which the name 2b - 1 is reached.
-#[test]
-fn each_read_and_each_write_fails_once(rt: HostRuntime) {
-    for world in WorldKind::all() {
-        rows_fail_in_turn(&rt, rt.alloc(), world, &INPUTS);
+/// Inputs, how many bytes of them a read gives, and how often their run reads and writes.
+const CALLS: [(&[u8], usize, (u64, u64)); 7] = [
+    (b"", 4, (1, 0)),
+    (b"step 70\nstep 7\n", 4, (5, 2)),
+    (b"step 70\nstep 77", 4, (5, 2)),
+    (b"begin 7\nquit\nbegin 8\nbegin 9\n", 4, (4, 2)),
+    (SEVEN, READ_BYTES, (1, 1)),
+    (SEVEN, 8, (6, 6)),
+    (SEVEN, 1, (41, 6)),
+];
+
+/// One that visits, and leaves one more unheard.
+const SEVEN: &[u8] = b"begin 7\nstep 7\nstep 7\nstep 7\nstep 7\nquit\nbegin 8\n";
+
+/// Compares how often a run in this world reads and writes.
+fn calls_are_few(rt: &impl Abort, alloc: Global, world: WorldKind) {
+    for (input, given, calls) in &CALLS {
+        let case = Case {
+            config: config(rt, world, 2),
+            is_kept: false,
+            input,
+            text: b"",
+        };
+        let found = calls_of(rt, alloc, &case, *given, READ_BYTES);
+        assert!(rt; found == *calls, "{input:?} in {world:?}: {found:?}");
     }
-    rows_fail_in_turn(&rt, rt.alloc(), WorldKind::Splitter, &VISITS);
-    the_largest_name_fails_in_turn(&rt, rt.alloc());
+}
+
+/// Nothing is read after the end or after `quit`.
+#[test]
+fn reads_and_writes_are_few(rt: HostRuntime) {
+    for world in WorldKind::all() {
+        calls_are_few(&rt, rt.alloc(), world);
+    }
+    assert!(rt; (READ_BYTES, MOST_READS) == (65_536, 1 << 40));
 }
 
 /// Plays an input byte by byte, and compares what is written. How many growths it leaves of as many as there may be.
 fn growths_left(rt: &impl Abort, alloc: Global, input: &[u8], text: &[u8]) -> u64 {
     let heap = FailingAllocator::new(alloc, u64::MAX);
-    let p = run_of(
-        config(rt, WorldKind::Splitter, 2),
-        &heap,
-        FaultyReader::new(input, 1, 0),
-        FaultyWriter::new(alloc, 64, 0, false),
-    );
-    assert!(rt; p.outcome.is_ok() && p.text.as_slice() == text);
+    let case = Case {
+        config: config(rt, WorldKind::Splitter, 2),
+        is_kept: false,
+        input,
+        text,
+    };
+    let p = run(&heap, alloc, &case, (1, 0), (64, 0, false));
+    assert!(rt; p.fault.is_none() && p.text.as_slice() == text);
     heap.left()
 }
 
@@ -281,7 +279,7 @@ fn a_line_of_a_million_bytes_is_bad(rt: HostRuntime) {
     let long = vec![in rt.alloc(); b'a'; 1_000_000].expect(&rt, "room for a long line");
     let many = growths_left(&rt, rt.alloc(), &long, b"bad 1\n");
     let few = growths_left(&rt, rt.alloc(), b"a", b"bad 3\n");
-    assert_eq!(rt; many, few);
+    assert!(rt; many == few);
 }
 
 /// Inputs in a grid for so many participants, and the texts that they are answered by.
@@ -305,9 +303,14 @@ const GRID_INPUTS: [(u64, &[u8], &[u8]); 3] = [
 
 #[test]
 fn walks_in_a_grid_end_at_places(rt: HostRuntime) {
-    for (m, input, text) in GRID_INPUTS {
-        let config = config(&rt, WorldKind::Grid, m);
-        is_played(&rt, rt.alloc(), config, (input, text));
+    for (m, input, text) in &GRID_INPUTS {
+        let case = Case {
+            config: config(&rt, WorldKind::Grid, *m),
+            is_kept: false,
+            input,
+            text,
+        };
+        is_run(&rt, rt.alloc(), &case);
     }
 }
 
@@ -328,22 +331,17 @@ fn a_world_that_refuses_growths_takes_the_event_when_asked_again(rt: HostRuntime
         &mut writer,
     );
     let summary = outcome.expect(&rt, "a run with no fault");
-    assert_eq!(rt; (summary.accepted, summary.refused), (5, 2));
-    assert_eq!(rt;
-        writer.into_inner().as_slice(),
-        b"ok\nok\nrefused 12\nok\nok\nrefused 12\nok\n".as_slice()
-    );
+    let said = b"ok\nok\nrefused 12\nok\nok\nrefused 12\nok\n";
+    let is_so = (summary.accepted, summary.refused) == (5, 2);
+    assert!(rt; is_so && writer.into_inner().as_slice() == said.as_slice());
     law_of_world::<Shelf, Global, ()>();
 }
 
 /// Plays a coin over a reader that fails at this read: whether there was no fault and whether `stop` is next, after this text.
 fn coin_is_played(rt: &impl Abort, alloc: Global, fails_at: u64, text: &[u8]) -> (bool, bool) {
     let mut coin = Coin { stops: false };
-    let mut reader = Tried::new(FaultyReader::new(
-        b"begin 1\nstep 1\nowner 1\nenter 1\n",
-        8,
-        fails_at,
-    ));
+    let lines = b"begin 1\nstep 1\nowner 1\nenter 1\n";
+    let mut reader = Tried::new(FaultyReader::new(lines, 8, fails_at));
     let mut writer = Tried::new(Vec::new(alloc));
     let outcome = play_on(
         alloc,
@@ -353,41 +351,15 @@ fn coin_is_played(rt: &impl Abort, alloc: Global, fails_at: u64, text: &[u8]) ->
         &mut reader,
         &mut writer,
     );
-    assert_eq!(rt; writer.into_inner().as_slice(), text);
+    assert!(rt; writer.into_inner().as_slice() == text);
     (outcome.is_ok(), coin.stops)
 }
 
 #[test]
 fn a_world_whose_replies_vary_is_played_and_left_where_the_replies_went_out(rt: HostRuntime) {
-    for (fails_at, is_left, text) in [
-        (
-            0,
-            (true, true),
-            b"right\nstop\nowner none\nright\n".as_slice(),
-        ),
-        (4, (false, false), b"right\nstop\nowner none\n"),
-    ] {
-        assert_eq!(rt; coin_is_played(&rt, rt.alloc(), fails_at, text), is_left);
+    let all = b"right\nstop\nowner none\nright\n".as_slice();
+    let part = b"right\nstop\nowner none\n".as_slice();
+    for (fails_at, is_left, text) in [(0, (true, true), all), (4, (false, false), part)] {
+        assert!(rt; coin_is_played(&rt, rt.alloc(), fails_at, text) == is_left);
     }
-}
-
-/// How often a run calls its reader and its writer that is given so many bytes a read.
-fn calls_of(rt: &impl Abort, alloc: Global, input: &[u8], piece: usize) -> (u64, u64) {
-    let config = config(rt, WorldKind::Splitter, 2);
-    let p = run_cut(alloc, config, input, (piece, 0), (READ_BYTES, 0));
-    assert!(rt; p.outcome.is_ok());
-    (p.reads, p.writes)
-}
-
-#[test]
-fn reads_and_writes_are_few(rt: HostRuntime) {
-    let input = b"begin 7\nstep 7\nstep 7\nstep 7\nstep 7\nquit\nbegin 8\n".as_slice();
-    for (piece, calls) in [(READ_BYTES, (1, 1)), (8, (6, 6)), (1, (41, 6))] {
-        assert_eq!(rt;
-            calls_of(&rt, rt.alloc(), input, piece),
-            calls,
-            "at {piece} bytes"
-        );
-    }
-    assert_eq!(rt; (READ_BYTES, MOST_READS), (65_536, 1 << 40));
 }

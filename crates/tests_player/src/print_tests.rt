@@ -1,10 +1,9 @@
-//! The texts of replies and of bad lines.
+//! The texts of replies, of bad lines, and of a run that did not come to its end.
 
 use commands::Reply;
-use schedule_player::{Bad, REPLY_ROOM, Replies, print_bad, print_reply};
+use schedule_player::{Bad, Fault, REPLY_ROOM, Replies, print_bad, print_reply};
 use std::alloc::Global;
 use std::process::Abort;
-use std::test::Fail;
 use step_memory::{Refusal, View};
 
 /// Replies, with the view of `two_pairs` where they have one, and their texts.
@@ -55,41 +54,53 @@ fn two_pairs() -> View {
 }
 
 /// Compares the text of a reply, whose view is put beside it.
-fn is_printed(rt: &impl Abort, alloc: Global, reply: Reply<View>, want: &[u8]) {
-    let mut out = Replies::new(alloc).expect(rt, "room for a reply");
+fn is_printed(rt: &impl Abort, out: &mut Replies<Global>, reply: Reply<View>, want: &[u8]) {
     let mut beside = View::new();
-    print_reply(reply.shorten(&mut beside), &beside, &mut out);
-    assert_eq!(rt; out.as_slice(), want);
+    out.clear();
+    print_reply(reply.shorten(&mut beside), &beside, out);
+    assert!(rt; out.as_slice() == want, "{want:?}");
 }
 
 #[test]
 fn replies_have_their_texts(rt: HostRuntime) {
     let view = two_pairs();
+    let mut out = Replies::new(rt.alloc()).expect(&rt, "room for a reply");
     for (reply, want) in &REPLIES {
-        is_printed(&rt, rt.alloc(), reply.with(&view), want);
+        is_printed(&rt, &mut out, reply.with(&view), want);
     }
 }
 
 #[test]
-fn bad_lines_have_their_texts(rt: HostRuntime) -> Result<(), Fail> {
+fn bad_lines_have_their_texts(rt: HostRuntime) {
+    let mut out = Replies::new(rt.alloc()).expect(&rt, "room for a reply");
     for (bad, want) in &BADS {
-        let mut out = Replies::new(rt.alloc())?;
+        out.clear();
         print_bad(*bad, &mut out);
-        assert_eq!(rt; out.as_slice(), *want);
+        assert!(rt; out.as_slice() == *want, "{want:?}");
     }
-    Ok(())
 }
 
 #[test]
-fn the_longest_reply_has_its_room(rt: HostRuntime) -> Result<(), Fail> {
+fn the_longest_reply_has_its_room(rt: HostRuntime) {
     let mut view = View::new();
     for i in 0..64 {
         if !view.is_full() {
             view.insert(u64::MAX - i, u64::MAX);
         }
     }
-    let mut out = Replies::new(rt.alloc())?;
+    let mut out = Replies::new(rt.alloc()).expect(&rt, "room for a reply");
     print_reply(Reply::Saw(()), &view, &mut out);
-    assert_eq!(rt; out.len(), REPLY_ROOM);
-    Ok(())
+    assert!(rt; out.len() == REPLY_ROOM);
+}
+
+#[test]
+fn faults_have_numbers_and_texts(rt: HostRuntime) {
+    for (fault, number, text) in [
+        (Fault::Read, 1, "read fault"),
+        (Fault::Write, 2, "write fault"),
+        (Fault::Memory, 3, "no memory"),
+    ] {
+        let told = fault.to_string(rt.alloc()).expect(&rt, "room for a text");
+        assert!(rt; fault as u8 == number && told.as_str() == text, "{text}");
+    }
 }

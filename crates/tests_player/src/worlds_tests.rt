@@ -1,6 +1,7 @@
 //! Runs of renaming, over a grid's places and a tree's, with a pool and slots.
 
-use crate::playing_tests::is_played;
+use crate::playing_tests::{Case, is_run};
+use crate::record_tests::record_text;
 use schedule_player::{Config, WorldKind};
 use std::alloc::{AllocError, Global};
 use std::process::Abort;
@@ -248,16 +249,32 @@ pub(crate) fn spelled(rt: &impl Abort, alloc: Global, text: &str) -> Vec<u8> {
     lines
 }
 
-/// Plays a row however the bytes are cut.
-fn row_is_played(rt: &impl Abort, alloc: Global, row: &Row) {
+/// What is written of a row that is played, or recorded where it is kept.
+pub(crate) fn text_of(rt: &impl Abort, alloc: Global, row: &Row, is_kept: bool) -> Vec<u8> {
+    let said = spelled(rt, alloc, row.said);
+    if is_kept {
+        record_text(rt, alloc, row, &said)
+    } else {
+        said
+    }
+}
+
+/// Plays a row, or records it, however the bytes are cut.
+pub(crate) fn row_is_run(rt: &impl Abort, alloc: Global, row: &Row, is_kept: bool) {
     let input = spelled(rt, alloc, row.asked);
-    let text = spelled(rt, alloc, row.said);
-    is_played(rt, alloc, row.config(rt), (&input, &text));
+    let text = text_of(rt, alloc, row, is_kept);
+    let case = Case {
+        config: row.config(rt),
+        is_kept,
+        input: &input,
+        text: &text,
+    };
+    is_run(rt, alloc, &case);
 }
 
 #[test]
 fn names_places_numbers_and_values_are_told(rt: HostRuntime) {
     for row in &ROWS {
-        row_is_played(&rt, rt.alloc(), row);
+        row_is_run(&rt, rt.alloc(), row, false);
     }
 }
