@@ -6,7 +6,7 @@ use run_checker::{
     read_reply,
 };
 use schedule_player::{Command, parse_line};
-use std::alloc::{AllocError, Global};
+use std::alloc::Global;
 use std::process::Abort;
 
 /// Lines, each a command and a reply with a colon between them, that are judged in a world for so many participants,
@@ -112,11 +112,6 @@ const SMALL_RECORDS: [Trial; 3] = [
     },
 ];
 
-#[test]
-fn a_small_record(rt: HostRuntime) {
-    judge_trials(&rt, rt.alloc(), &SMALL_RECORDS);
-}
-
 /// A refused `begin` does not count.
 const BEGUN: [Trial; 3] = [
     Trial {
@@ -141,11 +136,6 @@ const BEGUN: [Trial; 3] = [
         lasts: &[("begin 30", "ok", Some((5, Reason::Refusal)))],
     },
 ];
-
-#[test]
-fn who_has_begun(rt: HostRuntime) {
-    judge_trials(&rt, rt.alloc(), &BEGUN);
-}
 
 /// Replies of other commands, and refusals that are not due; want of memory may be told of a step over a tree.
 const REPLIES: [Trial; 2] = [
@@ -189,11 +179,6 @@ const REPLIES: [Trial; 2] = [
     },
 ];
 
-#[test]
-fn replies_and_refusals(rt: HostRuntime) {
-    judge_trials(&rt, rt.alloc(), &REPLIES);
-}
-
 /// Places are given once.
 const PLACES: [Trial; 1] = [Trial {
     world: WorldKind::Rename,
@@ -210,11 +195,6 @@ const PLACES: [Trial; 1] = [Trial {
         ("step 10", "place 1", Some((3, Reason::Place))),
     ],
 }];
-
-#[test]
-fn places(rt: HostRuntime) {
-    judge_trials(&rt, rt.alloc(), &PLACES);
-}
 
 /// How many proposals there may be, and where in them views and the end come.
 const PROPOSALS: [Trial; 2] = [
@@ -249,19 +229,6 @@ const PROPOSALS: [Trial; 2] = [
     },
 ];
 
-#[test]
-fn proposals(rt: HostRuntime) {
-    judge_trials(&rt, rt.alloc(), &PROPOSALS);
-}
-
-/// Appends pairs to a view.
-fn put_pairs(view: &mut Pairs, pairs: &[(u64, u64)]) -> Result<(), AllocError> {
-    for (id, number) in pairs {
-        view.push(*id, *number)?;
-    }
-    Ok(())
-}
-
 /// Lines in which each of two proposes 2 and 1 in the other order.
 const CROSSED: &str =
     "begin 10:ok, begin 20:ok, begin 30:ok, step 10:proposed 2, step 20:proposed 1, step 10:proposed 1, \
@@ -275,7 +242,9 @@ fn judge_view(
     fault: Option<(usize, Reason)>,
 ) {
     let mut view = Pairs::new(alloc);
-    put_pairs(&mut view, pairs).expect(rt, "room for a view");
+    for (id, number) in pairs {
+        view.push(*id, *number).expect(rt, "room for a view");
+    }
     let last = Line {
         event: Event::Step(10),
         told: Told::Saw(view),
@@ -284,42 +253,27 @@ fn judge_view(
     judge(rt, alloc, config, (CROSSED, last), fault);
 }
 
-/// Views of others than were seen since the last proposal.
-const NO_VIEWS: [&[(u64, u64)]; 10] = [
-    &[(10, 1)],
-    &[(20, 1)],
-    &[(10, 1), (20, 2)],
-    &[(20, 1), (10, 1)],
-    &[(10, 1), (10, 1)],
-    &[(10, 2), (20, 1)],
-    &[(10, 1), (40, 1)],
-    &[(10, 1), (20, 257)],
-    &[(10, 0), (20, 1)],
-    &[],
+/// The one view that was a moment since the last proposal, and others.
+const VIEWS: [(&[(u64, u64)], Option<(usize, Reason)>); 11] = [
+    (&[(10, 1), (20, 1)], None),
+    (&[(10, 1)], Some((7, Reason::View))),
+    (&[(20, 1)], Some((7, Reason::View))),
+    (&[(10, 1), (20, 2)], Some((7, Reason::View))),
+    (&[(20, 1), (10, 1)], Some((7, Reason::View))),
+    (&[(10, 1), (10, 1)], Some((7, Reason::View))),
+    (&[(10, 2), (20, 1)], Some((7, Reason::View))),
+    (&[(10, 1), (40, 1)], Some((7, Reason::View))),
+    (&[(10, 1), (20, 257)], Some((7, Reason::View))),
+    (&[(10, 0), (20, 1)], Some((7, Reason::View))),
+    (&[], Some((7, Reason::View))),
 ];
-
-/// Judges each of those.
-fn judge_no_views(rt: &impl Abort, alloc: Global) {
-    for pairs in &NO_VIEWS {
-        judge_view(rt, alloc, pairs, Some((7, Reason::View)));
-    }
-}
-
-/// A view of 70 pairs.
-fn long_view() -> [(u64, u64); 70] {
-    let mut long = [(0, 1); 70];
-    for (id, pair) in (1u64..=70).zip(long.iter_mut()) {
-        pair.0 = id;
-    }
-    long
-}
 
 /// Views are moments since the last proposal, in which another proposes the same.
 #[test]
 fn views(rt: HostRuntime) {
-    judge_view(&rt, rt.alloc(), &[(10, 1), (20, 1)], None);
-    judge_view(&rt, rt.alloc(), &long_view(), Some((7, Reason::View)));
-    judge_no_views(&rt, rt.alloc());
+    for (pairs, fault) in &VIEWS {
+        judge_view(&rt, rt.alloc(), pairs, *fault);
+    }
 }
 
 /// Who is spent has seen another propose the same, and takes no more steps.
@@ -333,11 +287,6 @@ const SPENT: [Trial; 1] = [Trial {
         ("step 10", "refused 5", Some((6, Reason::Refusal))),
     ],
 }];
-
-#[test]
-fn spent(rt: HostRuntime) {
-    judge_trials(&rt, rt.alloc(), &SPENT);
-}
 
 /// Names are what was proposed last, alone at some moment since, and nobody else's; the last of these another proposes at every moment since.
 const NAMES: [Trial; 3] = [
@@ -370,11 +319,6 @@ const NAMES: [Trial; 3] = [
         lasts: &[("step 10", "named 1", Some((4, Reason::Name)))],
     },
 ];
-
-#[test]
-fn names(rt: HostRuntime) {
-    judge_trials(&rt, rt.alloc(), &NAMES);
-}
 
 /// Numbers of the pool, and what stands in their slots: while 5 holds the number 2, with 9 in its slot, and 6 has probed once;
 /// and in a pool of one number, whose slot keeps its value from one holder to the next.
@@ -417,11 +361,6 @@ const POOL: [Trial; 2] = [
     },
 ];
 
-#[test]
-fn pool_and_slots(rt: HostRuntime) {
-    judge_trials(&rt, rt.alloc(), &POOL);
-}
-
 /// A pool of two numbers, both held, that gets two more; and one that had one number, held by 5 with 9 in its slot, and has
 /// three: the present size says who is let in, which numbers are given and which probe is not missed. 6 has probed once since.
 const WIDER: [Trial; 2] = [
@@ -462,14 +401,33 @@ const WIDER: [Trial; 2] = [
     },
 ];
 
+/// Trials of begins, replies, places, proposals and names.
+const RENAMING: [&[Trial]; 7] = [
+    &SMALL_RECORDS,
+    &BEGUN,
+    &REPLIES,
+    &PLACES,
+    &PROPOSALS,
+    &SPENT,
+    &NAMES,
+];
+
 #[test]
-fn a_pool_that_widens(rt: HostRuntime) {
+fn small_records(rt: HostRuntime) {
+    for trials in &RENAMING {
+        judge_trials(&rt, rt.alloc(), trials);
+    }
+}
+
+#[test]
+fn pool_and_slots(rt: HostRuntime) {
+    judge_trials(&rt, rt.alloc(), &POOL);
     judge_trials(&rt, rt.alloc(), &WIDER);
 }
 
 #[test]
 fn reasons_have_numbers(rt: HostRuntime) {
-    assert_eq!(rt; (Reason::Reply.number(), Reason::Pool.number()), (1, 7));
+    assert!(rt; (Reason::Reply.number(), Reason::Pool.number()) == (1, 7));
     law_of_reasons();
     law_of_records();
     law_of_desk_runs();
