@@ -41,5 +41,5 @@ fn a_name_is_shown_on_a_board(rt: HostRuntime) {
         rt.alloc(),
         Opening::new(&rt, WorldKind::Rename, 4, 4),
     );
-    assert_eq!(rt; shown, Some((1, true)));
+    assert!(rt; shown == Some((1, true)));
 }

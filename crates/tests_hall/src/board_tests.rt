@@ -2,7 +2,6 @@
 
 ghost use Rattle.std.specs.Prelude.{◌≡◌, All, IfSome};
 
-use crate::lock_tests::{begins, closed, with};
 use crate::opening::{Opening, opened};
 use commands::WorldKind;
 use locked_world::{Closed, HallLock, LockName, Session, agrees, post_name};
@@ -13,16 +12,6 @@ use std::process::Abort;
 use std::sync::Wait;
 use std::thread;
 use std::thread::Threads;
-
-/// The words of a board as it ends, where one grant is handed in.
-fn words_at_end(rt: &impl Abort, alloc: Global, board: Board<Global>, grant: Grant) -> Vec<u64>
-    requires { grant.board ≡ board }
-{
-    let mut out = Vec::new(alloc);
-    out.push(grant).ok().expect(rt, "room for a grant");
-    let (words, _) = board.close_all(alloc, out).expect(rt, "room for the words");
-    words
-}
 
 /// What a thread is given: a session, and a seat of the board.
 #[derive(Drop)]
@@ -93,7 +82,7 @@ fn take_one<L: LockName>(
     } = done.pop().expect(rt, "one for each thread");
     sessions.push(session).ok().expect(rt, "room for a session");
     let grant = grant.expect(rt, "one that is named posts its name");
-    assert_eq!(rt; Some(grant.name()), name);
+    assert!(rt; Some(grant.name()) == name);
     grant
 }
 
@@ -138,8 +127,17 @@ fn all_meet(
     board.meet(three, four);
 }
 
+/// How long the lists of these are together.
+fn kept_by<L: LockName>(sessions: &Vec<Session<L>>) -> usize {
+    let mut kept = 0usize;
+    for session in sessions {
+        kept = kept.wrapping_add(session.count());
+    }
+    kept
+}
+
 /// Four threads are named and post their names; then every two grants meet. Whether the words are those four, and agree with
-/// the closed history.
+/// the closed history, and whether that is as long as the lists of the four together.
 fn four_post<L: LockName + Send + Sync, R: Abort + Threads + Wait + Sync>(
     rt: &R,
     alloc: Global,
@@ -159,12 +157,15 @@ fn four_post<L: LockName + Send + Sync, R: Abort + Threads + Wait + Sync>(
     let mut three = take_one(rt, &board, &mut done, &mut sessions);
     let mut four = take_one(rt, &board, &mut done, &mut sessions);
     all_meet(&board, &mut one, &mut two, &mut three, &mut four);
-    let words = words_at_end(rt, alloc, board, four);
-    let closed = closed(rt, lock, sessions, Vec::new(alloc));
+    let words = board.close(four).expect(rt, "room for the words");
+    let kept = kept_by(&sessions);
+    let closed = lock.close(sessions, Vec::new(alloc)).ok();
+    let closed = closed.expect(rt, "each caller is handed in");
     let posted = words.iter().filter(|word| **word != 0).count();
-    posted == 4 && agrees(&closed, &words)
+    posted == 4 && agrees(&closed, &words) && closed.hall.len() == kept
 }
 
+/// Each has a name of its own from 1 to 7, since the board has so many words and four of them hold who posted there.
 #[test]
 fn four_threads_post_their_names(rt: HostRuntime) {
     for _ in 0..20 {

@@ -2,11 +2,12 @@
 
 ghost use Rattle.std.specs.Prelude.{◌≡◌};
 
+use crate::lock_tests::hall;
 use crate::opening::{Opening, opened};
 use commands::Reply;
 use locked_world::{Clerk, Hall, HallLock, LockName, ServingClerk, law_of_serving};
-use player::{Config, Event, Fault, Summary, Tried, WorldKind};
-use slot_server::{Gate, Served, ServerFault, Watched, serve_many, serve_one};
+use player::{Event, Fault, Tried, WorldKind};
+use slot_server::{Gate, Served, Watched, serve_many, serve_one};
 use std::alloc::Global;
 use std::io::{Read, Write};
 use std::marker::Brand;
@@ -18,16 +19,6 @@ use std::thread;
 use std::thread::Threads;
 use step_memory::Refusal;
 use tests_doubles::{FaultyReader, FaultyWriter};
-
-/// A config for one participant, with so many numbers.
-fn config(rt: &impl Abort, world: WorldKind, k: u64) -> Config {
-    Config::new(world, 1, k, 1000).expect(rt, "a config in range")
-}
-
-/// A hall for one participant.
-fn hall(rt: &impl Abort, alloc: Global, world: WorldKind) -> Hall {
-    Hall::new(alloc, config(rt, world, 4)).expect(rt, "room for a hall")
-}
 
 /// Whether the history of a hall has just these events.
 fn has_just(hall: &Hall, events: &[Event]) -> bool {
@@ -43,56 +34,112 @@ fn has_just(hall: &Hall, events: &[Event]) -> bool {
     true
 }
 
-/// Serves an input over a hall for one participant, and compares the fault, what went out, and the events of the history.
-fn is_served(
-    rt: &impl Abort,
-    alloc: Global,
-    (input, output): (FaultyReader<'_>, FaultyWriter),
-    (fault, text): (Option<Fault>, &[u8]),
-    events: &[Event],
-) {
-    let mut hall = hall(rt, alloc, WorldKind::Rename);
-    let mut reader = Tried::new(input);
-    let mut writer = Tried::new(output);
-    let outcome = serve_one(rt, alloc, &mut reader, &mut writer, &mut hall);
-    let taken = writer.into_inner().taken;
-    let is_so = outcome.err() == fault && taken.as_slice() == text;
-    assert!(rt; is_so && has_just(&hall, events));
+/// A run over a hall for one participant: what it is asked, how many bytes a read gives at most and which read fails, the same of the
+/// writes; and its fault, what went out, and the events of the history.
+#[derive(Drop)]
+struct Ending {
+    asked: &'static [u8],
+    reads: (usize, u64),
+    writes: (usize, u64),
+    fault: Option<Fault>,
+    text: &'static [u8],
+    events: &'static [Event],
 }
 
-/// What a run over a hall is asked, with no LF at its end.
+/// Whether such a run ends so.
+fn ends_so(rt: &impl Abort, alloc: Global, ending: &Ending) -> bool {
+    let (piece, at) = ending.reads;
+    let mut reader = Tried::new(FaultyReader::new(ending.asked, piece, at));
+    let (piece, at) = ending.writes;
+    let mut writer = Tried::new(FaultyWriter::new(alloc, piece, at, false));
+    let mut hall = hall(rt, alloc, (WorldKind::Rename, 1, 4));
+    let outcome = serve_one(rt, alloc, &mut reader, &mut writer, &mut hall);
+    outcome.err() == ending.fault
+        && writer.into_inner().taken.as_slice() == ending.text
+        && has_just(&hall, ending.events)
+}
+
+/// What a run is asked, with no LF at its end, and with one.
 const ASKED: &[u8] = b"begin 7\nstep 7";
 
-/// Its events.
-const BOTH: [Event; 2] = [Event::Begin(7), Event::Step(7)];
+const ENDED: &[u8] = b"begin 7\nstep 7\n";
 
-/// A read fault: the whole lines before it are answered, and stand in the history. An end in its place is the end of a line.
+/// The events of these.
+const BOTH: &[Event] = &[Event::Begin(7), Event::Step(7)];
+
+const FIRST: &[Event] = &[Event::Begin(7)];
+
+/// Writes of which none fails.
+const ALL: (usize, u64) = (1000, 0);
+
+/// Reads that fail, and that end in their place; and a write that fails.
+const ENDINGS: [Ending; 7] = [
+    Ending {
+        asked: ASKED,
+        reads: (1, 15),
+        writes: ALL,
+        fault: Some(Fault::Read),
+        text: b"ok\n",
+        events: FIRST,
+    },
+    Ending {
+        asked: ASKED,
+        reads: (1, 0),
+        writes: ALL,
+        fault: None,
+        text: b"ok\nquiet\n",
+        events: BOTH,
+    },
+    Ending {
+        asked: ASKED,
+        reads: (2, 8),
+        writes: ALL,
+        fault: Some(Fault::Read),
+        text: b"ok\n",
+        events: FIRST,
+    },
+    Ending {
+        asked: ASKED,
+        reads: (2, 0),
+        writes: ALL,
+        fault: None,
+        text: b"ok\nquiet\n",
+        events: BOTH,
+    },
+    Ending {
+        asked: ASKED,
+        reads: (100, 2),
+        writes: ALL,
+        fault: Some(Fault::Read),
+        text: b"ok\n",
+        events: FIRST,
+    },
+    Ending {
+        asked: ASKED,
+        reads: (100, 0),
+        writes: ALL,
+        fault: None,
+        text: b"ok\nquiet\n",
+        events: BOTH,
+    },
+    Ending {
+        asked: ENDED,
+        reads: (100, 0),
+        writes: (3, 2),
+        fault: Some(Fault::Write),
+        text: b"ok\n",
+        events: BOTH,
+    },
+];
+
+/// A read fault: the whole lines before it are answered, and stand in the history. An end in its place is the end of a line. A write
+/// fault: what went out is a beginning of the text, and what was answered stands in the history.
 #[test]
-fn a_read_fault_over_a_hall(rt: HostRuntime) {
+fn a_fault_over_a_hall(rt: HostRuntime) {
     law_of_serving();
-    let misread = (Some(Fault::Read), b"ok\n".as_slice());
-    let whole = (None, b"ok\nquiet\n".as_slice());
-    for (piece, fails_at, said, events) in [
-        (1, 15, misread, &BOTH[..1]),
-        (1, 0, whole, &BOTH),
-        (2, 8, misread, &BOTH[..1]),
-        (2, 0, whole, &BOTH),
-        (100, 2, misread, &BOTH[..1]),
-        (100, 0, whole, &BOTH),
-    ] {
-        let input = FaultyReader::new(ASKED, piece, fails_at);
-        let output = FaultyWriter::new(rt.alloc(), 1000, 0, false);
-        is_served(&rt, rt.alloc(), (input, output), said, events);
+    for (row, ending) in ENDINGS.iter().enumerate() {
+        assert!(rt; ends_so(&rt, rt.alloc(), ending), "row {row}");
     }
-}
-
-/// A write fault: what went out is a beginning of the text, and what was answered stands in the history.
-#[test]
-fn a_write_fault_over_a_hall(rt: HostRuntime) {
-    let input = FaultyReader::new(b"begin 7\nstep 7\n", 100, 0);
-    let output = FaultyWriter::new(rt.alloc(), 3, 2, false);
-    let said = (Some(Fault::Write), b"ok\n".as_slice());
-    is_served(&rt, rt.alloc(), (input, output), said, &BOTH);
 }
 
 /// Counts what it is told.
@@ -123,67 +170,76 @@ impl<R> Gate<R> for Counting {
     }
 }
 
-/// Serves a text that is cut into such pieces: how many lines there were, and how often the gate was told of a line, of a
-/// reply, and of other connections.
-fn is_told(rt: &impl Abort, alloc: Global, input: &[u8], piece: usize) -> (u64, u64, u64, u64) {
+/// Whether a gate is told so often of the lines and of the replies of a text that is cut into such pieces, and of no other connection.
+fn is_told(rt: &impl Abort, alloc: Global, input: &[u8], piece: usize, lines: u64) -> bool {
     let gate = Counting {
         read: AtomicU64::new(0),
         answered: AtomicU64::new(0),
         other: AtomicU64::new(0),
     };
-    let mut hall = hall(rt, alloc, WorldKind::Tree);
+    let mut hall = hall(rt, alloc, (WorldKind::Tree, 1, 4));
     let mut reader = Watched::new(rt, &gate, 3, Tried::new(FaultyReader::new(input, piece, 0)));
     let mut writer = Watched::new(rt, &gate, 3, Tried::new(Vec::new(alloc)));
     let summary = serve_one(rt, alloc, &mut reader, &mut writer, &mut hall);
-    (
-        summary.expect(rt, "a run with no fault").lines,
-        gate.read.load(Ordering::SeqCst),
-        gate.answered.load(Ordering::SeqCst),
-        gate.other.load(Ordering::SeqCst),
-    )
+    summary.is_ok_and(|summary| summary.lines == lines)
+        && gate.read.load(Ordering::SeqCst) == lines
+        && gate.answered.load(Ordering::SeqCst) == lines
+        && gate.other.load(Ordering::SeqCst) == 0
 }
 
-/// Compares what a gate is told where bytes come in such pieces.
-fn are_told(rt: &impl Abort, alloc: Global, piece: usize) {
-    for (input, lines) in [
-        (b"begin 7\n\nstep 7\nowner 1".as_slice(), 4),
-        (b"begin 7\n", 1),
-        (b"", 0),
-    ] {
-        let told = is_told(rt, alloc, input, piece);
-        assert_eq!(rt; told, (lines, lines, lines, 0), "{piece} {input:?}");
-    }
-}
+/// Texts, and how many lines they have.
+const TEXTS: [(&[u8], u64); 3] = [
+    (b"begin 7\n\nstep 7\nowner 1", 4),
+    (b"begin 7\n", 1),
+    (b"", 0),
+];
 
 /// However the bytes are cut, a gate is told of each line once, the last with no LF too, and of each reply once.
 #[test]
 fn a_gate_is_told_of_lines_and_replies(rt: HostRuntime) {
     for piece in [1, 3, 8, 100] {
-        are_told(&rt, rt.alloc(), piece);
+        for (input, lines) in &TEXTS {
+            assert!(rt;
+                is_told(&rt, rt.alloc(), input, piece, *lines),
+                "{piece} {input:?}"
+            );
+        }
     }
 }
 
-/// What a clerk answers to these lines, of whom nobody competes yet, and how many of its events were accepted.
+/// What a clerk of a lock, of whom nobody competes yet, answers to these lines, and how many of its events were accepted.
 fn by_clerk<L: LockName, R: Abort + Wait>(
+    rt: &R,
+    alloc: Global,
+    lock: &HallLock<L>,
+    input: &[u8],
+) -> (Vec<u8>, usize) {
+    let mut clerk = lock.clerk(rt, alloc).expect(rt, "room for a clerk");
+    let refused = lock.apply(rt, &mut clerk, Event::Get(5));
+    let mut service = ServingClerk::new(lock, clerk);
+    let mut reader = Tried::new(input);
+    let mut writer = Tried::new(Vec::new(alloc));
+    let outcome = serve_one(rt, alloc, &mut reader, &mut writer, &mut service);
+    assert!(rt; outcome.is_ok() && refused == Reply::Refused(Refusal::NotCompeting));
+    (writer.into_inner(), service.into_clerk().count())
+}
+
+/// Whether a clerk of a new lock answers these lines so, and accepts so many of their events.
+fn clerk_answers<L: LockName, R: Abort + Wait>(
     rt: &R,
     alloc: Global,
     opening: Opening,
     input: &[u8],
-) -> (Vec<u8>, usize)
+    text: &[u8],
+    count: usize,
+) -> bool
     requires name { (opening.blank.name ≡ L.name) × (opening.blank.parts ≡ L.parts) }
     requires book { opening.history.seen.book ≡ L.book }
     requires config { opening.config ≡ L.config }
 {
     let lock = opened::<L>(rt, alloc, opening);
-    let mut clerk = lock.clerk(rt, alloc).expect(rt, "room for a clerk");
-    let refused = lock.apply(rt, &mut clerk, Event::Get(5));
-    assert!(rt; refused == Reply::Refused(Refusal::NotCompeting));
-    let mut service = ServingClerk::new(&lock, clerk);
-    let mut reader = Tried::new(input);
-    let mut writer = Tried::new(Vec::new(alloc));
-    let outcome = serve_one(rt, alloc, &mut reader, &mut writer, &mut service);
-    outcome.expect(rt, "a run with no fault");
-    (writer.into_inner(), service.into_clerk().count())
+    let (written, kept) = by_clerk(rt, alloc, &lock, input);
+    written.as_slice() == text && kept == count
 }
 
 /// The rows of one participant, of the pool and of the slots, through a clerk.
@@ -222,13 +278,15 @@ fn rows_through_a_clerk(rt: HostRuntime) {
         ),
     ];
     for (k, input, text, count) in rows {
-        let (written, kept) = by_clerk::<Brand, _>(
+        let is_so = clerk_answers::<Brand, _>(
             &rt,
             rt.alloc(),
             Opening::new(&rt, WorldKind::Rename, 1, k),
             input,
+            text,
+            count,
         );
-        assert_eq!(rt; (written.as_slice(), kept), (text, count));
+        assert!(rt; is_so, "{input:?}");
     }
 }
 
@@ -260,45 +318,27 @@ impl<R> Gate<R> for Holding {
     }
 }
 
-/// Sends a line, and that no more come.
-fn sends(rt: &impl Abort, stream: &TcpStream, line: &[u8]) {
-    (&mut &*stream).write_all(line).expect(rt, "a line is sent");
+/// A client that is connected, and has sent a line and that no more come.
+fn client<R: Abort + Net<Stream = TcpStream>>(rt: &R, port: u16, line: &[u8]) -> TcpStream {
+    let stream = TcpStream::connect(rt, ("127.0.0.1", port)).expect(rt, "a client connects");
+    (&mut &stream).write_all(line).expect(rt, "a line is sent");
+    let ended = stream.shutdown(Shutdown::Write);
+    ended.expect(rt, "an end is sent");
     stream
-        .shutdown(Shutdown::Write)
-        .expect(rt, "an end is sent");
 }
 
-/// All that comes, to the end.
-fn reads(rt: &impl Abort, alloc: Global, stream: &TcpStream) -> Vec<u8> {
+/// Whether all that comes, to the end, is `ok`.
+fn is_ok(alloc: Global, stream: &TcpStream) -> bool {
     let mut text = Vec::new(alloc);
-    (&mut &*stream)
-        .read_to_end(&mut text)
-        .expect(rt, "an end comes");
-    text
+    let read = (&mut &*stream).read_to_end(&mut text);
+    read.is_ok() && text.as_slice() == b"ok\n".as_slice()
 }
 
-/// Two clients, of which the first connects first: each sends its line, and reads to the end.
-fn two_clients<R: Abort + Net<Listener = TcpListener, Stream = TcpStream>>(
-    rt: &R,
-    alloc: Global,
-    port: u16,
-) -> (Vec<u8>, Vec<u8>) {
-    let first = TcpStream::connect(rt, ("127.0.0.1", port)).expect(rt, "the first connects");
-    let second = TcpStream::connect(rt, ("127.0.0.1", port)).expect(rt, "the second connects");
-    sends(rt, &first, b"begin 7\n");
-    sends(rt, &second, b"enter 5\n");
-    let two = reads(rt, alloc, &second);
-    (reads(rt, alloc, &first), two)
-}
-
-/// Both replies, what was served, and the closed history, with a gate that holds the first connection.
-#[derive(Drop)]
-struct HeldRun {
-    one: Vec<u8>,
-    two: Vec<u8>,
-    served: u64,
-    fault: Option<ServerFault>,
-    hall: Hall,
+/// Whether two clients, of which the first connects first and the second is answered first, are both answered `ok`.
+fn two_clients<R: Abort + Net<Stream = TcpStream>>(rt: &R, alloc: Global, port: u16) -> bool {
+    let first = client(rt, port, b"begin 7\n");
+    let second = client(rt, port, b"enter 5\n");
+    is_ok(alloc, &second) && is_ok(alloc, &first)
 }
 
 /// Two clerks of a lock.
@@ -315,7 +355,9 @@ fn two_clerks<L: LockName, R: Abort + Wait>(
     clerks
 }
 
-fn held<L, R>(rt: &R, alloc: Global, opening: Opening, gate: &Holding) -> HeldRun
+/// Whether both clients are answered and served, with a gate that holds the first connection, and the second's event comes first in
+/// the closed history.
+fn held<L, R>(rt: &R, alloc: Global, opening: Opening, gate: &Holding) -> bool
 where
     L: LockName + Send + Sync,
     R: Abort + Threads + Wait + Sync + Net<Listener = TcpListener, Stream = TcpStream>,
@@ -328,7 +370,7 @@ where
     let listener = TcpListener::bind(rt, ("127.0.0.1", 0u16)).expect(rt, "a port");
     let port = listener.local_addr().expect(rt, "a bound listener").port();
     let (shared, listening) = (&lock, &listener);
-    let ((one, two), served) = thread::join(
+    let (are_ok, served) = thread::join(
         rt,
         move || two_clients(rt, alloc, port),
         move || serve_many(rt, alloc, listening, shared, gate, clerks, 2),
@@ -339,13 +381,9 @@ where
         fault,
     } = served;
     let closed = lock.close(Vec::new(alloc), clerks).ok();
-    HeldRun {
-        one,
-        two,
-        served,
-        fault,
-        hall: closed.expect(rt, "both clerks are handed in").hall,
-    }
+    let hall = closed.expect(rt, "both clerks are handed in").hall;
+    let is_served = are_ok && served == 2 && fault.is_none();
+    is_served && has_just(&hall, &[Event::Enter(5), Event::Begin(7)])
 }
 
 /// A connection that is held does not hold another: the second is answered first.
@@ -355,15 +393,11 @@ fn a_held_connection_holds_no_other(rt: HostRuntime) {
         answered: AtomicU64::new(0),
         gave_up: AtomicU64::new(0),
     };
-    let done = held::<Brand, _>(
+    let is_so = held::<Brand, _>(
         &rt,
         rt.alloc(),
         Opening::new(&rt, WorldKind::Rename, 1, 4),
         &gate,
     );
-    let told = (gate.gave_up.load(Ordering::SeqCst), done.served, done.fault);
-    assert_eq!(rt; told, (0, 2, None));
-    let answers = (done.one.as_slice(), done.two.as_slice());
-    assert_eq!(rt; answers, (b"ok\n".as_slice(), b"ok\n".as_slice()));
-    assert!(rt; has_just(&done.hall, &[Event::Enter(5), Event::Begin(7)]));
+    assert!(rt; is_so && gate.gave_up.load(Ordering::SeqCst) == 0);
 }
