@@ -1,91 +1,17 @@
-//! How the program ends where something fails, and what it shows meanwhile. What it does for words where nothing fails is tried on the
-//! built program, by `tests/program`.
+//! How the program ends where a read or a write fails, and what it shows meanwhile. What it does for words where nothing fails, and which
+//! status and text each failure has, is tried on the built program, by `tests/program`; what comes of a refused growth, by `tests/growths`.
 
-use program_args::{Misuse, ask};
 use program_work::program::program;
 use program_work::progress::tell_until;
-use program_work::{Failure, Outcome, may_take_long};
-use run_checker::{Verdict, check};
-use schedule_player::{Config, Fault, Tried, WorldKind, record};
+use program_work::{Outcome, may_take_long};
+use schedule_player::Tried;
 use std::alloc::Global;
 use std::io;
 use std::process::Abort;
 use std::sync::atomic::{AtomicBool, AtomicU64, Ordering};
-use std::test::Fail;
 use std::thread::Threads;
 use std::time::{Clock, Duration};
-use tests_doubles::{FailingAllocator, FaultyReader, FaultyWriter};
-
-// Failures, with their status and their text.
-fn failures() -> [(Failure, u8, &'static str); 6] {
-    [
-        (Failure::Fault(Fault::Read), 3, "slotctl: read fault\n"),
-        (Failure::Fault(Fault::Write), 3, "slotctl: write fault\n"),
-        (Failure::Fault(Fault::Memory), 3, "slotctl: no memory\n"),
-        (Failure::Misuse(Misuse::Memory), 3, "slotctl: no memory\n"),
-        (Failure::No(4, 6), 1, "no 4 6\n"),
-        (Failure::BadRecord(9), 1, "bad record 9\n"),
-    ]
-}
-
-// Whether a failure has this status and this text.
-fn is_told(alloc: Global, failure: &Failure, status: u8, text: &str) -> Result<bool, Fail> {
-    let told = failure.to_string(alloc)?;
-    Ok(failure.status() == status && told.as_str() == text)
-}
-
-// The status of words that are refused.
-fn status_of_misuse(alloc: Global) -> Option<u8> {
-    let misuse = ask(alloc, &["slotctl"]).err()?;
-    Some(Failure::Misuse(misuse).status())
-}
-
-#[test]
-fn failures_are_told(rt: HostRuntime) -> Result<(), Fail> {
-    for (failure, status, text) in &failures() {
-        assert!(rt; is_told(rt.alloc(), failure, *status, text)?, "{text}");
-    }
-    assert!(rt; status_of_misuse(rt.alloc()) == Some(2));
-    Ok(())
-}
-
-// Two make a node each over a tree.
-const TWO_BEGIN: &[u8] =
-    b"begin 10\nbegin 20\nstep 10\nstep 10\nstep 10\nstep 10\nstep 10\nstep 20\nstep 20\nstep 20\nstep 20\nstep 20\nstep 20\nstep 20\nstep 20\n";
-
-// How their run ends in which this growth is refused, and its record; none where it has not so many.
-fn record_with_refusal(alloc: Global, growth: u64) -> Option<(Result<(), Fault>, Vec<u8>)> {
-    let config = Config::new(WorldKind::Tree, 2, 4, 1000).ok()?;
-    let heap = FailingAllocator::new(alloc, growth);
-    let mut reader = Tried::new(TWO_BEGIN);
-    let mut writer = Tried::new(Vec::new(alloc));
-    let outcome = record(&heap, &mut reader, &mut writer, config);
-    (heap.left() == 0).then_some((outcome, writer.into_inner()))
-}
-
-// How many of these runs do not end in a fault, up to the first that has not so many growths.
-fn records_with_refusals(rt: &impl Abort, alloc: Global) -> u64 {
-    let mut checked = 0u64;
-    for growth in 1..1_000 {
-        match record_with_refusal(alloc, growth) {
-            Some((Ok(()), record)) => {
-                let verdict = check(alloc, record.as_slice());
-                assert!(rt; verdict == Verdict::Yes, "at {growth}: {verdict:?}");
-                checked = checked.saturating_add(1);
-            }
-            Some(_) => {}
-            None => break,
-        }
-    }
-    checked
-}
-
-// Over a tree the record of a run in which a growth was refused, whichever, is one of a run.
-#[test]
-fn a_record_of_a_run_with_a_refused_growth_is_checked(rt: HostRuntime) {
-    let checked = records_with_refusals(&rt, rt.alloc());
-    assert!(rt; checked == 2, "a node for each: {checked}");
-}
+use tests_doubles::{FaultyReader, FaultyWriter};
 
 // Words, the input, how much each read gives at most and which fails, the same of the writes, the status with which the program ends,
 // or 100 where it is left to serve, and what it writes and tells on the standard error.
