@@ -288,7 +288,8 @@ const SPENT: [Trial; 1] = [Trial {
     ],
 }];
 
-/// Names are what was proposed last, alone at some moment since, and nobody else's; the last of these another proposes at every moment since.
+/// Names are what was proposed last, alone at some moment since, and nobody else's; the last of these another proposes at
+/// every moment since.
 const NAMES: [Trial; 3] = [
     Trial {
         world: WorldKind::Rename,

@@ -1,5 +1,5 @@
-//! Each reason by a record of its own. Records in other spellings, lines that are none, and records that are cut are tried on the built
-//! program (`tests/records`).
+//! Each reason by a record of its own. Records in other spellings, lines that are none, and records that are cut are tried on
+//! the built program (`tests/records`).
 
 use crate::records::judge;
 use run_checker::{Reason, Verdict};

@@ -1,4 +1,5 @@
-//! Records of both versions: which lines have a view. By which views a name may be given is tried on the built program (`tests/records`).
+//! Records of both versions: which lines have a view. By which views a name may be given is tried on the built program
+//! (`tests/records`).
 
 use crate::records::judge;
 use run_checker::{Reason, Verdict};

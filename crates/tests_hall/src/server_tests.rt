@@ -34,8 +34,8 @@ fn has_just(hall: &Hall, events: &[Event]) -> bool {
     true
 }
 
-/// A run over a hall for one participant: what it is asked, how many bytes a read gives at most and which read fails, the same of the
-/// writes; and its fault, what went out, and the events of the history.
+/// A run over a hall for one participant: what it is asked, how many bytes a read gives at most and which read fails, the
+/// same of the writes; and its fault, what went out, and the events of the history.
 #[derive(Drop)]
 struct Ending {
     asked: &'static [u8],
@@ -132,8 +132,8 @@ const ENDINGS: [Ending; 7] = [
     },
 ];
 
-/// A read fault: the whole lines before it are answered, and stand in the history. An end in its place is the end of a line. A write
-/// fault: what went out is a beginning of the text, and what was answered stands in the history.
+/// A read fault: the whole lines before it are answered, and stand in the history. An end in its place is the end of a line.
+/// A write fault: what went out is a beginning of the text, and what was answered stands in the history.
 #[test]
 fn a_fault_over_a_hall(rt: HostRuntime) {
     law_of_serving();
@@ -170,7 +170,8 @@ impl<R> Gate<R> for Counting {
     }
 }
 
-/// Whether a gate is told so often of the lines and of the replies of a text that is cut into such pieces, and of no other connection.
+/// Whether a gate is told so often of the lines and of the replies of a text that is cut into such pieces, and of no other
+/// connection.
 fn is_told(rt: &impl Abort, alloc: Global, input: &[u8], piece: usize, lines: u64) -> bool {
     let gate = Counting {
         read: AtomicU64::new(0),
@@ -355,8 +356,8 @@ fn two_clerks<L: LockName, R: Abort + Wait>(
     clerks
 }
 
-/// Whether both clients are answered and served, with a gate that holds the first connection, and the second's event comes first in
-/// the closed history.
+/// Whether both clients are answered and served, with a gate that holds the first connection, and the second's event comes
+/// first in the closed history.
 fn held<L, R>(rt: &R, alloc: Global, opening: Opening, gate: &Holding) -> bool
 where
     L: LockName + Send + Sync,

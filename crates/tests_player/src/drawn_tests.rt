@@ -1,7 +1,7 @@
 //! Drawn schedules and what becomes of their participants, as `drawn_schedules` writes them.
 //!
-//! That each of many runs is that of its seed alone is tried on the built program (`tests/program`), and so is what comes of a growth that is
-//! refused (`tests/growths`).
+//! That each of many runs is that of its seed alone is tried on the built program (`tests/program`), and so is what comes of
+//! a growth that is refused (`tests/growths`).
 
 use commands::{Config, WorldKind};
 use drawn_schedules::{draw, play_drawn};
@@ -29,8 +29,8 @@ fn each_word_gives_a_step(rt: HostRuntime) {
 /// How many bytes a writer below takes a write.
 const PIECE: usize = 3;
 
-/// What is drawn from seed 7 for four, over a writer that fails at this write: the lines of three runs, or a schedule where nothing is
-/// played. How it ends, and what was written.
+/// What is drawn from seed 7 for four, over a writer that fails at this write: the lines of three runs, or a schedule where
+/// nothing is played. How it ends, and what was written.
 fn drawn(
     alloc: Global,
     played: Option<Config>,

@@ -1,10 +1,9 @@
 //! Runs in which one growth is refused, each in turn.
 
 use crate::playing_tests::{Case, Played, config, first_lines, run};
-use crate::record_tests::put_line;
-use crate::worlds_tests::{ROWS, Row, spelled, text_of};
+use crate::record_tests::{put_line, put_pieces};
 use schedule_player::{Fault, WorldKind};
-use std::alloc::{AllocError, Global};
+use std::alloc::Global;
 use std::process::Abort;
 use tests_doubles::FailingAllocator;
 
@@ -23,14 +22,6 @@ fn line_of_difference(one: &[u8], other: &[u8]) -> usize {
         }
     }
     line
-}
-
-/// Appends these pieces.
-fn put_pieces(out: &mut Vec<u8>, pieces: &[&[u8]]) -> Result<(), AllocError> {
-    for piece in pieces {
-        out.extend_from_slice(piece)?;
-    }
-    Ok(())
 }
 
 /// Lines with one more before the line of this number, counted from 0.
@@ -118,7 +109,7 @@ fn one_growth_is_refused(rt: &impl Abort, alloc: Global, case: &Case<'_>, growth
 }
 
 /// Runs a case with each growth refused in turn. How many lines were refused so.
-fn growths_refused_in_turn(rt: &impl Abort, alloc: Global, case: &Case<'_>) -> usize {
+pub(crate) fn growths_refused_in_turn(rt: &impl Abort, alloc: Global, case: &Case<'_>) -> usize {
     let mut refused = 0usize;
     for growth in 1..MOST_GROWTHS {
         match one_growth_is_refused(rt, alloc, case, growth) {
@@ -128,29 +119,6 @@ fn growths_refused_in_turn(rt: &impl Abort, alloc: Global, case: &Case<'_>) -> u
         }
     }
     panic!(rt; "there are more growths");
-}
-
-/// The same of a row that is played, or recorded where it is kept: where walks are in a tree it makes nodes.
-fn row_is_refused_growths(rt: &impl Abort, alloc: Global, row: &Row, is_kept: bool) {
-    let input = spelled(rt, alloc, row.asked);
-    let text = text_of(rt, alloc, row, is_kept);
-    let case = Case {
-        config: row.config(rt),
-        is_kept,
-        input: &input,
-        text: &text,
-    };
-    let refused = growths_refused_in_turn(rt, alloc, &case);
-    let grows = row.world == WorldKind::Tree && row.asked.starts_with("begin");
-    assert!(rt; (refused > 0) == grows, "{refused} at {}", row.asked);
-}
-
-#[test]
-fn each_growth_of_a_row_is_refused_in_turn(rt: HostRuntime) {
-    for row in &ROWS {
-        row_is_refused_growths(&rt, rt.alloc(), row, false);
-        row_is_refused_growths(&rt, rt.alloc(), row, true);
-    }
 }
 
 /// In this world, for so many participants, no line is refused memory.

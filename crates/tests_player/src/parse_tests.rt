@@ -89,13 +89,6 @@ fn means(rt: &impl Abort, line: &[u8], want: Result<Command, Bad>, is_of_names: 
 }
 
 #[test]
-fn lines_have_their_meanings(rt: HostRuntime) {
-    for (line, want) in &ROWS {
-        means(&rt, line, *want, false);
-    }
-}
-
-#[test]
 fn a_desk_knows_more_words(rt: HostRuntime) {
     for (line, want) in &OF_NAMES {
         means(&rt, line, *want, true);
@@ -117,13 +110,14 @@ fn comes(
     assert!(rt; is_so && buffer.is_empty() == line.is_empty(), "{want:?}");
 }
 
-/// However many bytes a line has, its room does not grow.
+/// Lines mean the same whole and as they come byte by byte; however many bytes a line has, its room does not grow.
 #[test]
 fn lines_come_byte_by_byte(rt: HostRuntime) {
     let heap = FailingAllocator::new(rt.alloc(), u64::MAX);
     let mut buffer = LineBuffer::new(&heap).expect(&rt, "room for a line");
     let left = heap.left();
     for (line, want) in &ROWS {
+        means(&rt, line, *want, false);
         comes(&rt, &mut buffer, line, *want);
     }
     let long = vec![in rt.alloc(); b'a'; 1_000_000].expect(&rt, "room for a long line");

@@ -3,14 +3,14 @@
 ghost use Rattle.std.specs.Prelude.{◌≡◌, true};
 
 use crate::toys::{Coin, Shelf};
-use crate::worlds_tests::{ROWS, spelled};
+use crate::worlds_tests::{LARGEST, spelled};
 use schedule_player::{
     Config, Fault, MOST_READS, READ_BYTES, Tried, World, WorldKind, law_of_growths, law_of_lines,
     law_of_play, law_of_world, play, play_in, play_on, record,
 };
 use std::alloc::{Allocator, Global};
 use std::process::Abort;
-use tests_doubles::{FailingAllocator, FaultyReader, FaultyWriter};
+use tests_doubles::{FaultyReader, FaultyWriter};
 
 /// A run that is played, or recorded where it is kept: what it is asked, and what is written.
 #[derive(Drop)]
@@ -211,10 +211,11 @@ fn visits_of_a_splitter_end_by_a_way(rt: HostRuntime) {
 /// The calls of the row in which the name 2b - 1 is reached fail in turn.
 #[test]
 fn each_read_and_each_write_to_the_largest_name_fails_once(rt: HostRuntime) {
-    let asked = spelled(&rt, rt.alloc(), ROWS[2].asked);
-    let said = spelled(&rt, rt.alloc(), ROWS[2].said);
+    let row = LARGEST;
+    let asked = spelled(&rt, rt.alloc(), row.asked);
+    let said = spelled(&rt, rt.alloc(), row.said);
     let case = Case {
-        config: ROWS[2].config(&rt),
+        config: row.config(&rt),
         is_kept: false,
         input: &asked,
         text: &said,
@@ -257,29 +258,6 @@ fn reads_and_writes_are_few(rt: HostRuntime) {
         calls_are_few(&rt, rt.alloc(), world);
     }
     assert!(rt; (READ_BYTES, MOST_READS) == (65_536, 1 << 40));
-}
-
-/// Plays an input byte by byte, and compares what is written. How many growths it leaves of as many as there may be.
-fn growths_left(rt: &impl Abort, alloc: Global, input: &[u8], text: &[u8]) -> u64 {
-    let heap = FailingAllocator::new(alloc, u64::MAX);
-    let case = Case {
-        config: config(rt, WorldKind::Splitter, 2),
-        is_kept: false,
-        input,
-        text,
-    };
-    let p = run(&heap, alloc, &case, (1, 0), (64, 0, false));
-    assert!(rt; p.fault.is_none() && p.text.as_slice() == text);
-    heap.left()
-}
-
-/// However long a line is, no more growths are made than for a short one.
-#[test]
-fn a_line_of_a_million_bytes_is_bad(rt: HostRuntime) {
-    let long = vec![in rt.alloc(); b'a'; 1_000_000].expect(&rt, "room for a long line");
-    let many = growths_left(&rt, rt.alloc(), &long, b"bad 1\n");
-    let few = growths_left(&rt, rt.alloc(), b"a", b"bad 3\n");
-    assert!(rt; many == few);
 }
 
 /// Inputs in a grid for so many participants, and the texts that they are answered by.
@@ -330,15 +308,15 @@ fn a_world_that_refuses_growths_takes_the_event_when_asked_again(rt: HostRuntime
         &mut reader,
         &mut writer,
     );
-    let summary = outcome.expect(&rt, "a run with no fault");
     let said = b"ok\nok\nrefused 12\nok\nok\nrefused 12\nok\n";
-    let is_so = (summary.accepted, summary.refused) == (5, 2);
-    assert!(rt; is_so && writer.into_inner().as_slice() == said.as_slice());
+    let is_counted =
+        matches!(outcome, Ok(summary) if (summary.accepted, summary.refused) == (5, 2));
+    assert!(rt; is_counted && writer.into_inner().as_slice() == said.as_slice());
     law_of_world::<Shelf, Global, ()>();
 }
 
-/// Plays a coin over a reader that fails at this read: whether there was no fault and whether `stop` is next, after this text.
-fn coin_is_played(rt: &impl Abort, alloc: Global, fails_at: u64, text: &[u8]) -> (bool, bool) {
+/// Plays a coin over a reader that fails at this read: whether there was no fault, whether `stop` is next, and what was written.
+fn coin_is_played(alloc: Global, fails_at: u64) -> (bool, bool, Vec<u8>) {
     let mut coin = Coin { stops: false };
     let lines = b"begin 1\nstep 1\nowner 1\nenter 1\n";
     let mut reader = Tried::new(FaultyReader::new(lines, 8, fails_at));
@@ -351,15 +329,15 @@ fn coin_is_played(rt: &impl Abort, alloc: Global, fails_at: u64, text: &[u8]) ->
         &mut reader,
         &mut writer,
     );
-    assert!(rt; writer.into_inner().as_slice() == text);
-    (outcome.is_ok(), coin.stops)
+    (outcome.is_ok(), coin.stops, writer.into_inner())
 }
 
 #[test]
 fn a_world_whose_replies_vary_is_played_and_left_where_the_replies_went_out(rt: HostRuntime) {
     let all = b"right\nstop\nowner none\nright\n".as_slice();
     let part = b"right\nstop\nowner none\n".as_slice();
-    for (fails_at, is_left, text) in [(0, (true, true), all), (4, (false, false), part)] {
-        assert!(rt; coin_is_played(&rt, rt.alloc(), fails_at, text) == is_left);
+    for (fails_at, is_left, text) in [(0, true, all), (4, false, part)] {
+        let (is_ok, stops, written) = coin_is_played(rt.alloc(), fails_at);
+        assert!(rt; is_ok == is_left && stops == is_left && written.as_slice() == text);
     }
 }

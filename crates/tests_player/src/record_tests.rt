@@ -1,10 +1,18 @@
 //! Records of runs.
 
 use crate::playing_tests::{Case, calls_fail_in_turn, config, first_lines, is_run};
-use crate::worlds_tests::{ROWS, Row, row_is_run, spelled};
+use crate::worlds_tests::{Row, spelled};
 use schedule_player::{Config, WorldKind};
 use std::alloc::{AllocError, Global};
 use std::process::Abort;
+
+/// Appends these pieces.
+pub(crate) fn put_pieces(text: &mut Vec<u8>, pieces: &[&[u8]]) -> Result<(), AllocError> {
+    for piece in pieces {
+        text.extend_from_slice(piece)?;
+    }
+    Ok(())
+}
 
 /// Appends the line of an event, with the view by which a name was given where it is one.
 pub(crate) fn put_line(
@@ -13,22 +21,14 @@ pub(crate) fn put_line(
     reply: &[u8],
     view: Option<&[u8]>,
 ) -> Result<(), AllocError> {
-    for piece in [
-        b"{\"command\":\"".as_slice(),
-        event,
-        b"\",\"reply\":\"",
-        reply,
-        b"\"",
-    ] {
-        text.extend_from_slice(piece)?;
+    put_pieces(
+        text,
+        &[b"{\"command\":\"", event, b"\",\"reply\":\"", reply],
+    )?;
+    match view {
+        Some(pairs) => put_pieces(text, &[b"\",\"view\":\"", pairs, b"\"}\n"]),
+        None => put_pieces(text, &[b"\"}\n"]),
     }
-    if let Some(pairs) = view {
-        text.extend_from_slice(b",\"view\":\"")?;
-        text.extend_from_slice(pairs)?;
-        text.extend_from_slice(b"\"")?;
-    }
-    text.extend_from_slice(b"}\n")?;
-    Ok(())
 }
 
 /// Takes the next line of some lines, without its end.
@@ -82,13 +82,6 @@ pub(crate) fn record_text(rt: &impl Abort, alloc: Global, row: &Row, said: &[u8]
     let mut text = header(rt, alloc, row.config(rt)).into_bytes();
     put_lines(&mut text, &asked, said, &views).expect(rt, "room for a record");
     text
-}
-
-#[test]
-fn the_record_of_a_row_is_its_events_with_their_replies(rt: HostRuntime) {
-    for row in &ROWS {
-        row_is_run(&rt, rt.alloc(), row, true);
-    }
 }
 
 /// Lines of each kind, and the record of those that are recorded.

@@ -1,5 +1,6 @@
 //! Runs of renaming, over a grid's places and a tree's, with a pool and slots.
 
+use crate::growth_tests::growths_refused_in_turn;
 use crate::playing_tests::{Case, is_run};
 use crate::record_tests::record_text;
 use schedule_player::{Config, WorldKind};
@@ -28,7 +29,22 @@ const WIDENED_SAID: &str =
     "ok, got 1, ok, got 2, refused 7, refused 14, ok*2, missed*2, left 2, got 3, ok, missed, got 2, ok, \
     missed*2, got 4, refused 7, ok, value 5, refused 14";
 
-pub(crate) const ROWS: [Row; 17] = [
+/// The name 2b - 1 is reached.
+pub(crate) const LARGEST: Row = Row {
+    world: WorldKind::Rename,
+    m: 2,
+    k: 4,
+    limit: 1000,
+    asked: "begin 10, begin 20, step 10, step 20, step 10, step 20, step 10, step 20, step 10, step 20, \
+        step 10*10, step 20*6, step 10, step 20, step 10*6, step 20*6, step 10*7, step 20*7, step 10*6, \
+        step 20*6",
+    said: "ok*2, quiet*7, place 0, quiet*3, place 2, quiet*12, proposed 1*2, quiet*5, saw 10:1 20:1, \
+        quiet*5, saw 10:1 20:1, quiet*6, proposed 2, quiet*6, proposed 3, quiet*5, named 2, quiet*5, \
+        named 3",
+    views: "10:2 20:3, 10:2 20:3",
+};
+
+const ROWS: [Row; 17] = [
     // One alone in a world for one.
     Row {
         world: WorldKind::Rename,
@@ -49,20 +65,7 @@ pub(crate) const ROWS: [Row; 17] = [
         said: "ok, quiet*3, place 0, quiet*6, proposed 1, quiet*5, named 1",
         views: "7:1",
     },
-    // The name 2b - 1 is reached.
-    Row {
-        world: WorldKind::Rename,
-        m: 2,
-        k: 4,
-        limit: 1000,
-        asked: "begin 10, begin 20, step 10, step 20, step 10, step 20, step 10, step 20, step 10, step 20, \
-            step 10*10, step 20*6, step 10, step 20, step 10*6, step 20*6, step 10*7, step 20*7, step 10*6, \
-            step 20*6",
-        said: "ok*2, quiet*7, place 0, quiet*3, place 2, quiet*12, proposed 1*2, quiet*5, saw 10:1 20:1, \
-            quiet*5, saw 10:1 20:1, quiet*6, proposed 2, quiet*6, proposed 3, quiet*5, named 2, quiet*5, \
-            named 3",
-        views: "10:2 20:3, 10:2 20:3",
-    },
+    LARGEST,
     // A view is borrowed.
     Row {
         world: WorldKind::Rename,
@@ -215,6 +218,11 @@ pub(crate) const ROWS: [Row; 17] = [
     },
 ];
 
+/// The rows, which stand once in the code that is proved.
+fn rows() -> &'static [Row] {
+    &ROWS
+}
+
 impl Row {
     /// What the row is a run of.
     pub(crate) fn config(&self, rt: &impl Abort) -> Config {
@@ -259,8 +267,9 @@ pub(crate) fn text_of(rt: &impl Abort, alloc: Global, row: &Row, is_kept: bool) 
     }
 }
 
-/// Plays a row, or records it, however the bytes are cut.
-pub(crate) fn row_is_run(rt: &impl Abort, alloc: Global, row: &Row, is_kept: bool) {
+/// Plays a row, or records it, however the bytes are cut, and with each growth refused in turn: where walks are in a tree some
+/// line is refused then.
+fn row_is_run(rt: &impl Abort, alloc: Global, row: &Row, is_kept: bool) {
     let input = spelled(rt, alloc, row.asked);
     let text = text_of(rt, alloc, row, is_kept);
     let case = Case {
@@ -270,11 +279,21 @@ pub(crate) fn row_is_run(rt: &impl Abort, alloc: Global, row: &Row, is_kept: boo
         text: &text,
     };
     is_run(rt, alloc, &case);
+    let refused = growths_refused_in_turn(rt, alloc, &case);
+    let grows = row.world == WorldKind::Tree && row.asked.starts_with("begin");
+    assert!(rt; (refused > 0) == grows, "{refused} at {}", row.asked);
 }
 
 #[test]
 fn names_places_numbers_and_values_are_told(rt: HostRuntime) {
-    for row in &ROWS {
+    for row in rows() {
         row_is_run(&rt, rt.alloc(), row, false);
+    }
+}
+
+#[test]
+fn the_record_of_a_row_is_its_events_with_their_replies(rt: HostRuntime) {
+    for row in rows() {
+        row_is_run(&rt, rt.alloc(), row, true);
     }
 }

@@ -1,5 +1,5 @@
-//! What words of a command line are read as. Words that are refused, and those that ask for help, are tried on the built program, by
-//! `tests/program`.
+//! What words of a command line are read as. Words that are refused, and those that ask for help, are tried on the built
+//! program, by `tests/program`.
 
 use commands::WorldKind;
 use program_args::{Ask, Keeping, Misuse, ask};

@@ -1,5 +1,6 @@
-//! How the program ends where a read or a write fails, and what it shows meanwhile. What it does for words where nothing fails, and which
-//! status and text each failure has, is tried on the built program, by `tests/program`; what comes of a refused growth, by `tests/growths`.
+//! How the program ends where a read or a write fails, and what it shows meanwhile. What it does for words where nothing
+//! fails, and which status and text each failure has, is tried on the built program, by `tests/program`; what comes of a
+//! refused growth, by `tests/growths`.
 
 use program_work::program::program;
 use program_work::progress::tell_until;
@@ -13,8 +14,8 @@ use std::thread::Threads;
 use std::time::{Clock, Duration};
 use tests_doubles::{FaultyReader, FaultyWriter};
 
-// Words, the input, how much each read gives at most and which fails, the same of the writes, the status with which the program ends,
-// or 100 where it is left to serve, and what it writes and tells on the standard error.
+// Words, the input, how much each read gives at most and which fails, the same of the writes, the status with which the
+// program ends, or 100 where it is left to serve, and what it writes and tells on the standard error.
 #[derive(Drop)]
 struct Ending {
     words: &'static [&'static str],
@@ -76,8 +77,8 @@ const WRITE_FAULT: &[u8] = b"slotctl: write fault\n";
 const HEADER: &[u8] =
     b"{\"format\":\"slot-record\",\"k\":4,\"limit\":1000,\"m\":2,\"version\":1,\"world\":\"rename\"}\n";
 
-// Where nothing fails each kind of work ends well. A record that can't be read to its end is neither judged nor migrated, and one that
-// can't be written is cut. To serve and to host are left to the caller, with nothing read or written.
+// Where nothing fails each kind of work ends well. A record that can't be read to its end is neither judged nor migrated, and
+// one that can't be written is cut. To serve and to host are left to the caller, with nothing read or written.
 const ENDINGS: [Ending; 14] = [
     Ending {
         words: &["slotctl", "play"],
