@@ -253,26 +253,26 @@ fn judge_view(
     judge(rt, alloc, config, (CROSSED, last), fault);
 }
 
-/// The one view that was a moment since the last proposal, and others.
-const VIEWS: [(&[(u64, u64)], Option<(usize, Reason)>); 11] = [
-    (&[(10, 1), (20, 1)], None),
-    (&[(10, 1)], Some((7, Reason::View))),
-    (&[(20, 1)], Some((7, Reason::View))),
-    (&[(10, 1), (20, 2)], Some((7, Reason::View))),
-    (&[(20, 1), (10, 1)], Some((7, Reason::View))),
-    (&[(10, 1), (10, 1)], Some((7, Reason::View))),
-    (&[(10, 2), (20, 1)], Some((7, Reason::View))),
-    (&[(10, 1), (40, 1)], Some((7, Reason::View))),
-    (&[(10, 1), (20, 257)], Some((7, Reason::View))),
-    (&[(10, 0), (20, 1)], Some((7, Reason::View))),
-    (&[], Some((7, Reason::View))),
+/// Views of others than were seen since the last proposal.
+const NO_VIEWS: [&[(u64, u64)]; 10] = [
+    &[(10, 1)],
+    &[(20, 1)],
+    &[(10, 1), (20, 2)],
+    &[(20, 1), (10, 1)],
+    &[(10, 1), (10, 1)],
+    &[(10, 2), (20, 1)],
+    &[(10, 1), (40, 1)],
+    &[(10, 1), (20, 257)],
+    &[(10, 0), (20, 1)],
+    &[],
 ];
 
 /// Views are moments since the last proposal, in which another proposes the same.
 #[test]
 fn views(rt: HostRuntime) {
-    for (pairs, fault) in &VIEWS {
-        judge_view(&rt, rt.alloc(), pairs, *fault);
+    judge_view(&rt, rt.alloc(), &[(10, 1), (20, 1)], None);
+    for pairs in &NO_VIEWS {
+        judge_view(&rt, rt.alloc(), pairs, Some((7, Reason::View)));
     }
 }
 
