@@ -1,4 +1,4 @@
-//! Sessions of a lock, each in a thread, that post their names on a board.
+//! What docs/USING.md shows: sessions of a lock, each in a thread, that post their names on a board.
 
 ghost use Rattle.std.specs.Prelude.{◌≡◌, All, IfSome};
 
@@ -20,11 +20,10 @@ struct Job<L: LockName> {
     seat: ReaderSeat,
 }
 
-/// What a thread hands back: its session, the name that it was told, and the grant of it.
+/// What a thread hands back: its session, and the grant of the name that it was told.
 #[derive(Drop)]
 struct Posted<L: LockName> {
     session: Session<L>,
-    name: Option<u64>,
     grant: Option<Grant>,
 }
 
@@ -43,12 +42,11 @@ fn rename_and_post<L: LockName, R: Wait>(
         mut seat,
     } = job;
     let name = lock.rename(rt, &mut session, 100_000).unwrap_or(None);
-    let grant = post_name(&session, board, &mut seat);
-    Posted {
-        session,
-        name,
-        grant,
-    }
+    let grant = match post_name(&session, board, &mut seat) {
+        Some(grant) if Some(grant.name()) == name => Some(grant),
+        _ => None,
+    };
+    Posted { session, grant }
 }
 
 /// The same by as many threads.
@@ -75,15 +73,9 @@ fn take_one<L: LockName>(
     ensures rest { All (λ p. IfSome p.grant (λ g. g.board ≡ board.now)) done.new.items }
     ensures grant { result.board ≡ board.now }
 {
-    let Posted {
-        session,
-        name,
-        grant,
-    } = done.pop().expect(rt, "one for each thread");
+    let Posted { session, grant } = done.pop().expect(rt, "one for each thread");
     sessions.push(session).ok().expect(rt, "room for a session");
-    let grant = grant.expect(rt, "one that is named posts its name");
-    assert!(rt; Some(grant.name()) == name);
-    grant
+    grant.expect(rt, "one that is named posts its name")
 }
 
 /// A session and a seat for each of four identities.
@@ -136,8 +128,31 @@ fn kept_by<L: LockName>(sessions: &Vec<Session<L>>) -> usize {
     kept
 }
 
-/// Four threads are named and post their names; then every two grants meet. Whether the words are those four, and agree with
-/// the closed history, and whether that is as long as the lists of the four together.
+/// What four threads hand back that were named and posted their names: their sessions, and one of the grants, every two of which
+/// have met.
+fn four_posted<L: LockName + Send + Sync, R: Abort + Threads + Wait + Sync>(
+    rt: &R,
+    alloc: Global,
+    lock: &HallLock<L>,
+    board: &Board<Global>,
+    seat: &mut ReaderSeat,
+) -> (Vec<Session<L>>, Grant)
+    requires { seat.old.board ≡ board.now }
+    ensures { result.1.board ≡ board.now }
+{
+    let jobs = four_jobs(rt, alloc, lock, board, seat).expect(rt, "four sessions");
+    let mut done = all_posted(rt, lock, board, jobs).expect(rt, "room for what threads answer");
+    let mut sessions = Vec::new(alloc);
+    let mut one = take_one(rt, board, &mut done, &mut sessions);
+    let mut two = take_one(rt, board, &mut done, &mut sessions);
+    let mut three = take_one(rt, board, &mut done, &mut sessions);
+    let mut four = take_one(rt, board, &mut done, &mut sessions);
+    all_meet(board, &mut one, &mut two, &mut three, &mut four);
+    (sessions, four)
+}
+
+/// Four threads are named and post their names. Whether the words are those four, and agree with the closed history, and whether
+/// that is as long as the lists of the four together.
 fn four_post<L: LockName + Send + Sync, R: Abort + Threads + Wait + Sync>(
     rt: &R,
     alloc: Global,
@@ -149,15 +164,8 @@ fn four_post<L: LockName + Send + Sync, R: Abort + Threads + Wait + Sync>(
 {
     let lock = opened::<L>(rt, alloc, opening);
     let (board, mut seat) = Board::new(alloc, 7).expect(rt, "room for a board");
-    let jobs = four_jobs(rt, alloc, &lock, &board, &mut seat).expect(rt, "four sessions");
-    let mut done = all_posted(rt, &lock, &board, jobs).expect(rt, "room for what threads answer");
-    let mut sessions = Vec::new(alloc);
-    let mut one = take_one(rt, &board, &mut done, &mut sessions);
-    let mut two = take_one(rt, &board, &mut done, &mut sessions);
-    let mut three = take_one(rt, &board, &mut done, &mut sessions);
-    let mut four = take_one(rt, &board, &mut done, &mut sessions);
-    all_meet(&board, &mut one, &mut two, &mut three, &mut four);
-    let words = board.close(four).expect(rt, "room for the words");
+    let (sessions, grant) = four_posted(rt, alloc, &lock, &board, &mut seat);
+    let words = board.close(grant).expect(rt, "room for the words");
     let kept = kept_by(&sessions);
     let closed = lock.close(sessions, Vec::new(alloc)).ok();
     let closed = closed.expect(rt, "each caller is handed in");

@@ -6,8 +6,6 @@
 #![tactic(auto)]
 
 #[cfg(test)]
-mod board_example;
-#[cfg(test)]
 mod board_tests;
 #[cfg(test)]
 mod lock_tests;

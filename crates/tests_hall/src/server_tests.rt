@@ -320,12 +320,10 @@ impl<R> Gate<R> for Holding {
 }
 
 /// A client that is connected, and has sent a line and that no more come.
-fn client<R: Abort + Net<Stream = TcpStream>>(rt: &R, port: u16, line: &[u8]) -> TcpStream {
-    let stream = TcpStream::connect(rt, ("127.0.0.1", port)).expect(rt, "a client connects");
-    (&mut &stream).write_all(line).expect(rt, "a line is sent");
-    let ended = stream.shutdown(Shutdown::Write);
-    ended.expect(rt, "an end is sent");
-    stream
+fn client<R: Net<Stream = TcpStream>>(rt: &R, port: u16, line: &[u8]) -> Option<TcpStream> {
+    let stream = TcpStream::connect(rt, ("127.0.0.1", port)).ok()?;
+    let is_sent = (&mut &stream).write_all(line).is_ok();
+    (is_sent && stream.shutdown(Shutdown::Write).is_ok()).then_some(stream)
 }
 
 /// Whether all that comes, to the end, is `ok`.
@@ -336,29 +334,36 @@ fn is_ok(alloc: Global, stream: &TcpStream) -> bool {
 }
 
 /// Whether two clients, of which the first connects first and the second is answered first, are both answered `ok`.
-fn two_clients<R: Abort + Net<Stream = TcpStream>>(rt: &R, alloc: Global, port: u16) -> bool {
+fn two_clients<R: Net<Stream = TcpStream>>(rt: &R, alloc: Global, port: u16) -> bool {
     let first = client(rt, port, b"begin 7\n");
     let second = client(rt, port, b"enter 5\n");
-    is_ok(alloc, &second) && is_ok(alloc, &first)
+    match (&first, &second) {
+        (Some(first), Some(second)) => is_ok(alloc, second) && is_ok(alloc, first),
+        _ => false,
+    }
 }
 
-/// Two clerks of a lock.
-fn two_clerks<L: LockName, R: Abort + Wait>(
-    rt: &R,
-    alloc: Global,
-    lock: &HallLock<L>,
-) -> Vec<Clerk<L>> {
+/// Two clerks of a lock, fewer where memory is refused.
+fn two_clerks<L: LockName, R: Wait>(rt: &R, alloc: Global, lock: &HallLock<L>) -> Vec<Clerk<L>> {
     let mut clerks = Vec::new(alloc);
     for _ in 0..2 {
-        let clerk = lock.clerk(rt, alloc).expect(rt, "room for a clerk");
-        clerks.push(clerk).ok().expect(rt, "room for one more");
+        if let Ok(clerk) = lock.clerk(rt, alloc) {
+            let _ = clerks.push(clerk);
+        }
     }
     clerks
 }
 
-/// Whether both clients are answered and served, with a gate that holds the first connection, and the second's event comes
-/// first in the closed history.
-fn held<L, R>(rt: &R, alloc: Global, opening: Opening, gate: &Holding) -> bool
+/// Whether both clients of a listener at this port are answered and served, with a gate that holds the first connection, and the
+/// second's event comes first in the closed history.
+fn held<L, R>(
+    rt: &R,
+    alloc: Global,
+    opening: Opening,
+    gate: &Holding,
+    listener: &TcpListener,
+    port: u16,
+) -> bool
 where
     L: LockName + Send + Sync,
     R: Abort + Threads + Wait + Sync + Net<Listener = TcpListener, Stream = TcpStream>,
@@ -368,23 +373,22 @@ where
 {
     let lock = opened::<L>(rt, alloc, opening);
     let clerks = two_clerks(rt, alloc, &lock);
-    let listener = TcpListener::bind(rt, ("127.0.0.1", 0u16)).expect(rt, "a port");
-    let port = listener.local_addr().expect(rt, "a bound listener").port();
-    let (shared, listening) = (&lock, &listener);
+    let shared = &lock;
     let (are_ok, served) = thread::join(
         rt,
         move || two_clients(rt, alloc, port),
-        move || serve_many(rt, alloc, listening, shared, gate, clerks, 2),
+        move || serve_many(rt, alloc, listener, shared, gate, clerks, 2),
     );
     let Served {
         served,
         clerks,
         fault,
     } = served;
-    let closed = lock.close(Vec::new(alloc), clerks).ok();
-    let hall = closed.expect(rt, "both clerks are handed in").hall;
     let is_served = are_ok && served == 2 && fault.is_none();
-    is_served && has_just(&hall, &[Event::Enter(5), Event::Begin(7)])
+    match lock.close(Vec::new(alloc), clerks) {
+        Ok(closed) => is_served && has_just(&closed.hall, &[Event::Enter(5), Event::Begin(7)]),
+        Err(_) => false,
+    }
 }
 
 /// A connection that is held does not hold another: the second is answered first.
@@ -394,11 +398,15 @@ fn a_held_connection_holds_no_other(rt: HostRuntime) {
         answered: AtomicU64::new(0),
         gave_up: AtomicU64::new(0),
     };
+    let listener = TcpListener::bind(&rt, ("127.0.0.1", 0u16)).expect(&rt, "a port");
+    let address = listener.local_addr().expect(&rt, "a bound listener");
     let is_so = held::<Brand, _>(
         &rt,
         rt.alloc(),
         Opening::new(&rt, WorldKind::Rename, 1, 4),
         &gate,
+        &listener,
+        address.port(),
     );
     assert!(rt; is_so && gate.gave_up.load(Ordering::SeqCst) == 0);
 }

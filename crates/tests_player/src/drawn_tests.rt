@@ -1,7 +1,7 @@
 //! Drawn schedules and what becomes of their participants, as `drawn_schedules` writes them.
 //!
-//! That each of many runs is that of its seed alone is tried on the built program (`tests/program`), and so is what comes of
-//! a growth that is refused (`tests/growths`).
+//! Which steps a seed gives, and that each of many runs is that of its seed alone, is tried on the built program
+//! (`tests/program`), and so is what comes of a growth that is refused (`tests/growths`).
 
 use commands::{Config, WorldKind};
 use drawn_schedules::{draw, play_drawn};
@@ -9,22 +9,6 @@ use schedule_player::{Fault, Tried};
 use std::alloc::Global;
 use std::process::Abort;
 use tests_doubles::FaultyWriter;
-
-/// The steps of seed 7 among four, by an implementation of the generator that gives the words published with it (O'Neill 2014:
-/// of state 42 and stream 54, `a15c02b7 7b47f409 ba1d3330 83d2f293 bfa4784b cbed606e`).
-const STEPS: [u8; 32] = *b"23211211411312323123144323222241";
-
-#[test]
-fn each_word_gives_a_step(rt: HostRuntime) {
-    let mut writer = Tried::new(Vec::new(rt.alloc()));
-    assert!(rt; draw(rt.alloc(), 7, 4, 40_000, &mut writer).is_ok());
-    let text = writer.into_inner();
-    assert!(rt; text.len() == 4 * 8 + 40_000 * 7);
-    for (line, digit) in text[32..].chunks(7).zip(STEPS) {
-        let step = [b's', b't', b'e', b'p', b' ', digit, b'\n'];
-        assert!(rt; line == step.as_slice());
-    }
-}
 
 /// How many bytes a writer below takes a write.
 const PIECE: usize = 3;

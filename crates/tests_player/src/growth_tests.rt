@@ -10,20 +10,6 @@ use tests_doubles::FailingAllocator;
 /// No run here makes as many growths.
 const MOST_GROWTHS: u64 = 1_000;
 
-/// The line, counted from 0, in which two texts first differ.
-fn line_of_difference(one: &[u8], other: &[u8]) -> usize {
-    let mut line = 0usize;
-    for (byte, another) in one.iter().zip(other) {
-        if byte != another {
-            return line;
-        }
-        if *byte == b'\n' {
-            line = line.saturating_add(1);
-        }
-    }
-    line
-}
-
 /// Lines with one more before the line of this number, counted from 0.
 fn with_line(rt: &impl Abort, alloc: Global, lines: &[u8], number: usize, more: &[u8]) -> Vec<u8> {
     let mut all = Vec::new(alloc);
@@ -37,6 +23,16 @@ fn with_line(rt: &impl Abort, alloc: Global, lines: &[u8], number: usize, more: 
 fn line_at(lines: &[u8], number: usize) -> &[u8] {
     let head = first_lines(lines, number);
     first_lines(lines.get(head.len()..).unwrap_or(&[]), 1)
+}
+
+/// The line, counted from 0, in which two texts first differ.
+fn line_of_difference(one: &[u8], other: &[u8]) -> usize {
+    for number in 0..one.len() {
+        if line_at(one, number) != line_at(other, number) {
+            return number;
+        }
+    }
+    one.len()
 }
 
 /// What comes of a run in which the growth of this number is refused, and no other, and whether the run came to it.

@@ -4,7 +4,6 @@ use commands::Event;
 use schedule_player::{Bad, Command, LineBuffer, WorldKind, parse_line};
 use std::alloc::Global;
 use std::process::Abort;
-use tests_doubles::FailingAllocator;
 
 /// A line, and what it means.
 type Row = (&'static [u8], Result<Command, Bad>);
@@ -98,7 +97,7 @@ fn a_desk_knows_more_words(rt: HostRuntime) {
 /// Compares what a line means that comes byte by byte, where others may have come before.
 fn comes(
     rt: &impl Abort,
-    buffer: &mut LineBuffer<&FailingAllocator<Global>>,
+    buffer: &mut LineBuffer<Global>,
     line: &[u8],
     want: Result<Command, Bad>,
 ) {
@@ -110,17 +109,15 @@ fn comes(
     assert!(rt; is_so && buffer.is_empty() == line.is_empty(), "{want:?}");
 }
 
-/// Lines mean the same whole and as they come byte by byte; however many bytes a line has, its room does not grow.
+/// Lines mean the same whole and as they come byte by byte. That the room of a long line does not grow is tried on the built
+/// program (`tests/growths`).
 #[test]
 fn lines_come_byte_by_byte(rt: HostRuntime) {
-    let heap = FailingAllocator::new(rt.alloc(), u64::MAX);
-    let mut buffer = LineBuffer::new(&heap).expect(&rt, "room for a line");
-    let left = heap.left();
+    let mut buffer = LineBuffer::new(rt.alloc()).expect(&rt, "room for a line");
     for (line, want) in &ROWS {
         means(&rt, line, *want, false);
         comes(&rt, &mut buffer, line, *want);
     }
     let long = vec![in rt.alloc(); b'a'; 1_000_000].expect(&rt, "room for a long line");
     comes(&rt, &mut buffer, &long, Err(Bad::TooLong));
-    assert!(rt; heap.left() == left);
 }
