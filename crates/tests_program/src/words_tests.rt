@@ -98,7 +98,8 @@ fn options_are_read(rt: HostRuntime) {
 // No word at all is refused, which no shell can give.
 #[test]
 fn no_words_are_refused(rt: HostRuntime) {
-    assert!(rt; matches!(ask(rt.alloc(), &[]), Err(Misuse::Words(_))));
+    let none: [&str; 0] = [];
+    assert!(rt; matches!(ask(rt.alloc(), &none), Err(Misuse::Words(_))));
 }
 
 #[test]

@@ -8,7 +8,6 @@ use program_work::{Outcome, may_take_long};
 use schedule_player::Tried;
 use std::alloc::Global;
 use std::io;
-use std::process::Abort;
 use std::sync::atomic::{AtomicBool, AtomicU64, Ordering};
 use std::thread::Threads;
 use std::time::{Clock, Duration};
@@ -52,18 +51,6 @@ fn status_of(outcome: &Outcome<'_>) -> u8 {
     match outcome {
         Outcome::Ended(status) => *status,
         Outcome::Serve(_) | Outcome::Host(_) => 100,
-    }
-}
-
-// The program ends so, each time.
-fn end_all<T: Abort + Threads + Sync>(rt: &T, alloc: Global, endings: &[Ending]) {
-    for ending in endings {
-        assert!(rt;
-            ends(rt, alloc, ending),
-            "{:?}: {}",
-            ending.words,
-            ending.status
-        );
     }
 }
 
@@ -212,7 +199,9 @@ const ENDINGS: [Ending; 14] = [
 
 #[test]
 fn statuses_and_texts_are_those_of_the_protocol(rt: HostRuntime) {
-    end_all(&rt, rt.alloc(), &ENDINGS);
+    for (row, ending) in ENDINGS.iter().enumerate() {
+        assert!(rt; ends(&rt, rt.alloc(), ending), "row {row}");
+    }
 }
 
 // A clock by which work is done after so many sleeps.
