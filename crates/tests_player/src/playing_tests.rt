@@ -292,22 +292,26 @@ fn walks_in_a_grid_end_at_places(rt: HostRuntime) {
     }
 }
 
-/// Whether each third event of a shelf is refused memory, and taken when it is asked again.
-fn shelf_is_played(alloc: Global, shelf: &mut Shelf, config: Config) -> bool {
-    let lines = b"begin 1\nbegin 2\nbegin 3\nbegin 3\nstep 9\nstep 9\nquit\n";
-    let said = b"ok\nok\nrefused 12\nok\nok\nrefused 12\nok\n";
-    let mut reader = Tried::new(lines.as_slice());
-    let mut writer = Tried::new(Vec::new(alloc));
-    let outcome = play_in(alloc, &(), shelf, config, &mut reader, &mut writer);
-    let is_told = writer.into_inner().as_slice() == said.as_slice();
-    is_told && matches!(outcome, Ok(summary) if (summary.accepted, summary.refused) == (5, 2))
-}
-
 #[test]
 fn a_world_that_refuses_growths_takes_the_event_when_asked_again(rt: HostRuntime) {
     let config = config(&rt, WorldKind::Splitter, 4);
+    let mut reader = Tried::new(
+        b"begin 1\nbegin 2\nbegin 3\nbegin 3\nstep 9\nstep 9\nquit\n".as_slice(),
+    );
+    let mut writer = Tried::new(Vec::new(rt.alloc()));
     let mut shelf = <Shelf as World<Global, ()>>::open(rt.alloc(), config).expect(&rt, "a shelf");
-    assert!(rt; shelf_is_played(rt.alloc(), &mut shelf, config));
+    let outcome = play_in(
+        rt.alloc(),
+        &(),
+        &mut shelf,
+        config,
+        &mut reader,
+        &mut writer,
+    );
+    let said = b"ok\nok\nrefused 12\nok\nok\nrefused 12\nok\n";
+    let is_counted =
+        matches!(outcome, Ok(summary) if (summary.accepted, summary.refused) == (5, 2));
+    assert!(rt; is_counted && writer.into_inner().as_slice() == said.as_slice());
     law_of_world::<Shelf, Global, ()>();
 }
 
