@@ -1,4 +1,4 @@
-//! Doubles of what a test hands in, which fail where the test says: an allocator, a reader and a writer; and what compares two values.
+//! Doubles of what a test hands in, which fail where the test says: an allocator, a reader and a writer.
 //!
 //! No program uses them. What is proved is that they are safe, and do what the traits that they implement promise; that each
 //! fails where it is told to is seen in the tests.
@@ -14,9 +14,7 @@
 pub mod failing_allocator;
 pub mod faulty_reader;
 pub mod faulty_writer;
-pub mod sameness;
 
 pub use failing_allocator::FailingAllocator;
 pub use faulty_reader::FaultyReader;
 pub use faulty_writer::FaultyWriter;
-pub use sameness::same;

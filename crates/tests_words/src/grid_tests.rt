@@ -3,12 +3,12 @@
 ghost use Rattle.std.specs.Prelude.{◌≡◌, ◌<◌, ◌≤◌, IfSome};
 ghost use Rattle.word_grid.specs.Seats.{place_of};
 
+use crate::common::same;
 use linked_list_allocator::LocalHeap;
 use std::alloc::Global;
 use std::process::Abort;
 use std::test::Fail;
 use step_memory::{Place, Refusal};
-use tests_doubles::same;
 use word_grid::{Dealer, EnteredSeat, WordGrid};
 
 /// Enters with the next seat, where there is one.

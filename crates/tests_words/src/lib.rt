@@ -6,6 +6,8 @@
 #![tactic(auto)]
 
 #[cfg(test)]
+mod common;
+#[cfg(test)]
 mod grid_tests;
 #[cfg(test)]
 mod grid_thread_tests;

@@ -2,13 +2,13 @@
 
 ghost use Rattle.std.specs.Prelude.{◌≡◌};
 
+use crate::common::same;
 use crate::word_pool_tests::SIZES;
 use std::alloc::Global;
 use std::sync::atomic::AtomicU64;
 use std::sync::atomic::Ordering::SeqCst;
 use std::thread::{self, Threads};
 use step_memory::Refusal;
-use tests_doubles::same;
 use word_pool::{LinePool, Ticket, Tickets};
 
 /// The number that the next ticket of a line has.

@@ -2,13 +2,13 @@
 
 ghost use Rattle.std.specs.Prelude.{◌≡◌, IfOk};
 
+use crate::common::same;
 use std::alloc::Global;
 use std::sync::atomic::AtomicU64;
 use std::sync::atomic::Ordering::SeqCst;
 use std::test::Fail;
 use std::thread::{self, Threads, join};
 use step_memory::Refusal;
-use tests_doubles::same;
 use word_pool::{AllHeld, Held, WordPool};
 
 /// For how many numbers a pool or a line is asked, and whether it is made.
