@@ -18,9 +18,9 @@ use Rattle.desk.specs.DeskCalls.{exchange}
 use Rattle.desk.specs.DeskRules.{fresh_over}
 use Rattle.desk.specs.DeskValue.{DeskValue}
 use Rattle.desk.specs.DeskValue.DeskValue.{OverGrid, OverTree}
-use Rattle.locked_world.specs.Halls.{hall_of, desk_of, IsLawful, hall_refusal, full_unless, longer, reply_unless, after_unless, HallMay}
-use Rattle.locked_world.specs.HallState.{HallState}
-use Rattle.locked_world.specs.Replay.{replay, AreAccepted}
+use Rattle.hall.specs.Halls.{hall_of, desk_of, IsLawful, hall_refusal, full_unless, longer, reply_unless, after_unless, HallMay}
+use Rattle.hall.specs.HallState.{HallState}
+use Rattle.hall.specs.Replay.{replay, AreAccepted}
 use Rattle.hall_compaction.specs.declared.rebuilding.Rebuilding.{Rebuilding}
 use Rattle.hall_compaction.specs.declared.slots_copy.SlotsCopy.{SlotsCopy}
 use Rattle.hall_compaction.specs.Compactions.{renaming_of}

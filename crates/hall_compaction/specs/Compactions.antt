@@ -1,8 +1,8 @@
 -- a hall with fewer events that stands as another does (this project's profile; that a log is cut to what its state needs: Gray 1978)
 use Rattle.std.specs.Prelude.{◌≡◌, ◌<◌, List, length, filter}
 use Rattle.commands.specs.declared.exchange.Exchange.{Exchange}
-use Rattle.locked_world.specs.Halls.{desk_of, IsLawful}
-use Rattle.locked_world.specs.HallState.{HallState}
+use Rattle.hall.specs.Halls.{desk_of, IsLawful}
+use Rattle.hall.specs.HallState.{HallState}
 use Rattle.hall_compaction.specs.DeskParts.{is_renaming}
 
 -- the exchanges of renaming among these, in their order

@@ -1,8 +1,8 @@
 -- how far a hall is built anew
 use Rattle.std.specs.Prelude.{◌≡◌, ℕ, take, None}
 use Rattle.commands.specs.declared.event.Event.{Event}
-use Rattle.locked_world.specs.Halls.{hall_of, desk_of, hall_refusal, longer}
-use Rattle.locked_world.specs.HallState.{HallState}
+use Rattle.hall.specs.Halls.{hall_of, desk_of, hall_refusal, longer}
+use Rattle.hall.specs.HallState.{HallState}
 use Rattle.hall_compaction.specs.declared.rebuilding.Rebuilding.{Rebuilding}
 use Rattle.hall_compaction.specs.declared.slots_copy.SlotsCopy.{SlotsCopy}
 use Rattle.hall_compaction.specs.Compactions.{renaming_of}

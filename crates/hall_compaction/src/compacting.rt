@@ -2,8 +2,8 @@
 
 ghost use Rattle.std.specs.Prelude.{◌≡◌, ◌+◌, ℕ, length, slice_get, true, false, Some, IfOk, IfSome, OnOk};
 ghost use Rattle.commands.specs.declared.exchange.Exchange.{Exchange};
-ghost use Rattle.locked_world.specs.HallState.{HallState};
-ghost use Rattle.locked_world.specs.Halls.{desk_of, IsLawful};
+ghost use Rattle.hall.specs.HallState.{HallState};
+ghost use Rattle.hall.specs.Halls.{desk_of, IsLawful};
 ghost use Rattle.hall_compaction.specs.Compactions.{IsCompacted};
 ghost use Rattle.hall_compaction.specs.DeskParts.{is_renaming};
 ghost use Rattle.hall_compaction.specs.Rebuilt.{HasRenaming, IsSorted};
@@ -13,7 +13,7 @@ use crate::rebuilding::Rebuilding;
 use crate::slots_copy::SlotsCopy;
 use crate::stuck::Stuck;
 use commands::Event;
-use locked_world::Hall;
+use hall::Hall;
 use std::alloc::Global;
 
 /// Whether an event is of renaming, and not of the pool or the slots.

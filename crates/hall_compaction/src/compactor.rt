@@ -4,8 +4,8 @@ ghost use Rattle.std.specs.Prelude.{IfSome};
 ghost use Rattle.hall_compaction.specs.Compactions.{IsCompacted};
 
 use crate::compacting::compacted;
-use locked_world::Hall;
-use locked_world::hall::MOST_EVENTS;
+use hall::Hall;
+use hall::hall::MOST_EVENTS;
 use std::alloc::Global;
 
 /// So many events are compacted.

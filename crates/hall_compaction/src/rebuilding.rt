@@ -1,14 +1,14 @@
 //! A hall that is built anew.
 
 ghost use Rattle.std.specs.Prelude.{◌≡◌, [], false, IfOk, OnOk};
-ghost use Rattle.locked_world.specs.Halls.{hall_of};
+ghost use Rattle.hall.specs.Halls.{hall_of};
 ghost use Rattle.hall_compaction.specs.DeskParts.{is_renaming};
 ghost use Rattle.hall_compaction.specs.Rebuilt.{IsCopied, HasTaken, GoesOn};
 
 use crate::slots_copy::SlotsCopy;
 use crate::stuck::Stuck;
 use commands::{Config, Event, Reply};
-use locked_world::Hall;
+use hall::Hall;
 use std::alloc::Global;
 use step_memory::View;
 

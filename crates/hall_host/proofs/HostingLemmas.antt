@@ -15,9 +15,9 @@ use Rattle.player.specs.Shared.{all_turns, turns_of}
 use Rattle.player.specs.TalkerState.{TalkerState}
 use Rattle.player.specs.Turns.{Turn, exchanges}
 use Rattle.player.specs.Turns.Turn.{Answered, Told, Ended, Misread}
-use Rattle.locked_world.specs.Halls.{HallMay, IsLawful, after_unless, hall_refusal}
-use Rattle.locked_world.specs.HallState.{HallState}
-use Rattle.locked_world.specs.Serving.{HallServes, accepted}
+use Rattle.hall.specs.Halls.{HallMay, IsLawful, after_unless, hall_refusal}
+use Rattle.hall.specs.HallState.{HallState}
+use Rattle.hall.specs.Serving.{HallServes, accepted}
 use Rattle.journal.specs.declared.journal.Journal.{Journal}
 use Rattle.journal.specs.ChronicleState.{ChronicleState}
 use Rattle.journal.specs.Chronicles.{ChronicleServes, chronicle_of, told_record}

@@ -7,8 +7,8 @@ use Rattle.player.specs.Says.{Spoke}
 use Rattle.player.specs.Shared.{TurnLog, all_turns, turns_of}
 use Rattle.player.specs.Texts.{replies_of}
 use Rattle.player.specs.Turns.{Turn, exchanges}
-use Rattle.locked_world.specs.HallState.{HallState}
-use Rattle.locked_world.specs.Serving.{accepted}
+use Rattle.hall.specs.HallState.{HallState}
+use Rattle.hall.specs.Serving.{accepted}
 use Rattle.journal.specs.declared.journal.Journal.{Journal}
 use Rattle.journal.specs.ChronicleState.{ChronicleState}
 use Rattle.journal.specs.Chronicles.{chronicle_of}

@@ -1,7 +1,7 @@
 -- what a journal has kept of a turn of the loop
 use Rattle.std.specs.Prelude.{◌≡◌, ◌⊎◌, Option, length}
 use Rattle.journal_disk.specs.DiskState.{DiskState}
-use Rattle.locked_world.specs.HallState.{HallState}
+use Rattle.hall.specs.HallState.{HallState}
 use Rattle.hall_compaction.specs.Compactions.{IsCompacted}
 use Rattle.journal.specs.declared.journal.Journal.{Journal}
 use Rattle.journal.specs.ChronicleState.{ChronicleState}

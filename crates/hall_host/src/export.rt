@@ -6,7 +6,7 @@ ghost use Rattle.hall_host.specs.Exports.{command_line, command_lines};
 
 use crate::failure::HostFailure;
 use commands::Exchange;
-use locked_world::Hall;
+use hall::Hall;
 use player::{Replies, print_event};
 use std::alloc::Global;
 use std::io::Write;

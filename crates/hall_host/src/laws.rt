@@ -1,7 +1,7 @@
 //! What a turn of the loop is over a hall and its journal.
 
 ghost use Rattle.std.specs.Prelude.{◌≤◌, List, Option, length};
-ghost use Rattle.locked_world.specs.Halls.{IsLawful};
+ghost use Rattle.hall.specs.Halls.{IsLawful};
 ghost use Rattle.journal.specs.ChronicleState.{ChronicleState};
 ghost use Rattle.journal.specs.Chronicles.{ChronicleServes};
 ghost use Rattle.journal.specs.Journals.{Stands};
@@ -12,7 +12,7 @@ ghost use Rattle.hall_host.specs.Kept.{KeptBy};
 
 use journal::law_of_crashes;
 use journal_disk::Disk;
-use locked_world::law_of_serving;
+use hall::law_of_serving;
 
 /// A law, which runs nothing, of what a turn of the loop (`event_server::turn`) is over a chronicle whose journal stands, kept by `Recorded`: the
 /// history has gained just the accepted events of the turn, and may have been compacted then; header and journal are its record, and synced,

@@ -11,7 +11,7 @@ use hall_compaction::Compactor;
 use hall_log::{LogKeeper, Pause, Tape};
 use journal::{Chronicle, Journal, Opened};
 use journal_disk::{Disk, FileDisk};
-use locked_world::Hall;
+use hall::Hall;
 use one_log::Store;
 use std::alloc::{AllocGlobal, Global};
 use std::fs::File;

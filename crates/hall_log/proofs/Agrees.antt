@@ -6,7 +6,7 @@ use Rattle.commands.specs.declared.event.Event.{Event}
 use Rattle.commands.specs.declared.reply.Reply.TheVariants as reply
 use Rattle.one_log.specs.Groups.{IsDetermined}
 use Rattle.player.specs.Turns.{Turn, asked}
-use Rattle.locked_world.specs.Halls.{HallMay}
+use Rattle.hall.specs.Halls.{HallMay}
 
 -- where memory is not refused an event has one reply, and leaves one hall
 one_answer : (h : HallState) (e : Event) (r r' : ShownReply) (u u' : HallState) → HallMay h e r u → HallMay h e r' u' → r ≢ reply.Refused refusal.NoMemory → r' ≢ reply.Refused refusal.NoMemory → (r ≡ r') × (u ≡ u')

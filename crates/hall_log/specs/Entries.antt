@@ -12,8 +12,8 @@ use Rattle.player.specs.Runs.{NoneRefusedGrowth, Runs}
 use Rattle.player.specs.Says.{Spoke}
 use Rattle.player.specs.TalkerState.{TalkerState}
 use Rattle.player.specs.Turns.{Turn, asked}
-use Rattle.locked_world.specs.HallState.{HallState}
-use Rattle.locked_world.specs.Serving.{HallServes}
+use Rattle.hall.specs.HallState.{HallState}
+use Rattle.hall.specs.Serving.{HallServes}
 use Rattle.hall_log.specs.Said.{said, tape_of}
 use Rattle.hall_log.specs.TapeState.{TapeState}
 

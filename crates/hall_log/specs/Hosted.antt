@@ -4,9 +4,9 @@ use Rattle.commands.specs.declared.config.Config.{Config}
 use Rattle.one_log.specs.Replicas.{IsDueAt, Leads, StandsFrom}
 use Rattle.one_log.specs.ReplicaState.{ReplicaState}
 use Rattle.player.specs.Shared.{TurnLog}
-use Rattle.locked_world.specs.HallState.{HallState}
-use Rattle.locked_world.specs.Halls.{hall_of}
-use Rattle.locked_world.specs.Serving.{HallServes}
+use Rattle.hall.specs.HallState.{HallState}
+use Rattle.hall.specs.Halls.{hall_of}
+use Rattle.hall.specs.Serving.{HallServes}
 use Rattle.event_server.specs.Seats.{RepliesSent, Seating, TurnsTaken}
 use Rattle.hall_log.specs.Entries.{HallApplies, behind_first_line}
 use Rattle.hall_log.specs.TapeState.{TapeState}

@@ -2,7 +2,7 @@
 use Rattle.std.specs.Prelude.{List, Bool}
 use Rattle.commands.specs.Replies.{ShownReply}
 use Rattle.commands.specs.Requests.{Request}
-use Rattle.locked_world.specs.HallState.{HallState}
+use Rattle.hall.specs.HallState.{HallState}
 
 -- the hall, the requests that it was asked, in order, with what it said to each, and whether memory was refused
 pub record NotingState : Type 0 where

@@ -7,7 +7,7 @@ use Rattle.commands.specs.Requests.{Request}
 use Rattle.commands.specs.Requests.Request.{Take, OwnerOf}
 use Rattle.player.specs.Turns.{Turn}
 use Rattle.player.specs.Turns.Turn.{Answered, Told, Ended, Misread}
-use Rattle.locked_world.specs.Serving.{HallServes}
+use Rattle.hall.specs.Serving.{HallServes}
 use Rattle.hall_log.specs.declared.note.Asked.{Asked}
 use Rattle.hall_log.specs.declared.note.Asked.TheVariants.{ToTake, ToTell}
 use Rattle.hall_log.specs.declared.note.Note.{Note}

@@ -3,14 +3,14 @@
 ghost use Rattle.std.specs.Prelude.{◌≡◌, ◌<◌, ◌≤◌, true, false, Ok, OnOk, OnErr, IfOk, []};
 ghost use Rattle.one_log.specs.Places.{Keeps};
 ghost use Rattle.one_log.specs.Replicas.{IsDueAt};
-ghost use Rattle.locked_world.specs.Halls.{hall_of};
+ghost use Rattle.hall.specs.Halls.{hall_of};
 ghost use Rattle.hall_log.specs.Entries.{HallApplies};
 ghost use Rattle.hall_log.specs.Said.{tape_of};
 
 use crate::machine::HallMachine;
 use crate::tape::Tape;
 use commands::Config;
-use locked_world::Hall;
+use hall::Hall;
 use one_log::{Cause, Replica, ServeFault, Store, StoreFault, law_of_following};
 use std::alloc::Global;
 use std::marker::Model;
@@ -32,7 +32,7 @@ impl<S: Store> Model for LogHall<S> {
     ghost Value = { FollowState S };
 
     ghost use Rattle.one_log.specs.Replicas.{IsReplica};
-    ghost use Rattle.locked_world.specs.Halls.{hall_of};
+    ghost use Rattle.hall.specs.Halls.{hall_of};
     ghost use Rattle.hall_log.specs.Entries.{HallApplies};
 
     ghost view = { λ l. record { replica = l.replica; store = l.store; config = l.config } };

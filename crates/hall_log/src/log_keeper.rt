@@ -13,7 +13,7 @@ use crate::pause::Pause;
 use crate::tape::Tape;
 use commands::Config;
 use event_server::{Ahead, Keep, Tally};
-use locked_world::Hall;
+use hall::Hall;
 use one_log::{MOST_BATCH, MOST_PLACES, Store, StoreFault};
 use std::alloc::{AllocError, Global};
 

@@ -3,14 +3,14 @@
 ghost use Rattle.std.specs.Prelude.{◌≡◌, ◌↔◌, ◌⊎◌, ◌+◌, ◌<◌, ◌^◌, [], length, IfOk, IfErr, OnOk, Err, false};
 ghost use Rattle.commands.specs.Config.{gives_names};
 ghost use Rattle.player.specs.Progress.{after_bytes};
-ghost use Rattle.locked_world.specs.Halls.{hall_of};
+ghost use Rattle.hall.specs.Halls.{hall_of};
 ghost use Rattle.hall_log.specs.Entries.{HallApplies, TakesBytes, behind_first_line};
 ghost use Rattle.hall_log.specs.Said.{NotingSays, tape_of};
 
 use crate::noting::Noting;
 use crate::tape::Tape;
 use commands::Config;
-use locked_world::Hall;
+use hall::Hall;
 use one_log::Machine;
 use player::{AsReplies, Replies, Talker};
 use std::alloc::{AllocError, Global};
@@ -31,7 +31,7 @@ pub struct HallMachine {
 }
 
 impl Model for HallMachine {
-    ghost use Rattle.locked_world.specs.HallState.{HallState};
+    ghost use Rattle.hall.specs.HallState.{HallState};
 
     ghost Value = { HallState };
 

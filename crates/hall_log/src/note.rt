@@ -7,7 +7,7 @@ ghost use Rattle.commands.specs.Replies.{with_view};
 ghost use Rattle.hall_log.specs.Said.{request_of, said_by, seen};
 
 use commands::{Event, Reply};
-use locked_world::is_same_event;
+use hall::is_same_event;
 use std::alloc::{AllocError, Global};
 use step_memory::{Refusal, View};
 

@@ -4,14 +4,14 @@ ghost use Rattle.std.specs.Prelude.{◌≡◌, ◌≢◌, ◌∷◌, ◌++◌, [
 ghost use Rattle.step_memory.specs.declared.refusal.Refusal.TheVariants as refusal;
 ghost use Rattle.commands.specs.declared.reply.Reply.TheVariants as replies;
 ghost use Rattle.commands.specs.Replies.{with_view};
-ghost use Rattle.locked_world.specs.Halls.{hall_of};
+ghost use Rattle.hall.specs.Halls.{hall_of};
 ghost use Rattle.hall_log.specs.Said.{NotingSays, request_of, said_by, tape_of};
 ghost use Rattle.hall_log.specs.SaidProofs.{noting_answers};
 
 use crate::note::{Asked, Note, lacks_memory};
 use crate::tape::Tape;
 use commands::{Config, Event, Reply};
-use locked_world::Hall;
+use hall::Hall;
 use player::Service;
 use std::alloc::Global;
 use std::marker::Model;

@@ -12,7 +12,7 @@ pub use Rattle.commands.specs.Replies.{ShownReply, with_view}
 pub use Rattle.player.specs.Lines.{IsCutOnce, has_no_lf, with_ends}
 pub use Rattle.player.specs.Records.{exchange_line, header_line}
 pub use Rattle.desk.specs.DeskCalls.{exchange}
-pub use Rattle.locked_world.specs.HallState.{HallState}
+pub use Rattle.hall.specs.HallState.{HallState}
 pub use Rattle.hall_compaction.specs.Compactions.{IsCompacted}
 pub use Rattle.journal_disk.specs.DiskState.{DiskState}
 pub use Rattle.journal_disk.specs.Disks.{longer_by, synced_all, replaced_by}

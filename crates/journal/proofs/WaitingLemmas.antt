@@ -4,8 +4,8 @@ use Rattle.journal.proofs.Common.{flat_map-append, Event, Exchange, exchange_lin
 use Rattle.std.proofs.lemmas.List.{append-nil, drop-append-le}
 use Rattle.step_memory.specs.declared.refusal.Refusal.{Refusal}
 use Rattle.commands.specs.Replies.{ShownReply, is_refusal}
-use Rattle.locked_world.specs.Halls.{HallMay, hall_refusal, after_unless}
-use Rattle.locked_world.specs.Serving.{accepted}
+use Rattle.hall.specs.Halls.{HallMay, hall_refusal, after_unless}
+use Rattle.hall.specs.Serving.{accepted}
 
 -- the line of an event that was accepted waits behind those that waited
 pub more_waits : (h u : HallState) (told : ℕ) (x : Exchange) (lines : List ℕ) → lines ≡ waiting_of (chronicle_of h told) → told ≤ length h.history → u.history ≡ h.history ++ x ∷ [] →

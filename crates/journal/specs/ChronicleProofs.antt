@@ -2,7 +2,7 @@
 use Rattle.std.proofs.Common.{refl}
 use Rattle.commands.specs.Replies.{ShownReply}
 use Rattle.commands.specs.Requests.{Request}
-use Rattle.locked_world.specs.ServingProofs.{hall_answers}
+use Rattle.hall.specs.ServingProofs.{hall_answers}
 use Rattle.journal.specs.ChronicleState.{ChronicleState}
 use Rattle.journal.specs.Chronicles.{ChronicleServes, chronicle_of}
 

@@ -4,9 +4,9 @@ use Rattle.commands.specs.Replies.{ShownReply}
 use Rattle.commands.specs.Requests.{Request}
 use Rattle.player.specs.Records.{exchange_line}
 use Rattle.run_checker.specs.Migrated.{record_text}
-use Rattle.locked_world.specs.Halls.{hall_of}
-use Rattle.locked_world.specs.HallState.{HallState}
-use Rattle.locked_world.specs.Serving.{HallServes}
+use Rattle.hall.specs.Halls.{hall_of}
+use Rattle.hall.specs.HallState.{HallState}
+use Rattle.hall.specs.Serving.{HallServes}
 use Rattle.journal.specs.ChronicleState.{ChronicleState}
 
 -- the record of a hall's history: a header, and a line for each event with its reply

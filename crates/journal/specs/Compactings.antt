@@ -1,6 +1,6 @@
 -- a journal whose chronicle's hall is compacted, and what a crash leaves then
 use Rattle.std.specs.Prelude.{◌≡◌, ◌⊎◌, ℕ, List, length, Bool, true, false, Option}
-use Rattle.locked_world.specs.HallState.{HallState}
+use Rattle.hall.specs.HallState.{HallState}
 use Rattle.hall_compaction.specs.Compactions.{IsCompacted}
 use Rattle.journal_disk.specs.DiskState.{DiskState}
 use Rattle.journal_disk.specs.Disks.{Changes, MayLeaveEither, replaced_by}

@@ -2,7 +2,7 @@
 use Rattle.std.specs.Prelude.{◌≡◌, ◌==◌, if◌then◌else◌, ◌⊎◌, ℕ, ◌≤◌, false, List, [], ◌++◌, length, take, Option, Some, Result, Ok, Err}
 use Rattle.player.specs.Lines.{whole_lines, with_ends}
 use Rattle.player.specs.Records.{header_line}
-use Rattle.locked_world.specs.HallState.{HallState}
+use Rattle.hall.specs.HallState.{HallState}
 use Rattle.journal_disk.specs.DiskState.{DiskState}
 use Rattle.journal_disk.specs.Disks.{Changes, OnlyGrows, MayLeave, longer_by, synced_all}
 use mathlib.Core.List.{IsPrefix}

@@ -5,8 +5,8 @@ use Rattle.commands.specs.declared.config.Config.{Config}
 use Rattle.commands.specs.declared.exchange.Exchange.{Exchange}
 use Rattle.player.specs.Lines.{has_no_lf}
 use Rattle.player.specs.Records.{exchange_line, header_line}
-use Rattle.locked_world.specs.HallState.{HallState}
-use Rattle.locked_world.specs.Halls.{hall_of}
+use Rattle.hall.specs.HallState.{HallState}
+use Rattle.hall.specs.Halls.{hall_of}
 use Rattle.journal.specs.Chronicles.{record_of_hall}
 
 -- the hall has accepted one more event, and its line stood before the rest

@@ -3,7 +3,7 @@
 ghost use Rattle.std.specs.Prelude.{◌≡◌, ◌≤◌, ◌+◌, ◌++◌, [], ◌∷◌, true, false, length, IfOk, vec_len, vec_capacity};
 ghost use Rattle.commands.specs.Replies.{is_refusal, with_view};
 ghost use Rattle.desk.specs.DeskCalls.{exchange};
-ghost use Rattle.locked_world.specs.Halls.{HallMay};
+ghost use Rattle.hall.specs.Halls.{HallMay};
 ghost use Rattle.player.specs.Records.{exchange_line};
 ghost use Rattle.hall_compaction.specs.Compactions.{IsCompacted};
 ghost use Rattle.journal.specs.Chronicles.{ChronicleServes, chronicle_of, waiting_of};
@@ -12,7 +12,7 @@ ghost use Rattle.journal.specs.ChronicleProofs.{chronicle_answers};
 
 use commands::{Event, Reply};
 use hall_compaction::Compactor;
-use locked_world::{Hall, law_of_serving};
+use hall::{Hall, law_of_serving};
 use player::{AsRecord, Form, Replies, Service, TURN_ROOM};
 use std::alloc::Global;
 use std::marker::Model;

@@ -14,7 +14,7 @@ use crate::record::record_of;
 use commands::Config;
 use hall_compaction::Compactor;
 use journal_disk::{Disk, DiskFault};
-use locked_world::Hall;
+use hall::Hall;
 use player::{Replies, law_of_lines, print_header};
 use std::alloc::Global;
 

@@ -1,7 +1,7 @@
 //! What a crash leaves of a journal, and what is opened of that.
 
 ghost use Rattle.std.specs.Prelude.{◌≡◌, ◌≤◌, ℕ, List, length};
-ghost use Rattle.locked_world.specs.HallState.{HallState};
+ghost use Rattle.hall.specs.HallState.{HallState};
 ghost use Rattle.journal_disk.specs.DiskState.{DiskState};
 ghost use Rattle.journal.specs.ChronicleState.{ChronicleState};
 ghost use Rattle.journal_disk.specs.Disks.{MayLeaveEither};

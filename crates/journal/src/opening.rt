@@ -4,14 +4,14 @@ ghost use Rattle.std.specs.Prelude.{◌≡◌, ◌≤◌, ◌++◌, [], ◌∷�
 ghost use Rattle.commands.specs.declared.exchange.Exchange.{Exchange};
 ghost use Rattle.player.specs.Lines.{has_no_lf};
 ghost use Rattle.player.specs.Records.{exchange_line, header_line};
-ghost use Rattle.locked_world.specs.Halls.{hall_of};
+ghost use Rattle.hall.specs.Halls.{hall_of};
 ghost use Rattle.journal.specs.Chronicles.{record_of_hall};
 ghost use Rattle.journal.specs.Openings.{GoesOnBy, HasFollowed, IsRecovered};
 
 use crate::chronicle::applied;
 use commands::{Config, Event, WorldKind};
 use journal_disk::DiskFault;
-use locked_world::Hall;
+use hall::Hall;
 use memchr::memchr;
 use player::{AsRecord, Form, Replies, print_header};
 use record_lines::{Version, read_line};

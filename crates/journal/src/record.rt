@@ -4,7 +4,7 @@ ghost use Rattle.std.specs.Prelude.{◌≡◌, ◌+◌, IfOk, OnOk};
 ghost use Rattle.journal.specs.Chronicles.{record_of_hall, hall_after_first};
 
 use crate::chronicle::put_line;
-use locked_world::Hall;
+use hall::Hall;
 use player::{Replies, TURN_ROOM, print_header};
 use std::alloc::{AllocError, Global};
 use step_memory::{NoMemory, View};

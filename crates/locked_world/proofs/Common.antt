@@ -19,8 +19,8 @@ pub use Rattle.desk.specs.DeskValue.{DeskValue}
 pub use Rattle.desk.specs.DeskValue.DeskValue.{OverGrid, OverTree}
 pub use Rattle.desk.specs.Names.{IsOwnerReply}
 pub use Rattle.desk.specs.Rules.{may_by}
-pub use Rattle.locked_world.specs.HallState.{HallState}
-pub use Rattle.locked_world.specs.Halls.{desk_of, IsLawful, full_unless, hall_refusal, longer, reply_unless, after_unless, HallMay, hall_of}
+pub use Rattle.hall.specs.HallState.{HallState}
+pub use Rattle.hall.specs.Halls.{desk_of, IsLawful, full_unless, hall_refusal, longer, reply_unless, after_unless, HallMay, hall_of}
 pub use Rattle.locked_world.specs.declared.kept.Kept.{Kept}
 pub use Rattle.locked_world.specs.CallerState.{CallerState}
 pub use Rattle.locked_world.specs.Kepts.{IsTaken, IsSound, Fits, IsKept, KeepsUnless}

@@ -1,10 +1,19 @@
 -- what a clerk comes to keep while it serves
-use Rattle.std.proofs.Common.{◌≡◌, ◌++◌, List, [], ◌∷◌, map, sym, ap, ◌∙◌, append_assoc}
-use Rattle.locked_world.proofs.Common.{append-nil, Config, Exchange, Runs, Turn, exchanges, Answered, Told, Ended, Misread, Kept, CallerState}
-use Rattle.locked_world.specs.Kepts.{IsTaken, IsTold, IsSound}
-use Rattle.locked_world.specs.Serving.{ClerkServes, accepted, exchange_kept}
-use Rattle.locked_world.proofs.Serves.{accepted-one, kept_one}
+use Rattle.std.proofs.Common.{◌≡◌, ◌++◌, List, [], ◌∷◌, map, true, false, cond, sym, ap, ◌∙◌, append_assoc}
+use Rattle.locked_world.proofs.Common.{append-nil, map-append, is_refusal, kept_of, Config, Exchange, Runs, Turn, exchanges, Answered, Told, Ended, Misread, Kept, CallerState}
+use Rattle.locked_world.specs.Kepts.{IsTaken, IsTold, IsSound, Keeps, KeepsUnless}
+use Rattle.locked_world.specs.Serving.{ClerkServes, exchange_kept}
+use Rattle.hall.specs.Serving.{accepted}
+use Rattle.hall.proofs.Serves.{accepted-one}
 use Rattle.locked_world.proofs.Standing.{sound_after}
+
+-- over one event
+pub kept_one : (ks new : List Kept) (x : Exchange) → Keeps ks x.event x.reply new → map exchange_kept new ≡ map exchange_kept ks ++ accepted (x ∷ [])
+kept_one ks new x keeps =
+    elim (is_refusal x.reply) as (λ b. KeepsUnless b ks x.event x.reply new → map exchange_kept new ≡ map exchange_kept ks ++ cond b [] (x ∷ [])) [
+      | true ↦ λ same. ap (map exchange_kept) same ∙ sym (append-nil (map exchange_kept ks))
+      | false ↦ λ kept. ap (map exchange_kept) kept.is ∙ map-append exchange_kept ks (kept_of kept.place x ∷ [])
+    ] keeps
 
 -- a clerk keeps the accepted events of its turns
 pub kept : (c : Config) (s t : CallerState) (ts : List Turn) → IsSound c s → Runs (ClerkServes c) s ts t → map exchange_kept t.kept ≡ map exchange_kept s.kept ++ accepted (exchanges ts)

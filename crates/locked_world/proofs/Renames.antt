@@ -1,5 +1,5 @@
 -- steps that are added
-use Rattle.std.proofs.Common.{◌≡◌, ℕ, ◌+◌, ◌≤◌, length, true, false, List, [], ◌∷◌, ◌++◌, refl, sym, ap, ◌∙◌, arith, append_assoc, length-append}
+use Rattle.std.proofs.Common.{◌≡◌, ℕ, ◌+◌, true, false, List, [], ◌∷◌, ◌++◌, refl, sym, ap, ◌∙◌, arith, append_assoc, length-append}
 use Rattle.locked_world.proofs.Common.{append-nil, Refusal, Config, Step, exchange, ShownReply, is_refusal, with_view, CallerState, IsKept, IsTaken, kept_of}
 use Rattle.std.proofs.lemmas.List.Elements.{All-nil, All-push}
 use Rattle.commands.specs.declared.reply.Reply.{Reply}

@@ -1,11 +1,12 @@
 -- what callers kept stands in the history, which goes on
-use Rattle.std.proofs.Common.{◌≡◌, ◌≢◌, ℕ, ◌+◌, ◌<◌, ◌≤◌, inl, inr, Bool, true, false, cond, List, [], ◌∷◌, ◌++◌, All, length, Option, Some, None, slice_get, refl, sym, ap, subst, ◌∙◌, arith, length-append}
-use Rattle.locked_world.proofs.Common.{append-nil, slice_get_within, Refusal, Config, Event, Exchange, exchange, ShownReply, is_refusal, Kept, CallerState, hall_of, IsLawful, hall_refusal, after_unless, HallMay, HallState, kept_of, Fits, KeepsUnless, IsTaken, IsSound}
+use Rattle.std.proofs.Common.{◌≡◌, ℕ, ◌+◌, ◌<◌, ◌≤◌, Bool, true, false, cond, List, [], ◌∷◌, ◌++◌, All, length, Some, slice_get, refl, sym, ap, subst, ◌∙◌, arith, length-append}
+use Rattle.locked_world.proofs.Common.{slice_get_within, Config, Event, Exchange, exchange, ShownReply, is_refusal, Kept, CallerState, hall_of, IsLawful, HallMay, HallState, kept_of, Fits, KeepsUnless, IsTaken, IsSound}
 use Rattle.std.proofs.lemmas.List.Elements.{All-push, All-weaker}
 use mathlib.Core.List.{IsPrefix}
 use Rattle.history_book.proofs.Fronts.{prefix_trans, prefix_get, prefix_length}
-use Rattle.locked_world.specs.Serving.{accepted}
-use Rattle.locked_world.proofs.Serves.{Moves, moves}
+use Rattle.hall.specs.GoesOn.{GoesOn}
+use Rattle.hall.specs.Serving.{accepted}
+use Rattle.hall.proofs.HallLaws.{goes_on, goes_by, stays_by}
 
 -- the place behind a history is above all that stands in it
 pub above_all : (history : List Exchange) (ks : List Kept) → Fits history ks → All (λ k. k.place < length history) ks
@@ -25,26 +26,6 @@ fits_more : (xs : List Exchange) (ks : List Kept) (x : Exchange) → Fits xs ks 
 fits_more xs ks x fits =
     All-push (λ (k : Kept). slice_get (xs ++ x ∷ []) k.place ≡ Some k.exchange) ks (kept_of (length xs) x) (fits_longer xs (xs ++ x ∷ []) ks (x ∷ [], refl) fits) (stands_last xs x)
 
-config_kept : (o : Option Refusal) (h : HallState) (e : Event) → hall_of h.config (after_unless o h e).history ≡ after_unless o h e
-config_kept None h e = refl
-config_kept (Some why) h e = refl
-
--- a hall stays of its config
-pub of_config : (h : HallState) (e : Event) (u : HallState) (r : ShownReply) → HallMay h e r u → hall_of h.config u.history ≡ u
-of_config h e u r (inl m) = rw m.1 (config_kept (hall_refusal h e) h e)
-of_config h e u r (inr m) = rw m.1 refl
-
--- the history goes on by the event where it was accepted
-pub goes_by : (h : HallState) (e : Event) (r : ShownReply) (u : HallState) → IsLawful h → HallMay h e r u → is_refusal r ≡ false → u.history ≡ h.history ++ exchange e r ∷ []
-goes_by h e r u lawful may taken =
-    let m : Moves h e r u = moves h e lawful r u may in
-    m.history ∙ ap (λ b. h.history ++ cond b [] (exchange e r ∷ [])) taken
-
-pub stays_by : (h : HallState) (e : Event) (r : ShownReply) (u : HallState) → IsLawful h → HallMay h e r u → is_refusal r ≡ true → u.history ≡ h.history
-stays_by h e r u lawful may refused =
-    let m : Moves h e r u = moves h e lawful r u may in
-    m.history ∙ ap (λ b. h.history ++ cond b [] (exchange e r ∷ [])) refused ∙ append-nil h.history
-
 -- what was kept stands in the history of the hall that answered, with what is kept of the answer
 pub stands_by : (h : HallState) (e : Event) (r : ShownReply) (u : HallState) (ks : List Kept) → IsLawful h → Fits h.history ks → HallMay h e r u → Fits u.history (cond (is_refusal r) ks (ks ++ kept_of (length h.history) (exchange e r) ∷ []))
 stands_by h e r u ks lawful fits may =
@@ -63,7 +44,8 @@ module _ (c : Config) (h : HallState) (e : Event) (r : ShownReply) (u : HallStat
   taken of lawful longer fits may seen kept =
       let stand : Fits h.history s.kept = fits_longer s.seen h.history s.kept longer fits in
       let before : hall_of c h.history ≡ h = ap (λ (d : Config). hall_of d h.history) (sym of) in
-      let after : hall_of c u.history ≡ u = ap (λ (d : Config). hall_of d u.history) (sym of) ∙ of_config h e u r may in
+      let m : GoesOn h e r u = goes_on h u e r lawful may in
+      let after : hall_of c u.history ≡ u = ap (λ (d : Config). hall_of d u.history) (sym (m.config ∙ of)) in
       record {
         answer = record {
           history = h.history;
@@ -86,12 +68,12 @@ module _ (c : Config) (h : HallState) (e : Event) (r : ShownReply) (u : HallStat
 -- a caller that was answered has seen a lawful history, which goes on from what it had seen
 pub sound_after : (c : Config) (s t : CallerState) (e : Event) (r : ShownReply) → IsTaken c s e r t → IsSound c t
 sound_after c s t e r one =
-    let m : Moves (hall_of c one.answer.history) e r (hall_of c t.seen) = moves (hall_of c one.answer.history) e one.answer.lawful r (hall_of c t.seen) one.answer.answer in
+    let m : GoesOn (hall_of c one.answer.history) e r (hall_of c t.seen) = goes_on (hall_of c one.answer.history) (hall_of c t.seen) e r one.answer.lawful one.answer.answer in
     record { lawful = m.lawful; stands = one.stands }
 
 pub seen_after : (c : Config) (s t : CallerState) (e : Event) (r : ShownReply) → IsTaken c s e r t → IsPrefix s.seen t.seen
 seen_after c s t e r one =
-    let m : Moves (hall_of c one.answer.history) e r (hall_of c t.seen) = moves (hall_of c one.answer.history) e one.answer.lawful r (hall_of c t.seen) one.answer.answer in
+    let m : GoesOn (hall_of c one.answer.history) e r (hall_of c t.seen) = goes_on (hall_of c one.answer.history) (hall_of c t.seen) e r one.answer.lawful one.answer.answer in
     prefix_trans s.seen one.answer.history t.seen one.answer.longer (accepted (exchange e r ∷ []), sym m.history)
 
 pub lawful_of : (c : Config) (h : HallState) → h.config ≡ c → IsLawful h → IsLawful (hall_of c h.history)
@@ -115,10 +97,19 @@ module _ (c : Config) (h : HallState) (seen : List Exchange) (ks : List Kept) (n
   -- and an event that was accepted, which it keeps
   pub stands_kept : (e : Event) (r : ShownReply) (u : HallState) → HallMay h e r u → is_refusal r ≡ false → Stands c (h.history ++ exchange e r ∷ []) (ks ++ kept_of (length h.history) (exchange e r) ∷ []) (length h.history + 1)
   stands_kept e r u may accepted =
-      let m : Moves h e r u = moves h e lawful r u may in
-      let of' : u.config ≡ c = sym (ap (λ (k : HallState). k.config) (of_config h e u r may)) ∙ of in
+      let m : GoesOn h e r u = goes_on h u e r lawful may in
       record {
         within = omega (arith, length-append h.history (exchange e r ∷ []));
         fits = fits_more h.history ks (exchange e r) (fits_longer seen h.history ks longer fits);
-        lawful = subst (λ (l : List Exchange). IsLawful (hall_of c l)) (goes_by h e r u lawful may accepted) (lawful_of c u of' m.lawful);
+        lawful = subst (λ (l : List Exchange). IsLawful (hall_of c l)) (goes_by h e r u lawful may accepted) (lawful_of c u (m.config ∙ of) m.lawful);
       }
+
+-- it has seen the front, which is the whole history
+pub stands_answered : (c : Config) (h : HallState) (seen front now : List Exchange) (ks : List Kept) (next : ℕ) → h.config ≡ c → IsLawful h → front ≡ h.history → IsPrefix seen front → now ≡ front → Fits seen ks → next ≤ length seen → Stands c now ks next
+stands_answered c h seen front now ks next of lawful whole longer again fits within =
+    subst (λ (l : List Exchange). Stands c l ks next) (sym (again ∙ whole)) (stands_seen c h seen ks next of lawful (subst (IsPrefix seen) whole longer) fits within)
+
+-- a refused event leaves the hall, and what the caller has kept, as they were
+pub taken_unchanged : (c : Config) (h : HallState) (e : Event) (r : ShownReply) (s t : CallerState) (front : List Exchange) → h.config ≡ c → IsLawful h → front ≡ h.history → IsPrefix s.seen front → Fits s.seen s.kept → HallMay h e r h → is_refusal r ≡ true → t.seen ≡ front → t.kept ≡ s.kept → IsTaken c s e r t
+taken_unchanged c h e r s t front of lawful whole longer fits may refused seen kept =
+    taken_refused c h e r h s t of lawful (subst (IsPrefix s.seen) whole longer) fits may refused (seen ∙ whole) kept

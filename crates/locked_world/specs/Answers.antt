@@ -9,7 +9,7 @@ use Rattle.commands.specs.declared.exchange.Exchange.{Exchange}
 use Rattle.commands.specs.Replies.{ShownReply}
 use Rattle.commands.specs.declared.reply.Reply.TheVariants as reply
 use Rattle.desk.specs.Desk.{owner_reply}
-use Rattle.locked_world.specs.Halls.{hall_of, desk_of, IsLawful, HallMay}
+use Rattle.hall.specs.Halls.{hall_of, desk_of, IsLawful, HallMay}
 
 -- The lock's history was lawful for its config, and what the caller had seen was a prefix of it; the hall of that history gives this
 -- reply to the event, and the caller has now seen what its history is then

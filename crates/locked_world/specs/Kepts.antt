@@ -12,7 +12,7 @@ use Rattle.commands.specs.declared.config.Config.{Config}
 use Rattle.desk.specs.Desk.{owner_reply}
 use Rattle.locked_world.specs.Answers.{IsAnswered}
 use Rattle.locked_world.specs.CallerState.{CallerState}
-use Rattle.locked_world.specs.Halls.{hall_of, desk_of, IsLawful}
+use Rattle.hall.specs.Halls.{hall_of, desk_of, IsLawful}
 use Rattle.locked_world.specs.KeptLogs.{kept_of}
 
 -- the places rise, from the first bound on, and stay below the second

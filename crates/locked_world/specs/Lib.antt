@@ -1,10 +1,5 @@
-pub mod LogState
-pub mod Logs
 pub mod KeptState
 pub mod KeptLogs
-pub mod Replay
-pub mod HallState
-pub mod Halls
 pub mod Acts
 pub mod CallerState
 pub mod Configs

@@ -10,13 +10,8 @@ use Rattle.desk.specs.Desk.{owner_reply}
 use Rattle.commands.specs.Requests.{Request}
 use Rattle.commands.specs.Requests.Request.{Take, OwnerOf}
 use Rattle.locked_world.specs.CallerState.{CallerState}
-use Rattle.locked_world.specs.Halls.{hall_of, desk_of, hall_refusal, hall_reply, hall_after, reply_unless, after_unless}
-use Rattle.locked_world.specs.HallState.{HallState}
-use Rattle.locked_world.specs.Serving.{HallServes, ClerkServes}
-
-pub hall_answers : (h : HallState) (q : Request) → (r : ShownReply) × (u : HallState) × HallServes h q r u
-hall_answers h (Take e) = (hall_reply h e, hall_after h e, inl (refl, refl))
-hall_answers h (OwnerOf n) = (owner_reply (desk_of h) n, h, (refl, refl))
+use Rattle.hall.specs.Halls.{hall_of, desk_of, hall_refusal, reply_unless, after_unless}
+use Rattle.locked_world.specs.Serving.{ClerkServes}
 
 -- the hall of what a caller has seen refuses each event, by its rules or for want of memory
 pub clerk_answers : (c : Config) (s : CallerState) (q : Request) → (r : ShownReply) × (t : CallerState) × ClerkServes c s q r t

@@ -3,13 +3,12 @@
 ghost use Rattle.std.specs.Prelude.{◌≡◌, All, replicate, ℕ, ◌+◌, ◌++◌, length, map, true, false, slice_get, slice_set, slice_index_or, vec_len, IfSome, IfOk, IfErr};
 ghost use Rattle.locked_world.specs.Kepts.{IsJust, Fits};
 ghost use Rattle.locked_world.specs.Marks.{IsMarked, AreMarked};
-ghost use Rattle.locked_world.specs.Halls.{IsLawful};
+ghost use Rattle.hall.specs.Halls.{IsLawful};
 
-use crate::hall::Hall;
 use crate::kept::Kept;
 use crate::kept_log::KeptLog;
 use crate::parts::{Clerk, HallLock, LockName, Locked, Session};
-use crate::same::is_same;
+use hall::{Hall, is_same};
 use std::sync::Mutex;
 use std::sync::ledger::Share;
 

@@ -7,8 +7,8 @@ ghost use Rattle.locked_world.specs.KeptLogs.{kept_of};
 ghost use Rattle.locked_world.specs.KeptNames.{name_given, name_kept};
 
 use crate::kept::Kept;
-use crate::log::Log;
 use commands::{Event, Reply};
+use hall::Log;
 use std::alloc::Global;
 use std::marker::Model;
 use step_memory::{NoMemory, View};

@@ -6,15 +6,15 @@ ghost use Rattle.locked_world.specs.Acts.{event_of};
 ghost use Rattle.commands.specs.Replies.{is_refusal, with_view};
 ghost use Rattle.locked_world.specs.Answers.{IsRefusedBegin, IsSomeOwner};
 ghost use Rattle.locked_world.specs.CallerState.{caller_of};
-ghost use Rattle.locked_world.specs.Halls.{hall_of, HallMay, IsLawful};
+ghost use Rattle.hall.specs.Halls.{hall_of, HallMay, IsLawful};
 ghost use Rattle.locked_world.specs.Kepts.{IsOpened, IsTaken, IsTold};
 
 use crate::act::Act;
-use crate::hall::Hall;
 use crate::kept_log::KeptLog;
 use crate::parts::{Clerk, HallLock, LockName, Locked, MOST_CALLERS, Session};
 use crate::telling::{Told, begins, tell};
 use commands::{Config, Event, Exchange, Reply};
+use hall::Hall;
 use history_book::{Front, Opened};
 use std::alloc::Global;
 use std::sync::ledger::{Blank, Share};

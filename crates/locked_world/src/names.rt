@@ -2,14 +2,14 @@
 
 ghost use Rattle.std.specs.Prelude.{◌≡◌, ◌⊎◌, ◌↔◌, ℕ, Some, IfSome, true, slice_get};
 ghost use Rattle.desk.specs.Desk.{owner_reply};
-ghost use Rattle.locked_world.specs.Halls.{desk_of};
+ghost use Rattle.hall.specs.Halls.{desk_of};
 ghost use Rattle.locked_world.specs.KeptNames.{name_kept};
 ghost use Rattle.locked_world.specs.Words.{IsOwnerOrNone, Agree};
 
 use crate::closing::Closed;
-use crate::hall::Hall;
 use crate::parts::{LockName, Session};
 use commands::Reply;
+use hall::Hall;
 use raw_parts::{Board, Grant, ReaderSeat};
 use std::alloc::Allocator;
 

@@ -2,9 +2,9 @@
 
 ghost use Rattle.std.specs.Prelude.{◌≡◌, ◌+◌, ◌≤◌, length, true, false, replicate};
 
-use crate::hall::Hall;
 use crate::kept_log::KeptLog;
 use commands::Exchange;
+use hall::Hall;
 use history_book::{Book, Front, Naming};
 use std::marker::{Brand, Model};
 use std::sync::Mutex;
@@ -72,7 +72,7 @@ impl<L: LockName> Model for Clerk<L> {
 
     ghost use Rattle.std.specs.Prelude.{◌≡◌, ◌≤◌, length, true};
     ghost use Rattle.locked_world.specs.CallerState.{caller_of};
-    ghost use Rattle.locked_world.specs.Halls.{IsLawful, hall_of};
+    ghost use Rattle.hall.specs.Halls.{IsLawful, hall_of};
     ghost use Rattle.locked_world.specs.Kepts.{Fits, rises};
 
     ghost view = { λ c. caller_of c.kept.items c.seen };

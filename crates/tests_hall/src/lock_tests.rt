@@ -4,7 +4,8 @@ ghost use Rattle.std.specs.Prelude.{◌≡◌};
 
 use crate::opening::{Opening, opened};
 use commands::{Config, Event, Reply, WorldKind};
-use locked_world::{Act, Hall, HallLock, LockName, Missing, Session, law_of_hall};
+use hall::{Hall, law_of_hall};
+use locked_world::{Act, HallLock, LockName, Missing, Session};
 use std::alloc::Global;
 use std::marker::Brand;
 use std::process::Abort;

@@ -3,7 +3,7 @@
 use crate::drawn::Words;
 use commands::{Config, Event, WorldKind};
 use hall_compaction::{Compactor, compacted};
-use locked_world::Hall;
+use hall::Hall;
 use std::alloc::Global;
 
 /// A hall of this world, for so many numbers; none where memory was refused.

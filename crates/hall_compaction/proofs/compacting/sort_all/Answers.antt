@@ -1,7 +1,7 @@
 use Rattle.std.proofs.Common.{◌≡◌, [], replicate, subst}
 use Rattle.commands.specs.declared.config.Config.{Config}
 use Rattle.bit_allocator.specs.Pool.{fresh_pool}
-use Rattle.locked_world.specs.Halls.{hall_of}
+use Rattle.hall.specs.Halls.{hall_of}
 use Rattle.hall_compaction.specs.Copies.{slots_in}
 use Rattle.hall_compaction.proofs.RebuiltLemmas.{none_sorted}
 use Rattle.hall_compaction.proofs.compacting.sort_all.Goals as goal

@@ -1,6 +1,6 @@
 use Rattle.std.proofs.Common.{[]}
 use Rattle.hall_log.proofs.Agrees.{determined}
-use Rattle.locked_world.specs.Halls.{hall_of}
+use Rattle.hall.specs.Halls.{hall_of}
 use Rattle.hall_log.proofs.laws.law_of_halls.Goals as goal
 
 pub returns-clause-determined : goal.returns-clause-determined

@@ -1,5 +1,5 @@
 use Rattle.std.proofs.Common.{◌∙◌, ap}
-use Rattle.locked_world.specs.HallState.{HallState}
+use Rattle.hall.specs.HallState.{HallState}
 use Rattle.journal.proofs.Replays.{one_more}
 use Rattle.journal.proofs.opening.replay.Goals as goal
 

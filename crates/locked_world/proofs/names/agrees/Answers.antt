@@ -1,7 +1,7 @@
-use Rattle.std.proofs.Common.{rules, ◌≡◌, ◌≤◌, inl, inr, refl, ◌+◌, ℕ, Some, slice_get, false, true, sym, ◌∙◌, subst, arith}
+use Rattle.std.proofs.Common.{◌≡◌, ◌≤◌, inl, inr, refl, ◌+◌, Some, slice_get, false, true, sym, ◌∙◌, subst, arith}
 use Rattle.std.proofs.Math.Nat.{eq-or-lt_of_le}
 use Rattle.std.proofs.lemmas.Option.{slice_get_within, slice_get-get_or, get_or_from_slice_get}
-use Rattle.locked_world.specs.Halls.{desk_of}
+use Rattle.hall.specs.Halls.{desk_of}
 use Rattle.locked_world.specs.Words.{IsOwnerOrNone}
 use Rattle.locked_world.proofs.names.agrees.Goals as goal
 

@@ -1,5 +1,5 @@
 use Rattle.std.proofs.Common.{◌≡◌, ℕ, ◌+◌, ◌<◌, Some, slice_get}
-use Rattle.locked_world.specs.Halls.{desk_of}
+use Rattle.hall.specs.Halls.{desk_of}
 use Rattle.locked_world.specs.Words.{IsOwnerOrNone}
 use Rattle.locked_world.proofs.names.agrees.Given as goal
 

@@ -1,6 +1,6 @@
 use Rattle.std.proofs.Common.{◌≡◌, false, sym, subst, ◌∙◌}
 use Rattle.commands.specs.Replies.{is_refusal, with_view}
-use Rattle.locked_world.specs.HallState.{HallState}
+use Rattle.hall.specs.HallState.{HallState}
 use Rattle.hall_compaction.specs.Rebuilt.{IsCopied}
 use Rattle.hall_compaction.proofs.RebuiltLemmas.{taken, copied_on, goes_on}
 use Rattle.hall_compaction.proofs.rebuilding.Rebuilding.take.Goals as goal

@@ -1,12 +1,15 @@
-use Rattle.std.proofs.Common.{rules, ◌≡◌, ◌≤◌, ◌+◌, ◌++◌, [], ◌∷◌, None, false, true, ap, sym, subst, ◌∙◌, length, arith, length-append, List}
-use Rattle.locked_world.proofs.Common.{Exchange, exchange, is_refusal, with_view, hall_refusal, HallState, Fits, kept_of}
+use Rattle.std.proofs.Common.{rules, ◌≡◌, ◌≤◌, ◌++◌, [], ◌∷◌, None, false, true, refl, ap, sym, subst, ◌∙◌, length, arith, length-append, List}
+use Rattle.locked_world.proofs.Common.{Exchange, Refused, exchange, is_refusal, with_view, hall_refusal, HallState, Fits, kept_of}
 use mathlib.Core.List.{IsPrefix}
 use Rattle.locked_world.specs.CallerState.{CallerState, caller_of}
 use Rattle.history_book.proofs.Fronts.{prefix_length}
-use Rattle.locked_world.proofs.Histories.{none_of, kept_refused, room_left}
+use Rattle.step_memory.specs.declared.refusal.Refusal.TheVariants.{NoMemory}
+use Rattle.hall.proofs.Histories.{none_of, kept_refused, room_left, refuses_so, lacks_so}
+use Rattle.hall.proofs.HallLaws.{goes_by, stays_by}
 use Rattle.locked_world.proofs.Places.{rises_more}
-use Rattle.locked_world.proofs.Standing.{goes_by, stays_by, taken_refused, taken_accepted, stands_seen, stands_kept}
+use Rattle.locked_world.proofs.Standing.{taken_refused, taken_accepted, taken_unchanged, stands_answered, stands_kept}
 use Rattle.locked_world.proofs.parts.Locked.apply.Goals as goal
+use Rattle.locked_world.proofs.parts.Locked.apply.Goals.{then-not-reserve-via-then-not-reserve, then-not-reserve-via-else-not-reserve+then-is_err}
 
 pub invariant_of-self-then-is_refusal : goal.invariant_of-self-then-is_refusal
 invariant_of-self-then-is_refusal g c =
@@ -26,11 +29,10 @@ invariant_of-self-then-is_refusal g c =
 pub invariant_of-clerk-then-is_refusal : goal.invariant_of-clerk-then-is_refusal
 invariant_of-clerk-then-is_refusal g c =
     let k = c.clerk.inside in
-    let h = c.args.self.now.hall in
     let inv = c.clerk.invariant in
-    let longer : IsPrefix k.seen h.history = subst (λ (l : List Exchange). IsPrefix k.seen l) c.args.self.now.whole c.begins.ensures in
-    let s = stands_seen g.L.LockName.config h k.seen k.kept.items k.next c.args.self.now.config c.len-place.ensures.lawful longer inv.4 inv.3 in
-    rw (c.reserve.ensures.same, c.again.ensures, c.args.self.now.whole) (inv.0, inv.1, inv.2, s.within, s.fits, s.lawful)
+    let old = c.args.self.now in
+    let s = stands_answered g.L.LockName.config old.hall k.seen old.front c.again.result k.kept.items k.next old.config c.len-place.ensures.lawful old.whole c.begins.ensures c.again.ensures inv.4 inv.3 in
+    rw c.reserve.ensures.same (inv.0, inv.1, inv.2, s.within, s.fits, s.lawful)
 
 pub returns-then-is_refusal-clause-taken : goal.returns-then-is_refusal-clause-taken
 returns-then-is_refusal-clause-taken g c =
@@ -117,8 +119,39 @@ invariant_of-self-then-is_err g c =
 pub invariant_of-clerk : goal.invariant_of-clerk
 invariant_of-clerk g c =
     let k = c.clerk.inside in
-    let h = c.args.self.now.hall in
     let inv = c.clerk.invariant in
-    let longer : IsPrefix k.seen h.history = subst (λ (l : List Exchange). IsPrefix k.seen l) c.args.self.now.whole c.begins.ensures in
-    let s = stands_seen g.L.LockName.config h k.seen k.kept.items k.next c.args.self.now.config c.len-place.ensures.lawful longer inv.4 inv.3 in
-    rw (c.again.ensures, c.args.self.now.whole) (inv.0, inv.1, inv.2, s.within, s.fits, s.lawful)
+    let old = c.args.self.now in
+    let s = stands_answered g.L.LockName.config old.hall k.seen old.front c.again.result k.kept.items k.next old.config c.len-place.ensures.lawful old.whole c.begins.ensures c.again.ensures inv.4 inv.3 in
+    (inv.0, inv.1, inv.2, s.within, s.fits, s.lawful)
+
+pub invariant_of-clerk-then-not-reserve : goal.invariant_of-clerk-then-not-reserve
+invariant_of-clerk-then-not-reserve g c =
+    let k = c.clerk.inside in
+    let inv = c.clerk.invariant in
+    let old = c.args.self.now in
+    let s = stands_answered g.L.LockName.config old.hall k.seen old.front c.again.result k.kept.items k.next old.config c.len-place.ensures.lawful old.whole c.begins.ensures c.again.ensures inv.4 inv.3 in
+    elim c.then-not-reserve.branch [
+      | then-not-reserve-via-then-not-reserve w ↦ rw (w.clerk-inside-is, c.reserve.ensures.same) (inv.0, inv.1, inv.2, s.within, s.fits, s.lawful)
+      | then-not-reserve-via-else-not-reserve+then-is_err w ↦ rw (w.clerk-inside-is, c.reserve.ensures.same) (inv.0, inv.1, inv.2, s.within, s.fits, s.lawful)
+    ]
+
+pub returns-in-Some-clause-taken : goal.returns-in-Some-clause-taken
+returns-in-Some-clause-taken g c =
+    let old = c.args.self.now in
+    let may = refuses_so old.hall c.args.event c.in-Some.refusal (sym c.refusal.ensures ∙ c.in-Some.is) in
+    taken_unchanged g.L.LockName.config old.hall c.args.event (Refused c.in-Some.refusal) c.args.clerk.now (caller_of c.clerk.inside.kept.items c.again.result) old.front old.config c.len-place.ensures.lawful old.whole
+    (subst (λ (v : CallerState). IsPrefix v.seen old.front) c.clerk.view_is c.begins.ensures) (subst (λ (v : CallerState). Fits v.seen v.kept) c.clerk.view_is c.clerk.invariant.4)
+    may refl c.again.ensures (ap (λ (v : CallerState). v.kept) c.clerk.view_is)
+
+pub returns-then-not-reserve-clause-taken : goal.returns-then-not-reserve-clause-taken
+returns-then-not-reserve-clause-taken g c =
+    let old = c.args.self.now in
+    let kept = c.reserve.ensures.same ∙ ap (λ (v : CallerState). v.kept) c.clerk.view_is in
+    let may = lacks_so old.hall c.args.event (sym c.refusal.ensures ∙ c.in_default.is) in
+    let taken = taken_unchanged g.L.LockName.config old.hall c.args.event (Refused NoMemory) c.args.clerk.now (caller_of c.reserve.new.self.items c.again.result) old.front old.config c.len-place.ensures.lawful old.whole
+    (subst (λ (v : CallerState). IsPrefix v.seen old.front) c.clerk.view_is c.begins.ensures) (subst (λ (v : CallerState). Fits v.seen v.kept) c.clerk.view_is c.clerk.invariant.4)
+    may refl c.again.ensures kept in
+    elim c.then-not-reserve.branch [
+      | then-not-reserve-via-then-not-reserve w ↦ rw w.clerk-inside-is taken
+      | then-not-reserve-via-else-not-reserve+then-is_err w ↦ rw w.clerk-inside-is taken
+    ]

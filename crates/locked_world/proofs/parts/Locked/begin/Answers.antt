@@ -1,6 +1,6 @@
 use Rattle.std.proofs.Common.{◌≡◌, false, subst, refl, ap}
 use Rattle.locked_world.proofs.Common.{Begin, Ok, ShownReply, is_refusal, with_view, CallerState, HallMay, IsTaken}
-use Rattle.locked_world.proofs.Histories.{begins_ok}
+use Rattle.hall.proofs.Histories.{begins_ok}
 use Rattle.locked_world.proofs.Places.{opened}
 use Rattle.locked_world.proofs.Renames.{taken_by}
 use Rattle.locked_world.proofs.parts.Locked.begin.Goals as goal

@@ -1,0 +1,7 @@
+mod Common
+mod Logging
+pub mod Histories
+pub mod Sent
+mod Staying
+pub mod Serves
+pub mod HallLaws

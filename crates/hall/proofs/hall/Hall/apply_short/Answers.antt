@@ -1,0 +1,46 @@
+use Rattle.std.proofs.Common.{rules, ◌≡◌, ◌++◌, [], ◌∷◌, None, inr, ap, sym, subst, ◌∙◌, true, false}
+use Rattle.hall.proofs.Common.{desk_rules, desk_reply, exchange, DeskValue, ShownReply, is_refusal, with_view, may_by, HallState, hall_of, desk_of, hall_refusal}
+use Rattle.hall.proofs.Histories.{none_of, grows, lacked}
+use Rattle.hall.proofs.hall.Hall.apply_short.Goals as goal
+use Rattle.hall.proofs.hall.Hall.apply_short.Goals.{After-is_refusal}
+
+-- what the desk answered
+abbrev answer : After-is_refusal → ShownReply
+answer c = with_view c.apply_short-reply.result c.apply_short-reply.new.view
+
+-- the hall before the event refuses nothing
+due : (c : After-is_refusal) → hall_refusal (hall_of c.self.inside.config c.self.inside.history.items) c.args.event ≡ None
+due c =
+    let free : c.refusal.result ≡ None = none_of c.refusal.result c.in_default.not-Some in
+    ap (λ (h : HallState). hall_refusal h c.args.event) c.self.view_is ∙ sym c.refusal.ensures ∙ free
+
+-- and its desk answers
+may : (c : After-is_refusal) → may_by desk_rules (desk_of (hall_of c.self.inside.config c.self.inside.history.items)) c.args.event (answer c) c.apply_short-reply.new.self
+may c = subst (λ (w : DeskValue). may_by desk_rules w c.args.event (answer c) c.apply_short-reply.new.self) c.self.invariant.0 c.apply_short-reply.ensures
+
+pub invariant_of-self-then-not-is_refusal : goal.invariant_of-self-then-not-is_refusal
+invariant_of-self-then-not-is_refusal c =
+    let d = (goal.at.invariant_of-self-then-not-is_refusal c).After-is_refusal in
+    let i = c.self.inside in
+    let h = hall_of i.config i.history.items in
+    let accepted : is_refusal (answer d) ≡ false = search (rules, d.is_refusal.ensures d.apply_short-reply.new.view) in
+    let k = grows h c.args.event (answer d) c.apply_short-reply.new.self c.self.invariant.1 (due d) (may d) accepted in
+    let items : c.push_reserved.new.self.items ≡ i.history.items ++ exchange c.args.event (desk_reply (desk_of h) c.args.event) ∷ [] =
+    c.push_reserved.ensures ∙ ap (λ xs. xs ++ exchange c.args.event (answer d) ∷ []) c.reserve.ensures.same ∙ ap (λ r. i.history.items ++ exchange c.args.event r ∷ []) k.reply in
+    rw items (k.desk, k.lawful)
+
+pub invariant_of-self-else-not-is_refusal : goal.invariant_of-self-else-not-is_refusal
+invariant_of-self-else-not-is_refusal c =
+    let d = (goal.at.invariant_of-self-else-not-is_refusal c).After-is_refusal in
+    let i = c.self.inside in
+    let refused : is_refusal (answer d) ≡ true = search (rules, d.is_refusal.ensures d.apply_short-reply.new.view) in
+    let k = lacked (hall_of i.config i.history.items) c.args.event (answer d) c.apply_short-reply.new.self c.self.invariant.1 (due d) (may d) refused in
+    rw c.reserve.ensures.same (k.1, c.self.invariant.1)
+
+pub returns-else-not-is_refusal : goal.returns-else-not-is_refusal
+returns-else-not-is_refusal c =
+    let d = (goal.at.returns-else-not-is_refusal c).After-is_refusal in
+    let i = c.self.inside in
+    let refused : is_refusal (answer d) ≡ true = search (rules, d.is_refusal.ensures d.apply_short-reply.new.view) in
+    let k = lacked (hall_of i.config i.history.items) c.args.event (answer d) c.apply_short-reply.new.self c.self.invariant.1 (due d) (may d) refused in
+    inr (k.0, rw c.reserve.ensures.same c.self.view_is, ap (λ (h : HallState). hall_refusal h c.args.event) (sym c.self.view_is) ∙ due d)

@@ -1,0 +1,62 @@
+-- what a hall answers, and what its history is
+use Rattle.std.specs.Prelude.{◌≡◌, ◌⊎◌, ℕ, List, [], ◌∷◌, ◌++◌, length, ◌≤◌, true, nat_le, if◌then◌else◌, Option, Some, None}
+use Rattle.step_memory.specs.declared.refusal.Refusal.{Refusal}
+use Rattle.step_memory.specs.declared.refusal.Refusal.TheVariants as refusal
+use Rattle.commands.specs.declared.config.Config.{Config}
+use Rattle.commands.specs.declared.event.Event.{Event}
+use Rattle.commands.specs.declared.exchange.Exchange.{Exchange}
+use Rattle.commands.specs.Replies.{ShownReply}
+use Rattle.commands.specs.declared.reply.Reply.TheVariants as reply
+use Rattle.commands.specs.Config.{gives_names}
+use Rattle.desk.specs.Desk.{fresh_desk, desk_reply, desk_refusal}
+use Rattle.desk.specs.DeskCalls.{exchange}
+use Rattle.desk.specs.DeskValue.{DeskValue}
+use Rattle.hall.specs.HallState.{HallState}
+use Rattle.hall.specs.Replay.{replay, AreAccepted}
+
+abbrev pub hall_of : Config → List Exchange → HallState
+hall_of config history = record { config = config; history = history }
+
+-- the desk is the replay of the history
+abbrev pub desk_of : HallState → DeskValue
+desk_of h = replay (fresh_desk h.config) h.history
+
+-- names are given in the hall's world, and the history is one of accepted events with the replies that were due, at most 1,000,000
+pub record IsLawful (h : HallState) : Type 0 where
+  pub named : gives_names h.config.world ≡ true
+  pub accepted : AreAccepted (fresh_desk h.config) h.history
+  pub few : length h.history ≤ 1000000
+
+-- a history of 1,000,000 events is full: that is said where nothing else is due
+abbrev pub full_unless : Option Refusal → ℕ → Option Refusal
+full_unless (Some why) count = Some why
+full_unless None count = if nat_le 1000000 count then Some refusal.HistoryFull else None
+
+-- why an event would be refused, want of memory aside
+abbrev pub hall_refusal : HallState → Event → Option Refusal
+hall_refusal h e = full_unless (desk_refusal (desk_of h) e) (length h.history)
+
+-- the hall with one more event in its history, behind all others, with the reply of the desk
+abbrev pub longer : HallState → Event → HallState
+longer h e = hall_of h.config (h.history ++ exchange e (desk_reply (desk_of h) e) ∷ [])
+
+-- the reply to an event where no growth is refused, and the hall after it
+abbrev pub reply_unless : Option Refusal → HallState → Event → ShownReply
+reply_unless None h e = desk_reply (desk_of h) e
+reply_unless (Some why) h e = reply.Refused why
+
+abbrev pub after_unless : Option Refusal → HallState → Event → HallState
+after_unless None h e = longer h e
+after_unless (Some why) h e = h
+
+abbrev pub hall_reply : HallState → Event → ShownReply
+hall_reply h e = reply_unless (hall_refusal h e) h e
+
+abbrev pub hall_after : HallState → Event → HallState
+hall_after h e = after_unless (hall_refusal h e) h e
+
+-- an event may be answered so, and leave this: the one reply and the one hall; or a refused growth, where nothing else is
+-- due, with nothing changed
+abbrev pub HallMay : HallState → Event → ShownReply → HallState → Type 0
+HallMay h e r u =
+    ((r ≡ hall_reply h e) × (u ≡ hall_after h e)) ⊎ ((r ≡ reply.Refused refusal.NoMemory) × (u ≡ h) × (hall_refusal h e ≡ None))

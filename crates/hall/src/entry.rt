@@ -1,0 +1,76 @@
+//! What stands in a history for an exchange.
+
+ghost use Rattle.std.specs.Prelude.{◌≡◌, ◌<◌, ◌++◌, List, true, vec_len, vec_capacity};
+ghost use Rattle.hall.specs.Logs.{reply_shown, is_inside};
+ghost use Rattle.commands.specs.Replies.{ShownReply};
+ghost use Rattle.commands.specs.Replies.{with_view};
+
+use commands::{Event, Reply};
+use std::alloc::Allocator;
+use step_memory::View;
+
+/// A reply of few bytes, or where one with a view or of a rare kind stands apart.
+#[derive(Clone, Copy, Drop)]
+pub(crate) enum Short {
+    Ok,
+    Quiet,
+    Proposed(u64),
+    Missed,
+    Got(u8),
+    Left(u8),
+    Value(u64),
+    Apart(usize),
+}
+
+/// An event with what stands for its reply.
+#[derive(Clone, Copy, Drop)]
+pub(crate) struct Entry {
+    pub(crate) event: Event,
+    pub(crate) reply: Short,
+}
+
+/// What stands for a reply with the view beside it, which is put apart where it is long.
+pub(crate) fn shorten<A: Allocator>(
+    apart: &mut Vec<Reply<View>, A>,
+    reply: Reply<()>,
+    view: &View,
+) -> Short
+    requires { vec_len apart.old < vec_capacity apart.old }
+    ensures shown { reply_shown apart.new.items result ≡ with_view reply view.now }
+    ensures inside { is_inside (vec_len apart.new) result ≡ true }
+    ensures longer { (more : List ShownReply) × (apart.new.items ≡ apart.old.items ++ more) }
+{
+    match reply {
+        Reply::Ok => Short::Ok,
+        Reply::Quiet => Short::Quiet,
+        Reply::Proposed(number) => Short::Proposed(number),
+        Reply::Missed => Short::Missed,
+        Reply::Got(number) => Short::Got(number),
+        Reply::Left(number) => Short::Left(number),
+        Reply::Value(value) => Short::Value(value),
+        _ => {
+            let at = apart.len();
+            apart.push_reserved(reply.with(view));
+            Short::Apart(at)
+        }
+    }
+}
+
+/// The reply that this stands for.
+pub(crate) fn shown(apart: &[Reply<View>], short: Short) -> Reply<View>
+    ensures { result ≡ reply_shown apart.now short }
+{
+    match short {
+        Short::Ok => Reply::Ok,
+        Short::Quiet => Reply::Quiet,
+        Short::Proposed(number) => Reply::Proposed(number),
+        Short::Missed => Reply::Missed,
+        Short::Got(number) => Reply::Got(number),
+        Short::Left(number) => Reply::Left(number),
+        Short::Value(value) => Reply::Value(value),
+        Short::Apart(at) => match apart.get(at) {
+            Some(reply) => *reply,
+            None => Reply::Quiet,
+        },
+    }
+}

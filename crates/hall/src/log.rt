@@ -1,0 +1,85 @@
+//! Exchanges in order, in which views stand apart.
+
+ghost use Rattle.std.specs.Prelude.{◌≡◌, ◌<◌, ◌++◌, [], ◌∷◌, length, slice_get, true, IfOk};
+ghost use Rattle.desk.specs.DeskCalls.{exchange};
+ghost use Rattle.commands.specs.Replies.{with_view};
+ghost use Rattle.hall.specs.Logs.{log_of, all_inside};
+
+use crate::entry::{Entry, shorten, shown};
+use commands::{Event, Exchange, Reply};
+use std::alloc::Allocator;
+use std::marker::Model;
+use step_memory::{NoMemory, View};
+
+/// Exchanges in order: 40 bytes each, and their views apart.
+#[derive(Drop)]
+pub struct Log<A: Allocator> {
+    entries: Vec<Entry, A>,
+    apart: Vec<Reply<View>, A>,
+}
+
+impl<A: Allocator> Model for Log<A> {
+    ghost use Rattle.std.specs.Prelude.{◌≡◌, ◌&&◌, nat_lt, true, length, vec_len, vec_capacity};
+    ghost use Rattle.hall.specs.LogState.{LogState};
+
+    ghost Value = { LogState };
+
+    ghost use Rattle.hall.specs.Logs.{log_of, all_inside};
+
+    ghost view = { λ l. log_of l.apart.items l.entries.items
+        (nat_lt (vec_len l.entries) (vec_capacity l.entries) && nat_lt (vec_len l.apart) (vec_capacity l.apart)) };
+
+    ghost invariant = { λ l. all_inside (length l.apart.items) l.entries.items ≡ true };
+}
+
+impl<A: Allocator + Clone> Log<A> {
+    /// No exchange, which takes no memory.
+    pub fn new(alloc: A) -> Result<Log<A>, NoMemory>
+        ensures { IfOk result (λ l. l.items ≡ []) }
+    {
+        let Ok(other) = alloc.clone() else {
+            return Err(NoMemory);
+        };
+        Ok(Log {
+            entries: Vec::new(other),
+            apart: Vec::new(alloc),
+        })
+    }
+}
+
+impl<A: Allocator> Log<A> {
+    /// How many there are.
+    pub fn len(&self) -> usize
+        ensures { result ≡ length self.now.items }
+    {
+        self.entries.len()
+    }
+
+    /// The exchange at a place.
+    pub fn get(&self, place: usize) -> Option<Exchange>
+        ensures { result ≡ slice_get self.now.items place }
+    {
+        let entry = *self.entries.get(place)?;
+        Some(Exchange {
+            event: entry.event,
+            reply: shown(&self.apart, entry.reply),
+        })
+    }
+
+    /// Makes room for one more, and tells whether there is.
+    pub fn reserve(&mut self) -> bool
+        ensures same { self.new.items ≡ self.old.items }
+        ensures room { result ≡ true → self.new.room ≡ true }
+    {
+        self.entries.reserve(1).is_ok() && self.apart.reserve(1).is_ok()
+    }
+
+    /// Puts one behind the others, where there is room: an event with its reply, and the view beside that.
+    pub fn push_reserved(&mut self, event: Event, reply: Reply<()>, view: &View)
+        requires { self.old.room ≡ true }
+        ensures { self.new.items ≡ self.old.items ++ exchange event (with_view reply view.now) ∷ [] }
+    {
+        let reply = shorten(&mut self.apart, reply, view);
+        self.entries.push_reserved(Entry { event, reply });
+    }
+}

@@ -1,0 +1,51 @@
+//! Whether two events are one, and whether two exchanges are.
+
+ghost use Rattle.std.specs.Prelude.{◌≡◌, true};
+
+use commands::{Event, Exchange, Reply};
+use step_memory::View;
+
+/// Whether two events are one. `true` is said only where they are.
+pub fn is_same_event(a: Event, b: Event) -> bool
+    ensures { result ≡ true → a ≡ b }
+{
+    match (a, b) {
+        (Event::Begin(p), Event::Begin(q)) => p == q,
+        (Event::Step(p), Event::Step(q)) => p == q,
+        (Event::Enter(p), Event::Enter(q)) => p == q,
+        (Event::Probe(p), Event::Probe(q)) => p == q,
+        (Event::Leave(p), Event::Leave(q)) => p == q,
+        (Event::Put(p, value), Event::Put(q, other)) => p == q && value == other,
+        (Event::Get(p), Event::Get(q)) => p == q,
+        (Event::Widen(size), Event::Widen(other)) => size == other,
+        _ => false,
+    }
+}
+
+/// Whether two replies are one. `true` is said only where they are.
+#[tactic(auto, using(step_memory::specs::ViewEq::same_pairs_decides))]
+fn is_same_reply(a: &Reply<View>, b: &Reply<View>) -> bool
+    ensures { result ≡ true → a.now ≡ b.now }
+{
+    match (a, b) {
+        (Reply::Ok, Reply::Ok) => true,
+        (Reply::Quiet, Reply::Quiet) => true,
+        (Reply::Place(place), Reply::Place(other)) => *place == *other,
+        (Reply::Proposed(number), Reply::Proposed(other)) => *number == *other,
+        (Reply::Saw(view), Reply::Saw(other)) => *view == *other,
+        (Reply::Named(name, view), Reply::Named(other, seen)) => *name == *other && *view == *seen,
+        (Reply::Spent, Reply::Spent) => true,
+        (Reply::Missed, Reply::Missed) => true,
+        (Reply::Got(number), Reply::Got(other)) => *number == *other,
+        (Reply::Left(number), Reply::Left(other)) => *number == *other,
+        (Reply::Value(value), Reply::Value(other)) => *value == *other,
+        _ => false,
+    }
+}
+
+/// Whether two exchanges are one. `true` is said only where they are, and of all that a hall accepts where they are.
+pub fn is_same(a: &Exchange, b: &Exchange) -> bool
+    ensures { result ≡ true → a.now ≡ b.now }
+{
+    is_same_event(a.event, b.event) && is_same_reply(&a.reply, &b.reply)
+}
