@@ -1,5 +1,5 @@
 -- a hall that is built anew, event by event
-use Rattle.std.proofs.Common.{◌≡◌, ℕ, zero, suc, ◌+◌, ◌<◌, Bool, true, false, cond, List, [], ◌∷◌, ◌++◌, Some, None, Option, length, take, replicate, inl, inr, refl, sym, ap, subst, ◌∙◌, arith, add-one, slice_get}
+use Rattle.std.proofs.Common.{◌≡◌, ℕ, zero, suc, ◌+◌, Bool, true, false, cond, List, [], ◌∷◌, ◌++◌, Some, None, Option, length, take, replicate, inl, inr, refl, sym, ap, subst, ◌∙◌, arith, add-one, slice_get}
 use Rattle.std.proofs.lemmas.List.{take_all}
 use Rattle.std.proofs.lemmas.Option.{same_Some}
 use Rattle.step_memory.specs.declared.refusal.Refusal.{Refusal}

@@ -1,5 +1,5 @@
 -- competitors in a row
-use Rattle.std.proofs.Common.{◌≡◌, ℕ, zero, suc, ◌+◌, ◌<◌, ◌==◌, List, [], ◌∷◌, Option, Some, None, length, get_or, set, inl, inr, refl, sym, ap, ◌∙◌, arith, option_map}
+use Rattle.std.proofs.Common.{◌≡◌, ℕ, zero, suc, ◌+◌, ◌<◌, List, [], ◌∷◌, Option, Some, None, length, get_or, set, inl, inr, refl, sym, ap, arith, option_map}
 use Rattle.std.proofs.lemmas.Bool.Decides.{eqb_tells}
 use Rattle.step_memory.proofs.Roster as roster
 use Rattle.bit_allocator.specs.declared.competitor.Competitor.{Competitor}

@@ -1,5 +1,5 @@
 -- what a copy of a pool and its slots stands for
-use Rattle.std.specs.Prelude.{◌≡◌, ℕ, List, [], Bool}
+use Rattle.std.specs.Prelude.{ℕ, List, [], Bool}
 use Rattle.step_memory.specs.RegisterState.{Registers}
 use Rattle.slot_array.specs.SlotsState.{SlotsState}
 use Rattle.hall_compaction.specs.declared.slots_copy.SlotsCopy.{SlotsCopy}
