@@ -6,10 +6,10 @@ ghost use Rattle.journal.specs.Journals.{Stands};
 ghost use Rattle.hall_host.specs.Kept.{KeptBy, MayCompactHall};
 
 use event_server::{Ahead, Keep, Tally};
+use hall::Hall;
 use hall_compaction::Compactor;
 use journal::{Chronicle, Journal, JournalFault, law_of_crashes};
 use journal_disk::Disk;
-use hall::Hall;
 use std::alloc::Global;
 
 /// Where so many bytes of lines wait they are kept before the next connection has its turn: the lines of one more turn, 64 KiB of the

@@ -10,9 +10,9 @@ ghost use Rattle.hall_host.specs.declared.keepers.Recorded.{Recorded};
 ghost use Rattle.hall_host.specs.Hosting.{IsHosted};
 ghost use Rattle.hall_host.specs.Kept.{KeptBy};
 
+use hall::law_of_serving;
 use journal::law_of_crashes;
 use journal_disk::Disk;
-use hall::law_of_serving;
 
 /// A law, which runs nothing, of what a turn of the loop (`event_server::turn`) is over a chronicle whose journal stands, kept by `Recorded`: the
 /// history has gained just the accepted events of the turn, and may have been compacted then; header and journal are its record, and synced,

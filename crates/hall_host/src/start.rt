@@ -7,11 +7,11 @@ use crate::log_plan::{LogPlan, MEMBER_SECONDS, Patience, fresh_token, members_of
 use commands::Config;
 use etcd_log::{EtcdStore, TcpDial};
 use event_server::{HostOptions, host};
+use hall::Hall;
 use hall_compaction::Compactor;
 use hall_log::{LogKeeper, Pause, Tape};
 use journal::{Chronicle, Journal, Opened};
 use journal_disk::{Disk, FileDisk};
-use hall::Hall;
 use one_log::Store;
 use std::alloc::{AllocGlobal, Global};
 use std::fs::File;

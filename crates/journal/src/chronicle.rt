@@ -11,8 +11,8 @@ ghost use Rattle.journal.specs.Compactings.{MayCompact};
 ghost use Rattle.journal.specs.ChronicleProofs.{chronicle_answers};
 
 use commands::{Event, Reply};
-use hall_compaction::Compactor;
 use hall::{Hall, law_of_serving};
+use hall_compaction::Compactor;
 use player::{AsRecord, Form, Replies, Service, TURN_ROOM};
 use std::alloc::Global;
 use std::marker::Model;

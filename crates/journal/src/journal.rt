@@ -12,9 +12,9 @@ use crate::chronicle::Chronicle;
 use crate::opening::{OpenFault, recovered};
 use crate::record::record_of;
 use commands::Config;
+use hall::Hall;
 use hall_compaction::Compactor;
 use journal_disk::{Disk, DiskFault};
-use hall::Hall;
 use player::{Replies, law_of_lines, print_header};
 use std::alloc::Global;
 

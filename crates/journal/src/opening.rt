@@ -10,8 +10,8 @@ ghost use Rattle.journal.specs.Openings.{GoesOnBy, HasFollowed, IsRecovered};
 
 use crate::chronicle::applied;
 use commands::{Config, Event, WorldKind};
-use journal_disk::DiskFault;
 use hall::Hall;
+use journal_disk::DiskFault;
 use memchr::memchr;
 use player::{AsRecord, Form, Replies, print_header};
 use record_lines::{Version, read_line};

@@ -2,8 +2,8 @@
 
 use crate::drawn::Words;
 use commands::{Config, Event, WorldKind};
-use hall_compaction::{Compactor, compacted};
 use hall::Hall;
+use hall_compaction::{Compactor, compacted};
 use std::alloc::Global;
 
 /// A hall of this world, for so many numbers; none where memory was refused.

@@ -5,8 +5,8 @@ ghost use Rattle.player.specs.Knows.{Knows};
 
 use crate::front_doubles::Lossy;
 use commands::{Config, WorldKind};
-use hall_log::{HallMachine, Tape};
 use hall::Hall;
+use hall_log::{HallMachine, Tape};
 use one_log::{Cause, MemoryStore, Replica, Step, StoreFault};
 use player::{Service, Tried, play_on};
 use std::alloc::{AllocError, Global};
