@@ -24,4 +24,5 @@ returns-in_ok-push-in-Request-clause-rest g c = refl
 
 pub returns-in_err-push-in-Request-clause-kept : goal.returns-in_err-push-in-Request-clause-kept
 returns-in_err-push-in-Request-clause-kept g c =
-    kept_by c.args.batch.now.items c.push.new.self.items _ (c.in_err-push-in-Request.ensures.items ∙ c.in_ok-extend_from_slice-in-Request.ensures.items)
+    let all = c.in_err-push-in-Request.ensures.items ∙ c.in_ok-extend_from_slice-in-Request.ensures.items in
+    kept_by c.args.batch.now.items c.push.new.self.items _ all
