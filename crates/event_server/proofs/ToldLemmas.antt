@@ -1,29 +1,12 @@
 -- what is told of seats, one after another, and taken of them
-use Rattle.std.proofs.Common.{◌≡◌, ◌⊎◌, inl, inr, ℕ, zero, suc, ◌+◌, ◌<◌, ◌≤◌, cond, Bool, true, false, set, List, [], ◌∷◌, ◌++◌, length, take, get_or, Option, Some, None, refl, sym, ap, subst, ◌∙◌, arith}
-use Rattle.event_server.proofs.Common.{WorldKind, ShownReply, Request, with_ends, Runs, TurnLog, turns_of, tagged, all-append, all-tagged, of-append, of-same, of-other, Turn, Seating, WireState, TakesLooked, Look}
+use Rattle.std.proofs.Common.{◌≡◌, ◌⊎◌, inl, inr, ℕ, zero, suc, ◌+◌, ◌<◌, ◌≤◌, Bool, true, false, set, List, [], ◌∷◌, ◌++◌, length, take, get_or, Option, Some, None, refl, sym, ap, subst, ◌∙◌, arith}
+use Rattle.event_server.proofs.Common.{WorldKind, ShownReply, Request, with_ends, Runs, TurnLog, turns_of, tagged, all-append, all-tagged, of-append, of-same, of-other, Turn, Seating, TakesLooked, Look}
 use Rattle.std.proofs.lemmas.List.{append-nil, get_or-set_same, get_or-set_other, get_or-take, length-take-le}
 use Rattle.std.proofs.lemmas.Bool.{cases_eq, eq-eqb, ne_eqb, cases_Bool}
 use Rattle.event_server.specs.Gathering.{SeatGathers, Gathered, SeatIdle, SeatAsks, SeatBroken, SeatLooked, Told, SeatTakesLooked, SeatTurnLooked, TakenLooked, SeatToldAndTakes}
-use Rattle.event_server.specs.Told.{SeatLines, EndsWith, IsAmong, all_lines, asks_of, bytes_of, ends_of, lines_of, long_of, requests, requests_in, requests_seen}
-use Rattle.event_server.proofs.LookLemmas.{ends_append, behind_none}
+use Rattle.event_server.specs.Told.{SeatLines, EndsWith, IsAmong, all_lines, asks_of, lines_of, requests_seen}
+use Rattle.event_server.proofs.LookLemmas.{ends_append}
 use Rattle.event_server.proofs.SeatLemmas.{Going, seat_took}
-
--- nothing is seen where nothing was looked at, nor where `quit` was answered
-pub seen_none : (kind : WorldKind) (s : WireState) (look : Option Look) → bytes_of look ≡ 0 → ends_of look ≡ false → requests_seen kind s look ≡ []
-seen_none kind s look bytes ends =
-    elim s.talker.over as (λ t. cond t [] (requests_in kind (long_of look) (take (bytes_of look) s.inbox) (ends_of look)) ≡ []) [
-      | true ↦ refl
-      | false ↦ rw (bytes, ends) (ap (requests kind) (behind_none (long_of look)))
-    ]
-
-pub seen_over : (kind : WorldKind) (s : WireState) (look : Option Look) → s.talker.over ≡ true → requests_seen kind s look ≡ []
-seen_over kind s look over = rw over refl
-
-pub seen_on : (kind : WorldKind) (s : WireState) (look : Option Look) → s.talker.over ≡ false → requests_seen kind s look ≡ requests_in kind (long_of look) (take (bytes_of look) s.inbox) (ends_of look)
-seen_on kind s look on = rw on refl
-
-pub none_told : (batch batch' : List ℕ) (ls : List (List ℕ)) → batch' ≡ batch → ls ≡ [] → batch' ≡ batch ++ with_ends ls
-none_told batch batch' ls same none = rw none (same ∙ sym (append-nil batch))
 
 -- the lines that are told of one seat more
 pub told_behind : (batch batch' : List ℕ) (told : SeatLines) (key : ℕ) (more : List (List ℕ)) → batch ≡ with_ends (all_lines told) → batch' ≡ batch ++ with_ends more → batch' ≡ with_ends (all_lines (told ++ tagged key more))

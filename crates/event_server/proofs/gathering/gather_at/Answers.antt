@@ -1,3 +1,4 @@
+use borrow.Author.Rules.{scaled_Fits}
 use Rattle.std.proofs.lemmas.List.{set-get_or, get_or_past}
 use Rattle.std.proofs.Common.{◌≡◌, ◌∙◌, inl, inr, None, refl, sym, subst}
 use Rattle.event_server.proofs.Common.{get_or_default, Consumes-nil, seats_of, SeatIdle, requests_seen, Gathered}
@@ -39,6 +40,9 @@ returns-in-Queued-clause-looked g c =
       seat_looked (seats_of g.S.Stream.left g.S.Stream.gone) (λ q. q.look) (λ q. q.stage ≡ stage.Queued) c.args.batch.now.kind c.args.key c.args.seats.now was is (requests_seen c.args.batch.now.kind is.wire is.look) below there
           (c.gather.ensures.stage ∙ c.in-Queued.is) refl c.gather.ensures.asks,
     )
+
+pub offset_bounds-seats-key : goal.offset_bounds-seats-key
+offset_bounds-seats-key g c = scaled_Fits _ _ _ c.if-key-seats.true c.well_formed.1.1.0.1
 
 pub bounds-seats-key : goal.bounds-seats-key
 bounds-seats-key g c = c.if-key-seats.true

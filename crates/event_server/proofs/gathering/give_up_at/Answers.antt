@@ -1,3 +1,4 @@
+use borrow.Author.Rules.{scaled_Fits}
 use Rattle.std.proofs.lemmas.List.{set-get_or, get_or_past}
 use Rattle.std.proofs.Common.{◌∙◌, [], Some, None, ap, subst, sym, get_or, refl}
 use Rattle.event_server.proofs.Common.{get_or_default, get_or-set_same, get_or-set_other, Consumes, Consumes-nil, SeatAsks, SeatBroken, seats_of, WireState, Gathered}
@@ -21,6 +22,9 @@ returns-in-Some g c =
       told = λ asks. subst (λ x. SeatBroken on x) (sym (get_or-set_same c.args.seats.now c.args.key (Some is) None below)) (c.give_up.ensures.told (subst (λ x. SeatAsks (λ q. q.look) x) there asks));
       others = λ i other. get_or-set_other c.args.seats.now c.args.key i (Some is) None other;
     }
+
+pub offset_bounds-seats-key : goal.offset_bounds-seats-key
+offset_bounds-seats-key g c = scaled_Fits _ _ _ c.if-key-seats.true c.well_formed.0.1
 
 pub bounds-seats-key : goal.bounds-seats-key
 bounds-seats-key g c = c.if-key-seats.true

@@ -1,8 +1,9 @@
-use Rattle.std.proofs.Common.{◌≡◌, Ok, ap, take}
+use Rattle.std.proofs.lemmas.List.{length-take-le}
+use Rattle.std.proofs.Common.{◌≡◌, Ok, ap, sym, take}
 use Rattle.event_server.specs.declared.connection.Stage.TheVariants as stage
 use Rattle.event_server.specs.Seats.{seats_of}
 use Rattle.event_server.proofs.GatherLemmas.{gathered_unsent, gathered_more, unsent_after}
-use Rattle.event_server.proofs.SeatLemmas.{so_on_err, taken_unsent}
+use Rattle.event_server.proofs.SeatLemmas.{err_not_ok, so_on_err, taken_unsent}
 use Rattle.event_server.proofs.ToldLemmas.{told_broken, taken_told}
 use Rattle.event_server.proofs.gathering.turn_ahead.Goals as goal
 
@@ -43,3 +44,12 @@ returns-in_err-keep-clause-unsent g c =
     let k = c.take_looked.ensures.taken in
     so_on_err c.from_residual.result _ (unsent_after on c.args.seats.now c.gather-looked.new.seats c.take_looked.new.seats c.gather-looked.ensures.gathered
     (taken_unsent on g.D.Service.may c.learn.new.service c.gather-looked.new.seats k.0 c.take_looked.new.service c.take_looked.new.seats k.1))
+
+pub slice_bounds-called-end : goal.slice_bounds-called-end
+slice_bounds-called-end g c = sym (length-take-le c.gather-looked.result c.args.ready.now c.gather-looked.ensures.looked)
+
+pub returns-in_err-keep-clause-served : goal.returns-in_err-keep-clause-served
+returns-in_err-keep-clause-served g c = λ called same. absurd (err_not_ok c.from_residual.result _ c.from_residual.ensures.0 same)
+
+pub returns-in_err-keep-clause-unserved : goal.returns-in_err-keep-clause-unserved
+returns-in_err-keep-clause-unserved g c = λ called same. absurd (err_not_ok c.from_residual.result _ c.from_residual.ensures.0 same)

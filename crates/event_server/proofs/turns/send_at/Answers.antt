@@ -1,3 +1,4 @@
+use borrow.Author.Rules.{scaled_Fits}
 use Rattle.std.proofs.lemmas.List.{set-get_or}
 use Rattle.std.proofs.Common.{◌≡◌, ◌∙◌, inr, None, sym, inl, refl, subst, set}
 use Rattle.event_server.proofs.Common.{get_or_default, seats_of}
@@ -13,6 +14,9 @@ returns-in-Taken g c =
           c.args.key c.args.seats.now c.in-Some.connection c.send.new.self below (get_or_default c.args.seats.now c.args.key None c.index-seats-key.result below ∙ c.in-Some.is) c.in-Taken.is
           (λ again. (let e : stage.Idle ≡ stage.Taken = sym c.send.ensures.stage ∙ again in absurd cc)) c.send.ensures.sends c.send.ensures.unread);
     }
+
+pub offset_bounds-seats-key : goal.offset_bounds-seats-key
+offset_bounds-seats-key g c = scaled_Fits _ _ _ c.if-key-seats.true c.well_formed.0.1
 
 pub bounds-seats-key : goal.bounds-seats-key
 bounds-seats-key g c = c.if-key-seats.true

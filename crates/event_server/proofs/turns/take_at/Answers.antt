@@ -1,3 +1,4 @@
+use borrow.Author.Rules.{scaled_Fits}
 use Rattle.std.proofs.lemmas.List.{set-get_or}
 use Rattle.std.proofs.Common.{◌≡◌, ◌∙◌, inr, None, sym, inl, refl, subst, set}
 use Rattle.event_server.proofs.Common.{get_or_default, seats_of}
@@ -11,6 +12,9 @@ returns-in-Queued-clause-took g c =
     inr (seat_took (seats_of g.S.Stream.left g.S.Stream.gone) g.D.Service.may (λ x. x.stage ≡ stage.Queued)
     c.args.key c.args.service.now c.args.seats.now c.take.new.service c.in-Some.connection c.take.new.self below (get_or_default c.args.seats.now c.args.key None c.index-seats-key.result below ∙ c.in-Some.is) c.in-Queued.is
     (λ again. (let e : stage.Taken ≡ stage.Queued = sym c.take.ensures.stage ∙ again in absurd cc)) c.take.ensures.takes c.take.ensures.unsent)
+
+pub offset_bounds-seats-key : goal.offset_bounds-seats-key
+offset_bounds-seats-key g c = scaled_Fits _ _ _ c.if-key-seats.true c.well_formed.1.1.1.0.1
 
 pub bounds-seats-key : goal.bounds-seats-key
 bounds-seats-key g c = c.if-key-seats.true

@@ -1,5 +1,7 @@
+use Rattle.std.proofs.Common.{sym}
+use Rattle.std.proofs.lemmas.List.{length-take-le}
 use Rattle.event_server.specs.Seats.{seats_of}
-use Rattle.event_server.proofs.SeatLemmas.{so_on_err, taken_unsent}
+use Rattle.event_server.proofs.SeatLemmas.{ok_never, so_on_err, taken_unsent}
 use Rattle.event_server.proofs.turns.turn.Goals as goal
 
 pub returns-clause-turned : goal.returns-clause-turned
@@ -11,3 +13,9 @@ pub returns-in_err-keep-clause-unsent : goal.returns-in_err-keep-clause-unsent
 returns-in_err-keep-clause-unsent g c =
     let t = c.take_turns-called.ensures.taken in
     so_on_err c.from_residual.result _ (taken_unsent (seats_of g.S.Stream.left g.S.Stream.gone) g.D.Service.may c.args.service.now c.args.seats.now t.0 c.take_turns-called.new.service c.take_turns-called.new.seats t.1)
+
+pub returns-in_err-keep-clause-turned : goal.returns-in_err-keep-clause-turned
+returns-in_err-keep-clause-turned g c = ok_never c.from_residual.result _ c.from_residual.ensures.0
+
+pub slice_bounds-send_replies-end : goal.slice_bounds-send_replies-end
+slice_bounds-send_replies-end g c = sym (length-take-le c.take_turns-called.result c.args.ready.now c.take_turns-called.ensures.called)

@@ -1,6 +1,6 @@
-use Rattle.std.proofs.Common.{[], refl, sym}
+use Rattle.std.proofs.Common.{[], refl, sym, ◌∙◌}
 use Rattle.std.proofs.lemmas.List.{append-nil}
-use Rattle.event_server.proofs.LookLemmas.{kept_more}
+use Rattle.event_server.proofs.LookLemmas.{kept_by, kept_more}
 use Rattle.event_server.proofs.look.Look.take_line.Goals as goal
 
 pub returns-in_ok-push-in-Request-clause-kept : goal.returns-in_ok-push-in-Request-clause-kept
@@ -21,3 +21,8 @@ returns-in-Quit-clause-rest g c = refl
 
 pub returns-in_ok-push-in-Request-clause-rest : goal.returns-in_ok-push-in-Request-clause-rest
 returns-in_ok-push-in-Request-clause-rest g c = refl
+
+pub returns-in_err-push-in-Request-clause-kept : goal.returns-in_err-push-in-Request-clause-kept
+returns-in_err-push-in-Request-clause-kept g c =
+    let all = c.in_err-push-in-Request.ensures.items ∙ c.in_ok-extend_from_slice-in-Request.ensures.items in
+    kept_by c.args.batch.now.items c.push.new.self.items _ all

@@ -29,3 +29,13 @@ loop-passed-preserved g c =
           (more_goes_on applies (stands c.pass.new.store) c.loop-passed.self c.pass.new.self more);
       same = same_trans (stands c.args.store.now) (stands c.loop-passed.store) (stands c.pass.new.store) c.loop-passed.invariant.same c.pass.ensures.same;
     }
+
+pub returns-in-Ok-false-clause-same : goal.returns-in-Ok-false-clause-same
+returns-in-Ok-false-clause-same g c =
+    let stands = g.S.Store.stands in
+    same_trans (stands c.args.store.now) (stands c.loop-passed.store) (stands c.pass.new.store) c.loop-passed.invariant.same c.pass.ensures.same
+
+pub returns-in-Err-clause-same : goal.returns-in-Err-clause-same
+returns-in-Err-clause-same g c =
+    let stands = g.S.Store.stands in
+    same_trans (stands c.args.store.now) (stands c.loop-passed.store) (stands c.pass.new.store) c.loop-passed.invariant.same c.pass.ensures.same
