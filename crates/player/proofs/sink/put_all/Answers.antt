@@ -17,18 +17,21 @@ loop-at-preserved g c =
     }
 
 pub loop-at-init : goal.loop-at-init
-loop-at-init g c = record { inside = omega arith; written = Appends-nil (g.W.Write.contents c.args.writer.now); failed = refl; calls = omega arith }
+loop-at-init g c =
+    record { inside = omega arith; written = Appends-nil (g.W.Write.contents c.args.writer.now); failed = refl; calls = omega arith }
 
 pub returns-in-Ok-eq0-clause-err : goal.returns-in-Ok-eq0-clause-err
 returns-in-Ok-eq0-clause-err g c =
     let i = c.loop-at.invariant in
     let e = c.in-Ok-eq0.ensures in
-    (c.loop-at.at + c.in-Ok-eq0.field-0, omega (arith, e.bound), appends_more _ _ _ _ _ _ i.written e.bytes (take_pieces c.args.text.now c.loop-at.at c.in-Ok-eq0.field-0))
+    let n = c.in-Ok-eq0.field-0 in
+    (c.loop-at.at + n, omega (arith, e.bound), appends_more _ _ _ _ _ _ i.written e.bytes (take_pieces c.args.text.now c.loop-at.at n))
 
 pub returns-in-Ok-eq0-clause-failed : goal.returns-in-Ok-eq0-clause-failed
 returns-in-Ok-eq0-clause-failed g c =
     let many = length (take (length c.args.text.now - c.loop-at.at) (drop c.loop-at.at c.args.text.now)) in
-    omega (arith, c.in-Ok-eq0.ensures.failed, none_failed many c.in-Ok-eq0.field-0 (omega (arith, c.loop-at-test.true)) c.in-Ok-eq0.field-0-test, c.loop-at.invariant.failed)
+    let none = none_failed many c.in-Ok-eq0.field-0 (omega (arith, c.loop-at-test.true)) c.in-Ok-eq0.field-0-test in
+    omega (arith, c.in-Ok-eq0.ensures.failed, none, c.loop-at.invariant.failed)
 
 pub returns-in-Err-clause-err : goal.returns-in-Err-clause-err
 returns-in-Err-clause-err g c =

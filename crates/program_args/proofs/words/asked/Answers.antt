@@ -7,4 +7,5 @@ use Rattle.program_args.proofs.words.asked.Goals as goal
 pub returns : goal.returns
 returns c =
     let met = both_met _ _ _ _ _ c.in_ok-name.ensures.name c.in_ok-name.ensures.rows in
-    subst (λ (o : Option (List ℕ × List Row)). MatchOption c.asked_of.result ((a : Ask) → IsAsked o a → ⊥) (IsAsked o)) (sym met) c.asked_of.ensures
+    subst (λ (o : Option (List ℕ × List Row)). MatchOption c.asked_of.result ((a : Ask) → IsAsked o a → ⊥) (IsAsked o)) (sym met)
+    c.asked_of.ensures
