@@ -1,14 +1,16 @@
 //! Runs whose record is written.
 
-ghost use Rattle.std.specs.Prelude.{◌≡◌, Err, ◌^◌, ◌<◌};
+ghost use Rattle.std.specs.Prelude.{◌≡◌, ◌≢◌, Err, ◌^◌, ◌<◌, length};
 ghost use Rattle.player.specs.Knows.{Knows};
 ghost use Rattle.player.specs.Played.{reading, writing};
 ghost use Rattle.player.specs.Recorded.{IsRecordedOn};
 ghost use Rattle.player.specs.Runs.{IsRunTo, CanRun};
+ghost use Rattle.player.specs.Stands.{IsFresh};
 
 use crate::as_record::AsRecord;
 use crate::fault::Fault;
-use crate::playing::{fresh_player, room_for_a_read, run};
+use crate::player::Player;
+use crate::playing::{READ_BYTES, fresh_player, room_for_a_read, run};
 use crate::service::Service;
 use crate::sink::Sink;
 use crate::source::Source;
@@ -36,8 +38,30 @@ pub fn record_on<H, D: Service<H>, A: Allocator + Clone, R: Source, W: Sink>(
 {
     let mut chunk = room_for_a_read(&alloc)?;
     let mut player = fresh_player::<A, AsRecord>(alloc, config.world)?;
+    record_run(rt, world, &mut player, &mut chunk, config, reader, writer)
+}
+
+// Writes the header, and then the lines of what is read to the end of the input or to `quit`.
+fn record_run<H, D: Service<H>, A: Allocator, R: Source, W: Sink>(
+    rt: &H,
+    world: &mut D,
+    player: &mut Player<A, AsRecord>,
+    chunk: &mut [u8],
+    config: Config,
+    reader: &mut R,
+    writer: &mut W,
+) -> Result<(), Fault>
+    requires knows { Knows D.knows config.world }
+    requires chunk { length chunk.old ≡ READ_BYTES }
+    requires fresh { IsFresh config.world player.old }
+    requires reads { R.calls reader.old < 2 ^ 64 }
+    requires writes { W.calls writer.old < 2 ^ 64 }
+    ensures recorded { IsRecordedOn config (IsRunTo D.may world.old world.new) (CanRun D.may world.old)
+        (reading R.remaining R.calls R.failed reader.old reader.new) (writing W.contents W.failed writer.old writer.new) result }
+    ensures never { result ≢ Err Fault.Memory }
+{
     player.write_header(config, writer)?;
-    match run(rt, world, &mut player, &mut chunk, reader, writer) {
+    match run(rt, world, player, chunk, reader, writer) {
         Ok(_) => Ok(()),
         Err(fault) => Err(fault),
     }

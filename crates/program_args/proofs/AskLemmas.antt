@@ -1,5 +1,6 @@
 -- what clap's answer tells of the words
-use Rattle.std.proofs.Common.{ap, sym, ◌≡◌, ◌⊎◌, ◌||◌, ◌∙◌, inl, inr, ℕ, List, [], ◌∷◌, Bool, true, false, Option, Some, codes, get_or, subst, arith, refl}
+use Rattle.std.proofs.Common.{ap, sym, ◌≡◌, ◌⊎◌, ◌||◌, ◌∙◌, inl, inr, ℕ, List, [], ◌∷◌, Bool, true, false, codes, get_or, subst, arith, refl}
+use Rattle.std.proofs.Common.{Option, Some, None, option_map}
 use Rattle.program_args.proofs.Common.{same_Some, Ask, Drawing, Hosting, Playing, Serving, Showing, slotctl_app}
 use Rattle.std.specs.List.{list_any}
 use Rattle.clap.specs.Words.{IsAmong, Kinds, Row}
@@ -165,3 +166,10 @@ nothing_hosted met rows is none (Show s) h = host_is_not_show (met_name met (cod
 nothing_hosted met rows is none (Draw d) h = host_is_not_draw (met_name met (codes "host") (codes "draw") rows h.0 is h.1)
 nothing_hosted met rows is none (Serve s) h = host_is_not_serve (met_name met (codes "host") (codes "serve") rows h.0 is h.1)
 nothing_hosted met rows is none (Host x) h = none x (subst (λ (r : List Row). IsHostingOf r x) (sym (met_rows met (codes "host") (codes "host") rows h.0 is h.1)) h.2)
+
+-- what was met, from its name and its rows
+pub both_met : {X A B : Type 0} (f : X → A) (g : X → B) (o : Option X) (a : A) (b : B) → Some a ≡ option_map f o →
+    Some b ≡ option_map (λ (p : A × B). p.1) (option_map {U = A × B} (λ x. (f x, g x)) o) →
+    option_map {U = A × B} (λ x. (f x, g x)) o ≡ Some (a, b)
+both_met f g None a b left right = absurd (cc)
+both_met f g (Some x) a b left right = cc

@@ -1,6 +1,6 @@
 //! What the words of a command line ask for.
 
-ghost use Rattle.std.specs.Prelude.{◌≡◌, ℕ, ◌<◌, ◌^◌, MatchOption, map};
+ghost use Rattle.std.specs.Prelude.{◌≡◌, ℕ, ◌<◌, ◌^◌, MatchOption, Some, map};
 ghost use Rattle.clap.specs.Words.{found_of, kind_of, rows_of, subcommand_rows_of};
 ghost use Rattle.program_args.specs.Asked.{HasNumber, HasWorld, IsAsked, IsConfigOf, HasAddress, HasText, IsDrawingOf, IsHostingOf, IsKeepingOf, IsLogOf, IsMisuseOf, IsPlayingOf, IsRead, IsRefusal, IsServingOf, IsShowingOf, asks_flag, asks_log};
 ghost use Rattle.commands.specs.declared.config.Config.{Config};
@@ -179,20 +179,29 @@ fn host_given<'a>(matches: &ArgMatches<'a>) -> Option<Hosting<'a>>
     Hosting::new(config, address, port, clients, idle, keeping, verbose)
 }
 
+// What a subcommand with these options asks for, where it asks for something.
+fn asked_of<'a>(name: &str, options: &ArgMatches<'a>) -> Option<Ask<'a>>
+    ensures { MatchOption result ((a : Ask) → IsAsked (Some (name.now, rows_of (found_of options.now))) a → ⊥)
+        (IsAsked (Some (name.now, rows_of (found_of options.now)))) }
+{
+    match name {
+        "play" => Some(Ask::Play(play_given(options)?)),
+        "check" => Some(Ask::Check),
+        "migrate" => Some(Ask::Migrate),
+        "show" => Some(Ask::Show(show_given(options)?)),
+        "draw" => Some(Ask::Draw(draw_given(options)?)),
+        "serve" => Some(Ask::Serve(serve_given(options)?)),
+        "host" => Some(Ask::Host(host_given(options)?)),
+        _ => None,
+    }
+}
+
 // What the matches ask for, where they ask for something.
 fn asked<'a>(matches: &ArgMatches<'a>) -> Option<Ask<'a>>
     ensures { MatchOption result ((a : Ask) → IsAsked (subcommand_rows_of matches.now) a → ⊥) (IsAsked (subcommand_rows_of matches.now)) }
 {
-    match matches.subcommand() {
-        Some(("play", options)) => Some(Ask::Play(play_given(options)?)),
-        Some(("check", _)) => Some(Ask::Check),
-        Some(("migrate", _)) => Some(Ask::Migrate),
-        Some(("show", options)) => Some(Ask::Show(show_given(options)?)),
-        Some(("draw", options)) => Some(Ask::Draw(draw_given(options)?)),
-        Some(("serve", options)) => Some(Ask::Serve(serve_given(options)?)),
-        Some(("host", options)) => Some(Ask::Host(host_given(options)?)),
-        _ => None,
-    }
+    let (name, options) = matches.subcommand()?;
+    asked_of(name, options)
 }
 
 /// That the words are refused, for this reason.

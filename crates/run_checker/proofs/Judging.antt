@@ -1,5 +1,5 @@
 -- lines judged by their parts
-use Rattle.std.proofs.Common.{◌≡◌, ◌<◌, true, Option, None, arith, ap, is_none}
+use Rattle.std.proofs.Common.{◌≡◌, ◌<◌, true, Option, Some, None, arith, ap, is_none, refl}
 use Rattle.run_checker.proofs.Common.{Refusal, Reason}
 use Rattle.run_checker.specs.declared.reason.Reason.TheVariants as reason
 use Rattle.run_checker.specs.Reasons.{reason_number}
@@ -24,3 +24,7 @@ below_view K a b c d why l = absurd (omega arith)
 
 pub none_due : (o : Option Refusal) → o ≡ None → is_none o ≡ true
 none_due o e = ap is_none e
+
+pub due_none : (o : Option Refusal) → is_none o ≡ true → o ≡ None
+due_none None h = refl
+due_none (Some why) h = absurd (cc)

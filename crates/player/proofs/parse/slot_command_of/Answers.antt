@@ -1,4 +1,4 @@
-use Rattle.std.proofs.Common.{rules, ◌≡◌}
+use Rattle.std.proofs.Common.{rules}
 use Rattle.std.specs.Option.{option_copied}
 use Rattle.commands.specs.declared.event.Event.TheVariants.{Put}
 use Rattle.player.specs.WordsLeft.{words_left}

@@ -1,4 +1,4 @@
-use Rattle.std.proofs.Common.{ap, codes, ◌∙◌}
+use Rattle.std.proofs.Common.{ap, ◌∙◌}
 use Rattle.program_args.proofs.Common.{app_of_fields}
 use Rattle.program_args.proofs.command_line.migrate_command.Goals as goal
 

@@ -61,3 +61,13 @@ pub answer_line-requires-clause-knows : goal.answer_line-requires-clause-knows
 answer_line-requires-clause-knows g c = λ line q is.
     let kind = ap (λ (s : TalkerState). s.kind) c.self.view_is in
     c.requires.knows line q (ap (λ k. meaning k line) (sym kind) ∙ is)
+
+pub returns-in_default-clause-line : goal.returns-in_default-clause-line
+returns-in_default-clause-line g c =
+    let same = c.self.view_is in record {
+      some = c.requires.some;
+      inside = omega arith;
+      kept = ap (λ (q : TalkerState). q.kind) same;
+      longer = omega arith;
+      counted = (let lines = ap (λ (q : TalkerState). q.summary.lines) same in omega arith);
+    }

@@ -1,0 +1,25 @@
+use Rattle.std.proofs.Common.{◌≡◌, ◌∙◌, ap, sym, Ok, Err}
+use Rattle.player.proofs.Common.{Memory, PlayerState}
+use Rattle.player.specs.Recorded.{end_of}
+use Rattle.player.proofs.RecordedLemmas.{recorded}
+use Rattle.player.proofs.recording.record_run.Goals as goal
+use Rattle.player.proofs.recording.record_run.Goals.{After-run}
+
+-- the player is of the kind of the config
+of_kind : (g : _) (c : After-run g) → c.write_header.new.self.kind ≡ c.args.config.world
+of_kind g c = ap (λ (s : PlayerState). s.kind) c.in_ok-write_header.ensures.same ∙ c.requires.fresh.kind_is
+
+pub returns-in-Ok-clause-recorded : goal.returns-in-Ok-clause-recorded
+returns-in-Ok-clause-recorded g c =
+    recorded c.args.config _ _ _ _ c.write_header.new.writer c.in_ok-write_header.ensures.ok c.in_ok-write_header.ensures.unfailed
+    c.run.result c.run.ensures.never
+    (rw (of_kind g (goal.at.returns-in-Ok-clause-recorded g c).After-run) at c.run.ensures.played) (Ok tt) (sym (ap end_of c.in-Ok.is))
+
+pub returns-in-Err-clause-recorded : goal.returns-in-Err-clause-recorded
+returns-in-Err-clause-recorded g c =
+    recorded c.args.config _ _ _ _ c.write_header.new.writer c.in_ok-write_header.ensures.ok c.in_ok-write_header.ensures.unfailed
+    c.run.result c.run.ensures.never
+    (rw (of_kind g (goal.at.returns-in-Err-clause-recorded g c).After-run) at c.run.ensures.played) (Err c.in-Err.fault) (sym (ap end_of c.in-Err.is))
+
+pub returns-in-Err-clause-never : goal.returns-in-Err-clause-never
+returns-in-Err-clause-never g c = λ e. let same : c.in-Err.fault ≡ Memory = cc in c.run.ensures.never (c.in-Err.is ∙ ap Err same)
