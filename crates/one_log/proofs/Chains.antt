@@ -1,6 +1,6 @@
 -- Entries that are applied in a row.
 use Rattle.std.proofs.Common.{append_assoc, ◌≡◌, ℕ, ◌+◌, List, [], ◌∷◌, ◌++◌, length, true, false, inl, inr, refl, ap, sym, subst, ◌∙◌, arith, add-zero}
-use Rattle.std.proofs.Common.{length-append, Result, Ok, Err, IfOk, IfErr}
+use Rattle.std.proofs.Common.{length-append, Result, Ok, Err, IfErr}
 use Rattle.one_log.specs.declared.replica.Step.{Step}
 use Rattle.one_log.specs.declared.replica.Step.TheVariants.{Nothing, Answered, Passed}
 use Rattle.one_log.specs.declared.serve_fault.Cause.{Cause}
@@ -150,8 +150,3 @@ module _ {M R : Type 0} (applies : M → List ℕ → R → M → Type 0) where
         count = (let n = length-append had.entries so.others in let p = had.count in let q = so.count in omega (arith, n, p, q));
         is_well = so.is_well;
       }
-
--- what holds of each value holds of an answer
-pub ok_all : {T E : Type 0} (r : Result T E) (P : T → Type 0) → ((x : T) → P x) → IfOk r P
-ok_all (Ok x) P all = all x
-ok_all (Err e) P all = tt

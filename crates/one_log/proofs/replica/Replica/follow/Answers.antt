@@ -8,6 +8,3 @@ returns-clause-passed g c = λ passed. record {
   said = c.apply.new.replies;
   more = record { applied = search rules; stood = search rules; count = search rules; was_well = search rules; is_well = search rules };
 }
-
-pub returns-in-Ok-false-clause-same : goal.returns-in-Ok-false-clause-same
-returns-in-Ok-false-clause-same g c = c.get.ensures.same

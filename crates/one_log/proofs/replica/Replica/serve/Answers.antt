@@ -1,5 +1,5 @@
 -- What did not answer the batch wrote nothing, and what answered it wrote it at most once.
-use Rattle.std.proofs.Common.{rules, ◌≡◌, ◌∙◌, false, true, ap, sym, arith}
+use Rattle.std.proofs.Common.{rules}
 use Rattle.one_log.proofs.Chains.{adds_once, answered, follows, goes_on_trans, later_follows, same_trans, step_is_well}
 use Rattle.one_log.proofs.replica.Replica.serve.Goals as goal
 
@@ -55,17 +55,3 @@ pub returns-clause-follows : goal.returns-clause-follows
 returns-clause-follows g c =
     let stands = g.S.Store.stands in
     follows g.M.Machine.applies (stands c.args.store.now) (stands c.loop.store) c.loop.invariant.same.keeps c.args.self.now c.loop.self (λ well. c.loop.invariant.goes_on)
-
-pub returns-in-Ok-clause-too_long : goal.returns-in-Ok-clause-too_long
-returns-in-Ok-clause-too_long g c = λ long. absurd (omega (arith, long, c.if-batch-gt-MOST_BATCH.false))
-
-pub returns-in-Ok-clause-spoiled : goal.returns-in-Ok-clause-spoiled
-returns-in-Ok-clause-spoiled g c = λ spoiled short.
-    absurd (let e : false ≡ true = sym c.if-self.false ∙ ap (λ q. q.spoiled) c.self.view_is ∙ spoiled in cc)
-
-pub returns-in-Err-clause-too_long : goal.returns-in-Err-clause-too_long
-returns-in-Err-clause-too_long g c = λ long. absurd (omega (arith, long, c.if-batch-gt-MOST_BATCH.false))
-
-pub returns-in-Err-clause-spoiled : goal.returns-in-Err-clause-spoiled
-returns-in-Err-clause-spoiled g c = λ spoiled short.
-    absurd (let e : false ≡ true = sym c.if-self.false ∙ ap (λ q. q.spoiled) c.self.view_is ∙ spoiled in cc)
