@@ -4,7 +4,7 @@ use Rattle.drawn_schedules.proofs.Common.{Appends, HasPartOf}
 use Rattle.std.proofs.lemmas.List.{append-nil}
 use Rattle.std.proofs.Math.Seq.{take-append_seam}
 use Rattle.std.proofs.KnownBytes.{Appends-nil}
-use Rattle.player.specs.UnderWay.{IsUnderWay, GoesFrom, GoesPast, StopsWithin}
+use Rattle.command_lines.specs.UnderWay.{IsUnderWay, GoesFrom, GoesPast, StopsWithin}
 
 module _ (this : List ℕ) (old : Option (List ℕ)) (held : List ℕ) (mid : Option (List ℕ)) (held' : List ℕ) where
   -- one piece more

@@ -13,7 +13,7 @@ use Rattle.desk.specs.Names.{begun_in}
 use Rattle.drawn_schedules.specs.declared.tally.Tally.{Tally}
 use Rattle.drawn_schedules.specs.Schedule.{schedule}
 use Rattle.drawn_schedules.specs.Tally.{IsTallyOf, how_many, is_named, is_spent}
-use Rattle.player.specs.Written.{HasPartOf}
+use Rattle.command_lines.specs.Written.{HasPartOf}
 
 -- no growth was refused
 abbrev pub IsAmple : List Exchange → Type 0

@@ -4,9 +4,9 @@ ghost use Rattle.std.specs.Prelude.{◌≡◌, ◌<◌, ◌≤◌, ◌+◌, ◌*
 ghost use Rattle.std.specs.Io.KnownBytes.{Appends};
 ghost use Rattle.rand_pcg.specs.Pcg.{pcg32};
 ghost use Rattle.drawn_schedules.specs.Schedule.{begins_from, opened, schedule, steps_drawn};
-ghost use Rattle.player.specs.Events.{event_lines, event_words};
-ghost use Rattle.player.specs.UnderWay.{GoesPast, StopsWithin};
-ghost use Rattle.player.specs.Written.{HasPartOf};
+ghost use Rattle.command_lines.specs.Events.{event_lines, event_words};
+ghost use Rattle.command_lines.specs.UnderWay.{GoesPast, StopsWithin};
+ghost use Rattle.command_lines.specs.Written.{HasPartOf};
 
 use commands::Event;
 use player::{EVENT_ROOM, Fault, Replies, Sink, print_event};

@@ -7,7 +7,7 @@ pub use Rattle.std.proofs.Math.Seq.{take-add}
 pub use Rattle.commands.specs.declared.kind.WorldKind.{WorldKind}
 pub use Rattle.commands.specs.Replies.{ShownReply}
 pub use Rattle.commands.specs.Requests.{Request}
-pub use Rattle.player.specs.Lines.{with_ends}
+pub use Rattle.command_lines.specs.Lines.{with_ends}
 pub use Rattle.player.specs.Runs.{Runs}
 pub use Rattle.player.specs.RunProofs.{runs-append}
 pub use Rattle.player.specs.Shared.{TurnLog, turns_of, tagged}

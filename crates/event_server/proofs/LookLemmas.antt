@@ -4,9 +4,9 @@ use Rattle.event_server.proofs.Common.{take-add, WorldKind}
 use Rattle.std.proofs.lemmas.List.{append-nil, length-drop, take_more, take_all, take-append-drop}
 use Rattle.std.proofs.lemmas.Bool.{eqb-true, and_parts, not-true}
 use Rattle.memchr.specs.Find.{IsFirstByte, is_byte}
-use Rattle.player.specs.Lines.{has_no_lf, lines, rest_from, rest_of, unless_empty, whole_lines, whole_lines_from, with_ends}
-use Rattle.player.specs.Meaning.{meaning}
-use Rattle.player.proofs.PieceLemmas.{nowhere-lacks}
+use Rattle.command_lines.specs.Lines.{has_no_lf, lines, rest_from, rest_of, unless_empty, whole_lines, whole_lines_from, with_ends}
+use Rattle.command_lines.specs.Meaning.{meaning}
+use Rattle.command_lines.specs.PieceProofs.{nowhere-lacks}
 use Rattle.event_server.specs.Told.{is_request, requests, behind, requests_in, HasLooked}
 
 -- lines of bytes behind bytes

@@ -4,7 +4,7 @@ use Rattle.std.specs.Io.KnownBytes.{Consumes}
 use Rattle.commands.specs.Replies.{ShownReply}
 use Rattle.commands.specs.Requests.{Request}
 use Rattle.commands.specs.declared.kind.WorldKind.{WorldKind}
-use Rattle.player.specs.Lines.{with_ends}
+use Rattle.command_lines.specs.Lines.{with_ends}
 use Rattle.player.specs.Shared.{TurnLog, turns_of}
 use Rattle.player.specs.Turns.{Turn}
 use Rattle.event_server.specs.Told.{SeatLines, EndsWith, IsAmong, all_lines, asks_of, lines_of, requests_seen}

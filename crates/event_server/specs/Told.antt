@@ -4,8 +4,8 @@ use Rattle.commands.specs.declared.bad.Bad.{Bad}
 use Rattle.commands.specs.declared.command.Command.{Command}
 use Rattle.commands.specs.declared.command.Command.TheVariants as command
 use Rattle.commands.specs.declared.kind.WorldKind.{WorldKind}
-use Rattle.player.specs.Lines.{lines, rest_of, whole_lines, with_ends}
-use Rattle.player.specs.Meaning.{meaning}
+use Rattle.command_lines.specs.Lines.{lines, rest_of, whole_lines, with_ends}
+use Rattle.command_lines.specs.Meaning.{meaning}
 use Rattle.player.specs.Shared.{numbered, unnumbered}
 use Rattle.event_server.specs.WireState.{WireState}
 use Rattle.event_server.specs.declared.look.Look.{Look}

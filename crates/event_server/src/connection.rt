@@ -4,7 +4,7 @@ ghost use Rattle.std.specs.Prelude.{◌≡◌, ◌+◌, ◌++◌, ◌≤◌, tru
 ghost use Rattle.std.specs.Io.{ReadsAtMost};
 ghost use Rattle.std.specs.Io.KnownBytes.{Appends, ReadConsumes};
 ghost use Rattle.commands.specs.Requests.{Request};
-ghost use Rattle.player.specs.Lines.{with_ends};
+ghost use Rattle.command_lines.specs.Lines.{with_ends};
 ghost use Rattle.player.specs.Runs.{Runs};
 ghost use Rattle.player.specs.Turns.{Turn};
 ghost use Rattle.player.specs.declared.form.TheConstants.{TURN_ROOM};

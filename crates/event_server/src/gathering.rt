@@ -2,7 +2,7 @@
 
 ghost use Rattle.std.specs.Prelude.{◌≡◌, ◌⊎◌, ℕ, List, ◌++◌, ◌≤◌, true, [], length, get_or, take, None, OnErr};
 ghost use Rattle.commands.specs.Requests.{Request};
-ghost use Rattle.player.specs.Lines.{with_ends};
+ghost use Rattle.command_lines.specs.Lines.{with_ends};
 ghost use Rattle.player.specs.Shared.{TurnLog};
 ghost use Rattle.event_server.specs.Rooms.{IsRoom};
 ghost use Rattle.event_server.specs.Seats.{seats_of, NoneSent, TurnsTaken};

@@ -1,8 +1,8 @@
 //! What is seen of a connection's lines before its turn takes them.
 
 ghost use Rattle.std.specs.Prelude.{◌≡◌, ◌++◌, ◌≤◌, List, ℕ, true, false, [], ◌∷◌, length, take, drop, IfOk};
-ghost use Rattle.player.specs.Lines.{has_no_lf, unless_empty, with_ends};
-ghost use Rattle.player.specs.Meaning.{meaning};
+ghost use Rattle.command_lines.specs.Lines.{has_no_lf, unless_empty, with_ends};
+ghost use Rattle.command_lines.specs.Meaning.{meaning};
 ghost use Rattle.event_server.specs.Told.{is_request, requests, behind, requests_in, HasLooked};
 
 use crate::wire::UNSENT_ROOM;

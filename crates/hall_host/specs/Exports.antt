@@ -2,7 +2,7 @@
 use Rattle.std.specs.Prelude.{ℕ, List, [], ◌∷◌, ◌++◌}
 use Rattle.std.specs.List.{flat_map}
 use Rattle.commands.specs.declared.exchange.Exchange.{Exchange}
-use Rattle.player.specs.Events.{event_words}
+use Rattle.command_lines.specs.Events.{event_words}
 
 -- the line that asks for an event
 abbrev pub command_line : Exchange → List ℕ

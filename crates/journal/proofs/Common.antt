@@ -9,7 +9,7 @@ pub use Rattle.commands.specs.declared.exchange.Exchange.{Exchange}
 pub use Rattle.commands.specs.declared.config.Config.{Config}
 pub use Rattle.commands.specs.declared.event.Event.{Event}
 pub use Rattle.commands.specs.Replies.{ShownReply, with_view}
-pub use Rattle.player.specs.Lines.{IsCutOnce, has_no_lf, with_ends}
+pub use Rattle.command_lines.specs.Lines.{IsCutOnce, has_no_lf, with_ends}
 pub use Rattle.player.specs.Records.{exchange_line, header_line}
 pub use Rattle.desk.specs.DeskCalls.{exchange}
 pub use Rattle.hall.specs.HallState.{HallState}

@@ -8,9 +8,9 @@ use Rattle.commands.specs.declared.kind.WorldKind.{WorldKind}
 use Rattle.commands.specs.declared.event.Event.TheVariants as event
 use Rattle.commands.specs.declared.reply.Reply.TheVariants as reply
 use Rattle.step_memory.specs.Refusal.{refusal_number}
-use Rattle.player.specs.Events.{event_words}
+use Rattle.command_lines.specs.Events.{event_words}
+use Rattle.command_lines.specs.Replies.{owner_words, pair_word, pair_words, reply_words, view_words}
 use Rattle.player.specs.Records.{exchange_line, header_line, name_view}
-use Rattle.player.specs.Replies.{owner_words, pair_word, pair_words, reply_words, view_words}
 use Rattle.journal.proofs.Digits.{is_text, decimal_text}
 
 -- bytes with no control character

@@ -1,7 +1,7 @@
 -- the hall that is opened of what a crash left
 use Rattle.std.proofs.Common.{◌≡◌, ℕ, ◌≤◌, List, [], ◌∷◌, ◌++◌, length, take, flat_map, inl, inr, refl, ap, sym, ◌∙◌, arith, length-append}
 use Rattle.journal.proofs.Common.{append-nil, exchange_line, header_line, HallState, DiskState, ChronicleState}
-use Rattle.player.specs.Lines.{IsCutInto, IsCutOnce, rest_of, whole_lines}
+use Rattle.command_lines.specs.Lines.{IsCutInto, IsCutOnce, rest_of, whole_lines}
 use Rattle.journal.specs.Journals.{HasSynced, IsHallOf, KeepsHandedOn, LeavesHall, RecordsHallAfter}
 use Rattle.journal.proofs.Commits.{keeps}
 

@@ -1,6 +1,6 @@
 -- what a journal has, and what a crash leaves of it
 use Rattle.std.specs.Prelude.{◌≡◌, ◌==◌, if◌then◌else◌, ◌⊎◌, ℕ, ◌≤◌, false, List, [], ◌++◌, length, take, Option, Some, Result, Ok, Err}
-use Rattle.player.specs.Lines.{whole_lines, with_ends}
+use Rattle.command_lines.specs.Lines.{whole_lines, with_ends}
 use Rattle.player.specs.Records.{header_line}
 use Rattle.hall.specs.HallState.{HallState}
 use Rattle.journal_disk.specs.DiskState.{DiskState}

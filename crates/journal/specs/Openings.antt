@@ -3,7 +3,7 @@ use Rattle.std.specs.Prelude.{◌≡◌, ◌⊎◌, ℕ, List, [], ◌∷◌, �
 use mathlib.Core.List.{IsPrefix}
 use Rattle.commands.specs.declared.config.Config.{Config}
 use Rattle.commands.specs.declared.exchange.Exchange.{Exchange}
-use Rattle.player.specs.Lines.{has_no_lf}
+use Rattle.command_lines.specs.Lines.{has_no_lf}
 use Rattle.player.specs.Records.{exchange_line, header_line}
 use Rattle.hall.specs.HallState.{HallState}
 use Rattle.hall.specs.Halls.{hall_of}

@@ -1,11 +1,11 @@
 -- what was asked for, byte by byte, is what the lines ask for
 use Rattle.std.proofs.Common.{◌≡◌, ℕ, ◌+◌, ◌-◌, ◌==◌, true, false, cond, List, [], ◌∷◌, ◌++◌, length, take, drop, map, Ok, Result, refl, sym, ap, ◌∙◌, append_assoc}
+use Rattle.command_lines.specs.Lines.{lines, whole_lines, whole_lines_from, rest_from, unless_empty}
+use Rattle.command_lines.specs.WrittenProofs.{take_pieces}
 use Rattle.player.proofs.Common.{append-nil, take-append-drop, Bad, Command, WorldKind, meaning}
 use Rattle.commands.specs.declared.command.Command.TheVariants as command
 use Rattle.player.specs.Asked.{until_quit, asked_by, asks_quit}
-use Rattle.player.specs.Lines.{lines, whole_lines, whole_lines_from, rest_from, unless_empty}
 use Rattle.player.specs.Progress.{Progress, at_start, ends, after_meaning, after_line, after_byte, after_bytes, after_rest, after_end}
-use Rattle.player.proofs.WrittenLemmas.{take_pieces}
 
 -- the first of what lines ask for, and the rest unless it is `quit`
 pub until_first : (m : Result Command Bad) (ms : List (Result Command Bad)) → until_quit (m ∷ ms) ≡ m ∷ cond (ends m) [] (until_quit ms)

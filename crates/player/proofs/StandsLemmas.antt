@@ -1,10 +1,10 @@
 -- where a player stands, one call after another
 use Rattle.std.proofs.Common.{◌≡◌, ℕ, List, [], ◌++◌, flat_map, Result, Option, refl, sym, ap, subst, ◌∙◌, append_assoc}
+use Rattle.command_lines.specs.WrittenProofs.{appends_more, part_after}
 use Rattle.player.proofs.Common.{append-nil, flat_map-append, Appends, Bad, Command, WorldKind, ShownReply, Summary, Turn, answers_of, CountsAnswers, TalkerState, Progress, at_start, Request, runs-append, Says, HasPartOf}
 use Rattle.std.proofs.KnownBytes.{Appends-nil}
 use Rattle.player.specs.PlayerState.{PlayerState, player_of}
 use Rattle.player.specs.Stands.{IsFresh, IsSent, Stands, StandsPart}
-use Rattle.player.specs.WrittenProofs.{appends_more, part_after}
 
 module _ {T : Type 0} (may : T → Request → ShownReply → T → Type 0) where
   -- where this is written of each turn

@@ -4,7 +4,7 @@ use Rattle.commands.specs.declared.bad.Bad.{Bad}
 use Rattle.commands.specs.declared.command.Command.{Command}
 use Rattle.commands.specs.declared.command.Command.TheVariants as command
 use Rattle.commands.specs.declared.kind.WorldKind.{WorldKind}
-use Rattle.player.specs.Meaning.{meaning}
+use Rattle.command_lines.specs.Meaning.{meaning}
 
 -- up to `quit`, which ends the list
 abbrev pub until_quit : List (Result Command Bad) → List (Result Command Bad)

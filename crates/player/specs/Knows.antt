@@ -3,7 +3,7 @@ use Rattle.std.specs.Prelude.{◌≡◌, ℕ, List, Bool, true, Result, Ok}
 use Rattle.commands.specs.declared.kind.WorldKind.{WorldKind}
 use Rattle.commands.specs.declared.bad.Bad.{Bad}
 use Rattle.commands.specs.declared.command.Command.{Command}
-use Rattle.player.specs.Meaning.{meaning}
+use Rattle.command_lines.specs.Meaning.{meaning}
 use Rattle.commands.specs.Requests.{Request, as_command}
 
 -- each request that a line of this kind means is known

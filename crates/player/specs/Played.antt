@@ -5,16 +5,16 @@ use Rattle.std.specs.Io.KnownBytes.{Appends, Consumes}
 use Rattle.commands.specs.declared.bad.Bad.{Bad}
 use Rattle.commands.specs.declared.command.Command.{Command}
 use Rattle.commands.specs.declared.kind.WorldKind.{WorldKind}
-use Rattle.player.specs.declared.fault.Fault.{Fault}
-use Rattle.player.specs.declared.fault.Fault.TheVariants.{Read, Write, Memory}
+use Rattle.command_lines.specs.declared.fault.Fault.{Fault}
+use Rattle.command_lines.specs.declared.fault.Fault.TheVariants.{Read, Write, Memory}
+use Rattle.command_lines.specs.Lines.{lines, whole_lines}
+use Rattle.command_lines.specs.Written.{HasPartOf}
 use Rattle.player.specs.declared.playing.TheConstants.{READ_BYTES, MOST_READS}
 use Rattle.player.specs.declared.summary.Summary.{Summary}
 use Rattle.player.specs.Turns.{Turn, asked, answers_of}
 use Rattle.player.specs.Asked.{asked_by, asks_quit}
 use Rattle.player.specs.Counts.{CountsAnswers}
-use Rattle.player.specs.Lines.{lines, whole_lines}
 use Rattle.player.specs.Texts.{replies_of}
-use Rattle.player.specs.Written.{HasPartOf}
 
 -- a reader before a call and after it, and what a contract sees of one: the bytes that it still has, where it tells them, how
 -- often it was read, and how many of these reads failed

@@ -5,15 +5,15 @@ use Rattle.std.proofs.KnownBytes.{Appends-nil}
 use Rattle.commands.specs.declared.bad.Bad.{Bad}
 use Rattle.commands.specs.declared.command.Command.{Command}
 use Rattle.commands.specs.declared.kind.WorldKind.{WorldKind}
-use Rattle.player.specs.declared.fault.Fault.{Fault}
-use Rattle.player.specs.declared.fault.Fault.TheVariants.{Read, Write, Memory}
+use Rattle.command_lines.specs.declared.fault.Fault.{Fault}
+use Rattle.command_lines.specs.declared.fault.Fault.TheVariants.{Read, Write, Memory}
+use Rattle.command_lines.specs.Lines.{lines, whole_lines}
+use Rattle.command_lines.specs.WrittenProofs.{appends_more, part_after}
 use Rattle.player.specs.declared.playing.TheConstants.{MOST_READS}
 use Rattle.player.specs.declared.summary.Summary.{Summary}
 use Rattle.player.specs.Asked.{asked_by}
-use Rattle.player.specs.Lines.{lines, whole_lines}
 use Rattle.player.specs.Played.{Reading, Writing, writing_from, IsTold, PlayedToEnd, PlayedToReadFault, PlayedToWriteFault, IsPlayed}
 use Rattle.player.specs.Turns.{Turn}
-use Rattle.player.specs.WrittenProofs.{appends_more, part_after}
 
 -- a run of which this text is written after a beginning is one of which both are written; and what is a talk by one measure is
 -- one by a weaker

@@ -1,8 +1,8 @@
 -- what a contract sees of a player
 use Rattle.std.specs.Prelude.{ℕ, List, Bool}
 use Rattle.commands.specs.declared.kind.WorldKind.{WorldKind}
+use Rattle.command_lines.specs.HeldLine.{HeldLine}
 use Rattle.player.specs.declared.summary.Summary.{Summary}
-use Rattle.player.specs.HeldLine.{HeldLine}
 use Rattle.player.specs.TalkerState.{TalkerState}
 
 -- the kind of what answers, the line so far, the replies that are not written yet, the counts, and whether `quit`

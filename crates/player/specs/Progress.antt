@@ -4,7 +4,7 @@ use Rattle.commands.specs.declared.bad.Bad.{Bad}
 use Rattle.commands.specs.declared.command.Command.{Command}
 use Rattle.commands.specs.declared.command.Command.TheVariants as command
 use Rattle.commands.specs.declared.kind.WorldKind.{WorldKind}
-use Rattle.player.specs.Meaning.{meaning}
+use Rattle.command_lines.specs.Meaning.{meaning}
 
 pub record Progress : Type 0 where
   pub line : List ℕ

@@ -1,13 +1,13 @@
 -- the theorem of a run that is recorded
 use Rattle.std.specs.Prelude.{◌≡◌, ◌<◌, ◌⊎◌, List, [], Result, Ok, Err}
 use Rattle.commands.specs.declared.config.Config.{Config}
-use Rattle.player.specs.declared.fault.Fault.{Fault}
-use Rattle.player.specs.declared.fault.Fault.TheVariants.{Write}
+use Rattle.command_lines.specs.declared.fault.Fault.{Fault}
+use Rattle.command_lines.specs.declared.fault.Fault.TheVariants.{Write}
+use Rattle.command_lines.specs.Written.{HasPartOf}
 use Rattle.player.specs.declared.summary.Summary.{Summary}
 use Rattle.player.specs.Played.{Reading, Writing, IsPlayed}
 use Rattle.player.specs.Records.{header_line, record_of}
 use Rattle.player.specs.Turns.{Turn}
-use Rattle.player.specs.Written.{HasPartOf}
 
 -- the header could not be written: a write failed with nothing read, and what went out is a beginning of the header
 pub record StopsAtHeader (config : Config) {R W : Type 0} (reading : Reading R) (writing : Writing W) : Type 0 where

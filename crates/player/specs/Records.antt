@@ -5,8 +5,8 @@ use Rattle.commands.specs.declared.exchange.Exchange.{Exchange}
 use Rattle.commands.specs.Replies.{ShownReply}
 use Rattle.commands.specs.declared.reply.Reply.TheVariants as reply
 use Rattle.commands.specs.declared.config.Config.{Config}
-use Rattle.player.specs.Events.{event_words}
-use Rattle.player.specs.Replies.{reply_words, view_words}
+use Rattle.command_lines.specs.Events.{event_words}
+use Rattle.command_lines.specs.Replies.{reply_words, view_words}
 use Rattle.player.specs.Turns.{Turn}
 use Rattle.player.specs.Turns.Turn.{Answered}
 

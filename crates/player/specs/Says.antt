@@ -4,8 +4,8 @@ use Rattle.commands.specs.Replies.{ShownReply}
 use Rattle.commands.specs.declared.kind.WorldKind.{WorldKind}
 use Rattle.commands.specs.Requests.{Request}
 use Rattle.commands.specs.Requests.Request.{Take, OwnerOf}
+use Rattle.command_lines.specs.HeldLine.{held}
 use Rattle.player.specs.Counts.{CountsAnswers}
-use Rattle.player.specs.HeldLine.{held}
 use Rattle.player.specs.Progress.{Progress, at_start}
 use Rattle.player.specs.Runs.{Runs}
 use Rattle.player.specs.Summary.{one_if_accepted, one_if_refused, one_if_bad}

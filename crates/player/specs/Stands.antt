@@ -5,14 +5,14 @@ use Rattle.commands.specs.declared.bad.Bad.{Bad}
 use Rattle.commands.specs.declared.command.Command.{Command}
 use Rattle.commands.specs.declared.kind.WorldKind.{WorldKind}
 use Rattle.commands.specs.Replies.{ShownReply}
+use Rattle.command_lines.specs.HeldLine.{held}
+use Rattle.command_lines.specs.Written.{HasPartOf}
 use Rattle.player.specs.Turns.{Turn, asked, answers_of}
 use Rattle.player.specs.Counts.{CountsAnswers}
-use Rattle.player.specs.HeldLine.{held}
 use Rattle.player.specs.PlayerState.{PlayerState}
 use Rattle.player.specs.Progress.{Progress}
 use Rattle.commands.specs.Requests.{Request}
 use Rattle.player.specs.Runs.{Runs}
-use Rattle.player.specs.Written.{HasPartOf}
 
 -- a player that has read nothing
 pub record IsFresh (kind : WorldKind) (s : PlayerState) : Type 0 where

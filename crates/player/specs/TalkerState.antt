@@ -1,8 +1,8 @@
 -- what a contract sees of one side of a talk
 use Rattle.std.specs.Prelude.{Bool}
 use Rattle.commands.specs.declared.kind.WorldKind.{WorldKind}
+use Rattle.command_lines.specs.HeldLine.{HeldLine}
 use Rattle.player.specs.declared.summary.Summary.{Summary}
-use Rattle.player.specs.HeldLine.{HeldLine}
 
 -- the kind of what answers, the line so far, the counts, and whether `quit` was answered
 pub record TalkerState : Type 0 where

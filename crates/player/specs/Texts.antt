@@ -1,6 +1,6 @@
 -- what is written of turns in place of which nothing else is: the reply to each
 use Rattle.std.specs.Prelude.{ℕ, List, flat_map}
-use Rattle.player.specs.Replies.{answer_text}
+use Rattle.command_lines.specs.Replies.{answer_text}
 use Rattle.player.specs.Turns.{Turn, answer_of}
 
 -- the text of the answer to a turn

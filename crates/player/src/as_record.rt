@@ -5,10 +5,10 @@ ghost use Rattle.commands.specs.Replies.{with_view};
 ghost use Rattle.commands.specs.Config.{world_name};
 ghost use Rattle.player.specs.Records.{header_line, name_view, replied, turn_record};
 
-use crate::events::print_event;
 use crate::form::Form;
-use crate::print::{print_words, put_number, put_shown, put_word};
-use crate::replies::{HELD_REPLIES, Replies};
+use command_lines::{
+    HELD_REPLIES, Replies, print_event, print_words, put_number, put_shown, put_word,
+};
 use commands::{Bad, Config, Event, Reply, WorldKind};
 use std::alloc::Allocator;
 use step_memory::View;

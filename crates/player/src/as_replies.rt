@@ -3,8 +3,7 @@
 ghost use Rattle.player.specs.Texts.{turn_reply};
 
 use crate::form::Form;
-use crate::print::{print_bad, print_reply};
-use crate::replies::Replies;
+use command_lines::{Replies, print_bad, print_reply};
 use commands::{Bad, Event, Reply};
 use std::alloc::Allocator;
 use step_memory::View;

@@ -2,12 +2,11 @@
 
 ghost use Rattle.std.specs.Prelude.{◌≡◌, ◌≤◌, ◌+◌, ◌++◌, ℕ, List, length};
 ghost use Rattle.commands.specs.Replies.{with_view};
-ghost use Rattle.player.specs.Events.{event_words};
+ghost use Rattle.command_lines.specs.Events.{event_words};
 ghost use Rattle.player.specs.Turns.{Turn};
 ghost use Rattle.player.specs.Turns.Turn.{Answered, Told, Ended, Misread};
 
-use crate::events::EVENT_ROOM;
-use crate::replies::{HELD_REPLIES, Replies};
+use command_lines::{EVENT_ROOM, HELD_REPLIES, Replies};
 use commands::{Bad, Event, Reply};
 use std::alloc::Allocator;
 use step_memory::View;

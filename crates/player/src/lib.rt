@@ -1,8 +1,5 @@
-//! The command language, and one side of a talk in it: lines of text in, replies out, whatever service answers.
-//!
-//! What a line means is `meaning`, which `parse_line` answers of every line; `quick_command` and `quick_number` answer it of the commonest
-//! commands and of numbers in one pass, up to any byte that ends them, for whoever reads commands out of other text. `words` cuts
-//! bytes at a separator, and reads the numbers that words write.
+//! One side of a talk in the command language (`command_lines`, whose names are offered here too): lines of text in, replies out, whatever
+//! service answers.
 //!
 //! A service answers events and tells owners by rules (`Service`), and which one it is is not known here. `play_on` reads the commands that a
 //! reader gives, a line each, has a service answer them, and writes the replies, a line each. Its theorem (`IsPlayed`): there are turns to the
@@ -30,44 +27,30 @@
 
 pub mod as_record;
 pub mod as_replies;
-pub mod events;
-pub mod fault;
 pub mod form;
-pub mod front;
 pub mod laws;
-pub mod line_buffer;
-pub mod parse;
 pub mod player;
 pub mod playing;
-pub mod print;
-pub mod quick;
 pub mod recording;
-pub mod replies;
 pub mod service;
-pub mod sink;
 pub mod source;
 pub mod summary;
 pub mod talker;
 pub mod tried;
-pub mod words;
 
 pub use as_record::{AsRecord, HEADER_ROOM, print_header};
 pub use as_replies::AsReplies;
+pub use command_lines::{
+    EVENT_ROOM, Fault, HELD_REPLIES, LineBuffer, REPLY_ROOM, Replies, Sink, after_front,
+    law_of_lines, parse_line, print_bad, print_event, print_reply, print_words, put_number,
+    put_word, quick_command, quick_number,
+};
 pub use commands::{Bad, Command, Config, Event, Exchange, Reply, WorldKind};
-pub use events::{EVENT_ROOM, print_event};
-pub use fault::Fault;
 pub use form::{Form, TURN_ROOM};
-pub use front::after_front;
-pub use laws::{law_of_lines, law_of_sharing};
-pub use line_buffer::LineBuffer;
-pub use parse::parse_line;
+pub use laws::law_of_sharing;
 pub use playing::{MOST_READS, READ_BYTES, play_on};
-pub use print::{REPLY_ROOM, print_bad, print_reply, print_words, put_number, put_word};
-pub use quick::{quick_command, quick_number};
 pub use recording::record_on;
-pub use replies::{HELD_REPLIES, Replies};
 pub use service::Service;
-pub use sink::Sink;
 pub use source::Source;
 pub use summary::Summary;
 pub use talker::Talker;

@@ -1,24 +1,22 @@
 //! A run under way: bytes in, replies out.
 
 ghost use Rattle.std.specs.Prelude.{◌≡◌, ◌+◌, ◌*◌, ◌^◌, ◌<◌, ◌≤◌, [], length, take, IfOk, IfErr, OnOk, OnErr};
+ghost use Rattle.command_lines.specs.Written.{HasPartOf};
+ghost use Rattle.command_lines.specs.declared.replies.TheConstants.{HELD_REPLIES};
 ghost use Rattle.player.specs.Knows.{Knows};
 ghost use Rattle.player.specs.Progress.{after_bytes, after_end};
 ghost use Rattle.player.specs.Stands.{Advances, AdvancesWriting, AdvancesInPart, IsFresh, IsSent};
 ghost use Rattle.player.specs.Records.{header_line};
-ghost use Rattle.player.specs.Written.{HasPartOf};
 ghost use Rattle.std.specs.Io.KnownBytes.{Appends};
-ghost use Rattle.player.specs.declared.replies.TheConstants.{HELD_REPLIES};
 ghost use Rattle.player.specs.declared.form.TheConstants.{TURN_ROOM};
 ghost use Rattle.player.specs.declared.as_record.TheConstants.{HEADER_ROOM};
 
 use crate::as_record::{HEADER_ROOM, print_header};
-use crate::fault::Fault;
 use crate::form::{Form, TURN_ROOM};
-use crate::replies::{HELD_REPLIES, Replies};
 use crate::service::Service;
-use crate::sink::Sink;
 use crate::summary::Summary;
 use crate::talker::Talker;
+use command_lines::{Fault, HELD_REPLIES, Replies, Sink};
 use commands::{Config, WorldKind};
 use std::alloc::Allocator;
 use std::marker::Model;

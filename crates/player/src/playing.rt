@@ -8,13 +8,12 @@ ghost use Rattle.player.specs.Stands.{IsFresh};
 ghost use Rattle.player.specs.Texts.{replies_of};
 
 use crate::as_replies::AsReplies;
-use crate::fault::Fault;
 use crate::form::Form;
 use crate::player::Player;
 use crate::service::Service;
-use crate::sink::Sink;
 use crate::source::Source;
 use crate::summary::Summary;
+use command_lines::{Fault, Sink};
 use commands::WorldKind;
 use std::alloc::Allocator;
 

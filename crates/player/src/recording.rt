@@ -8,12 +8,11 @@ ghost use Rattle.player.specs.Runs.{IsRunTo, CanRun};
 ghost use Rattle.player.specs.Stands.{IsFresh};
 
 use crate::as_record::AsRecord;
-use crate::fault::Fault;
 use crate::player::Player;
 use crate::playing::{READ_BYTES, fresh_player, room_for_a_read, run};
 use crate::service::Service;
-use crate::sink::Sink;
 use crate::source::Source;
+use command_lines::{Fault, Sink};
 use commands::Config;
 use std::alloc::Allocator;
 

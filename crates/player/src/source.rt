@@ -3,7 +3,7 @@
 ghost use Rattle.std.specs.Prelude.{◌≡◌, ℕ, ◌+◌, ◌^◌, ◌<◌};
 ghost use Rattle.std.specs.Io.{ReadsAtMost};
 ghost use Rattle.std.specs.Io.KnownBytes.{ReadConsumes};
-ghost use Rattle.player.specs.Tries.{read_failures};
+ghost use Rattle.command_lines.specs.Tries.{read_failures};
 
 use std::io;
 use std::io::Read;

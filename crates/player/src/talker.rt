@@ -3,22 +3,18 @@
 ghost use Rattle.std.specs.Prelude.{◌≡◌, true, ◌+◌, ◌^◌, ◌<◌, ◌≤◌, length, take, IfOk, Ok};
 ghost use Rattle.commands.specs.Replies.{ShownReply, with_view};
 ghost use Rattle.commands.specs.Requests.Request.{Take, OwnerOf};
-ghost use Rattle.player.specs.Events.{event_words};
+ghost use Rattle.command_lines.specs.Events.{event_words};
+ghost use Rattle.command_lines.specs.declared.replies.TheConstants.{HELD_REPLIES};
 ghost use Rattle.player.specs.Knows.{Knows, KnowsMeant};
 ghost use Rattle.player.specs.Progress.{after_meaning, after_line, after_bytes, after_end};
 ghost use Rattle.player.specs.Says.{Says, SaysFrom, GoingOn, Afresh, IsHeld, IsSilent, TakesLine};
 ghost use Rattle.player.specs.Turns.Turn.{Answered, Told, Ended, Misread};
-ghost use Rattle.player.specs.declared.replies.TheConstants.{HELD_REPLIES};
 ghost use Rattle.player.specs.declared.form.TheConstants.{TURN_ROOM};
 
-use crate::events::EVENT_ROOM;
 use crate::form::{Form, TURN_ROOM};
-use crate::line_buffer::LineBuffer;
-use crate::parse::parse_line;
-use crate::quick::quick_command;
-use crate::replies::{HELD_REPLIES, Replies};
 use crate::service::Service;
 use crate::summary::Summary;
+use command_lines::{EVENT_ROOM, HELD_REPLIES, LineBuffer, Replies, parse_line, quick_command};
 use commands::{Bad, Command, Event, Reply, WorldKind};
 use memchr::memchr;
 use std::alloc::Allocator;

@@ -6,10 +6,10 @@ use Rattle.run_checker.specs.Reasons.{reason_number}
 use Rattle.run_checker.specs.Verdict.{IsVerdict}
 use Rattle.run_checker.specs.declared.verdict.Verdict.{Verdict}
 use Rattle.run_checker.specs.declared.verdict.Verdict.TheVariants.{Yes, No, BadRecord, NoMemory}
+use Rattle.command_lines.specs.Written.{HasPartOf}
+use Rattle.command_lines.specs.declared.fault.Fault.{Fault}
+use Rattle.command_lines.specs.declared.fault.Fault.TheVariants.{Read, Write, Memory}
 use Rattle.player.specs.Played.{Reading, Writing, IsInput}
-use Rattle.player.specs.Written.{HasPartOf}
-use Rattle.player.specs.declared.fault.Fault.{Fault}
-use Rattle.player.specs.declared.fault.Fault.TheVariants.{Read, Write, Memory}
 use Rattle.player.specs.declared.playing.TheConstants.{MOST_READS}
 
 -- the line of a verdict; want of memory has none

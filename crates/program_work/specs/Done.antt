@@ -3,15 +3,15 @@ use Rattle.std.specs.Prelude.{◌≡◌, ◌⊎◌, ◌<◌, Bool, true, false, 
 use Rattle.std.specs.Io.KnownBytes.{Appends}
 use Rattle.drawn_schedules.specs.Runs.{HasDrawn, HasDrawnPart}
 use Rattle.drawn_schedules.specs.Schedule.{schedule}
-use Rattle.player.specs.Events.{event_lines}
+use Rattle.command_lines.specs.Events.{event_lines}
 use Rattle.schedule_player.specs.IsTalk.{IsTalk}
+use Rattle.command_lines.specs.declared.fault.Fault.{Fault}
+use Rattle.command_lines.specs.declared.fault.Fault.TheVariants.{Write, Memory}
+use Rattle.command_lines.specs.Written.{HasPartOf}
 use Rattle.player.specs.Played.{Reading, Writing, IsPlayed}
 use Rattle.player.specs.Texts.{replies_of}
-use Rattle.player.specs.declared.fault.Fault.{Fault}
-use Rattle.player.specs.declared.fault.Fault.TheVariants.{Write, Memory}
 use Rattle.player.specs.declared.summary.Summary.{Summary}
 use Rattle.run_checker.specs.declared.verdict.Verdict.{Verdict}
-use Rattle.player.specs.Written.{HasPartOf}
 use Rattle.schedule_player.specs.Recorded.{IsRecorded}
 use Rattle.commands.specs.declared.config.Config.{Config}
 use Rattle.program_args.specs.declared.asked.Ask.{Ask}

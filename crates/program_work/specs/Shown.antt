@@ -5,9 +5,9 @@ use Rattle.run_checker.specs.declared.verdict.Verdict.{Verdict}
 use Rattle.run_checker.specs.declared.verdict.Verdict.TheVariants.{Yes, No, BadRecord, NoMemory}
 use Rattle.run_page.specs.Shown.{IsShown}
 use Rattle.run_page.specs.declared.stretch.Stretch.{Stretch}
+use Rattle.command_lines.specs.declared.fault.Fault.{Fault}
+use Rattle.command_lines.specs.declared.fault.Fault.TheVariants.{Read, Write, Memory}
 use Rattle.player.specs.Played.{Reading, Writing}
-use Rattle.player.specs.declared.fault.Fault.{Fault}
-use Rattle.player.specs.declared.fault.Fault.TheVariants.{Read, Write, Memory}
 use Rattle.player.specs.declared.playing.TheConstants.{MOST_READS}
 use Rattle.program_args.specs.declared.asked.Showing.{Showing}
 use Rattle.program_work.specs.Checked.{HasFailedRead, IsWhole}

@@ -1,6 +1,6 @@
 -- the status of the program (this project's profile)
 use Rattle.std.specs.Prelude.{ℕ, Result, Ok, Err}
-use Rattle.player.specs.declared.fault.Fault.{Fault}
+use Rattle.command_lines.specs.declared.fault.Fault.{Fault}
 use Rattle.program_work.specs.declared.failure.Failure.{Failure}
 use Rattle.program_work.specs.declared.failure.Failure.TheVariants as failure
 use Rattle.program_args.specs.declared.misuse.Misuse.TheVariants.{Help, Words, Memory}

@@ -5,7 +5,7 @@ ghost use Rattle.player.specs.Played.{reading, writing};
 ghost use Rattle.run_checker.specs.declared.verdict.Verdict.{Verdict};
 ghost use Rattle.program_work.specs.Checked.{HasFailedRead, IsChecked, IsJudgedWhole, IsWhole, verdict_status, verdict_text};
 
-use player::sink::put_all;
+use command_lines::put_all;
 use player::{Fault, MOST_READS, READ_BYTES, Replies, Sink, Source, put_word};
 use run_checker::{Judge, Verdict};
 use std::alloc::{Allocator, Global};

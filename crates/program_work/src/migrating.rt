@@ -5,7 +5,7 @@ ghost use Rattle.player.specs.Played.{reading, writing};
 ghost use Rattle.program_work.specs.Checked.{IsRewritten};
 
 use crate::checking::{put_verdict, read_whole};
-use player::sink::put_all;
+use command_lines::put_all;
 use player::{Fault, READ_BYTES, Replies, Sink, Source};
 use run_checker::{Verdict, migrate};
 use std::alloc::Global;

@@ -19,11 +19,11 @@ pub use Rattle.commands.specs.declared.event.Event.{Event}
 pub use Rattle.commands.specs.declared.event.Event.TheVariants.{Begin, Step, Enter, Probe, Leave, Put, Get, Widen}
 pub use Rattle.commands.specs.KindProofs.{named_apart}
 pub use Rattle.commands.specs.Replies.{ShownReply}
-pub use Rattle.player.specs.Lines.{pieces_from, pieces_left, has_no_lf, with_ends}
-pub use Rattle.player.specs.Meaning.{same_bytes, is_digit, is_printable, decimal_from, number_in, command_in, words, meaning, number_below}
-pub use Rattle.player.proofs.PieceLemmas.{pieces-cut, lacks, pieces-last}
-pub use Rattle.player.specs.Replies.{reply_words}
-pub use Rattle.player.specs.Events.{event_words}
+pub use Rattle.command_lines.specs.Lines.{pieces_from, pieces_left, has_no_lf, with_ends}
+pub use Rattle.command_lines.specs.Meaning.{same_bytes, is_digit, is_printable, decimal_from, number_in, command_in, words, meaning, number_below}
+pub use Rattle.command_lines.specs.PieceProofs.{pieces-cut, lacks, pieces-last}
+pub use Rattle.command_lines.specs.Replies.{reply_words}
+pub use Rattle.command_lines.specs.Events.{event_words}
 pub use Rattle.record_lines.specs.declared.header.Header.{Header}
 pub use Rattle.record_lines.specs.RecordLine.{IsHeaderLine, IsEventLine, SaysLine}
 pub use Rattle.record_lines.specs.Json.{count_members, SaysSizes, is_plain}

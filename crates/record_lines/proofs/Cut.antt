@@ -1,6 +1,6 @@
 -- the bytes of a record are cut into its first line and what is left
 use Rattle.std.proofs.Common.{◌≡◌, ℕ, List, [], ◌∷◌, Option, Some, None, refl, ap, ◌∙◌}
-use Rattle.player.specs.Lines.{pieces_from, pieces_left}
+use Rattle.command_lines.specs.Lines.{pieces_from, pieces_left}
 use Rattle.record_lines.specs.Records.{lines_from, lines_of, record_lines, lines_left}
 use Rattle.record_lines.proofs.WordLemmas.{HasPiece, some_piece}
 

@@ -3,7 +3,7 @@ use Rattle.std.proofs.Common.{ℕ, suc, ◌^◌, ◌<◌, ◌==◌, Bool, true, 
 use Rattle.record_lines.proofs.Common.{list_all, leb_tells, WorldKind, Event, Begin, Step, Enter, Probe, Leave, Put, Get, Widen, gives_names, Version, One, Two, Line, Told, IsEventLine}
 use Rattle.commands.specs.declared.bad.Bad.TheVariants.{TooLong, NotPrintable, UnknownWord}
 use Rattle.commands.specs.declared.command.Command.TheVariants as command
-use Rattle.player.specs.Meaning.{is_digit, is_printable, decimal_from, if_below, number_in, same_bytes, command_if, command_of_one, event_of_one, event_if_both, event_of_two, quit_of, desk_command_of, command_in, words, meaning, number_below}
+use Rattle.command_lines.specs.Meaning.{is_digit, is_printable, decimal_from, if_below, number_in, same_bytes, command_if, command_of_one, event_of_one, event_if_both, event_of_two, quit_of, desk_command_of, command_in, words, meaning, number_below}
 use Rattle.record_lines.specs.Narrow.{IsNarrowEvent, IsNarrow, FitsTold}
 use Rattle.record_lines.specs.declared.told.Told.TheVariants as told
 use Rattle.record_lines.specs.ReplyText.{told_in, told_of_words, plain_of, word_alone, word_with, owner_of, saw_of, pairs_in, told_with, told_by}

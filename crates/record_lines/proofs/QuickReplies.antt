@@ -2,7 +2,7 @@
 use Rattle.std.proofs.Common.{◌≡◌, ℕ, ◌-◌, ◌≤◌, ◌==◌, true, false, not, List, [], ◌∷◌, ◌++◌, length, take, drop, Some, None, refl, ap, ◌∙◌, arith, codes, append_assoc}
 use Rattle.record_lines.proofs.Common.{list_all, nat_tests, words, is_digit, number_in, same_bytes, Version, One, Two, Told, is_plain, told_by, told_with, told_in, told_of_words, word_with, lacks, pieces-last, pieces-cut}
 use Rattle.std.proofs.lemmas.List.{take_all, length-drop}
-use Rattle.player.specs.Quick.{is_of_words}
+use Rattle.command_lines.specs.Quick.{is_of_words}
 use Rattle.record_lines.specs.PlainLine.{SpellsReply, SpellsLastNumber}
 use Rattle.record_lines.proofs.written.PlainLines.{close}
 use Rattle.record_lines.proofs.written.Words.{all_by, plain_both, digit_plain, digit_no_space}

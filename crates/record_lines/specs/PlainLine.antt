@@ -6,7 +6,7 @@ use Rattle.serde_json.specs.Data.{Data}
 use Rattle.commands.specs.declared.kind.WorldKind.{WorldKind}
 use Rattle.commands.specs.declared.event.Event.{Event}
 use Rattle.commands.specs.declared.command.Command.TheVariants as command
-use Rattle.player.specs.Meaning.{is_digit, meaning, number_in}
+use Rattle.command_lines.specs.Meaning.{is_digit, meaning, number_in}
 use Rattle.record_lines.specs.declared.header.Version.{Version}
 use Rattle.record_lines.specs.declared.line.Line.{Line}
 use Rattle.record_lines.specs.declared.told.Told.{Told}

@@ -1,6 +1,6 @@
 -- the bytes of a record as lines, and what lines say
 use Rattle.std.specs.Prelude.{◌≡◌, ℕ, List, [], ◌∷◌, Option, Some, None, true, map}
-use Rattle.player.specs.Lines.{pieces_from, unless_empty}
+use Rattle.command_lines.specs.Lines.{pieces_from, unless_empty}
 use Rattle.commands.specs.declared.kind.WorldKind.{WorldKind}
 use Rattle.record_lines.specs.declared.header.Header.{Header}
 use Rattle.record_lines.specs.declared.header.Version.{Version}

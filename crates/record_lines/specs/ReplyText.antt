@@ -1,8 +1,8 @@
 -- what reply a text tells (the command language: this project's profile). Numbers are not bounded by what could be answered,
 -- only by their width: a place has 128 bits, any other number 64
 use Rattle.std.specs.Prelude.{ℕ, ◌^◌, nat_lt, if◌then◌else◌, List, [], ◌∷◌, ◌++◌, Option, Some, None, option_map, option_and_then, codes}
-use Rattle.player.specs.Lines.{pieces_from}
-use Rattle.player.specs.Meaning.{words, number_below, number_in, same_bytes}
+use Rattle.command_lines.specs.Lines.{pieces_from}
+use Rattle.command_lines.specs.Meaning.{words, number_below, number_in, same_bytes}
 use Rattle.record_lines.specs.declared.header.Version.{Version}
 use Rattle.record_lines.specs.declared.header.Version.TheVariants.{One, Two}
 use Rattle.record_lines.specs.declared.told.Told.{Told}

@@ -1,6 +1,6 @@
 -- the words of what is told of a reply
 use Rattle.std.specs.Prelude.{ℕ, List, ◌++◌, codes, decimal}
-use Rattle.player.specs.Replies.{owner_words, pair_words}
+use Rattle.command_lines.specs.Replies.{owner_words, pair_words}
 use Rattle.record_lines.specs.declared.told.Told.{Told}
 use Rattle.record_lines.specs.declared.told.Told.TheVariants.{Ok as Accepted, Quiet, Stop, Right, Down, Place, Proposed, Saw, Named, Spent, Missed, Got, Left, Value, Owner, Refused}
 

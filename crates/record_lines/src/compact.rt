@@ -3,10 +3,10 @@
 ghost use Rattle.std.specs.Prelude.{◌≡◌, ◌++◌, Bool, OnOk, codes, decimal};
 ghost use Rattle.commands.specs.declared.exchange.Exchange.{Exchange};
 ghost use Rattle.commands.specs.Replies.{ShownReply};
-ghost use Rattle.player.specs.Events.{event_words};
+ghost use Rattle.command_lines.specs.Events.{event_words};
 ghost use Rattle.commands.specs.Config.{world_name};
+ghost use Rattle.command_lines.specs.Replies.{owner_words, pair_words, reply_words, view_words};
 ghost use Rattle.player.specs.Records.{exchange_line, header_line, name_view};
-ghost use Rattle.player.specs.Replies.{owner_words, pair_words, reply_words, view_words};
 ghost use Rattle.record_lines.specs.Lines.{IsLineOf, IsShown, told_of};
 ghost use Rattle.record_lines.specs.ToldWords.{told_words};
 

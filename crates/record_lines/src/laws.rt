@@ -4,7 +4,7 @@ ghost use Rattle.std.specs.Prelude.{◌≡◌, ℕ, true, List};
 ghost use Rattle.commands.specs.declared.config.Config.{Config};
 ghost use Rattle.commands.specs.declared.kind.WorldKind.{WorldKind};
 ghost use Rattle.commands.specs.Config.{gives_names};
-ghost use Rattle.player.specs.Meaning.{meaning};
+ghost use Rattle.command_lines.specs.Meaning.{meaning};
 ghost use Rattle.player.specs.Records.{record_of};
 ghost use Rattle.player.specs.Turns.{Turn, exchanges};
 ghost use Rattle.record_lines.specs.declared.header.Header.{Header};

@@ -10,8 +10,8 @@ ghost use Rattle.record_lines.specs.declared.header.Header.{Header};
 ghost use Rattle.record_lines.specs.declared.header.Version.{Version};
 
 use crate::header::{Header, Version};
+use command_lines::words::is_word;
 use commands::{Config, WorldKind};
-use player::words::is_word;
 use serde_json::Value;
 
 /// How many keys an object has.

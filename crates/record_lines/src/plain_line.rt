@@ -11,8 +11,8 @@ use crate::line::Line;
 use crate::quick_reply::quick_told;
 use crate::reply_text::told_of;
 use crate::told::Told;
+use command_lines::words::is_word;
 use commands::{Event, WorldKind};
-use player::words::is_word;
 use player::{Command, after_front, quick_command};
 use std::alloc::{AllocError, Global};
 

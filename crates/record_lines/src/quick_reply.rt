@@ -5,8 +5,8 @@ ghost use Rattle.record_lines.specs.PlainLine.{SpellsReply, SpellsLastNumber};
 
 use crate::plain_line::after;
 use crate::told::Told;
+use command_lines::words::is_word;
 use player::quick_number;
-use player::words::is_word;
 
 /// What the reply tells with which a line ends, where its word is common and told alike in each version. `None` says nothing of the
 /// bytes.

@@ -2,14 +2,14 @@
 
 ghost use Rattle.std.specs.Prelude.{◌≡◌, IfOk, None, Some};
 ghost use Rattle.std.specs.Option.{option_copied};
-ghost use Rattle.player.specs.Lines.{pieces_left};
+ghost use Rattle.command_lines.specs.Lines.{pieces_left};
 ghost use Rattle.record_lines.specs.declared.header.Version.TheVariants.{Two};
 ghost use Rattle.record_lines.specs.ReplyText.{pair_in, pairs_in, word_alone, owner_of, word_with, plain_of, told_in, told_with, told_by};
 
 use crate::header::Version;
 use crate::pairs::Pairs;
 use crate::told::Told;
-use player::words::{cut, is_word, number, wide_number};
+use command_lines::words::{cut, is_word, number, wide_number};
 use std::alloc::{AllocError, Global};
 
 /// The pair that a word writes: an identity and a number, with a colon between them.

@@ -2,10 +2,10 @@
 
 ghost use Rattle.std.specs.Prelude.{◌≡◌, ◌∷◌, [], ◌≤◌, length, MatchOption, IsTrue, ◌↔◌, None};
 ghost use Rattle.std.specs.Option.{option_copied};
-ghost use Rattle.player.specs.Lines.{left_length};
+ghost use Rattle.command_lines.specs.Lines.{left_length};
 ghost use Rattle.record_lines.specs.Records.{record_lines, lines_left};
 
-use player::words::cut;
+use command_lines::words::cut;
 
 /// Whether this is what stands after the last LF, with nothing in it.
 fn is_end(line: &[u8], rest: Option<&[u8]>) -> bool

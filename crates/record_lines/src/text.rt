@@ -1,7 +1,7 @@
 //! A text that grows.
 
 ghost use Rattle.std.specs.Prelude.{◌≡◌, List, ℕ, [], ◌++◌, OnOk, decimal};
-ghost use Rattle.player.specs.Replies.{pair_word};
+ghost use Rattle.command_lines.specs.Replies.{pair_word};
 
 use itoa::Buffer;
 use std::alloc::{AllocError, Global};

@@ -25,7 +25,7 @@ pub use Rattle.commands.specs.declared.event.Event.{Event}
 pub use Rattle.commands.specs.declared.config.Config.{Config}
 pub use Rattle.commands.specs.declared.kind.WorldKind.{WorldKind}
 pub use Rattle.commands.specs.Replies.{done_reply, value_reply, ShownReply}
-pub use Rattle.player.specs.Lines.{left_length}
+pub use Rattle.command_lines.specs.Lines.{left_length}
 pub use Rattle.player.specs.Records.{header_line, exchange_line, record_of}
 pub use Rattle.player.specs.Turns.Turn.{Answered, Told, Ended, Misread}
 pub use Rattle.snapshot_core.specs.Snapshot.{IsMoment}

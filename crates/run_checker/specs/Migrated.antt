@@ -10,11 +10,11 @@ use Rattle.commands.specs.declared.exchange.Exchange.{Exchange}
 use Rattle.commands.specs.Replies.{ShownReply}
 use Rattle.commands.specs.declared.reply.Reply.TheVariants as reply
 use Rattle.desk.specs.DeskCalls.{DeskCall, exchange_of}
+use Rattle.command_lines.specs.Written.{HasPartOf}
+use Rattle.command_lines.specs.declared.fault.Fault.{Fault}
+use Rattle.command_lines.specs.declared.fault.Fault.TheVariants.{Write}
 use Rattle.player.specs.Records.{header_line, exchange_line}
-use Rattle.player.specs.Written.{HasPartOf}
 use Rattle.player.specs.Played.{Writing}
-use Rattle.player.specs.declared.fault.Fault.{Fault}
-use Rattle.player.specs.declared.fault.Fault.TheVariants.{Write}
 use Rattle.run_checker.specs.declared.firsts.Firsts.{Firsts}
 use Rattle.record_lines.specs.declared.header.Header.{Header}
 use Rattle.record_lines.specs.declared.line.Line.{Line}

@@ -6,9 +6,9 @@ use Rattle.commands.specs.Config.{gives_names}
 use Rattle.commands.specs.declared.bad.Bad.{Bad}
 use Rattle.commands.specs.declared.command.Command.{Command}
 use Rattle.commands.specs.declared.command.Command.TheVariants as command
+use Rattle.command_lines.specs.Lines.{lines}
 use Rattle.player.specs.Asked.{asked_by}
 use Rattle.schedule_player.specs.IsTalk.{IsTalk}
-use Rattle.player.specs.Lines.{lines}
 use Rattle.player.specs.Played.{Reading, Writing}
 use Rattle.schedule_player.specs.Recorded.{IsRecorded}
 use Rattle.player.specs.Turns.{Turn, asked, exchanges}

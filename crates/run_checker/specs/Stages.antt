@@ -1,6 +1,6 @@
 -- how far a record is judged whose bytes come one after the other
 use Rattle.std.specs.Prelude.{◌≡◌, ℕ, List, [], ◌∷◌, ◌++◌, Option, Some, None}
-use Rattle.player.specs.Lines.{pieces_from}
+use Rattle.command_lines.specs.Lines.{pieces_from}
 use Rattle.record_lines.specs.RecordLine.{IsHeaderLine}
 use Rattle.run_checker.specs.declared.row_judge.RowJudge.{RowJudge}
 use Rattle.run_checker.specs.declared.judge.Judge.{Judge}

@@ -3,12 +3,12 @@
 ghost use Rattle.std.specs.Prelude.{◌≡◌, ℕ, List, [], ◌∷◌, ◌++◌, IfOk, OnOk};
 ghost use Rattle.run_checker.specs.Stages.{HasTakenAll, StandsAfter};
 ghost use Rattle.record_lines.specs.Records.{record_lines};
-ghost use Rattle.player.specs.Lines.{unless_empty};
+ghost use Rattle.command_lines.specs.Lines.{unless_empty};
 ghost use Rattle.run_checker.specs.Verdict.{IsSaid};
 
 use crate::row_judge::RowJudge;
 use crate::verdict::Verdict;
-use player::words::cut;
+use command_lines::words::cut;
 use record_lines::read_header;
 use std::alloc::{AllocError, Global};
 

@@ -9,7 +9,7 @@ ghost use Rattle.run_checker.specs.Verdict.{IsSaid};
 use crate::migration::Migration;
 use crate::record::{judge_rows, opened};
 use crate::verdict::Verdict;
-use player::sink::put_all;
+use command_lines::put_all;
 use player::{Fault, Sink};
 use record_lines::Text;
 use std::alloc::{AllocError, Global};

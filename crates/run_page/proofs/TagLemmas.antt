@@ -16,9 +16,9 @@ use Rattle.commands.specs.Replies.{ShownReply}
 use Rattle.commands.specs.declared.reply.Reply.TheVariants as reply
 use Rattle.desk.specs.Desk.{fresh_desk, owner_reply}
 use Rattle.step_memory.specs.Refusal.{refusal_number}
-use Rattle.player.specs.Events.{event_words}
+use Rattle.command_lines.specs.Events.{event_words}
 use Rattle.commands.specs.Config.{facts_of, is_letter, world_name}
-use Rattle.player.specs.Replies.{owner_words, pair_word, pair_words, reply_words}
+use Rattle.command_lines.specs.Replies.{owner_words, pair_word, pair_words, reply_words}
 use Rattle.record_lines.specs.declared.told.Told.{Told}
 use Rattle.record_lines.specs.declared.told.Told.TheVariants as told
 use Rattle.record_lines.specs.ToldWords.{told_words}

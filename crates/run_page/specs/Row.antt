@@ -7,8 +7,8 @@ use Rattle.desk.specs.Coming.{coming_of}
 use Rattle.desk.specs.Desk.{desk_after, desk_reply}
 use Rattle.desk.specs.DeskValue.{DeskValue}
 use Rattle.desk.specs.Held.{slots_of}
-use Rattle.player.specs.Events.{event_words}
-use Rattle.player.specs.Replies.{reply_words}
+use Rattle.command_lines.specs.Events.{event_words}
+use Rattle.command_lines.specs.Replies.{reply_words}
 use Rattle.record_lines.specs.declared.line.Line.{Line}
 use Rattle.record_lines.specs.declared.told.Told.{Told}
 use Rattle.record_lines.specs.declared.told.Told.TheVariants as told

@@ -1,10 +1,10 @@
 -- what is shown of a record (this project's profile)
 use Rattle.std.specs.Prelude.{◌≡◌, ◌<◌, ℕ, List, ◌∷◌, Option, Result, Ok, Err}
 use Rattle.std.specs.Io.KnownBytes.{Appends}
-use Rattle.player.specs.Written.{HasPartOf}
+use Rattle.command_lines.specs.Written.{HasPartOf}
+use Rattle.command_lines.specs.declared.fault.Fault.{Fault}
+use Rattle.command_lines.specs.declared.fault.Fault.TheVariants.{Write}
 use Rattle.player.specs.Played.{Writing}
-use Rattle.player.specs.declared.fault.Fault.{Fault}
-use Rattle.player.specs.declared.fault.Fault.TheVariants.{Write}
 use Rattle.record_lines.specs.declared.header.Header.{Header}
 use Rattle.record_lines.specs.declared.line.Line.{Line}
 use Rattle.record_lines.specs.RecordLine.{IsHeaderLine}

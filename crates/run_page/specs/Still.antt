@@ -3,7 +3,7 @@ use Rattle.std.specs.Prelude.{ℕ, suc, ◌==◌, Bool, true, false, List, [], �
 use Rattle.commands.specs.declared.event.Event.{Event}
 use Rattle.commands.specs.declared.event.Event.TheVariants as event
 use Rattle.desk.specs.DeskValue.{DeskValue}
-use Rattle.player.specs.Events.{event_words}
+use Rattle.command_lines.specs.Events.{event_words}
 use Rattle.record_lines.specs.declared.line.Line.{Line}
 use Rattle.record_lines.specs.Told.{identity_of}
 use Rattle.record_lines.specs.ToldWords.{told_words}

@@ -7,7 +7,7 @@ ghost use Rattle.desk.specs.declared.coming.Coming.{Coming};
 ghost use Rattle.record_lines.specs.ToldWords.{told_words};
 ghost use Rattle.record_lines.specs.declared.line.Line.{Line};
 ghost use Rattle.record_lines.specs.declared.told.Told.{Told};
-ghost use Rattle.player.specs.Events.{event_words};
+ghost use Rattle.command_lines.specs.Events.{event_words};
 ghost use Rattle.desk.specs.declared.coming.Register.{Register};
 ghost use Rattle.run_page.specs.declared.form.Form.{Form};
 ghost use Rattle.run_page.specs.declared.standing.Standing.{Standing};

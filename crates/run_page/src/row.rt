@@ -1,7 +1,7 @@
 //! The rows of a page.
 
 ghost use Rattle.std.specs.Prelude.{◌≡◌, ◌++◌, [], OnOk, if◌then◌else◌};
-ghost use Rattle.player.specs.Replies.{owner_words, reply_words};
+ghost use Rattle.command_lines.specs.Replies.{owner_words, reply_words};
 ghost use Rattle.run_page.specs.Row.{done_words, held_words, row_of, words_of};
 
 use crate::access::{put_access, put_place};

@@ -9,7 +9,7 @@ ghost use Rattle.run_page.specs.Shown.{IsPage, IsShown};
 
 use crate::sheet::Sheet;
 use crate::stretch::Stretch;
-use player::sink::put_all;
+use command_lines::put_all;
 use player::{Fault, Sink};
 use record_lines::Text;
 use run_checker::Verdict;

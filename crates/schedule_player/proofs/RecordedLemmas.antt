@@ -4,8 +4,8 @@ use Rattle.commands.specs.Config.{gives_names}
 use Rattle.commands.specs.declared.config.Config.{Config}
 use Rattle.desk.specs.Desk.{IsFreshDesk}
 use Rattle.desk.specs.DeskValue.{DeskValue}
-use Rattle.player.specs.declared.fault.Fault.{Fault}
-use Rattle.player.specs.declared.fault.Fault.TheVariants.{Memory}
+use Rattle.command_lines.specs.declared.fault.Fault.{Fault}
+use Rattle.command_lines.specs.declared.fault.Fault.TheVariants.{Memory}
 use Rattle.player.specs.Played.{Reading, Writing}
 use Rattle.player.specs.PlayedProofs.{played_weaker, unplayed}
 use Rattle.player.specs.Recorded.{IsRecordedOn}

@@ -13,7 +13,7 @@ use Rattle.schedule_player.specs.IsTalk.{IsTalk, IsTalkByKind}
 use Rattle.schedule_player.specs.OneTalk.{IsOneTalk}
 use Rattle.schedule_player.specs.OneTalkProofs.{determined}
 use Rattle.schedule_player.specs.SplitterWorld.{IsSplitterTalk, splitter_fresh, splitter_rules, one_splitter_fresh}
-use Rattle.player.specs.declared.fault.Fault.{Fault}
+use Rattle.command_lines.specs.declared.fault.Fault.{Fault}
 use Rattle.player.specs.declared.summary.Summary.{Summary}
 use Rattle.player.specs.Played.{IsPlayedIn, Reading, Writing}
 use Rattle.player.specs.Turns.{Turn}

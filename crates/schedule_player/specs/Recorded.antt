@@ -1,8 +1,8 @@
 -- the theorem of a run of a config that is recorded
 use Rattle.std.specs.Prelude.{◌≡◌, ◌⊎◌, Result, Err}
 use Rattle.commands.specs.declared.config.Config.{Config}
-use Rattle.player.specs.declared.fault.Fault.{Fault}
-use Rattle.player.specs.declared.fault.Fault.TheVariants.{Write}
+use Rattle.command_lines.specs.declared.fault.Fault.{Fault}
+use Rattle.command_lines.specs.declared.fault.Fault.TheVariants.{Write}
 use Rattle.player.specs.declared.summary.Summary.{Summary}
 use Rattle.player.specs.Played.{Reading, Writing, IsPlayed}
 use Rattle.player.specs.Recorded.{StopsAtHeader, end_of}

@@ -18,8 +18,8 @@ use Rattle.commands.specs.declared.bad.Bad.{Bad}
 use Rattle.commands.specs.declared.bad.Bad.TheVariants.{TooLong, NotPrintable, UnknownWord}
 use Rattle.commands.specs.declared.command.Command.{Command}
 use Rattle.commands.specs.declared.command.Command.TheVariants as command
+use Rattle.command_lines.specs.Meaning.{meaning, command_in, command_of_one, command_if, quit_of, number_in, same_bytes, desk_command_of, is_printable, words}
 use Rattle.player.specs.Knows.{Knows}
-use Rattle.player.specs.Meaning.{meaning, command_in, command_of_one, command_if, quit_of, number_in, same_bytes, desk_command_of, is_printable, words}
 use Rattle.schedule_player.specs.Talks.{AreOwnersTold}
 use Rattle.commands.specs.Requests.{Request, as_command}
 use Rattle.commands.specs.Requests.Request.{Take, OwnerOf}

@@ -6,10 +6,10 @@ use Rattle.step_memory.specs.Refusal.{refusal_number}
 use Rattle.step_memory.specs.declared.refusal.Refusal.{Refusal}
 use Rattle.step_memory.specs.declared.refusal.Refusal.TheVariants.{ZeroIdentity}
 use Rattle.commands.specs.declared.reply.Reply.TheVariants as reply
-use Rattle.player.specs.Replies.{pair_word, pair_words, view_words, reply_words}
+use Rattle.command_lines.specs.Replies.{pair_word, pair_words, view_words, reply_words}
 use Rattle.record_lines.specs.declared.told.Told.TheVariants as told
 use Rattle.record_lines.specs.ReplyText.{pair_in, pair_of, pairs_after, pairs_in, told_in, told_of_words, told_with, saw_of}
-use Rattle.player.proofs.PieceLemmas.{lacks, pieces-pass, pieces-last, pieces-cut}
+use Rattle.command_lines.specs.PieceProofs.{lacks, pieces-pass, pieces-last, pieces-cut}
 use Rattle.record_lines.proofs.written.Numbers.{read_decimal, number_in-decimal}
 use Rattle.record_lines.proofs.written.Texts.{shown_text}
 use Rattle.record_lines.specs.Narrow.{AreNarrow, IsShort, IsNarrowReply}

@@ -2,11 +2,11 @@
 use Rattle.std.proofs.Common.{◌≡◌, ℕ, true, List, [], ◌∷◌, map, length, Option, Some, Ok, Err, inl, inr, refl, sym, ap, ◌∙◌, subst, arith, ◌≤◌}
 use Rattle.run_checker.proofs.Common.{Appends, Config, record_of, Answered, Told, Ended, Misread, Yes, terms_of, IsRecordOf, record_lines, IsSaid, IsSaidAfter, few_take_part, record_is, length-map, Exchange, line_of, IsObjectRun}
 use Rattle.desk.proofs.DeskLaws as desk
+use Rattle.command_lines.specs.Lines.{lines}
 use Rattle.player.specs.declared.summary.Summary.{Summary}
 use Rattle.player.specs.Asked.{asked_by}
 use Rattle.schedule_player.specs.IsTalk.{IsTalk}
 use Rattle.schedule_player.specs.IsTalkProofs.{is_desk_talk}
-use Rattle.player.specs.Lines.{lines}
 use Rattle.player.specs.Played.{Reading, Writing, IsInput, PlayedToEnd}
 use Rattle.schedule_player.specs.Recorded.{IsRecorded}
 use Rattle.player.specs.Turns.{Turn, asked, exchanges}

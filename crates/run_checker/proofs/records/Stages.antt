@@ -1,7 +1,7 @@
 -- records that are judged as their bytes come
 use Rattle.std.proofs.Common.{◌≡◌, ◌==◌, ℕ, ◌+◌, ◌<◌, true, false, cond, List, [], ◌∷◌, ◌++◌, length, Option, Some, None, inl, refl, sym, ap, ◌∙◌, subst, append_assoc, arith}
 use Rattle.run_checker.proofs.Common.{append-nil, Header, Line, FindsLine, IsEventLine, Judge, Reason, Verdict, Yes, TakesMore, RowsSoFar, IsSaid}
-use Rattle.player.specs.Lines.{pieces_from, unless_empty}
+use Rattle.command_lines.specs.Lines.{pieces_from, unless_empty}
 use Rattle.record_lines.specs.Records.{lines_from, lines_of, record_lines}
 use Rattle.run_checker.specs.declared.judge.Stage.{Stage}
 use Rattle.run_checker.specs.declared.judge.Stage.TheVariants.{Over}

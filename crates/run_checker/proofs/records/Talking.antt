@@ -8,9 +8,9 @@ use Rattle.desk.proofs.DeskLaws as desk
 use Rattle.commands.specs.declared.bad.Bad.{Bad}
 use Rattle.commands.specs.declared.command.Command.{Command}
 use Rattle.commands.specs.declared.command.Command.TheVariants as command
+use Rattle.command_lines.specs.Meaning.{meaning}
 use Rattle.player.specs.Asked.{until_quit, asked_by}
 use Rattle.schedule_player.specs.DeskWorld.{DeskWorldMay}
-use Rattle.player.specs.Meaning.{meaning}
 use Rattle.player.specs.Runs.{Runs}
 use Rattle.player.specs.Turns.{Turn, asked, exchanges}
 use Rattle.record_lines.proofs.Narrow.{line_narrow}

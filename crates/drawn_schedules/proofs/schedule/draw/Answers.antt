@@ -1,6 +1,6 @@
 use Rattle.std.proofs.Common.{◌++◌, []}
 use Rattle.drawn_schedules.proofs.Common.{on_ok_weaker, begins_from, opened, steps_drawn, event_lines, IsUnderWay}
-use Rattle.player.specs.declared.fault.Fault.TheVariants.{Write}
+use Rattle.command_lines.specs.declared.fault.Fault.TheVariants.{Write}
 use Rattle.drawn_schedules.proofs.ScheduleLemmas.{schedule_lines}
 use Rattle.drawn_schedules.proofs.ResultLemmas.{on_ok_both, on_err_at}
 use Rattle.drawn_schedules.proofs.UnderWayLemmas.{at_first, at_last, second_half}

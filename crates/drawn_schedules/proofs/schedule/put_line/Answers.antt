@@ -1,5 +1,5 @@
 use Rattle.std.proofs.Common.{rules, ◌≡◌, Err, [], ◌∷◌, ◌++◌}
-use Rattle.player.specs.Events.{event_words}
+use Rattle.command_lines.specs.Events.{event_words}
 use Rattle.drawn_schedules.proofs.schedule.put_line.Goals as goal
 
 pub returns-in_err-make_room-clause-within : goal.returns-in_err-make_room-clause-within

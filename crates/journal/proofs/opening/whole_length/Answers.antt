@@ -1,7 +1,7 @@
 use Rattle.std.proofs.Common.{◌≡◌, ◌+◌, ◌-◌, ◌<◌, ◌==◌, false, get_or, length, arith, ap, ◌∙◌}
 use Rattle.std.proofs.lemmas.List.{drop_all, drop_more}
 use Rattle.std.proofs.lemmas.Bool.{ne_eqb}
-use Rattle.player.specs.Lines.{has_no_lf}
+use Rattle.command_lines.specs.Lines.{has_no_lf}
 use Rattle.journal.proofs.opening.whole_length.Goals as goal
 
 pub loop-end-init : goal.loop-end-init

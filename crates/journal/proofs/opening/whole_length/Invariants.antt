@@ -1,5 +1,5 @@
 use Rattle.std.proofs.Common.{◌≡◌, ◌≤◌, true, length, drop}
-use Rattle.player.specs.Lines.{has_no_lf}
+use Rattle.command_lines.specs.Lines.{has_no_lf}
 use Rattle.journal.proofs.opening.whole_length.Given as goal
 
 abbrev pub invariant-loop-end : goal.invariant-loop-end

@@ -1,6 +1,6 @@
 use Rattle.std.proofs.Common.{append_assoc}
 use Rattle.std.proofs.lemmas.Fmt.{decimal_digit}
-use Rattle.player.proofs.NumberLemmas.{decimal_two}
+use Rattle.command_lines.specs.NumberProofs.{decimal_two}
 use Rattle.player.proofs.as_record.put_small_end.Goals as goal
 
 pub returns-then-number-lt10-clause-text : goal.returns-then-number-lt10-clause-text

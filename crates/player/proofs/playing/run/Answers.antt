@@ -1,7 +1,7 @@
 use Rattle.std.proofs.Common.{◌≡◌, ◌≢◌, true, false, ◌∙◌, ◌≤◌, ◌++◌, inl, inr, sym, ap, arith, take, length, List, [], ℕ, refl, Result, Err}
+use Rattle.command_lines.specs.declared.fault.Fault.TheVariants.{Read, Write, Memory}
 use Rattle.player.proofs.Common.{append-nil, err_from_is_err_and, IsAtEnd, Fault, READ_BYTES, Summary, asked_by, lines, at_start, after_bytes, Stands}
 use Rattle.std.proofs.KnownBytes.{Consumes-nil, Consumes-trans, Consumes-kept}
-use Rattle.player.specs.declared.fault.Fault.TheVariants.{Read, Write, Memory}
 use Rattle.player.specs.Played.{HasRead, reading}
 use Rattle.player.specs.PlayedProofs.{as_played}
 use Rattle.player.proofs.StandsLemmas.{stands_start}

@@ -1,5 +1,5 @@
 use Rattle.std.proofs.Common.{◌∙◌, append_assoc}
-use Rattle.player.proofs.ReplyLemmas.{pair_words-more}
+use Rattle.command_lines.specs.ReplyProofs.{pair_words-more}
 use Rattle.record_lines.proofs.compact.put_pairs.Goals as goal
 
 pub loop-pair-preserved : goal.loop-pair-preserved

@@ -1,5 +1,5 @@
 use Rattle.std.proofs.Common.{◌≡◌, ◌++◌, take}
-use Rattle.player.specs.Replies.{pair_words}
+use Rattle.command_lines.specs.Replies.{pair_words}
 use Rattle.record_lines.proofs.compact.put_pairs.Given as goal
 
 -- the pairs so far

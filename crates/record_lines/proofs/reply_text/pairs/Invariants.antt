@@ -1,6 +1,6 @@
 use Rattle.std.proofs.Common.{◌≡◌}
 use Rattle.record_lines.proofs.Common.{option_copied, words}
-use Rattle.player.specs.Lines.{pieces_left, left_length}
+use Rattle.command_lines.specs.Lines.{pieces_left, left_length}
 use Rattle.record_lines.specs.ReplyText.{pairs_after, after_pairs}
 use Rattle.record_lines.proofs.reply_text.pairs.Given as goal
 

@@ -1,7 +1,7 @@
 use Rattle.std.proofs.Common.{◌≡◌, ℕ, List, Result, Err, rules, subst, sym, MatchResult}
+use Rattle.command_lines.specs.Written.{HasPartOf}
+use Rattle.command_lines.specs.declared.fault.Fault.{Fault}
 use Rattle.player.specs.Played.{writing}
-use Rattle.player.specs.Written.{HasPartOf}
-use Rattle.player.specs.declared.fault.Fault.{Fault}
 use Rattle.record_lines.specs.Records.{record_lines}
 use Rattle.run_checker.specs.Migrated.{IsOther}
 use Rattle.run_checker.specs.Verdict.{IsSaid}

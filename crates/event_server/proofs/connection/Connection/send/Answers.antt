@@ -1,6 +1,6 @@
 use Rattle.std.proofs.Common.{◌≡◌, ◌∙◌, ◌+◌, ◌≤◌, List, ℕ, sym, ap, subst, take, drop, length}
 use Rattle.event_server.proofs.Common.{take-add, Appends, WireState}
-use Rattle.player.specs.WrittenProofs.{appends_more}
+use Rattle.command_lines.specs.WrittenProofs.{appends_more}
 use Rattle.event_server.proofs.connection.Connection.send.Goals as goal
 
 pub loop-self-preserved : goal.loop-self-preserved

@@ -1,10 +1,10 @@
 use Rattle.std.proofs.Common.{◌≡◌, ◌∙◌, ◌+◌, false, [], refl, sym, ap, length, take, Ok}
+use Rattle.command_lines.specs.SpelledProofs.{event-spelled}
 use Rattle.player.proofs.Common.{Progress, after_meaning, after_bytes, Anywhere, GoingOn, Afresh, TalkerState}
 use Rattle.commands.specs.Requests.Request.{Take}
 use Rattle.commands.specs.declared.command.Command.TheVariants as command
 use Rattle.player.proofs.ProgressLemmas.{after_bytes-over}
 use Rattle.player.proofs.FirstLineLemmas.{EndsLine, means-none, after_bytes-first}
-use Rattle.player.proofs.SpelledLemmas.{event-spelled}
 use Rattle.player.proofs.SaysLemmas.{says_after, says_nothing}
 use Rattle.player.proofs.talker.Talker.take.Goals as goal
 

@@ -1,6 +1,6 @@
 use Rattle.std.proofs.Common.{◌≡◌, ◌∙◌, ◌++◌, ◌+◌, true, [], ap, sym, length, take, arith, subst}
+use Rattle.command_lines.specs.PieceProofs.{nowhere-lacks}
 use Rattle.player.proofs.Common.{take_all, WorldKind, HeldLine, held, has_no_lf, meaning, with_line, after_meaning, after_line, after_bytes, SaysFrom, GoingOn, Afresh, TalkerState}
-use Rattle.player.proofs.PieceLemmas.{nowhere-lacks}
 use Rattle.player.proofs.FirstLineLemmas.{found-line, after_bytes-part, after_bytes-whole, after_bytes-first}
 use Rattle.player.proofs.SaysLemmas.{spoke_with_line, says_after, says_nothing}
 use Rattle.player.proofs.talker.Talker.take_slowly.Goals as goal

@@ -1,6 +1,6 @@
 use Rattle.std.proofs.Common.{◌≡◌, ◌∷◌, ◌++◌, [], ℕ, List, Option, Some, None, sym, ap, ◌∙◌, refl, subst}
 use Rattle.run_checker.proofs.Common.{option_copied, Judge, HasTakenBut, bytes_left}
-use Rattle.player.specs.Lines.{pieces_from, pieces_left}
+use Rattle.command_lines.specs.Lines.{pieces_from, pieces_left}
 use Rattle.run_checker.proofs.records.Stages.{line_ended, line_held}
 use Rattle.run_checker.proofs.judge.Judge.take.Goals as goal
 

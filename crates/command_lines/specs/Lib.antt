@@ -1,0 +1,17 @@
+pub mod Lines
+pub mod Meaning
+pub mod PieceProofs
+pub mod WordsLeft
+pub mod Replies
+pub mod ReplyProofs
+pub mod Events
+pub mod NumberProofs
+pub mod SpelledProofs
+pub mod Tries
+pub mod Written
+pub mod WrittenProofs
+pub mod UnderWay
+pub mod HeldLine
+pub mod Quick
+pub mod Digits
+pub mod Front

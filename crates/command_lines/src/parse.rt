@@ -1,0 +1,133 @@
+//! From the bytes of a line to the command that they mean.
+
+ghost use Rattle.std.specs.Prelude.{◌≡◌, ◌∷◌};
+ghost use Rattle.std.specs.List.{list_all};
+ghost use Rattle.std.specs.Option.{option_copied};
+ghost use Rattle.command_lines.specs.Meaning.{meaning, command_of, desk_command_of, slot_command_of, words, is_printable};
+ghost use Rattle.command_lines.specs.WordsLeft.{words_left, no_word, one_number, two_numbers};
+
+use crate::words::{cut, is_word, number};
+use commands::{Bad, Command, Event, WorldKind};
+
+/// The most bytes of a line, without its LF.
+pub(crate) const LINE_MAX: usize = 100;
+
+/// What a line means in this world, without its LF: its command, or why it is none (this project's profile).
+///
+/// The reasons are tried in the order of their numbers: `TooLong` above 100 bytes; `NotPrintable` where a byte is
+/// outside 0x20..=0x7E; `UnknownWord` where the first word is no command's; `WrongCount` where there are other words
+/// than the command takes; `BadNumber` where one of them is not plain decimal below 2^64. Words are cut at each single
+/// space, so two spaces side by side have an empty word between them.
+pub fn parse_line(line: &[u8], world: WorldKind) -> Result<Command, Bad>
+    ensures { result ≡ meaning world line.now }
+{
+    if LINE_MAX < line.len() {
+        return Err(Bad::TooLong);
+    }
+    if !is_all_printable(line) {
+        return Err(Bad::NotPrintable);
+    }
+    let (word, others) = cut_word(line);
+    command_of(word, others, world)
+}
+
+// By its first word and the others, what a line means.
+fn command_of(word: &[u8], others: Option<&[u8]>, world: WorldKind) -> Result<Command, Bad>
+    ensures { result ≡ command_of world word.now (words_left (option_copied others.entry)) }
+{
+    if is_word(word, b"begin") {
+        return Ok(Command::Event(Event::Begin(only_number(others)?)));
+    }
+    if is_word(word, b"step") {
+        return Ok(Command::Event(Event::Step(only_number(others)?)));
+    }
+    if is_word(word, b"quit") {
+        no_more(others)?;
+        return Ok(Command::Quit);
+    }
+    if world.gives_names() {
+        return desk_command_of(word, others);
+    }
+    Err(Bad::UnknownWord)
+}
+
+// By its first word, of those that only a desk knows, and the others, what a line means.
+fn desk_command_of(word: &[u8], others: Option<&[u8]>) -> Result<Command, Bad>
+    ensures { result ≡ desk_command_of word.now (words_left (option_copied others.entry)) }
+{
+    if is_word(word, b"enter") {
+        return Ok(Command::Event(Event::Enter(only_number(others)?)));
+    }
+    if is_word(word, b"probe") {
+        return Ok(Command::Event(Event::Probe(only_number(others)?)));
+    }
+    if is_word(word, b"leave") {
+        return Ok(Command::Event(Event::Leave(only_number(others)?)));
+    }
+    slot_command_of(word, others)
+}
+
+// The same of the words of slots, and of those that ask for more numbers or for an owner.
+fn slot_command_of(word: &[u8], others: Option<&[u8]>) -> Result<Command, Bad>
+    ensures { result ≡ slot_command_of word.now (words_left (option_copied others.entry)) }
+{
+    if is_word(word, b"put") {
+        let (id, value) = two_numbers(others)?;
+        return Ok(Command::Event(Event::Put(id, value)));
+    }
+    if is_word(word, b"get") {
+        return Ok(Command::Event(Event::Get(only_number(others)?)));
+    }
+    if is_word(word, b"widen") {
+        return Ok(Command::Event(Event::Widen(only_number(others)?)));
+    }
+    if is_word(word, b"owner") {
+        return Ok(Command::Owner(only_number(others)?));
+    }
+    Err(Bad::UnknownWord)
+}
+
+// Whether each byte is in 0x20..=0x7E.
+fn is_all_printable(line: &[u8]) -> bool
+    ensures { result ≡ list_all is_printable line.now }
+{
+    line.iter().all(|byte| 0x20 <= *byte && *byte <= 0x7E)
+}
+
+// The first word of these bytes, and what follows its space, if a space ends it.
+fn cut_word(bytes: &[u8]) -> (&[u8], Option<&[u8]>)
+    ensures { words bytes.now ≡ result.0.now ∷ words_left (option_copied result.1) }
+{
+    cut(bytes, b' ')
+}
+
+// The number that the words which are left write, where they are one word.
+fn only_number(words: Option<&[u8]>) -> Result<u64, Bad>
+    ensures { result ≡ one_number (words_left (option_copied words.entry)) }
+{
+    let (word, others) = cut_word(words.ok_or(Bad::WrongCount)?);
+    no_more(others)?;
+    number(word).ok_or(Bad::BadNumber)
+}
+
+// The numbers that the words which are left write, where they are two words.
+fn two_numbers(words: Option<&[u8]>) -> Result<(u64, u64), Bad>
+    ensures { result ≡ two_numbers (words_left (option_copied words.entry)) }
+{
+    let (first, rest) = cut_word(words.ok_or(Bad::WrongCount)?);
+    let (second, others) = cut_word(rest.ok_or(Bad::WrongCount)?);
+    no_more(others)?;
+    let one = number(first).ok_or(Bad::BadNumber)?;
+    let other = number(second).ok_or(Bad::BadNumber)?;
+    Ok((one, other))
+}
+
+// No word is left.
+fn no_more(words: Option<&[u8]>) -> Result<(), Bad>
+    ensures { result ≡ no_word (words_left (option_copied words.entry)) }
+{
+    match words {
+        None => Ok(()),
+        Some(_) => Err(Bad::WrongCount),
+    }
+}

@@ -1,8 +1,0 @@
-use Rattle.player.proofs.LineLemmas.{cut_right, cut_once}
-use Rattle.player.proofs.laws.law_of_lines.Goals as goal
-
-pub returns-clause-cut : goal.returns-clause-cut
-returns-clause-cut c = cut_right
-
-pub returns-clause-once : goal.returns-clause-once
-returns-clause-once c = cut_once
