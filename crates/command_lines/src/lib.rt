@@ -9,7 +9,7 @@
 //! They are written to `Replies`, whose room is taken once, and which sends them to a writer whose calls are counted (`Sink`). Why a run
 //! did not come to its end is a `Fault`.
 //!
-//! Nothing here knows who answers: that is `player`, which offers these names too.
+//! Nothing here knows who answers: that is the crate `player`.
 //!
 //! A caller, with a writer:
 //!

@@ -1,5 +1,4 @@
-//! One side of a talk in the command language (`command_lines`, whose names are offered here too): lines of text in, replies out, whatever
-//! service answers.
+//! One side of a talk in the command language, which is the crate `command_lines`: lines of text in, replies out, whatever service answers.
 //!
 //! A service answers events and tells owners by rules (`Service`), and which one it is is not known here. `play_on` reads the commands that a
 //! reader gives, a line each, has a service answer them, and writes the replies, a line each. Its theorem (`IsPlayed`): there are turns to the
