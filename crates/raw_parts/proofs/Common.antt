@@ -7,7 +7,7 @@ pub use Rattle.step_memory.specs.SetAt.{set_at}
 pub use Rattle.step_memory.proofs.SetAtLemmas.{set_at-cases, set_at-same, set_at-other}
 pub use Rattle.splitter.specs.declared.way.Way.TheVariants.{Stop, Right, Down}
 pub use Rattle.splitter.specs.declared.stage.Stage.{Stage}
-pub use Rattle.splitter.specs.declared.stage.Stage.TheVariants.{Outside, WroteX, SawClear, Gone}
+pub use Rattle.splitter.specs.declared.stage.Stage.TheVariants.{Outside, WroteX, WroteY, SawClear, Gone}
 pub use Rattle.raw_parts.specs.declared.splitter_view.Visit.{Visit}
 pub use Rattle.raw_parts.specs.declared.splitter_view.SplitterView.{SplitterView}
 pub use Rattle.raw_parts.specs.SplitterView.{own_word, visit_at, lone_view, fresh_visit, view_of}

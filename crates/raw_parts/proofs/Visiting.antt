@@ -1,6 +1,6 @@
 -- what the rule says of visits that ended under it
 use Rattle.std.proofs.Common.{◌≡◌, ◌≢◌, ℕ, ◌<◌, ◌≤◌, ne_eqb, inl, inr, ⊎_elim, true, false, sym, refl, ap, ◌∙◌, subst, arith, List, [], ◌∷◌}
-use Rattle.raw_parts.proofs.Common.{TableId, Me, Stop, Right, Down, Stage, WroteX, Gone, SplitterView, own_word, visit_at, view_of, lone_view, IsShown, Meets}
+use Rattle.raw_parts.proofs.Common.{TableId, Me, Stop, Right, Down, Stage, WroteX, WroteY, Gone, SplitterView, own_word, visit_at, view_of, lone_view, IsShown, Meets}
 use mathlib.Core.Logic.{dite}
 use native.Mathlib.Decide.{ℕ_discrete}
 use Rattle.splitter.specs.declared.way.Way.{Way}
@@ -26,6 +26,10 @@ module _ (n k found fresh setter turn : ℕ) (me : Me ℕ SplitterView) where
   -- it found Y set
   pub goes_right : found ≢ 0 → me ≡ (lone_view n (after_access fresh setter found (visit_at k WroteX 1 turn 0)), []) → IsUnderRule me.0 → HasEnded {S = ℕ} n k Right me
   goes_right ne e u = let b = ne_eqb found 0 ne in ended_of n k Right turn setter me (e ∙ rw b refl) u
+
+  -- it found another's word in X after it had set Y
+  pub goes_down : found ≢ own_word k → me ≡ (lone_view n (after_access fresh setter found (visit_at k WroteY 3 turn 0)), []) → IsUnderRule me.0 → HasEnded {S = ℕ} n k Down me
+  goes_down ne e u = let b = ne_eqb found (own_word k) ne in ended_of n k Down turn found me (e ∙ rw b refl) u
 
 -- a visit that ended by this way, in a view under the rule
 module _ (e : EndedVisit) (u : IsUnderRule (lone_view e.splitter.seats (gone_at e))) where

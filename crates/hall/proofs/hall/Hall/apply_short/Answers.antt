@@ -44,3 +44,6 @@ returns-else-not-is_refusal c =
     let refused : is_refusal (answer d) ≡ true = search (rules, d.is_refusal.ensures d.apply_short-reply.new.view) in
     let k = lacked (hall_of i.config i.history.items) c.args.event (answer d) c.apply_short-reply.new.self c.self.invariant.1 (due d) (may d) refused in
     inr (k.0, rw c.reserve.ensures.same c.self.view_is, ap (λ (h : HallState). hall_refusal h c.args.event) (sym c.self.view_is) ∙ due d)
+
+pub push_reserved-requires : goal.push_reserved-requires
+push_reserved-requires c = c.reserve.ensures.room c.if-not-reserve.false

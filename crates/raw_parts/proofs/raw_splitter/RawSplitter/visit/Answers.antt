@@ -1,8 +1,8 @@
 use Rattle.std.proofs.Common.{arith, ap, sym, ◌≡◌, ◌+◌, ◌∙◌, []}
-use Rattle.raw_parts.proofs.Common.{step, WroteX, SawClear, fresh_visit, lone_view, visit_at, after_access}
+use Rattle.raw_parts.proofs.Common.{step, WroteX, SawClear, WroteY, fresh_visit, lone_view, visit_at, after_access}
 use mathlib.Core.Option.{none}
 use Rattle.raw_parts.proofs.Accesses.{may_write_x, may_read_y, may_write_y, may_read_x, stands_after}
-use Rattle.raw_parts.proofs.Visiting.{goes_right}
+use Rattle.raw_parts.proofs.Visiting.{goes_down, goes_right}
 use Rattle.raw_parts.proofs.raw_splitter.RawSplitter.visit.Goals as goal
 
 pub store-requires : goal.store-requires
@@ -38,3 +38,12 @@ returns-then-load-ne0-clause-ended g c =
     let wrote_x = stands_after _ c.store.ensures.2.0 c.store.ensures.2.1 (c.args.number + 1) (fresh_visit c.args.number) _ _ c.requires.fresh c.store.ensures.2.2 in
     let read_y = stands_after _ c.load.ensures.2.0 c.load.ensures.2.1 c.load.result (visit_at c.args.number WroteX 1 c.store.ensures.2.0 0) _ _ wrote_x c.load.ensures.2.2 in
     goes_right _ _ _ 0 _ _ _ c.if-load-ne0.true read_y c.load.ensures.2.3
+
+pub returns-else-load-own-clause-ended : goal.returns-else-load-own-clause-ended
+returns-else-load-own-clause-ended g c =
+    let wrote_x = stands_after _ c.store.ensures.2.0 c.store.ensures.2.1 (c.args.number + 1) (fresh_visit c.args.number) _ _ c.requires.fresh c.store.ensures.2.2 in
+    let read_y = stands_after _ c.load.ensures.2.0 c.load.ensures.2.1 c.load.result (visit_at c.args.number WroteX 1 c.store.ensures.2.0 0) _ _ wrote_x c.load.ensures.2.2 in
+    let saw_clear = read_y ∙ ap (λ found. (lone_view c.args.self.now.seats (after_access c.load.ensures.2.0 c.load.ensures.2.1 found (visit_at c.args.number WroteX 1 c.store.ensures.2.0 0)), [])) c.if-load-ne0.false in
+    let wrote_y = stands_after _ c.store-2.ensures.2.0 c.store-2.ensures.2.1 1 (visit_at c.args.number SawClear 2 c.store.ensures.2.0 0) _ _ saw_clear c.store-2.ensures.2.2 in
+    let read_x = stands_after _ c.load-2.ensures.2.0 c.load-2.ensures.2.1 c.load-2.result (visit_at c.args.number WroteY 3 c.store.ensures.2.0 0) _ _ wrote_y c.load-2.ensures.2.2 in
+    goes_down _ _ _ 0 0 _ _ c.if-load-own.false read_x c.load-2.ensures.2.3
