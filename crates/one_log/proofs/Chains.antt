@@ -1,6 +1,6 @@
 -- Entries that are applied in a row.
 use Rattle.std.proofs.Common.{append_assoc, ◌≡◌, ℕ, ◌+◌, List, [], ◌∷◌, ◌++◌, length, true, false, inl, inr, refl, ap, sym, subst, ◌∙◌, arith, add-zero}
-use Rattle.std.proofs.Common.{length-append, Result, Ok, Err, IfErr}
+use Rattle.std.proofs.Common.{length-append, Result, Ok, Err, IfOk, IfErr, ◌≢◌}
 use Rattle.one_log.specs.declared.replica.Step.{Step}
 use Rattle.one_log.specs.declared.replica.Step.TheVariants.{Nothing, Answered, Passed}
 use Rattle.one_log.specs.declared.serve_fault.Cause.{Cause}
@@ -30,6 +30,21 @@ adds_once first between last at batch same adds = record {
 
 pub adds_none : (first last : ℕ → List ℕ → Type 0) (at : ℕ) (batch : List ℕ) → Same first last → Adds first at batch last
 adds_none first last at batch same = record { keeps = same.keeps; only = λ place entry h. inl (same.only place entry h) }
+
+-- what failed did not answer
+pub not_done : (cause : Cause) → Err cause ≢ Ok Answered
+not_done cause e = cc e
+
+-- a step that only read wrote nothing, nor did one that offered a batch and was not answered
+pub read_unwritten : (S : Type 0) (result : Result Step Cause) → S → IfOk result (λ step. step ≢ Answered → S)
+read_unwritten S (Ok step) same = λ other. same
+read_unwritten S (Err cause) same = tt
+
+pub offered_unwritten : (S : Type 0) (result : Result Step Cause) → result ≢ Ok Passed → (result ≡ Ok Nothing → S) → IfOk result (λ step. step ≢ Answered → S)
+offered_unwritten S (Ok Nothing) passed same = λ other. same refl
+offered_unwritten S (Ok Answered) passed same = λ other. absurd (other refl)
+offered_unwritten S (Ok Passed) passed same = absurd (passed refl)
+offered_unwritten S (Err cause) passed same = tt
 
 -- what stood at places in a row stands there still
 pub stands_still_from : (first last : ℕ → List ℕ → Type 0) → Keeps first last → (place : ℕ) (es : List (List ℕ)) → StandsFrom first place es → StandsFrom last place es

@@ -1,6 +1,7 @@
 -- What did not answer the batch wrote nothing, and what answered it wrote it at most once.
-use Rattle.std.proofs.Common.{rules}
-use Rattle.one_log.proofs.Chains.{adds_once, answered, follows, goes_on_trans, later_follows, same_trans, step_is_well}
+use Rattle.std.proofs.Common.{◌≡◌, ap, arith, refl, rules, sym, ◌∙◌, false}
+use mathlib.Core.Bool.{false≢true}
+use Rattle.one_log.proofs.Chains.{adds_none, adds_once, answered, follows, goes_on_trans, later_follows, none_goes_on, not_done, same_self, same_trans, step_is_well}
 use Rattle.one_log.proofs.replica.Replica.serve.Goals as goal
 
 pub loop-preserved : goal.loop-preserved
@@ -55,3 +56,44 @@ pub returns-clause-follows : goal.returns-clause-follows
 returns-clause-follows g c =
     let stands = g.S.Store.stands in
     follows g.M.Machine.applies (stands c.args.store.now) (stands c.loop.store) c.loop.invariant.same.keeps c.args.self.now c.loop.self (λ well. c.loop.invariant.goes_on)
+
+pub returns-then-batch-gt-MOST_BATCH-clause-spoiled : goal.returns-then-batch-gt-MOST_BATCH-clause-spoiled
+returns-then-batch-gt-MOST_BATCH-clause-spoiled g c = λ was short. absurd (omega (arith, c.if-batch-gt-MOST_BATCH.true, short))
+
+pub returns-then-batch-gt-MOST_BATCH-clause-goes_on : goal.returns-then-batch-gt-MOST_BATCH-clause-goes_on
+returns-then-batch-gt-MOST_BATCH-clause-goes_on g c = none_goes_on g.M.Machine.applies (g.S.Store.stands c.args.store.now) c.args.self.now
+
+pub returns-then-batch-gt-MOST_BATCH-clause-follows : goal.returns-then-batch-gt-MOST_BATCH-clause-follows
+returns-then-batch-gt-MOST_BATCH-clause-follows g c = λ start was. was
+
+pub returns-then-batch-gt-MOST_BATCH-clause-once : goal.returns-then-batch-gt-MOST_BATCH-clause-once
+returns-then-batch-gt-MOST_BATCH-clause-once g c =
+    let stands = g.S.Store.stands c.args.store.now in
+    record { at = 0; adds = adds_none stands stands 0 c.args.batch.now (same_self stands) }
+
+pub returns-then-self-clause-goes_on : goal.returns-then-self-clause-goes_on
+returns-then-self-clause-goes_on g c = none_goes_on g.M.Machine.applies (g.S.Store.stands c.args.store.now) c.args.self.now
+
+pub returns-then-self-clause-follows : goal.returns-then-self-clause-follows
+returns-then-self-clause-follows g c = λ start was. was
+
+pub returns-then-self-clause-once : goal.returns-then-self-clause-once
+returns-then-self-clause-once g c =
+    let stands = g.S.Store.stands c.args.store.now in
+    record { at = 0; adds = adds_none stands stands 0 c.args.batch.now (same_self stands) }
+
+pub returns-clause-goes_on : goal.returns-clause-goes_on
+returns-clause-goes_on g c = λ well. c.loop.invariant.goes_on
+
+pub returns-in-Ok-clause-spoiled : goal.returns-in-Ok-clause-spoiled
+returns-in-Ok-clause-spoiled g c =
+    let well : c.args.self.now.spoiled ≡ false = ap (λ r. r.spoiled) (sym c.self.view_is) ∙ c.if-self.false in
+    λ was. absurd (false≢true (sym well ∙ was))
+
+pub returns-in-Err-clause-spoiled : goal.returns-in-Err-clause-spoiled
+returns-in-Err-clause-spoiled g c =
+    let well : c.args.self.now.spoiled ≡ false = ap (λ r. r.spoiled) (sym c.self.view_is) ∙ c.if-self.false in
+    λ was. absurd (false≢true (sym well ∙ was))
+
+pub returns-in-Err-clause-unanswered : goal.returns-in-Err-clause-unanswered
+returns-in-Err-clause-unanswered g c = c.step.ensures.unanswered (λ done. not_done c.in-Err.cause (sym c.in-Err.is ∙ done))

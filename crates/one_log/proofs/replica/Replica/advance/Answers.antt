@@ -1,0 +1,82 @@
+-- A step is one of the two, and neither is taken where it is spoiled or full.
+use Rattle.std.proofs.Common.{◌≡◌, ap, sym, refl, ◌∙◌, false}
+use mathlib.Core.Bool.{false≢true}
+use Rattle.one_log.specs.Places.{Same}
+use Rattle.one_log.proofs.Chains.{adds_none, offered_unwritten, read_unwritten, same_self}
+use Rattle.one_log.proofs.replica.Replica.advance.Goals as goal
+
+pub returns-then-self-clause-fault : goal.returns-then-self-clause-fault
+returns-then-self-clause-fault g c = (ap (λ r. r.spoiled) (sym c.self.view_is) ∙ c.if-self.true, refl)
+
+pub returns-then-self-clause-adds : goal.returns-then-self-clause-adds
+returns-then-self-clause-adds g c =
+    let stands = g.S.Store.stands c.args.store.now in
+    adds_none stands stands c.args.self.now.place c.args.batch.now (same_self stands)
+
+pub returns-then-self-ge-MOST_PLACES-clause-adds : goal.returns-then-self-ge-MOST_PLACES-clause-adds
+returns-then-self-ge-MOST_PLACES-clause-adds g c =
+    let stands = g.S.Store.stands c.args.store.now in
+    adds_none stands stands c.args.self.now.place c.args.batch.now (same_self stands)
+
+pub returns-then-self-ge-MOST_PLACES-clause-spoiled : goal.returns-then-self-ge-MOST_PLACES-clause-spoiled
+returns-then-self-ge-MOST_PLACES-clause-spoiled g c =
+    let well : c.args.self.now.spoiled ≡ false = ap (λ r. r.spoiled) (sym c.self.view_is) ∙ c.if-self.false in
+    λ was. absurd (false≢true (sym well ∙ was))
+
+pub returns-then-self-2-clause-answered : goal.returns-then-self-2-clause-answered
+returns-then-self-2-clause-answered g c = c.follow.ensures.answered
+
+pub returns-then-self-2-clause-passed : goal.returns-then-self-2-clause-passed
+returns-then-self-2-clause-passed g c = c.follow.ensures.passed
+
+pub returns-then-self-2-clause-nothing : goal.returns-then-self-2-clause-nothing
+returns-then-self-2-clause-nothing g c = λ none. (c.follow.ensures.nothing none, ap (λ r. r.spoiled) (sym c.self.view_is) ∙ c.if-self.false)
+
+pub returns-then-self-2-clause-unwritten : goal.returns-then-self-2-clause-unwritten
+returns-then-self-2-clause-unwritten g c =
+    let stands = g.S.Store.stands in
+    read_unwritten (Same (stands c.args.store.now) (stands c.follow.new.store)) c.follow.result c.follow.ensures.same
+
+pub returns-then-self-2-clause-fault : goal.returns-then-self-2-clause-fault
+returns-then-self-2-clause-fault g c = c.follow.ensures.fault
+
+pub returns-then-self-2-clause-cause : goal.returns-then-self-2-clause-cause
+returns-then-self-2-clause-cause g c = c.follow.ensures.cause
+
+pub returns-then-self-2-clause-spoiled : goal.returns-then-self-2-clause-spoiled
+returns-then-self-2-clause-spoiled g c =
+    let well : c.args.self.now.spoiled ≡ false = ap (λ r. r.spoiled) (sym c.self.view_is) ∙ c.if-self.false in
+    λ was. absurd (false≢true (sym well ∙ was))
+
+pub returns-then-self-2-clause-adds : goal.returns-then-self-2-clause-adds
+returns-then-self-2-clause-adds g c =
+    let stands = g.S.Store.stands in
+    adds_none (stands c.args.store.now) (stands c.follow.new.store) c.args.self.now.place c.args.batch.now c.follow.ensures.same
+
+pub returns-else-self-2-clause-answered : goal.returns-else-self-2-clause-answered
+returns-else-self-2-clause-answered g c = c.offer.ensures.answered
+
+pub returns-else-self-2-clause-passed : goal.returns-else-self-2-clause-passed
+returns-else-self-2-clause-passed g c = λ passed. absurd (c.offer.ensures.passed passed)
+
+pub returns-else-self-2-clause-nothing : goal.returns-else-self-2-clause-nothing
+returns-else-self-2-clause-nothing g c = λ none. ((c.offer.ensures.nothing none).0, ap (λ r. r.spoiled) (sym c.self.view_is) ∙ c.if-self.false)
+
+pub returns-else-self-2-clause-unwritten : goal.returns-else-self-2-clause-unwritten
+returns-else-self-2-clause-unwritten g c =
+    let stands = g.S.Store.stands in
+    offered_unwritten (Same (stands c.args.store.now) (stands c.offer.new.store)) c.offer.result c.offer.ensures.passed (λ none. (c.offer.ensures.nothing none).1)
+
+pub returns-else-self-2-clause-fault : goal.returns-else-self-2-clause-fault
+returns-else-self-2-clause-fault g c = c.offer.ensures.fault
+
+pub returns-else-self-2-clause-cause : goal.returns-else-self-2-clause-cause
+returns-else-self-2-clause-cause g c = c.offer.ensures.cause
+
+pub returns-else-self-2-clause-spoiled : goal.returns-else-self-2-clause-spoiled
+returns-else-self-2-clause-spoiled g c =
+    let well : c.args.self.now.spoiled ≡ false = ap (λ r. r.spoiled) (sym c.self.view_is) ∙ c.if-self.false in
+    λ was. absurd (false≢true (sym well ∙ was))
+
+pub returns-else-self-2-clause-adds : goal.returns-else-self-2-clause-adds
+returns-else-self-2-clause-adds g c = c.offer.ensures.adds
