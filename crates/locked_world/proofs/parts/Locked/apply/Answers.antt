@@ -155,3 +155,31 @@ returns-then-not-reserve-clause-taken g c =
       | then-not-reserve-via-then-not-reserve w ↦ rw w.clerk-inside-is taken
       | then-not-reserve-via-else-not-reserve+then-is_err w ↦ rw w.clerk-inside-is taken
     ]
+
+pub returns-in-Some-clause-hall : goal.returns-in-Some-clause-hall
+returns-in-Some-clause-hall g c = refuses_so c.args.self.now.hall c.args.event c.in-Some.refusal (sym c.refusal.ensures ∙ c.in-Some.is)
+
+pub returns-in-Some-clause-refused : goal.returns-in-Some-clause-refused
+returns-in-Some-clause-refused g c = λ refused. refl
+
+pub returns-then-is_refusal-clause-hall : goal.returns-then-is_refusal-clause-hall
+returns-then-is_refusal-clause-hall g c = c.apply_short-reply.ensures
+
+pub returns-then-is_refusal-clause-refused : goal.returns-then-is_refusal-clause-refused
+returns-then-is_refusal-clause-refused g c = λ refused.
+    kept_refused c.args.self.now.hall c.apply_short-reply.new.self c.args.event (with_view c.apply_short-reply.result c.apply_short-reply.new.view) c.len-place.ensures.lawful c.apply_short-reply.ensures refused
+
+pub returns-clause-hall : goal.returns-clause-hall
+returns-clause-hall g c = c.apply_short-reply.ensures
+
+pub returns-clause-refused : goal.returns-clause-refused
+returns-clause-refused g c = λ refused.
+    kept_refused c.args.self.now.hall c.apply_short-reply.new.self c.args.event (with_view c.apply_short-reply.result c.apply_short-reply.new.view) c.len-place.ensures.lawful c.apply_short-reply.ensures refused
+
+pub returns-then-not-reserve-clause-hall : goal.returns-then-not-reserve-clause-hall
+returns-then-not-reserve-clause-hall g c =
+    let may = lacks_so c.args.self.now.hall c.args.event (sym c.refusal.ensures ∙ c.in_default.is) in
+    elim c.then-not-reserve.branch [
+      | then-not-reserve-via-then-not-reserve w ↦ rw w.self-is may
+      | then-not-reserve-via-else-not-reserve+then-is_err w ↦ rw w.self-is may
+    ]
