@@ -1,4 +1,4 @@
-use Rattle.std.proofs.Common.{arith, ◌≡◌, ◌∷◌, ◌++◌, [], None, length, sym, ap, ◌∙◌, vec_capacity}
+use Rattle.std.proofs.Common.{arith, rules, ◌≡◌, ◌∷◌, ◌++◌, [], None, length, sym, ap, ◌∙◌, vec_capacity}
 use Rattle.rename_core.proofs.Common.{beginner, begin_refusal, after_wish, let_in, KnownPlaces, places_by}
 use Rattle.std.proofs.lemmas.List.{length-append, length-map}
 use Rattle.snapshot_core.specs.SnapWorld.{after_snap_begin}
@@ -29,3 +29,6 @@ invariant_of-self-2 g c =
     let absent = absent_alike c.args.id c.self.inside.snap.participants c.self.inside.rounds.items old.2 inside.absent in
     let distinct = distinct_push c.self.inside.rounds.items new absent old.4 in
     rw (asked, items) (rw (most, room) old.0, rw most old.1, same, rw (most, size) (omega (arith, free, known_in)), distinct)
+
+pub returns-clause-state : goal.returns-clause-state
+returns-clause-state g c = search rules
