@@ -1,6 +1,6 @@
 use Rattle.std.proofs.Common.{◌≡◌, Some, None, Err, refl, sym, ap, ◌∙◌}
 use Rattle.bit_allocator.proofs.Common.{enter_refusal, Entered, Gets}
-use Rattle.bit_allocator.proofs.PoolKeeps.{pool_proved}
+use Rattle.bit_allocator.proofs.PoolKeeps.{pool_law, pool_proved}
 use Rattle.bit_allocator.proofs.Acquiring.{acquired, acquired_after}
 use Rattle.bit_allocator.proofs.pool.Pool.acquire.Goals as goal
 
@@ -22,3 +22,9 @@ pub returns-clause-after : goal.returns-clause-after
 returns-clause-after g c = λ size r a.
     let is = returns-clause-acquired g c in
     (is.misses, acquired_after size c.args.self.now _ r c.args.id c.seek-number.result is a)
+
+pub returns-in-Some-clause-law : goal.returns-in-Some-clause-law
+returns-in-Some-clause-law g c = pool_law _
+
+pub returns-clause-law : goal.returns-clause-law
+returns-clause-law g c = pool_law _

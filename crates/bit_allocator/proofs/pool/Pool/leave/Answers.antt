@@ -3,7 +3,7 @@ use Rattle.bit_allocator.proofs.Common.{after_access, Settled, IsWithin, leave_a
 use Rattle.std.proofs.lemmas.List.Elements.{All-filter}
 use Rattle.bit_allocator.proofs.CallLemmas.{settled_by, unsettled_after}
 use Rattle.bit_allocator.proofs.LocalityLemmas.{leave_local, leave_stands}
-use Rattle.bit_allocator.proofs.PoolKeeps.{pool_proved}
+use Rattle.bit_allocator.proofs.PoolKeeps.{pool_law, pool_proved}
 use Rattle.bit_allocator.proofs.pool.Pool.leave.Goals as goal
 
 pub returns-in_err-number-clause-after : goal.returns-in_err-number-clause-after
@@ -45,3 +45,9 @@ returns-clause-local g c =
 
 pub returns-clause-stands_alike : goal.returns-clause-stands_alike
 returns-clause-stands_alike g c = λ other h. ap (λ (w : PoolState). stay_of c.args.id w.competitors) (returns-clause-state g c) ∙ leave_stands c.args.id c.args.self.now other h
+
+pub returns-in_err-number-clause-law : goal.returns-in_err-number-clause-law
+returns-in_err-number-clause-law g c = pool_law _
+
+pub returns-clause-law : goal.returns-clause-law
+returns-clause-law g c = pool_law _
