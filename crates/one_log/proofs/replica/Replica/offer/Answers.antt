@@ -1,4 +1,4 @@
-use Rattle.std.proofs.Common.{ℕ, ap, subst}
+use Rattle.std.proofs.Common.{rules, ℕ, ap, subst}
 use Rattle.one_log.specs.Places.{Adds}
 use Rattle.one_log.proofs.replica.Replica.offer.Goals as goal
 
@@ -21,3 +21,6 @@ pub returns-clause-adds : goal.returns-clause-adds
 returns-clause-adds g c =
     let stands = g.S.Store.stands in
     subst (λ (at : ℕ). Adds (stands c.args.store.now) at c.args.batch.now (stands c.put.new.self)) (ap (λ q. q.place) c.self.view_is) c.put.ensures.adds
+
+pub returns-clause-answered : goal.returns-clause-answered
+returns-clause-answered g c = search rules
