@@ -1,4 +1,4 @@
-use Rattle.std.proofs.Common.{◌≡◌, ◌≢◌, ◌-◌, ℕ, ap, refl, ne_eqb, ◌∙◌, arith, []}
+use Rattle.std.proofs.Common.{rules, ◌≡◌, ◌≢◌, ◌-◌, ℕ, ap, refl, ne_eqb, ◌∙◌, arith, []}
 use Rattle.word_pool.proofs.Common.{Me, step, PoolView, at_rest, call_of, lone, spent, swapped_hint, PoolId}
 use mathlib.Core.Option.{none}
 use Rattle.word_pool.proofs.Keeping.{may_come_back, may_come_back_by_swap, may_look_aside, may_take_aside}
@@ -57,3 +57,33 @@ walk_by_swaps-requires-clause-some g c =
     let words = c.self.invariant.0.0 in
     let some = c.self.invariant.0.2 in
     (omega arith, omega arith)
+
+pub returns-then-hint-le1-clause-ours : goal.returns-then-hint-le1-clause-ours
+returns-then-hint-le1-clause-ours g c = c.acquire.ensures.ours
+
+pub returns-then-hint-le1-clause-range : goal.returns-then-hint-le1-clause-range
+returns-then-hint-le1-clause-range g c = c.acquire.ensures.range
+
+pub returns-then-hint-le1-clause-all_held : goal.returns-then-hint-le1-clause-all_held
+returns-then-hint-le1-clause-all_held g c = c.acquire.ensures.all_held
+
+pub returns-then-aside-ne0-clause-ours : goal.returns-then-aside-ne0-clause-ours
+returns-then-aside-ne0-clause-ours g c = c.walk.ensures.ours
+
+pub returns-then-aside-ne0-clause-range : goal.returns-then-aside-ne0-clause-range
+returns-then-aside-ne0-clause-range g c = c.walk.ensures.range
+
+pub returns-then-aside-ne0-clause-all_held : goal.returns-then-aside-ne0-clause-all_held
+returns-then-aside-ne0-clause-all_held g c = c.walk.ensures.all_held
+
+pub returns-clause-ours : goal.returns-clause-ours
+returns-clause-ours g c = c.walk_by_swaps.ensures.ours
+
+pub returns-clause-range : goal.returns-clause-range
+returns-clause-range g c = c.walk_by_swaps.ensures.range
+
+pub returns-clause-all_held : goal.returns-clause-all_held
+returns-clause-all_held g c = c.walk_by_swaps.ensures.all_held
+
+pub of-requires-clause-held : goal.of-requires-clause-held
+of-requires-clause-held g c = search rules
