@@ -2,6 +2,7 @@ use Rattle.std.proofs.Common.{rules, ◌≡◌, ◌-◌, ◌≤◌, ◌<◌, Ok,
 use Rattle.slot_array.proofs.Common.{Refusal, number_answer, Fetched, IsFetched, call_leads_on, slots}
 use Rattle.std.proofs.lemmas.Option.{slice_get_read}
 use Rattle.std.specs.Result.{result_map_both}
+use Rattle.slot_array.proofs.SlotsKeep.{slots_law}
 use Rattle.slot_array.proofs.slots.Slots.get.Goals as goal
 
 pub returns-in_err-number-clause-after : goal.returns-in_err-number-clause-after
@@ -26,3 +27,9 @@ returns-clause-answer g c =
 pub returns-clause-after : goal.returns-clause-after
 returns-clause-after g c =
     call_leads_on slots c.args.self.now c.args.self.now (Fetched c.args.id (Ok c.index.result.now)) refl (returns-clause-answer g c)
+
+pub returns-in_err-number-clause-law : goal.returns-in_err-number-clause-law
+returns-in_err-number-clause-law g c = slots_law _
+
+pub returns-clause-law : goal.returns-clause-law
+returns-clause-law g c = slots_law _

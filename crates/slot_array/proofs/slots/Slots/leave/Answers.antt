@@ -1,5 +1,6 @@
 use Rattle.std.proofs.Common.{rules, ◌≡◌}
 use Rattle.slot_array.proofs.Common.{number_answer, Left, SlotsState, Pooled, call_leads_on, slots, slots_next}
+use Rattle.slot_array.proofs.SlotsKeep.{slots_law}
 use Rattle.slot_array.proofs.slots.Slots.leave.Goals as goal
 
 pub returns-clause-after : goal.returns-clause-after
@@ -8,3 +9,6 @@ returns-clause-after g c =
     let state : new ≡ slots_next c.args.self.now (Pooled (Left c.args.id c.leave.result)) = search rules in
     let reply : c.leave.result ≡ number_answer c.args.self.now.pool c.args.id = search rules in
     call_leads_on slots c.args.self.now new (Pooled (Left c.args.id c.leave.result)) state reply
+
+pub returns-clause-law : goal.returns-clause-law
+returns-clause-law g c = slots_law _

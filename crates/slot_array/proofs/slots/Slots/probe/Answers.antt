@@ -1,6 +1,7 @@
 use Rattle.std.proofs.Common.{rules, ◌≡◌}
 use Rattle.slot_array.proofs.Common.{Probed, SlotsState, Pooled, call_leads_on, slots, slots_next}
 use Rattle.bit_allocator.specs.Pool.{probe_answer}
+use Rattle.slot_array.proofs.SlotsKeep.{slots_law}
 use Rattle.slot_array.proofs.slots.Slots.probe.Goals as goal
 
 pub returns-clause-after : goal.returns-clause-after
@@ -9,3 +10,6 @@ returns-clause-after g c =
     let state : new ≡ slots_next c.args.self.now (Pooled (Probed c.args.id c.probe.result)) = search rules in
     let reply : c.probe.result ≡ probe_answer c.args.self.now.pool c.args.id = search rules in
     call_leads_on slots c.args.self.now new (Pooled (Probed c.args.id c.probe.result)) state reply
+
+pub returns-clause-law : goal.returns-clause-law
+returns-clause-law g c = slots_law _

@@ -1,6 +1,7 @@
 use Rattle.std.proofs.Common.{rules, ◌≡◌, ℕ, ◌≤◌, Ok, length, ap, ◌∙◌, arith}
 use Rattle.slot_array.proofs.Common.{number_answer, Stored, stored_reply, after_put, call_leads_on, slots}
 use Rattle.slot_array.proofs.SlotLemmas.{changes_own}
+use Rattle.slot_array.proofs.SlotsKeep.{slots_law}
 use Rattle.slot_array.proofs.slots.Slots.put.Goals as goal
 
 pub returns-in_err-number-clause-after : goal.returns-in_err-number-clause-after
@@ -8,6 +9,9 @@ returns-in_err-number-clause-after g c =
     let reply : c.from_residual.result ≡ stored_reply (number_answer c.args.self.now.pool c.args.id) = search rules in
     let state : c.args.self.now ≡ after_put c.args.self.now c.args.id c.args.value = search rules in
     call_leads_on slots c.args.self.now c.args.self.now (Stored c.args.id c.args.value c.from_residual.result) state reply
+
+pub returns-clause-answer : goal.returns-clause-answer
+returns-clause-answer g c = search rules
 
 pub returns-clause-state : goal.returns-clause-state
 returns-clause-state g c = search rules
@@ -27,5 +31,10 @@ returns-clause-changes g c =
 
 pub returns-clause-after : goal.returns-clause-after
 returns-clause-after g c =
-    let reply : Ok tt ≡ stored_reply (number_answer c.args.self.now.pool c.args.id) = search rules in
-    call_leads_on slots c.args.self.now _ (Stored c.args.id c.args.value (Ok tt)) (returns-clause-state g c) reply
+    call_leads_on slots c.args.self.now _ (Stored c.args.id c.args.value (Ok tt)) (returns-clause-state g c) (returns-clause-answer g c)
+
+pub returns-in_err-number-clause-law : goal.returns-in_err-number-clause-law
+returns-in_err-number-clause-law g c = slots_law _
+
+pub returns-clause-law : goal.returns-clause-law
+returns-clause-law g c = slots_law _
