@@ -7,7 +7,7 @@ ghost use Rattle.step_memory.specs.declared.note.Note.TheVariants as note;
 ghost use Rattle.snapshot_core.specs.declared.client.Pending.TheVariants.{Placing};
 ghost use Rattle.snapshot_core.specs.declared.client.TheConstants.{MOST_UPDATES};
 ghost use Rattle.snapshot_core.specs.Client.{view_told, is_idle, client_at, client_steps, updating, scanning, next_access, client_after, client_note, scan_resumed, scan_note, placing_resumed, placing_note, placed_note};
-ghost use Rattle.snapshot_core.specs.SnapWorld.{told_of_way};
+ghost use Rattle.snapshot_core.specs.SnapWorld.{told, told_of_way};
 
 use crate::places::{PlaceWalker, Places};
 use crate::scan::Scan;
@@ -41,6 +41,17 @@ impl SnapReply {
             Note::Quiet => SnapReply::Quiet,
             Note::Said(_) => SnapReply::Quiet,
             Note::Ended(place) => SnapReply::Placed(place),
+        }
+    }
+
+    /// What a step tells, of which the participant says this.
+    pub(crate) fn of_step(note: Note<SnapReply>) -> Self
+        ensures { result ≡ told note }
+    {
+        match note {
+            Note::Quiet => SnapReply::Quiet,
+            Note::Said(reply) => reply,
+            Note::Ended(reply) => reply,
         }
     }
 

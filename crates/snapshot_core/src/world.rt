@@ -169,10 +169,9 @@ where
         if client.is_idle() {
             return Err(Refusal::Finished);
         }
-        match self.world.step(id)? {
-            Note::Quiet => Ok(SnapReply::Quiet),
-            Note::Said(reply) => Ok(reply),
-            Note::Ended(reply) => Ok(reply),
+        match self.world.step(id) {
+            Ok(note) => Ok(SnapReply::of_step(note)),
+            Err(refusal) => Err(refusal),
         }
     }
 
