@@ -1,6 +1,7 @@
 mod Common
 mod SightingLemmas
 mod SnapWorldLemmas
+mod AskedLemmas
 mod FewValues
 mod Shown
 mod Histories
