@@ -2,6 +2,7 @@ mod Common
 mod SightingLemmas
 mod SnapWorldLemmas
 mod AskedLemmas
+mod WayLemmas
 mod FewValues
 mod Shown
 mod Histories

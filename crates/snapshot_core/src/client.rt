@@ -309,20 +309,17 @@ where
         program: &mut Client<W::Walker, W::Walk>,
         memory: &mut W,
     ) -> Result<Option<Note<Place>>, NoMemory> {
-        match program.pending {
-            Pending::Nothing => Ok(None),
-            Pending::Placing => {
-                let Some(note) = memory.walk_on(&mut program.walker)? else {
-                    return Ok(None);
-                };
+        let Pending::Placing = program.pending else {
+            return Ok(None);
+        };
+        match memory.walk_on(&mut program.walker) {
+            Ok(Some(note)) => {
                 if note.ends() {
                     program.pending = Pending::Nothing;
                 }
                 Ok(Some(note))
             }
-            Pending::Scan => Ok(None),
-            Pending::Update(_) => Ok(None),
-            Pending::Write(_, _) => Ok(None),
+            not_taken => not_taken,
         }
     }
 }
