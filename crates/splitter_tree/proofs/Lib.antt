@@ -6,4 +6,5 @@ mod CallCases
 mod StoreLemmas
 mod DueTied
 mod TreeProved
+mod CallsAsked
 mod OwnAccesses

@@ -1,5 +1,5 @@
 -- the world of a tree is proved
-use Rattle.std.proofs.Common.{◌≡◌, ◌≢◌, ◌≤◌, ◌==◌, ℕ, Bool, true, false, cond, inl, inr, List, [], ◌∷◌, ◌++◌, Option, Some, None, Result, Ok, Err, refl, sym, ap, subst, ◌∙◌, arith, ne_eqb, option_map, option_and_then, is_some, nat_le}
+use Rattle.std.proofs.Common.{◌≡◌, ◌≢◌, ◌≤◌, ℕ, Bool, true, false, cond, inl, inr, List, [], ◌∷◌, ◌++◌, Option, Some, None, Result, Ok, Err, refl, sym, ap, subst, ◌∙◌, arith, ne_eqb, option_map, option_and_then, is_some, nat_le}
 use Rattle.splitter_tree.proofs.Common.{nat_tests, KeepsPlacesLaw, way_calls, walker_in, TreeCall, Began, Stepped, Stored, CollectBegan, CollectStepped, tree_steps, empty_tree, TreeRegister, TreeValue, TreeRefusesAsDue, place_of, place_by, Client, EndsOnce, client_steps, is_placing, is_collecting, place_told, MemorySteps, Refusal, NoMemory, Finished, participant_of, program_of, Participant}
 use Rattle.splitter_tree.specs.Machine.{TreeWorldState, HasLawfulNodes, fresh_over, tree, tree_over}
 use Rattle.splitter_tree.specs.TreeWorld.{TreeState, after_tree_begin, asking_refusal, place_answer, place_answer_by, after_placing, after_placing_by, may_lack_memory, after_store, after_collect_begin, view_answer, after_collecting, after_collecting_by}

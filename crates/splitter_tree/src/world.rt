@@ -110,8 +110,10 @@ impl<A: Allocator + Clone> TreeWorld<A> {
         if !client.is_placing() {
             return Err(Refusal::Finished);
         }
-        let note = self.world.step(id)?;
-        Ok(place_told(&note))
+        match self.world.step(id) {
+            Ok(note) => Ok(place_told(&note)),
+            Err(refusal) => Err(refusal),
+        }
     }
 
     /// Stores a value at one's place, by one write. Refused where the identity has not begun, then where it has no place
@@ -183,8 +185,10 @@ impl<A: Allocator + Clone> TreeWorld<A> {
         if !client.is_collecting() {
             return Err(Refusal::Finished);
         }
-        let note = self.world.step(id)?;
-        Ok(view_told(&note))
+        match self.world.step(id) {
+            Ok(note) => Ok(view_told(&note)),
+            Err(refusal) => Err(refusal),
+        }
     }
 
     /// The place of a participant, once it has one: the one that was answered.

@@ -1,5 +1,5 @@
 -- one level of the way to a place, from a link whose node is there
-use Rattle.std.proofs.Common.{◌≡◌, ℕ, ◌+◌, ◌-◌, ◌*◌, ◌/◌, ◌^◌, ◌<◌, true, false, cond, Option, Some, refl, sym, ap, subst, ◌∙◌, arith, Box, ◌==◌, is_some, Result, Ok, Err, OnOk, OnErr}
+use Rattle.std.proofs.Common.{◌≡◌, ℕ, ◌+◌, ◌-◌, ◌*◌, ◌/◌, ◌^◌, ◌<◌, true, false, cond, Option, Some, refl, sym, ap, subst, ◌∙◌, arith, Box, is_some, Result, Ok, Err, OnOk, OnErr}
 use Rattle.splitter_tree.proofs.Common.{nat_tests, set_at, set_at-as_is, NodeRegisters, Node, out-Node, roll-Node, entries_in, registers_below, is_right, is_lacking, grown, fresh_registers}
 use Rattle.std.specs.Box.{with_value}
 use Rattle.splitter_tree.proofs.nodes.Ways.{IsFrom, way_right, way_left, on_way, parent_on_way}

@@ -1,4 +1,4 @@
-use Rattle.std.proofs.Common.{◌≤◌, ◌<◌, ◌*◌, ◌^◌, ◌∙◌, sym}
+use Rattle.std.proofs.Common.{◌∙◌, sym}
 use Rattle.splitter_tree.specs.TreeSteps.{value_of}
 use Rattle.splitter_tree.proofs.nodes.Roots.{after_zero, after_growth, after_refusal, after_change}
 use Rattle.splitter_tree.proofs.nodes.Steps.{on_ok, on_err}
