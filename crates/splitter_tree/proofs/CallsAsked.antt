@@ -1,12 +1,13 @@
 -- what the calls of a tree's world answer and leave, by what the participant has to do
 use Rattle.std.proofs.Common.{◌≡◌, ◌≢◌, ℕ, true, false, cond, List, Option, Some, None, Result, Ok, Err, OnErr, refl, sym, ap, ◌∙◌, option_map}
-use Rattle.std.proofs.lemmas.Option.{same_Some}
-use Rattle.splitter_tree.proofs.Common.{Refusal, NotBegun, Finished, NoMemory, Note, Participant, participant_of, program_of, Client, Task, Placing, Nothing, Storing, Collecting, NodeMap, TreeWorldState, tree_steps, may_refuse, client_steps, access_for, is_placing, is_collecting, place_told}
-use Rattle.splitter_tree.specs.Client.{view_told}
+use Rattle.std.proofs.lemmas.Option.{same_Some, none-some}
+use Rattle.splitter_tree.proofs.Common.{Refusal, NotBegun, AlreadyBegun, Finished, NoMemory, Note, Participant, participant_of, program_of, Client, Task, Placing, Nothing, Storing, Collecting, NodeMap, TreeWorldState, tree_steps, may_refuse, client_steps, access_for, is_placing, is_collecting, place_told, storing, collecting, done_unless, after_set}
+use Rattle.splitter_tree.specs.Client.{view_told, is_idle}
 use Rattle.splitter_tree.specs.declared.client.TreeReply.{TreeReply}
-use Rattle.splitter_tree.specs.TreeWorld.{place_answer, place_answer_by, after_placing, view_answer, view_answer_by, after_collecting}
+use Rattle.splitter_tree.specs.TreeWorld.{place_answer, place_answer_by, after_placing, view_answer, view_answer_by, after_collecting, asking_refusal, after_store, after_collect_begin}
+use Rattle.splitter_tree.proofs.StoreLemmas.{store_goes_well}
 use Rattle.step_memory.specs.Calls.{reply_of}
-use Rattle.step_memory.specs.World.{step_answer, after_step, may_refuse_by, may_refuse_step}
+use Rattle.step_memory.specs.World.{step_answer, after_step, may_refuse_by, may_refuse_step, set_answer, set_answer_by}
 use Rattle.step_memory.specs.Locality.{LookAlike}
 use Rattle.step_memory.proofs.LocalityLemmas.{answers_alike}
 
@@ -92,3 +93,44 @@ module _ {O X : Type 0} (shown : Note O → X) where
   pub kept_too : (P : Type 0) (result : Result (Note O) Refusal) → OnErr result P → reply_of shown result ≡ Err NoMemory → P
   kept_too P (Ok note) h e = absurd (cc)
   kept_too P (Err why) h e = h
+
+is_set : (c : Client) (o : Option (Participant Client)) → option_map (λ p. p.program) o ≡ Some c → set_answer_by o ≡ Ok tt
+is_set c None e = absurd (none-some c e)
+is_set c (Some p) e = refl
+
+module _ (w : TreeWorldState) (id : ℕ) where
+  -- a call that stores a value
+  pub record StoreCall (value : ℕ) (new : TreeWorldState) (reply : Result (Unit {0}) Refusal) : Type 0 where
+    pub answer : reply ≡ done_unless (asking_refusal w id)
+    pub state : new ≡ after_store tree_steps w id value
+    pub refused : OnErr reply (new ≡ w)
+
+  -- a call that begins a collect
+  pub record CollectCall (new : TreeWorldState) (reply : Result (Unit {0}) Refusal) : Type 0 where
+    pub answer : reply ≡ done_unless (asking_refusal w id)
+    pub state : new ≡ after_collect_begin w id
+
+  -- of nobody, of one who has something to do, and of one who has nothing
+  pub no_store_of_nobody : (value : ℕ) → program_of id w.participants ≡ None → StoreCall value w (Err NotBegun)
+  no_store_of_nobody value e = record { answer = rw e refl; state = rw e refl; refused = refl }
+
+  pub no_store_of_busy : (value : ℕ) (c : Client) → program_of id w.participants ≡ Some c → is_idle c.task ≡ false → StoreCall value w (Err AlreadyBegun)
+  no_store_of_busy value c e busy = record { answer = rw (e, busy) refl; state = rw (e, busy) refl; refused = refl }
+
+  pub no_begin_of_nobody : program_of id w.participants ≡ None → CollectCall w (Err NotBegun)
+  no_begin_of_nobody e = record { answer = rw e refl; state = rw e refl }
+
+  pub no_begin_of_busy : (c : Client) → program_of id w.participants ≡ Some c → is_idle c.task ≡ false → CollectCall w (Err AlreadyBegun)
+  no_begin_of_busy c e busy = record { answer = rw (e, busy) refl; state = rw (e, busy) refl }
+
+  pub begin_call : (c : Client) → program_of id w.participants ≡ Some c → is_idle c.task ≡ true → (new : TreeWorldState) (reply : Result (Unit {0}) Refusal) → reply ≡ set_answer w id → new ≡ after_set w id (collecting c) → CollectCall new reply
+  begin_call c e idle new reply is becomes = record { answer = is ∙ is_set c (participant_of id w.participants) e ∙ rw (e, idle) refl; state = becomes ∙ rw (e, idle) refl }
+
+  pub store_call : (value : ℕ) (c : Client) → program_of id w.participants ≡ Some c → is_idle c.task ≡ true → (v new : TreeWorldState) → v ≡ after_set w id (storing c value) →
+      (result : Result (Note TreeReply) Refusal) → (result ≢ Err NoMemory → result ≡ step_answer client_steps tree_steps v id) → (result ≢ Err NoMemory → new ≡ after_step client_steps tree_steps v id) →
+      (result ≡ Err NoMemory → may_refuse_step client_steps tree_steps v id ≡ true) → (reply : Result (Unit {0}) Refusal) → reply ≡ reply_of (λ (note : Note TreeReply). tt {0}) result → StoreCall value new reply
+  store_call value c e idle v new asked result answer after lacks reply is =
+      let never : (why : Refusal) → result ≡ Err why → ⊥ = λ why h. store_goes_well w v id value c (sym e) asked result why h answer lacks in
+      let told : reply_of (λ (note : Note TreeReply). tt {0}) result ≡ Ok tt = (elim result as (λ r. result ≡ r → reply_of (λ (note : Note TreeReply). tt {0}) r ≡ Ok tt) [ Ok note ↦ λ h. refl | Err why ↦ λ h. absurd (never why h) ]) refl in
+      let fine : reply ≡ Ok tt = is ∙ told in
+      record { answer = fine ∙ rw (e, idle) refl; state = after (never NoMemory) ∙ rw (asked, e, idle) refl; refused = rw fine tt }

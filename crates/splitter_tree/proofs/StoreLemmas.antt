@@ -46,3 +46,6 @@ local_store memory w v new id value c some e local = record {
       (write_spares (place_of c.walker) (record_of c value) r (λ k is. h k (ap (option_and_then (λ d. place_of d.walker)) (sym some) ∙ is)))
       ∙ ap (λ u. memory.register u.memory r) e;
 }
+
+pub unchanged_store : {S : Type 0} (memory : MemorySteps S TreeRegister TreeValue) (w : TreeState S) (id : ℕ) → IsLocalStore memory id w w
+unchanged_store memory w id = record { most = refl; others = λ q n. refl; registers = λ r h. refl }

@@ -139,9 +139,12 @@ impl<A: Allocator + Clone> TreeWorld<A> {
             return Err(Refusal::AlreadyBegun);
         }
         let client = client.storing(value);
-        self.world.set(id, client)?;
-        self.world.step(id)?;
-        Ok(())
+        // Whoever has begun may be set.
+        let _ = self.world.set(id, client);
+        match self.world.step(id) {
+            Ok(_) => Ok(()),
+            Err(refusal) => Err(refusal),
+        }
     }
 
     /// Begins a collect, which the next calls of `collect_step` make; this call makes no access. Refused where the
