@@ -107,20 +107,18 @@ impl<A: Allocator + Clone> Tree<A> {
         ensures no_memory { OnErr result (may_refuse self.old (next_access walker.old) ≡ true) }
     {
         match walker.visitor.next() {
-            Access::Read(register) => {
-                let Some(word) = self.word(register) else {
-                    return Ok(None);
-                };
-                Ok(Some(walker.resume_visit(Answer::Value(word))))
-            }
+            Access::Read(register) => match self.word(register) {
+                Some(word) => Ok(Some(walker.resume_visit(Answer::Value(word)))),
+                None => Ok(None),
+            },
             Access::Write(register, word) => {
                 let written = WrittenValue::Word(word);
-                write_from(&mut self.root, &self.alloc, register, written)?;
-                Ok(Some(walker.resume_visit(Answer::Done)))
+                match write_from(&mut self.root, &self.alloc, register, written) {
+                    Ok(()) => Ok(Some(walker.resume_visit(Answer::Done))),
+                    Err(refused) => Err(refused),
+                }
             }
-            Access::TestAndSet(_) => Ok(None),
-            Access::Clear(_) => Ok(None),
-            Access::Nothing => Ok(None),
+            Access::TestAndSet(_) | Access::Clear(_) | Access::Nothing => Ok(None),
         }
     }
 
@@ -140,9 +138,13 @@ impl<A: Allocator + Clone> Tree<A> {
         }
         let mark = TreeRegister::Mark(walker.place);
         let marked = WrittenValue::Word(MARKED);
-        write_from(&mut self.root, &self.alloc, mark, marked)?;
-        walker.is_marking = false;
-        Ok(Some(Note::Quiet))
+        match write_from(&mut self.root, &self.alloc, mark, marked) {
+            Ok(()) => {
+                walker.is_marking = false;
+                Ok(Some(Note::Quiet))
+            }
+            Err(refused) => Err(refused),
+        }
     }
 }
 

@@ -1,4 +1,3 @@
-use Rattle.std.proofs.Common.{◌≡◌}
 use Rattle.splitter_tree.proofs.TreeProved.{tree_law, tree_due, tree_nodes, tree_begins}
 use Rattle.splitter_tree.proofs.world.TreeWorld.begin.Goals as goal
 
