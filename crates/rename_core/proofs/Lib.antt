@@ -8,6 +8,7 @@ mod Alone
 mod AloneRuns
 mod Names
 pub mod NamedPlaces
+mod FreshWorlds
 pub mod AfterCalls
 pub mod PlacesLaw
 pub mod MostIn

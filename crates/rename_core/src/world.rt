@@ -4,7 +4,7 @@ ghost use Rattle.std.specs.Prelude.{◌≡◌, ◌≢◌, ◌<◌, ◌≤◌, �
 ghost use Rattle.step_memory.specs.Participant.{index_of, program_of, beginner};
 ghost use Rattle.step_memory.specs.World.{begin_refusal, done_unless};
 ghost use Rattle.step_memory.specs.Calls.Call.{Began, Stepped};
-ghost use Rattle.commands.specs.Config.{is_played_over};
+ghost use Rattle.commands.specs.Config.{is_played_over, most_in};
 ghost use Rattle.rename_core.specs.Locality.{IsLocal};
 ghost use Rattle.rename_core.specs.Machine.{renaming, IsFresh, MakesOwnAccess, IsName, IsOwnerOf, IsLastMoment};
 ghost use Rattle.step_memory.specs.Machine.{After, IsLawful, LeadsOn};
@@ -359,13 +359,46 @@ where
         if !config.world.is_played_over(W::world()) {
             return Err(Refusal::OutOfRange);
         }
-        let most = config.m as usize;
-        let places = W::empty(alloc.clone()?, most)?;
-        Ok(RenameWorld {
-            snap: SnapWorld::new(alloc.clone()?, places)?,
-            rounds: Vec::with_capacity(alloc, most)?,
-            hints: Hints::new(),
-            limit: config.limit,
-        })
+        Self::with_room(alloc, config.m as usize, config.limit)
+    }
+
+    /// A snapshot object over places for so many participants, in which nobody has begun. Refused where the room for them was.
+    fn empty_snap(alloc: A, most: usize) -> Result<SnapWorld<W, A>, Refusal>
+        requires some { 1 ≤ most }
+        requires few { most ≤ most_in W.world }
+        ensures made { IfOk result (λ s. s ≡ (fresh_world (W.empty_for most) most 0).snap) }
+        ensures no_memory { IfErr result (λ why. why ≡ Refusal.NoMemory) }
+    {
+        let Ok(other) = alloc.clone() else {
+            return Err(Refusal::NoMemory);
+        };
+        match W::empty(other, most) {
+            Ok(places) => SnapWorld::new(alloc, places),
+            Err(refusal) => Err(refusal),
+        }
+    }
+
+    /// A world for so many participants, in which nobody has begun. Refused where the room for them was.
+    fn with_room(alloc: A, most: usize, limit: u64) -> Result<Self, Refusal>
+        requires some { 1 ≤ most }
+        requires few { most ≤ most_in W.world }
+        ensures made { IfOk result (λ w. w ≡ fresh_world (W.empty_for most) most limit) }
+        ensures no_memory { IfErr result (λ why. why ≡ Refusal.NoMemory) }
+    {
+        let Ok(other) = alloc.clone() else {
+            return Err(Refusal::NoMemory);
+        };
+        let Ok(rounds) = Vec::with_capacity(other, most) else {
+            return Err(Refusal::NoMemory);
+        };
+        match Self::empty_snap(alloc, most) {
+            Ok(snap) => Ok(RenameWorld {
+                snap,
+                rounds,
+                hints: Hints::new(),
+                limit,
+            }),
+            Err(refusal) => Err(refusal),
+        }
     }
 }
