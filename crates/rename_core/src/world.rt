@@ -126,7 +126,10 @@ where
         ensures refused { OnErr result (self.new ≡ self.old) }
         ensures no_memory { result ≡ Err Refusal.NoMemory → LacksMemory ⟦<W as Known>⟧.places self.old id }
     {
-        let told = self.snap.step(id)?;
+        let told = match self.snap.step(id) {
+            Ok(told) => told,
+            Err(refusal) => return Err(refusal),
+        };
         Ok(follow(&mut self.snap, &mut self.rounds[at], told, self.limit, view))
     }
 

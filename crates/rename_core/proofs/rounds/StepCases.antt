@@ -1,11 +1,11 @@
 -- a step of a renaming world by cases on who takes it
-use Rattle.std.proofs.Common.{◌≡◌, true, false, ℕ, ◌+◌, [], ◌∷◌, ◌++◌, length, get_or, set, Option, Some, None, Ok, Err, refl, sym, ap, ◌∙◌, option_map, option_and_then, is_some}
-use Rattle.rename_core.proofs.Common.{Participant, Refusal, NotBegun, index_of, participant_of, program_of, identities, beginner, begin_refusal, done_unless, participant_of-push, set_at-same, let_in, Client, SnapReply, SnapState, beginner_at, Round, stage_refusal, followed, KnownPlaces, Wish, Nothing, Update, Scan}
+use Rattle.std.proofs.Common.{◌≡◌, ◌≢◌, Result, true, false, ℕ, ◌+◌, [], ◌∷◌, ◌++◌, length, get_or, set, Option, Some, None, Ok, Err, refl, sym, ap, ◌∙◌, option_map, option_and_then, is_some}
+use Rattle.rename_core.proofs.Common.{Participant, Refusal, NotBegun, NoMemory, index_of, participant_of, program_of, identities, beginner, begin_refusal, done_unless, participant_of-push, set_at-same, let_in, Client, SnapReply, SnapState, beginner_at, Round, stage_refusal, followed, KnownPlaces, Wish, Nothing, Update, Scan}
 use Rattle.step_memory.proofs.DistinctParticipants.{distinct_set, identities-push, identities-set}
 use Rattle.step_memory.proofs.Found.{Found, found, none-index_of, index_of-below}
 use Rattle.std.proofs.lemmas.List.{length-append, length-set, get_or_default}
 use Rattle.rename_core.specs.RenameState.{RenameState, HasRoom}
-use Rattle.rename_core.specs.RenameWorld.{after_wish, snap_step, snap_told, after_follow, begun_snap, has_place, refusal_by, step_refusal, answer_told, answer_open, answer_by, after_told, after_open, after_by, rename_answer, after_rename_step}
+use Rattle.rename_core.specs.RenameWorld.{after_wish, snap_step, snap_told, after_follow, begun_snap, has_place, refusal_by, step_refusal, answer_told, answer_open, answer_by, after_told, after_open, after_by, rename_answer, after_rename_step, may_lack, LacksMemory}
 use Rattle.rename_core.proofs.Large.{IsAsLarge, both_large, scan_large, update_large, snap_large}
 
 pub wish_large : {S U K : Type 0} (w : SnapState S U K) (p : ℕ) (wish : Wish) → IsAsLarge w (after_wish w p wish)
@@ -60,6 +60,15 @@ module _ {S U K : Type 0} (w : RenameState S U K) (p : ℕ) where
   pub refusal_at : (i : ℕ) (v : Participant Round) → Some i ≡ index_of p w.rounds → v ≡ get_or w.rounds i v → step_refusal w p ≡ stage_refusal v.program.stage
   refusal_at i v at is = refusal_here v (found p w.rounds i v at is).is
 
+pub same_err : {X : Type 0} (why other : Refusal) → ◌≡◌ {A = Result X Refusal} (Err why) (Err other) → why ≡ other
+same_err why other e = cc
+
+pub no_err : {X : Type 0} (x : X) (why : Refusal) → ◌≡◌ {A = Result X Refusal} (Ok x) (Err why) → ⊥
+no_err x why e = cc
+
+abbrev snap_err : Refusal → Result SnapReply Refusal
+snap_err why = Err why
+
 -- a step that is refused changes nothing
 module _ {S R V U K : Type 0} (W : KnownPlaces S R V U K) (w : RenameState S U K) (p : ℕ) (why : Refusal) where
   told_refused : (r : Round) (told : _) → answer_told W w p r told ≡ Err why → after_told W w p r told ≡ w
@@ -92,6 +101,17 @@ module _ {S R V U K : Type 0} (W : KnownPlaces S R V U K) (w : RenameState S U K
   -- the snapshot object refuses the step
   pub refused_answer : (why : Refusal) → step_refusal w p ≡ None → Err why ≡ snap_told W w p → Err why ≡ rename_answer W w p
   refused_answer = refused_answer_by (program_of p w.rounds)
+
+  -- all of such a step
+  pub record RefusedStep (why : Refusal) : Type 0 where
+    pub answer : why ≢ NoMemory → Err why ≡ rename_answer W w p
+    pub state : why ≢ NoMemory → w ≡ after_rename_step W w p
+    pub no_memory : why ≡ NoMemory → LacksMemory W w p
+
+  pub snap_refuses : (why : Refusal) → step_refusal w p ≡ None → (snap_err why ≢ snap_err NoMemory → snap_err why ≡ snap_told W w p) → (snap_err why ≡ snap_err NoMemory → may_lack W w p ≡ true) → RefusedStep why
+  snap_refuses why ready told lacks =
+      let answer : why ≢ NoMemory → Err why ≡ rename_answer W w p = λ goes. refused_answer why ready (told (λ e. goes (same_err why NoMemory e))) in
+      record { answer = answer; state = λ goes. sym (step_refused W w p why (sym (answer goes))); no_memory = λ e. (ready, lacks (ap snap_err e)) }
 
   -- as many take part after the step and what is asked for after it
   pub step_large : (wish : Wish) → IsAsLarge w.snap (after_wish (snap_step W w p) p wish)

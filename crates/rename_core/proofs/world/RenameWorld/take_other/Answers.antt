@@ -1,6 +1,6 @@
-use Rattle.std.proofs.Common.{arith, rules, ◌≡◌, ◌≢◌, Some, None, Ok, Err, sym, ap, ◌∙◌}
-use Rattle.rename_core.proofs.Common.{index_of, NoMemory, index_of-below, KnownPlaces, places_by, after_snap_step, Follow, outcome_with, RenameState, after_wish, snap_told, step_refusal, rename_answer, followed}
-use Rattle.rename_core.proofs.rounds.StepCases.{step_refused, refused_answer, followed_answer, followed_state, followed_room}
+use Rattle.std.proofs.Common.{arith, refl, ◌≡◌, Some, None, Ok, Err, ap, ◌∙◌}
+use Rattle.rename_core.proofs.Common.{index_of, NoMemory, index_of-below, KnownPlaces, places_by, after_snap_step, Follow, RenameState, after_wish, snap_told, step_refusal, followed}
+use Rattle.rename_core.proofs.rounds.StepCases.{snap_refuses, same_err, no_err, followed_answer, followed_state, followed_room}
 use Rattle.rename_core.proofs.world.RenameWorld.take_other.Given.{Over}
 use Rattle.rename_core.proofs.world.RenameWorld.take_other.Goals as goal
 use Rattle.rename_core.proofs.world.RenameWorld.take_other.Goals.{After-step, After-follow}
@@ -19,43 +19,40 @@ ready : (g : _) (c : After-step g) → step_refusal (before g c) c.args.id ≡ N
 ready g c = rw (← c.self.view_is) at c.requires.ready
 
 -- what was asked for
-asked : (g : _) (c : After-follow g) → c.follow.new.snap ≡ after_wish (after_snap_step (known g) c.self.inside.snap c.args.id) c.index_mut.result.now.identity (followed c.index_mut.result.now.program c.index_mut.result.now.identity c.in_ok-told.told c.self.inside.limit).wish
+asked : (g : _) (c : After-follow g) → c.follow.new.snap ≡ after_wish (after_snap_step (known g) c.self.inside.snap c.args.id) c.index_mut.result.now.identity (followed c.index_mut.result.now.program c.index_mut.result.now.identity c.in-Ok.told c.self.inside.limit).wish
 asked g c =
-    let stepped : c.step.new.self ≡ after_snap_step (known g) c.self.inside.snap c.args.id = c.in_ok-told.ensures.state (λ e. absurd (cc)) in
+    let stepped : c.step.new.self ≡ after_snap_step (known g) c.self.inside.snap c.args.id = c.in-Ok.ensures.state (no_err c.in-Ok.told NoMemory) in
     rw (← stepped) c.follow.ensures.asked
 
-pub returns-in_err-told : goal.returns-in_err-told
-returns-in_err-told g c =
-    let s = (goal.at.returns-in_err-told g c).After-step in
-    let why = c.in_err-told.field-0.0 in
-    let is : c.from_residual.result ≡ Err why = search rules in
-    let kept : c.step.new.self ≡ c.self.inside.snap = c.in_err-told.ensures.refused in
-    let told : c.from_residual.result ≢ Err NoMemory → Err why ≡ snap_told (known g) (before g s) c.args.id = λ goes. c.in_err-told.ensures.answer (λ e. let same : why ≡ NoMemory = cc in goes (is ∙ ap Err same)) in
-    let answer : c.from_residual.result ≢ Err NoMemory → Err why ≡ rename_answer (known g) (before g s) c.args.id = λ goes. refused_answer (known g) (before g s) c.args.id why (ready g s) (told goes) in
+pub returns-in-Err : goal.returns-in-Err
+returns-in-Err g c =
+    let s = (goal.at.returns-in-Err g c).After-step in
+    let kept : c.step.new.self ≡ c.self.inside.snap = c.in-Err.ensures.refused in
+    let h = snap_refuses (known g) (before g s) c.args.id c.in-Err.refusal (ready g s) c.in-Err.ensures.answer c.in-Err.ensures.no_memory in
     record {
-      answer = λ goes. ap (λ x. outcome_with x c.args.view.now) is ∙ rw (← c.self.view_is) (answer goes);
-      state = λ goes. rw (kept, ← c.self.view_is) (sym (step_refused (known g) (before g s) c.args.id why (sym (answer goes))));
-      refused = search rules;
-      no_memory = λ e. let same : why ≡ NoMemory = cc in rw (← c.self.view_is) (ready g s, c.in_err-told.ensures.no_memory (ap Err same));
+      answer = λ goes. rw (← c.self.view_is) (h.answer (λ e. goes (ap Err e)));
+      state = λ goes. rw (kept, ← c.self.view_is) (h.state (λ e. goes (ap Err e)));
+      refused = rw (kept, ← c.self.view_is) refl;
+      no_memory = λ e. rw (← c.self.view_is) (h.no_memory (same_err c.in-Err.refusal NoMemory e));
     }
 
 pub returns-clause-answer : goal.returns-clause-answer
 returns-clause-answer g c = λ _.
     let s = (goal.at.returns-clause-answer g c).After-step in
-    let k : Ok c.in_ok-told.told ≡ snap_told (known g) (before g s) c.args.id = c.in_ok-told.ensures.answer (λ e. absurd (cc)) in
-    rw (← c.self.view_is) (ap Ok c.follow.ensures.reply ∙ followed_answer (known g) (before g s) c.args.id c.args.at c.index_mut.result.now _ (there g s) c.index_mut.ensures.value c.in_ok-told.told (ready g s) k)
+    let k : Ok c.in-Ok.told ≡ snap_told (known g) (before g s) c.args.id = c.in-Ok.ensures.answer (no_err c.in-Ok.told NoMemory) in
+    rw (← c.self.view_is) (ap Ok c.follow.ensures.reply ∙ followed_answer (known g) (before g s) c.args.id c.args.at c.index_mut.result.now _ (there g s) c.index_mut.ensures.value c.in-Ok.told (ready g s) k)
 
 pub returns-clause-state : goal.returns-clause-state
 returns-clause-state g c = λ _.
     let s = (goal.at.returns-clause-state g c).After-step in
-    let k : Ok c.in_ok-told.told ≡ snap_told (known g) (before g s) c.args.id = c.in_ok-told.ensures.answer (λ e. absurd (cc)) in
-    rw (← c.self.view_is) (followed_state (known g) (before g s) c.args.id c.args.at c.index_mut.result.now _ (there g s) c.index_mut.ensures.value c.in_ok-told.told c.follow.new.snap c.follow.new.participant (ready g s) k
+    let k : Ok c.in-Ok.told ≡ snap_told (known g) (before g s) c.args.id = c.in-Ok.ensures.answer (no_err c.in-Ok.told NoMemory) in
+    rw (← c.self.view_is) (followed_state (known g) (before g s) c.args.id c.args.at c.index_mut.result.now _ (there g s) c.index_mut.ensures.value c.in-Ok.told c.follow.new.snap c.follow.new.participant (ready g s) k
     (asked g (goal.at.returns-clause-state g c).After-follow) c.follow.ensures.round)
 
 pub invariant_of-self-2 : goal.invariant_of-self-2
 invariant_of-self-2 g c =
     let s = (goal.at.invariant_of-self-2 g c).After-step in
-    let follow : Follow = followed c.index_mut.result.now.program c.index_mut.result.now.identity c.in_ok-told.told c.self.inside.limit in
+    let follow : Follow = followed c.index_mut.result.now.program c.index_mut.result.now.identity c.in-Ok.told c.self.inside.limit in
     followed_room (known g) (before g s) c.args.id c.args.at c.index_mut.result.now _ (there g s) c.index_mut.ensures.value _ follow.wish c.follow.new.snap c.follow.new.participant
     (asked g (goal.at.invariant_of-self-2 g c).After-follow) (ap (λ p. p.identity) c.follow.ensures.round) c.self.invariant
 
