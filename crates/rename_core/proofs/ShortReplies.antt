@@ -1,5 +1,5 @@
 -- outcomes of a few bytes, with a view beside them
-use Rattle.std.proofs.Common.{◌≡◌, ◌≢◌, ℕ, List, Result, Ok, Err, ap}
+use Rattle.std.proofs.Common.{◌≡◌, ◌≢◌, ℕ, List, Result, Ok, Err, OnErr, ap}
 use Rattle.rename_core.proofs.Common.{Refusal, outcome_with}
 use Rattle.rename_core.specs.declared.reply.Reply.{Reply}
 
@@ -11,3 +11,8 @@ refused_short (Err other) view why e = cc
 -- and takes none away
 pub accepted_short : (outcome : Result (Reply (Unit {0})) Refusal) (view : List (ℕ × ℕ)) (why : Refusal) → outcome_with outcome view ≢ Err why → outcome ≢ Err why
 accepted_short outcome view why goes = λ e. goes (ap (λ (x : Result (Reply (Unit {0})) Refusal). outcome_with x view) e)
+
+-- and what a refusal keeps is kept
+pub kept_short : (P : Type 0) (outcome : Result (Reply (Unit {0})) Refusal) (view : List (ℕ × ℕ)) → OnErr outcome P → OnErr (outcome_with outcome view) P
+kept_short P (Ok said) view h = tt
+kept_short P (Err why) view h = h
