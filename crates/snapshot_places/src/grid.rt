@@ -52,6 +52,15 @@ impl<A: Allocator + Clone> Grid<A> {
         if most < 1 || 16 < most {
             return Err(Refusal::OutOfRange);
         }
+        Self::with_room(alloc, most)
+    }
+
+    /// A grid that no one has entered. Refused where the room for it was.
+    fn with_room(alloc: A, most: usize) -> Result<Self, Refusal>
+        requires few { most ≤ 16 }
+        ensures empty { IfOk result (λ g. g ≡ fresh_grid most) }
+        ensures no_memory { IfErr result (λ why. why ≡ Refusal.NoMemory) }
+    {
         let Ok(other) = alloc.clone() else {
             return Err(Refusal::NoMemory);
         };

@@ -1,15 +1,23 @@
-use Rattle.std.proofs.Common.{◌≡◌, refl, arith}
-use Rattle.snapshot_places.specs.Grid.{segments_for}
-use Rattle.snapshot_places.proofs.GridContents.{empty_contents, contents-empty, fresh_is_empty}
+use Rattle.std.proofs.Common.{◌≡◌, ◌<◌, ◌≤◌, ℕ, IfOk, Result, Ok, Err, arith}
+use Rattle.step_memory.specs.declared.refusal.Refusal.{Refusal}
+use Rattle.snapshot_places.specs.Grid.{fresh_grid}
+use Rattle.snapshot_places.specs.GridState.{GridState}
+use Rattle.snapshot_places.specs.GridTies.{IsEmptyGrid}
+use Rattle.snapshot_places.proofs.GridContents.{fresh_is_empty}
 use Rattle.snapshot_places.proofs.grid.Grid.new.Goals as goal
 
-pub invariant_of-result : goal.invariant_of-result
-invariant_of-result g c = rw c.loop-i.invariant.0 (empty_contents c.loop-i._i)
+are_empty : (most : ℕ) → most ≤ 16 → (r : Result GridState Refusal) → IfOk r (λ g. g ≡ fresh_grid most) → IfOk r IsEmptyGrid
+are_empty most few (Ok g) is = rw is (fresh_is_empty most few)
+are_empty most few (Err why) is = tt
 
-pub returns-clause-empty : goal.returns-clause-empty
-returns-clause-empty g c =
-    let all : c.loop-i._i ≡ segments_for c.args.most = omega arith in
-    rw (c.in-Ok-new.ensures, c.loop-i.invariant.0, all, contents-empty (segments_for c.args.most)) refl
+never : (a b : ℕ) → a < b → b ≤ a → ⊥
+never a b h k = omega arith
 
-pub returns-clause-fresh : goal.returns-clause-fresh
-returns-clause-fresh g c = rw (returns-clause-empty g c) (fresh_is_empty c.args.most (omega arith))
+pub returns : goal.returns
+returns g c = record {
+  empty = c.with_room.ensures.empty;
+  fresh = are_empty c.args.most c.if-most-gt16.false c.with_room.result c.with_room.ensures.empty;
+  too_few = λ h. absurd (never c.args.most 1 h c.if-most-lt1.false);
+  too_many = λ h. absurd (never 16 c.args.most h c.if-most-gt16.false);
+  in_range = λ some few. c.with_room.ensures.no_memory;
+}
