@@ -3,10 +3,19 @@ use Rattle.std.specs.Prelude.{◌≡◌, ◌≢◌, ◌↔◌, ◌⊎◌, ℕ, �
 use Rattle.step_memory.specs.SetAt.{set_at}
 use Rattle.step_memory.specs.declared.access.Access.TheVariants.{Read, Write, Nothing}
 use Rattle.step_memory.specs.declared.access.Answer.{Answer}
+use Rattle.step_memory.specs.declared.note.Note.{Note}
 use Rattle.step_memory.specs.declared.note.Note.TheVariants.{Ended}
-use Rattle.step_memory.specs.Steps.{ProgramSteps, MemorySteps, ReadsOrWrites, answer_from}
+use Rattle.step_memory.specs.Steps.{ProgramSteps, MemorySteps, ReadsOrWrites, answer_from, answer_got}
 use Rattle.step_memory.specs.declared.record.Record.{Record}
 use Rattle.snapshot_core.specs.Walks.{WalkSteps}
+
+-- what a way says of its next step on a memory, and where it then stands
+module _ {S R V U : Type 0} (way : ProgramSteps U R V ℕ) (memory : MemorySteps S R V) where
+  abbrev pub way_note : U → S → Note ℕ
+  way_note u s = way.note u (answer_got way memory u s)
+
+  abbrev pub way_after : U → S → U
+  way_after u s = way.resumed u (answer_got way memory u s)
 
 -- what ties a memory of type S to the ways U of those who have begun, and to walks K over its segments
 pub record PlaceTies (S U K : Type 0) : Type 1 where

@@ -1,9 +1,8 @@
 //! What gives participants places.
 
 ghost use Rattle.std.specs.Prelude.{◌≡◌, ℕ, Option, None, IfSome, OnErr, true};
-ghost use Rattle.step_memory.specs.Steps.{answer_from};
 ghost use Rattle.step_memory.specs.Taken.{told_in};
-ghost use Rattle.snapshot_core.specs.Places.{PlaceTies, KnownPlaces, places_by, PlacesLaws};
+ghost use Rattle.snapshot_core.specs.Places.{PlaceTies, KnownPlaces, places_by, PlacesLaws, way_note, way_after};
 
 use crate::walk::SegmentWalk;
 use step_memory::{NoMemory, Note, Place, StepMemory, StepProgram};
@@ -54,8 +53,8 @@ pub trait Places: StepMemory {
     /// Takes the next step of a way where it stands, so that no value is copied, and gives what the way says. `None` where it
     /// did not, and an error where a growth was refused: then nothing has changed, and the step is still to be taken.
     fn walk_on(&mut self, _walker: &mut Self::Walker) -> Result<Option<Note<Place>>, NoMemory>
-        ensures note { IfSome (told_in result) (λ note. note ≡ Self.Walker.steps.note _walker.old (answer_from (Self.steps.register self.old) (Self.Walker.steps.next _walker.old))) }
-        ensures after { IfSome (told_in result) (λ _. _walker.new ≡ Self.Walker.steps.resumed _walker.old (answer_from (Self.steps.register self.old) (Self.Walker.steps.next _walker.old))) }
+        ensures note { IfSome (told_in result) (λ note. note ≡ way_note Self.Walker.steps Self.steps _walker.old self.old) }
+        ensures after { IfSome (told_in result) (λ _. _walker.new ≡ way_after Self.Walker.steps Self.steps _walker.old self.old) }
         ensures memory { IfSome (told_in result) (λ _. self.new ≡ Self.steps.after self.old (Self.Walker.steps.next _walker.old)) }
         ensures kept { told_in result ≡ None → _walker.new ≡ _walker.old }
         ensures memory_kept { told_in result ≡ None → self.new ≡ self.old }
