@@ -1,6 +1,6 @@
 -- the calls of a snapshot object
-use Rattle.std.proofs.Common.{◌≡◌, ◌≢◌, ℕ, true, false, cond, Option, Some, None, Result, Ok, Err, inl, inr, refl, sym, ap, ◌∙◌, option_map}
-use Rattle.snapshot_core.proofs.Common.{Pending, Note, Quiet, Read, Refusal, Finished, NoMemory, program_of, lacked_memory, reply_of, snapshot, Participant, Client, SnapReply, KnownPlaces, is_idle, scanning, updating, access_for, SnapCall, next, Began, Updated, Scanned, Stepped}
+use Rattle.std.proofs.Common.{◌≡◌, ◌≢◌, ℕ, true, false, cond, Option, Some, None, Result, Ok, Err, OnErr, inl, inr, refl, sym, ap, ◌∙◌, option_map}
+use Rattle.snapshot_core.proofs.Common.{Pending, Note, Quiet, Read, Refusal, NotBegun, Finished, NoMemory, program_of, lacked_memory, reply_of, snapshot, Participant, Client, SnapReply, KnownPlaces, is_idle, scanning, updating, access_for, SnapCall, next, Began, Updated, Scanned, Stepped}
 use Rattle.snapshot_core.specs.declared.client.Pending.TheVariants.{Nothing, Placing}
 use Rattle.step_memory.specs.World.{begin_refusal, begun_unless, done_unless, step_answer, after_step}
 use Rattle.step_memory.proofs.StepLemmas.{most_stepped, lacks_none, lacks_or_not}
@@ -64,6 +64,45 @@ module _ {S R V U K : Type 0} (t : KnownPlaces S R V U K) where
 
   pub busy_answer : (w : SnapState S U K) (id : ℕ) (c : Client U K) → Some c ≡ program_of id w.participants → is_idle c.pending ≡ false → snap_answer t w id ≡ reply_of told (step_answer (clients_over t) t.memory w id)
   busy_answer w id c h busy = let e = sym h in rw (e, busy) refl
+
+  -- a step that is answered so
+  pub record Step (w : SnapState S U K) (id : ℕ) (new : SnapState S U K) (reply : Result SnapReply Refusal) : Type 0 where
+    pub answer : reply ≢ Err NoMemory → reply ≡ snap_answer t w id
+    pub state : reply ≢ Err NoMemory → new ≡ after_snap_step t w id
+
+  pub no_step_of_nobody : (w : SnapState S U K) (id : ℕ) → program_of id w.participants ≡ None → Step w id w (Err NotBegun)
+  no_step_of_nobody w id e = record { answer = λ goes. rw e refl; state = λ goes. rw e refl }
+
+  pub no_step_of_idle : (w : SnapState S U K) (id : ℕ) (c : Client U K) → program_of id w.participants ≡ Some c → is_idle c.pending ≡ true → Step w id w (Err Finished)
+  no_step_of_idle w id c e idle = record { answer = λ goes. rw (e, idle) refl; state = λ goes. rw (e, idle) refl }
+
+  pub record BusyStep (w : SnapState S U K) (id : ℕ) (new : SnapState S U K) (reply : Result SnapReply Refusal) : Type 0 where
+    pub step : Step w id new reply
+    pub refused : OnErr reply (new ≡ w)
+    pub no_memory : reply ≡ Err NoMemory → may_lack_memory t w id ≡ true
+
+  refused_too : (P : Type 0) (result : Result (Note SnapReply) Refusal) → OnErr result P → OnErr (reply_of told result) P
+  refused_too P (Ok note) h = tt
+  refused_too P (Err why) h = h
+
+  lacked_too : (result : Result (Note SnapReply) Refusal) → reply_of told result ≡ Err NoMemory → result ≡ Err NoMemory
+  lacked_too (Ok note) h = absurd (cc)
+  lacked_too (Err why) h = cc
+
+  -- that of one who has something to do is a step of the world
+  pub busy_step : (w : SnapState S U K) (id : ℕ) (c : Client U K) → program_of id w.participants ≡ Some c → is_idle c.pending ≡ false → (new : SnapState S U K) (result : Result (Note SnapReply) Refusal) →
+      (result ≢ Err NoMemory → result ≡ step_answer (clients_over t) t.memory w id) → (result ≢ Err NoMemory → new ≡ after_step (clients_over t) t.memory w id) →
+      OnErr result (new ≡ w) → (result ≡ Err NoMemory → may_lack_memory t w id ≡ true) → (reply : Result SnapReply Refusal) → reply ≡ reply_of told result → BusyStep w id new reply
+  busy_step w id c e busy new result answer after kept lacks reply is =
+      let made : reply ≢ Err NoMemory → result ≢ Err NoMemory = λ goes h. goes (is ∙ ap (reply_of told) h) in
+      record {
+        step = record {
+          answer = λ goes. is ∙ ap (reply_of told) (answer (made goes)) ∙ sym (busy_answer w id c (sym e) busy);
+          state = λ goes. after (made goes) ∙ sym (busy_state w id c (sym e) busy);
+        };
+        refused = rw is (refused_too (new ≡ w) result kept);
+        no_memory = λ h. lacks (lacked_too result (sym is ∙ h));
+      }
 
   -- one whose next access is a read has something to do
   reads_busy : (c : Client U K) (pending : Pending) (r : R) → access_for t.walker t.place_of t.walks c pending ≡ Read r → is_idle pending ≡ false
