@@ -10,6 +10,14 @@ use Rattle.step_memory.specs.Locality.{LookAlike, StandAlike, ReadsNext, IsTaken
 use Rattle.step_memory.proofs.LocalityLemmas.{answers_alike, stand_alike}
 use Rattle.snapshot_core.specs.SnapWorld.{SnapState, beginner_at, after_snap_begin, scan_refusal, update_refusal, asked, after_scan, after_update, told, clients_over, snap_answer, snap_answer_by, after_snap_step, after_snap_by, may_lack_memory, StaysAlike}
 
+-- what was accepted was not refused for want of memory, and what a refusal keeps is kept
+pub no_lack : {X : Type 0} (x : X) → ◌≡◌ {A = Result X Refusal} (Ok x) (Err NoMemory) → ⊥
+no_lack x e = cc
+
+pub kept_at : {X : Type 0} (P : Type 0) (result : Result X Refusal) → OnErr result P → result ≡ Err NoMemory → P
+kept_at P (Ok x) h e = absurd (cc)
+kept_at P (Err why) h e = h
+
 module _ {S R V U K : Type 0} (t : KnownPlaces S R V U K) where
   most_asked : (w : SnapState S U K) (id : ℕ) (asking : Client U K → Client U K) (c : Option (Client U K)) (why : Option Refusal) → (asked w id asking c why).most ≡ w.most
   most_asked w id asking None why = refl
