@@ -1,11 +1,12 @@
 -- a step of a renaming world by cases on who takes it
-use Rattle.std.proofs.Common.{◌≡◌, ◌≢◌, Result, true, false, ℕ, ◌+◌, [], ◌∷◌, ◌++◌, length, get_or, set, Option, Some, None, Ok, Err, refl, sym, ap, ◌∙◌, option_map, option_and_then, is_some}
+use Rattle.std.proofs.Common.{◌≡◌, ◌≢◌, ◌<◌, Bool, List, arith, Result, true, false, ℕ, ◌+◌, [], ◌∷◌, ◌++◌, length, get_or, set, Option, Some, None, Ok, Err, refl, sym, ap, ◌∙◌, option_map, option_and_then, is_some}
 use Rattle.rename_core.proofs.Common.{Participant, Refusal, NotBegun, NoMemory, index_of, participant_of, program_of, identities, beginner, begin_refusal, done_unless, participant_of-push, set_at-same, let_in, Client, SnapReply, SnapState, beginner_at, Round, stage_refusal, followed, KnownPlaces, Wish, Nothing, Update, Scan}
 use Rattle.step_memory.proofs.DistinctParticipants.{distinct_set, identities-push, identities-set}
 use Rattle.step_memory.proofs.Found.{Found, found, none-index_of, index_of-below}
-use Rattle.std.proofs.lemmas.List.{length-append, length-set, get_or_default}
+use Rattle.std.proofs.lemmas.List.{length-map, length-append, length-set, get_or_default}
+use Rattle.rename_core.specs.Round.{first_wish, first_round}
 use Rattle.rename_core.specs.RenameState.{RenameState, HasRoom}
-use Rattle.rename_core.specs.RenameWorld.{after_wish, snap_step, snap_told, after_follow, begun_snap, has_place, refusal_by, step_refusal, answer_told, answer_open, answer_by, after_told, after_open, after_by, rename_answer, after_rename_step, may_lack, LacksMemory}
+use Rattle.rename_core.specs.RenameWorld.{after_wish, snap_step, snap_told, after_follow, begun_snap, has_place, after_rename_begin, refusal_by, step_refusal, answer_told, answer_open, answer_by, after_told, after_open, after_by, rename_answer, after_rename_step, may_lack, LacksMemory}
 use Rattle.rename_core.proofs.Large.{IsAsLarge, both_large, scan_large, update_large, snap_large}
 
 pub wish_large : {S U K : Type 0} (w : SnapState S U K) (p : ℕ) (wish : Wish) → IsAsLarge w (after_wish w p wish)
@@ -48,6 +49,19 @@ module _ {S R V U K : Type 0} (W : KnownPlaces S R V U K) (w : RenameState S U K
     | None ↦ λ _. refl
     | Some v ↦ λ e. absurd (let no : false ≡ true = sym (ap is_some (let_in w.snap p goes).absent) ∙ joined ∙ ap is_some e in cc)
   ] refl
+
+  -- it asks for what it can do, and its round is the last
+  pub begun_state : (placed : Bool) → placed ≡ has_place W w p → (snap : SnapState S U K) → snap ≡ after_wish (begun_snap W w p) p (first_wish placed) →
+      (rounds : List (Participant Round)) → rounds ≡ w.rounds ++ beginner p (first_round placed) ∷ [] → record { snap = snap; rounds = rounds; limit = w.limit } ≡ after_rename_begin W w p
+  begun_state placed is snap asked rounds pushed = rw (goes, asked, pushed, is) refl
+
+-- there is room for its round
+pub begun_fits : {S U K : Type 0} (snap : SnapState S U K) (p : ℕ) → begin_refusal snap p ≡ None → (capacity : ℕ) (rounds : List (Participant Round)) → HasRoom capacity snap rounds → length rounds < capacity
+begun_fits snap p goes capacity rounds old =
+    let free = (let_in snap p goes).room in
+    let known_in : length rounds ≡ length snap.participants = sym (length-map rounds (λ v. v.identity)) ∙ ap length old.2 ∙ length-map snap.participants (λ v. v.identity) in
+    let fits = old.0 in
+    omega (arith, free, known_in, fits)
 
 -- why a step is refused, by where the round stands among the rounds
 module _ {S U K : Type 0} (w : RenameState S U K) (p : ℕ) where

@@ -1,11 +1,12 @@
-use Rattle.std.proofs.Common.{arith, rules, ◌≡◌, ◌∷◌, ◌++◌, [], None, length, sym, ap, ◌∙◌, vec_capacity}
-use Rattle.rename_core.proofs.Common.{beginner, begin_refusal, after_wish, let_in, KnownPlaces, places_by}
+use Rattle.std.proofs.Common.{arith, ◌≡◌, ◌∷◌, ◌++◌, [], None, length, sym, ap, ◌∙◌, vec_capacity, is_some}
+use Rattle.rename_core.proofs.Common.{RenameState, has_place, beginner, begin_refusal, after_wish, let_in, KnownPlaces, places_by}
 use Rattle.std.proofs.lemmas.List.{length-append, length-map}
 use Rattle.snapshot_core.specs.SnapWorld.{after_snap_begin}
 use Rattle.step_memory.proofs.DistinctParticipants.{absent_alike, distinct_push, identities-push}
-use Rattle.rename_core.proofs.rounds.StepCases.{was_begun, begun_large}
+use Rattle.rename_core.proofs.rounds.StepCases.{was_begun, begun_large, begun_state, begun_fits}
 use Rattle.rename_core.proofs.world.RenameWorld.take_begin.Given.{Over}
 use Rattle.rename_core.proofs.world.RenameWorld.take_begin.Goals as goal
+use Rattle.rename_core.proofs.world.RenameWorld.take_begin.Goals.{After-push_reserved}
 
 abbrev pub known : (g : Over) → KnownPlaces g.row.W.Denot g.row.W-Reg.Denot g.row.W-Value.Denot g.row.W-Walker.Denot g.row.W-Walk.Denot
 known g = places_by g.W.Walker.StepProgram.steps g.W.Walker.PlaceWalker.place_of g.W.Walk.SegmentWalk.walks g.W.StepMemory.steps g.W.Places.most_of g.W.Places.walker_from g.W.Places.walk_from g.W.Places.ties
@@ -30,5 +31,26 @@ invariant_of-self-2 g c =
     let distinct = distinct_push c.self.inside.rounds.items new absent old.4 in
     rw (asked, items) (rw (most, room) old.0, rw most old.1, same, rw (most, size) (omega (arith, free, known_in)), distinct)
 
+-- the world before, as it is kept
+abbrev before : (g : _) (c : After-push_reserved g) → RenameState g.row.W.Denot g.row.W-Walker.Denot g.row.W-Walk.Denot
+before g c = record { snap = c.self.inside.snap; rounds = c.self.inside.rounds.items; limit = c.self.inside.limit }
+
+pub returns-clause-answer : goal.returns-clause-answer
+returns-clause-answer g c = rw (← c.self.view_is) c.in_ok-begin.ensures.answer
+
 pub returns-clause-state : goal.returns-clause-state
-returns-clause-state g c = search rules
+returns-clause-state g c =
+    let w = before g (goal.at.returns-clause-state g c).After-push_reserved in
+    let goes : begin_refusal c.self.inside.snap c.args.id ≡ None = was_begun (begin_refusal c.self.inside.snap c.args.id) c.in_ok-begin.field-0 c.in_ok-begin.ensures.answer in
+    let state : c.begin.new.self ≡ after_snap_begin (known g) c.self.inside.snap c.args.id = c.in_ok-begin.ensures.state in
+    let placed : c.is_some-placed.result ≡ has_place (known g) w c.args.id = rw (← state) (c.is_some-placed.ensures ∙ ap is_some c.place_of.ensures.value) in
+    rw (← c.self.view_is)
+    (begun_state (known g) w c.args.id goes c.is_some-placed.result placed c.ask.new.snap (rw (← state, ← c.first.ensures) c.ask.ensures.state) c.push_reserved.new.self.items (rw (← c.first-2.ensures) c.push_reserved.ensures.items))
+
+pub returns-clause-no_access : goal.returns-clause-no_access
+returns-clause-no_access g c = c.ask.ensures.no_access ∙ c.in_ok-begin.ensures.no_access ∙ ap (λ w. w.snap.memory) c.self.view_is
+
+pub push_reserved-requires : goal.push_reserved-requires
+push_reserved-requires g c =
+    let goes : begin_refusal c.self.inside.snap c.args.id ≡ None = was_begun (begin_refusal c.self.inside.snap c.args.id) c.in_ok-begin.field-0 c.in_ok-begin.ensures.answer in
+    rw c.self.inside.rounds.ok.0 (begun_fits c.self.inside.snap c.args.id goes (vec_capacity c.self.inside.rounds) c.self.inside.rounds.items c.self.invariant)
