@@ -1,7 +1,7 @@
 -- what is asked of a participant, where that is refused and where it is not
 use Rattle.std.proofs.Common.{◌≡◌, ℕ, true, false, ◌<◌, ◌≤◌, Option, Some, None, option_map, Result, Err, Ok, refl, sym, ap, ◌∙◌}
 use Rattle.std.proofs.lemmas.Bool.{le-ltb, lt-ltb}
-use Rattle.std.proofs.lemmas.Option.{same_Some, none-some}
+use Rattle.std.proofs.lemmas.Option.{none-some}
 use Rattle.snapshot_core.proofs.Common.{Refusal, Spent, NotBegun, Participant, participant_of, program_of, Client, SnapState, is_idle, scanning, updating, after_scan, after_update, scan_refusal, update_refusal, scan_refusal_by, update_refusal_by}
 use Rattle.step_memory.specs.declared.refusal.Refusal.TheVariants.{AlreadyBegun}
 use Rattle.step_memory.specs.World.{set_answer, set_answer_by, after_asked, done_unless}
@@ -71,7 +71,3 @@ module _ {S U K : Type 0} (w : SnapState S U K) (id : ℕ) where
   update_asked value c e idle few new reply is becomes =
       let goes : update_refusal w id ≡ None = rw (e, idle, lt-ltb c.updates 1000000 few) refl in
       record { answer = is ∙ is_set c (participant_of id w.participants) e ∙ ap done_unless (sym goes); state = becomes ∙ rw (goes, e) refl; spares = rw (becomes, e) refl }
-
-  -- whom it may be asked
-  pub may_update : (c other : Client U K) → program_of id w.participants ≡ Some c → c.updates < 1000000 → program_of id w.participants ≡ Some other → other.updates < 1000000
-  may_update c other e few h = rw (← same_Some c other (sym e ∙ h)) few

@@ -2,7 +2,7 @@ use Rattle.std.proofs.Common.{◌≡◌, Some, None, refl, sym, ap, ◌∙◌, o
 use Rattle.snapshot_core.proofs.Common.{KnownPlaces, places_by, program_of}
 use Rattle.snapshot_core.proofs.Following.{law_holds}
 use Rattle.snapshot_core.proofs.SnapWorldLemmas.{updated_leads_on}
-use Rattle.snapshot_core.proofs.AskedLemmas.{no_update_of_nobody, no_update_of_busy, no_update_of_spent, update_asked, may_update}
+use Rattle.snapshot_core.proofs.AskedLemmas.{no_update_of_nobody, no_update_of_busy, no_update_of_spent, update_asked}
 use Rattle.snapshot_core.proofs.world.SnapWorld.update.Given.{Over}
 use Rattle.snapshot_core.proofs.world.SnapWorld.update.Goals as goal
 use Rattle.snapshot_core.proofs.world.SnapWorld.update.Goals.{In_default, After-is_idle}
@@ -51,9 +51,6 @@ returns-then-client-ge-MOST_UPDATES g c =
       after = updated_leads_on (known g) c.args.self.now c.args.self.now c.args.id c.args.value _ h.state h.answer;
       law = law_holds (known g) g.met.W.Places.laws c.args.self.now;
     }
-
-pub ask-requires : goal.ask-requires
-ask-requires g c κs = may_update c.self.inside.world c.args.id c.in-Some.client.now κs (sym c.program.ensures ∙ ap option_copied c.in-Some.is) c.if-client-ge-MOST_UPDATES.false
 
 pub returns : goal.returns
 returns g c =
