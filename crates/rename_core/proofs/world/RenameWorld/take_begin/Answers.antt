@@ -1,4 +1,4 @@
-use Rattle.std.proofs.Common.{arith, ◌≡◌, ◌∷◌, ◌++◌, [], None, length, sym, ap, ◌∙◌, vec_capacity, is_some}
+use Rattle.std.proofs.Common.{arith, rules, ◌≡◌, ◌∷◌, ◌++◌, [], None, length, sym, ap, ◌∙◌, vec_capacity, is_some}
 use Rattle.rename_core.proofs.Common.{RenameState, has_place, beginner, begin_refusal, after_wish, let_in, KnownPlaces, places_by}
 use Rattle.std.proofs.lemmas.List.{length-append, length-map}
 use Rattle.snapshot_core.specs.SnapWorld.{after_snap_begin}
@@ -45,7 +45,7 @@ returns-clause-state g c =
     let state : c.begin.new.self ≡ after_snap_begin (known g) c.self.inside.snap c.args.id = c.in_ok-begin.ensures.state in
     let placed : c.is_some-placed.result ≡ has_place (known g) w c.args.id = rw (← state) (c.is_some-placed.ensures ∙ ap is_some c.place_of.ensures.value) in
     rw (← c.self.view_is)
-    (begun_state (known g) w c.args.id goes c.is_some-placed.result placed c.ask.new.snap (rw (← state, ← c.first.ensures) c.ask.ensures.state) c.push_reserved.new.self.items (rw (← c.first-2.ensures) c.push_reserved.ensures.items))
+    (begun_state (known g) w c.args.id goes c.is_some-placed.result placed c.ask.new.snap (rw (← state, ← c.first.ensures) c.ask.ensures.state) c.push_reserved.new.self.items (search rules))
 
 pub returns-clause-no_access : goal.returns-clause-no_access
 returns-clause-no_access g c = c.ask.ensures.no_access ∙ c.in_ok-begin.ensures.no_access ∙ ap (λ w. w.snap.memory) c.self.view_is
