@@ -1,6 +1,7 @@
 //! A desk over places of one kind.
 
-ghost use Rattle.std.specs.Prelude.{◌≡◌, ◌⊎◌, ◌↔◌, IfOk, IfErr, Err, false};
+ghost use Rattle.std.specs.Prelude.{◌≡◌, ◌≤◌, ◌⊎◌, ◌↔◌, IfOk, IfErr, Err, false, replicate};
+ghost use Rattle.bit_allocator.specs.Pool.{fresh_pool};
 ghost use Rattle.desk.specs.Desk.{owner_over};
 ghost use Rattle.desk.specs.DeskRules.{fresh_over, rules_over, refusal_over};
 ghost use Rattle.desk.specs.Coming.{next_over};
@@ -35,6 +36,18 @@ impl<W: RenamePlaces<A>, A: Allocator> Model for DeskOver<W, A> {
     ghost view = { λ d. record { names = d.names; slots = d.slots } };
 }
 
+// Slots over a pool of so many numbers, each of which holds 0.
+fn zero_slots<A: Allocator + Clone>(alloc: A, size: u64) -> Result<Slots<u64, A>, Refusal>
+    requires some { 1 ≤ size }
+    requires few { size ≤ 64 }
+    ensures made { IfOk result (λ s. s ≡ record { pool = fresh_pool size; values = replicate size 0 }) }
+    ensures no_memory { IfErr result (λ why. why ≡ Refusal.NoMemory) }
+{
+    let pool = Pool::new(alloc.clone()?, size)?;
+    let values = Vec::from_elem(alloc, 0u64, size as usize)?;
+    Ok(Slots::new(pool, values)?)
+}
+
 impl<W: RenamePlaces<A> + Drop, A: Allocator + Clone> DeskOver<W, A>
 where
     W::Walker: Copy,
@@ -52,9 +65,7 @@ where
             return Err(Refusal::OutOfRange);
         }
         let names = RenameWorld::new(alloc.clone()?, config)?;
-        let pool = Pool::new(alloc.clone()?, config.k)?;
-        let values = Vec::from_elem(alloc, 0u64, config.k as usize)?;
-        let slots = Slots::new(pool, values)?;
+        let slots = zero_slots(alloc, config.k)?;
         Ok(DeskOver { names, slots })
     }
 }
