@@ -5,6 +5,7 @@ ghost use Rattle.std.specs.Io.KnownBytes.{Appends};
 ghost use Rattle.commands.specs.declared.config.Config.{Config};
 ghost use Rattle.commands.specs.declared.exchange.Exchange.{Exchange};
 ghost use Rattle.commands.specs.Config.{gives_names};
+ghost use Rattle.desk.specs.Desk.{IsFreshDesk};
 ghost use Rattle.drawn_schedules.specs.Schedule.{begins_from, steps_drawn};
 ghost use Rattle.drawn_schedules.specs.Runs.{AreTold, HasDrawn, HasDrawnPart, IsDrawnRun, IsToldOf, PlaysFrom, numbers_line};
 ghost use Rattle.drawn_schedules.specs.Tally.{IsTallyOf};
@@ -101,6 +102,26 @@ fn take_steps<A: Allocator + Clone>(
     Ok(())
 }
 
+/// Plays the schedule of a seed on a desk that is fresh. A function of its own, since a desk is taken apart at each way out of what owns it.
+fn play_on<A: Allocator + Clone>(
+    desk: &mut Desk<A>,
+    seed: u64,
+    ids: u64,
+    n: u64,
+) -> Result<Tally, Fault>
+    requires some { 1 ≤ ids }
+    requires few { ids ≤ 64 }
+    requires steps { n + 64 < 2 ^ 64 }
+    ensures drawn { (config : Config) → IsFreshDesk config desk.old →
+        IfOk result (λ t. (r : List Exchange) × IsDrawnRun config seed ids n r × IsTallyOf r t) }
+    ensures only { IfErr result (λ fault. fault ≡ Fault.Memory) }
+{
+    let mut tally = Tally::new();
+    take_begins(desk, ids, &mut tally)?;
+    take_steps(desk, generator(seed), ids, n, &mut tally)?;
+    Ok(tally)
+}
+
 /// Plays the schedule of a seed on a fresh desk in this memory.
 fn play_one<A: Allocator + Clone>(
     alloc: A,
@@ -119,10 +140,7 @@ fn play_one<A: Allocator + Clone>(
     let Ok(mut desk) = Desk::new(alloc, config) else {
         return Err(Fault::Memory);
     };
-    let mut tally = Tally::new();
-    take_begins(&mut desk, ids, &mut tally)?;
-    take_steps(&mut desk, generator(seed), ids, n, &mut tally)?;
-    Ok(tally)
+    play_on(&mut desk, seed, ids, n)
 }
 
 /// As `play_one`, in an arena, which is reset after it.

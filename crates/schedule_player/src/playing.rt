@@ -44,19 +44,31 @@ pub fn play<A: Allocator + Clone, R: Source, W: Sink>(
         (reading R.remaining R.calls R.failed reader.old reader.new) (writing W.contents W.failed writer.old writer.new) result }
 {
     match config.world {
-        WorldKind::Splitter => {
-            let mut world = opened::<SplitterWorld<A>, Unshared, A>(&alloc, config)?;
-            play_in(alloc, &Unshared, &mut world, config, reader, writer)
-        }
-        WorldKind::Grid => {
-            let mut world = opened::<GridWorld<A>, Unshared, A>(&alloc, config)?;
-            play_in(alloc, &Unshared, &mut world, config, reader, writer)
-        }
-        WorldKind::Rename | WorldKind::Tree => {
-            let mut world = opened::<Desk<A>, Unshared, A>(&alloc, config)?;
-            play_in(alloc, &Unshared, &mut world, config, reader, writer)
-        }
+        WorldKind::Splitter => play_fresh::<SplitterWorld<A>, A, R, W>(
+            alloc, reader, writer, config,
+        ),
+        WorldKind::Grid => play_fresh::<GridWorld<A>, A, R, W>(alloc, reader, writer, config),
+        WorldKind::Rename | WorldKind::Tree => play_fresh::<Desk<A>, A, R, W>(
+            alloc, reader, writer, config,
+        ),
     }
+}
+
+// Plays in a fresh world of a type. Of whatever type, so that no world is taken apart here.
+fn play_fresh<D: World<A, Unshared> + Drop, A: Allocator + Clone, R: Source, W: Sink>(
+    alloc: A,
+    reader: &mut R,
+    writer: &mut W,
+    config: Config,
+) -> Result<Summary, Fault>
+    requires serves { D.serves config.world ≡ true }
+    requires reads { R.calls reader.old < 2 ^ 64 }
+    requires writes { W.calls writer.old < 2 ^ 64 }
+    ensures { IsPlayedIn (IsTalkOf (D.IsRunIn config) config.m (D.fresh config) D.may) config.world
+        (reading R.remaining R.calls R.failed reader.old reader.new) (writing W.contents W.failed writer.old writer.new) result }
+{
+    let mut world = opened::<D, Unshared, A>(&alloc, config)?;
+    play_in(alloc, &Unshared, &mut world, config, reader, writer)
 }
 
 /// As `play`, said once for whatever world the config has, by which all above the player goes.

@@ -1,7 +1,4 @@
-use Rattle.drawn_schedules.proofs.RunLemmas.{whole_run}
 use Rattle.drawn_schedules.proofs.runs.play_one.Goals as goal
 
 pub returns-clause-drawn : goal.returns-clause-drawn
-returns-clause-drawn g c =
-    whole_run c.args.config c.args.seed c.args.ids c.args.n c.in-Ok.desk c.take_begins.new.desk c.take_steps.new.desk c.new-tally.result c.take_begins.new.tally c.take_steps.new.tally
-    c.in-Ok.ensures.fresh c.new-tally.ensures c.in_ok-take_begins.ensures.on (rw c.generator.ensures at c.in_ok-take_steps.ensures.on)
+returns-clause-drawn g c = c.play_on.ensures.drawn c.args.config c.in-Ok.ensures.fresh
