@@ -28,5 +28,8 @@ pub fn record<A: Allocator + Clone, R: Source, W: Sink>(
     ensures { IsRecorded config (reading R.remaining R.calls R.failed reader.old reader.new) (writing W.contents W.failed writer.old writer.new) result }
 {
     let mut world = opened::<Desk<A>, Unshared, A>(&alloc, config)?;
-    record_on(alloc, &Unshared, &mut world, config, reader, writer)
+    let recorded = record_on(alloc, &Unshared, &mut world, config, reader, writer);
+    // by a call, since it is taken apart wherever it is let go without one
+    drop(world);
+    recorded
 }

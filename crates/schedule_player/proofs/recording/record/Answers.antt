@@ -12,5 +12,5 @@ returns-in_err-world g c =
 
 pub returns : goal.returns
 returns g c =
-    recorded c.args.config (reading g.R.Read.remaining g.R.Source.calls g.R.Source.failed c.args.reader.now c.record_on.new.reader) (writing g.W.Write.contents g.W.Sink.failed c.args.writer.now c.record_on.new.writer)
-    c.requires.names _ c.record_on.new.world c.in_ok-world.ensures.fresh c.record_on.result c.record_on.ensures.recorded
+    recorded c.args.config (reading g.R.Read.remaining g.R.Source.calls g.R.Source.failed c.args.reader.now c.record_on-recorded.new.reader) (writing g.W.Write.contents g.W.Sink.failed c.args.writer.now c.record_on-recorded.new.writer)
+    c.requires.names _ c.record_on-recorded.new.world c.in_ok-world.ensures.fresh c.record_on-recorded.result c.record_on-recorded.ensures.recorded
