@@ -72,7 +72,6 @@ fn play_fresh<D: World<A, Unshared> + Drop, A: Allocator + Clone, R: Source, W: 
 }
 
 /// As `play`, said once for whatever world the config has, by which all above the player goes.
-#[tactic(auto, using(crate::specs::IsTalkProofs::played_by_kind))]
 pub fn play_any<A: Allocator + Clone, R: Source, W: Sink>(
     alloc: A,
     reader: &mut R,
