@@ -197,3 +197,11 @@ all_sorted h new old s = (
 -- the desk is the same where the renaming is and the copies are
 pub same_desk : (h new : HallState) (old copy : SlotsCopy) → HasRenaming h new → IsCopied h old → IsCopied new copy → slots_in old ≡ slots_in copy → desk_of new ≡ desk_of h
 same_desk h new old copy same a b is = one_desk (desk_of new) (desk_of h) same.names (sym b ∙ sym is ∙ a)
+
+-- a hall that has all of renaming, and was led to where the old pool and slots stand, has the renaming and the desk of the old one
+pub led_there : (h : HallState) (new later : Rebuilding) (old : SlotsCopy) → IsSorted h (length h.history) new old → GoesOn new later →
+    HasRenaming h later.hall × (slots_in old ≡ slots_in later.slots → desk_of later.hall ≡ desk_of h)
+led_there h new later old is led =
+    let sorted = all_sorted h new old is in
+    let renaming = renaming_along h new.hall later.hall sorted.0 led.same in
+    (renaming, same_desk h later.hall old later.slots renaming sorted.2 (led.copied sorted.1))
