@@ -62,8 +62,12 @@ impl Hall {
         ensures out_of_range { result ≡ Err Refusal.OutOfRange ↔ (gives_names config.world ≡ false) }
         ensures only { IfErr result (λ why. (why ≡ Refusal.NoMemory) ⊎ (why ≡ Refusal.OutOfRange)) }
     {
-        let desk = Desk::new(alloc, config)?;
+        if !config.world.gives_names() {
+            return Err(Refusal::OutOfRange);
+        }
+        // The desk last, since it is taken apart at each way out behind it.
         let history = Log::new(alloc)?;
+        let desk = Desk::new(alloc, config)?;
         Ok(Hall {
             config,
             held: Held { desk },
