@@ -1,6 +1,6 @@
 //! Threads that enter at once.
 
-ghost use Rattle.std.specs.Prelude.{◌≡◌};
+ghost use Rattle.std.specs.Prelude.{◌≡◌, IfSome};
 
 use std::alloc::Global;
 use std::test::Fail;
@@ -81,11 +81,20 @@ fn a_few_threads_have_the_first_places(rt: HostRuntime) {
     }
 }
 
+/// Two seats of a grid, where there are two.
+fn two_seats(grid: &WordGrid<Global>, dealer: &mut Dealer) -> Option<(FreshSeat, FreshSeat)>
+    requires ours { dealer.old.grid ≡ grid.now }
+    ensures ours { IfSome result (λ seats. (seats.0.grid ≡ grid.now) × (seats.1.grid ≡ grid.now)) }
+{
+    let first = grid.deal(dealer)?;
+    let second = grid.deal(dealer)?;
+    Some((first, second))
+}
+
 /// The places of two threads that enter at once, and then meet.
 fn meet<R: Threads + Sync>(rt: &R, alloc: Global) -> Option<(Place, Place)> {
     let (grid, mut dealer) = WordGrid::new(alloc, 2).ok()?;
-    let first = grid.deal(&mut dealer)?;
-    let second = grid.deal(&mut dealer)?;
+    let (first, second) = two_seats(&grid, &mut dealer)?;
     let shared = &grid;
     let (mut one, mut other) = join(
         rt,

@@ -3,7 +3,7 @@
 ghost use Rattle.std.specs.Prelude.{◌≡◌};
 
 use crate::common::same;
-use crate::word_pool_tests::SIZES;
+use crate::word_pool_tests::{SIZES, marks_of};
 use std::alloc::Global;
 use std::sync::atomic::AtomicU64;
 use std::sync::atomic::Ordering::SeqCst;
@@ -116,6 +116,22 @@ fn stayers_of<'a>(
     Some(stayers)
 }
 
+/// What so many threads saw that stayed at once in a line; none where there are fewer tickets or no memory.
+fn seen_at_once<R: Threads + Sync>(
+    rt: &R,
+    alloc: Global,
+    line: &LinePool<Global>,
+    tickets: &mut Tickets,
+    threads: usize,
+) -> Option<Vec<Stays, Global>>
+    requires ours { tickets.old.table ≡ line.now.table }
+    ensures ours { tickets.new.table ≡ line.now.table }
+{
+    let marks = marks_of(alloc, line.numbers())?;
+    let stayers = stayers_of(alloc, line, tickets, marks.as_slice(), threads)?;
+    thread::map_vec(rt, stayers, &|stayer| stay_often(stayer)).ok()
+}
+
 /// What so many threads saw that stayed at once in a line of so many numbers, and the line's words when all had ended; none
 /// where there are fewer tickets or no memory.
 fn stay_at_once<R: Threads + Sync>(
@@ -125,12 +141,7 @@ fn stay_at_once<R: Threads + Sync>(
     threads: usize,
 ) -> Option<(Vec<Stays, Global>, Vec<u64, Global>)> {
     let (line, mut tickets) = LinePool::new(alloc, numbers).ok()?;
-    let mut marks = Vec::new(alloc);
-    for _ in 0..=numbers {
-        marks.push(AtomicU64::new(0)).ok()?;
-    }
-    let stayers = stayers_of(alloc, &line, &mut tickets, marks.as_slice(), threads)?;
-    let seen = thread::map_vec(rt, stayers, &|stayer| stay_often(stayer)).ok()?;
+    let seen = seen_at_once(rt, alloc, &line, &mut tickets, threads)?;
     let words = line.close(alloc, tickets, Vec::new(alloc)).ok()?;
     Some((seen, words))
 }

@@ -124,6 +124,15 @@ fn clashes(pool: &WordPool<Global>, marks: &[AtomicU64], near: bool) -> u64 {
     clashes
 }
 
+/// A mark for each number up to this one; none where there is no memory.
+pub fn marks_of(alloc: Global, numbers: u64) -> Option<Vec<AtomicU64, Global>> {
+    let mut marks = Vec::new(alloc);
+    for _ in 0..=numbers {
+        marks.push(AtomicU64::new(0)).ok()?;
+    }
+    Some(marks)
+}
+
 /// How often threads that stayed at once in a pool of so many numbers found their numbers in another's hands, and the pool's
 /// words when all had ended; none where memory was refused.
 fn stay_at_once<R: Threads + Sync>(
@@ -134,10 +143,7 @@ fn stay_at_once<R: Threads + Sync>(
     near: bool,
 ) -> Option<(Vec<u64, Global>, Vec<u64, Global>)> {
     let pool = WordPool::new(alloc, numbers).ok()?;
-    let mut marks = Vec::new(alloc);
-    for _ in 0..=numbers {
-        marks.push(AtomicU64::new(0)).ok()?;
-    }
+    let marks = marks_of(alloc, numbers)?;
     let (shared, seen) = (&pool, marks.as_slice());
     let clashes = thread::map_indices(rt, alloc, threads, &|_| clashes(shared, seen, near)).ok()?;
     let (words, _) = pool.close(alloc, Vec::new(alloc)).ok()?;
