@@ -2,7 +2,8 @@
 //!
 //! A drawn schedule is that the identities from 1 begin, and then so many steps, each of the identity that the next word of the
 //! generator `Lcg64Xsh32` gives. `draw` writes its lines. `play_drawn` plays the schedules of consecutive seeds, each on a fresh
-//! desk, and writes a line for each run: how many have begun, were named and were spent.
+//! desk, and writes a line for each run: how many have begun, were named and were spent. `play_drawn_by` does so with the runs shared among
+//! threads: its contract is that of `play_drawn`, and how many threads there were, and that they ran at once, no clause says.
 //!
 //! What is proved: `draw` writes exactly the text of the generator's words (`ok`; `part` at a fault); each line of `play_drawn`
 //! gives the three numbers of a run of its schedule, which is the one that the config's desk makes where no growth is
@@ -18,10 +19,12 @@
 //! ```
 #![tactic(auto)]
 
+pub mod jobs;
 pub mod runs;
 pub mod schedule;
 pub mod tally;
 
-pub use runs::{play_drawn, play_share, write_tallies};
+pub use jobs::play_drawn_by;
+pub use runs::play_drawn;
 pub use schedule::draw;
 pub use tally::Tally;

@@ -222,7 +222,7 @@ pub fn play_drawn<A: Allocator + Clone, W: Sink>(
 
 /// Plays drawn schedules as `play_drawn` does, from that of number `first` on, one for each of these places, and puts the numbers of
 /// each into its own; none where memory was refused. Runs do not depend on each other, so that many can share them.
-pub fn play_share<A: Allocator + Clone>(
+pub(crate) fn play_share<A: Allocator + Clone>(
     alloc: A,
     seed: u64,
     ids: u64,
@@ -249,7 +249,7 @@ pub fn play_share<A: Allocator + Clone>(
 ///
 /// `Fault::Memory` where there are none of a run and no write failed, `Fault::Write` where the writer failed or took nothing: then a
 /// beginning of the lines is written.
-pub fn write_tallies<A: Allocator, W: Sink>(
+pub(crate) fn write_tallies<A: Allocator, W: Sink>(
     alloc: A,
     tallies: &[Option<Tally>],
     writer: &mut W,

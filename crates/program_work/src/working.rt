@@ -6,8 +6,7 @@ ghost use Rattle.program_work.specs.Done.{IsWorked, IsDrawnBy, IsPlayedBy, is_wo
 
 use crate::checking::check_for;
 use crate::migrating::migrate_for;
-use drawn_jobs::play_drawn_by;
-use drawn_schedules::draw;
+use drawn_schedules::{draw, play_drawn_by};
 use player::{Fault, Sink, Source};
 use program_args::{Ask, Drawing, Playing};
 use schedule_player::{play_any, record};

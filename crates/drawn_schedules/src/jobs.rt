@@ -6,8 +6,9 @@ ghost use Rattle.commands.specs.Config.{gives_names};
 ghost use Rattle.drawn_schedules.specs.Runs.{HasDrawn, HasDrawnPart, IsToldOf};
 ghost use Rattle.drawn_schedules.specs.declared.tally.Tally.{Tally};
 
+use crate::runs::{play_drawn, play_share, write_tallies};
+use crate::tally::Tally;
 use commands::Config;
-use drawn_schedules::{Tally, play_drawn, play_share, write_tallies};
 use player::{Fault, Sink};
 use std::alloc::Global;
 use std::thread;
