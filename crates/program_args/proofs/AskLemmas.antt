@@ -3,6 +3,8 @@ use Rattle.std.proofs.Common.{ap, sym, ◌≡◌, ◌⊎◌, ◌||◌, ◌∙◌
 use Rattle.std.proofs.Common.{Option, Some, None, option_map}
 use Rattle.program_args.proofs.Common.{same_Some, Ask, Drawing, Hosting, Playing, Serving, Showing, slotctl_app}
 use Rattle.std.specs.List.{list_any}
+use Rattle.std.specs.Str.{bytes_eq}
+use Rattle.std.proofs.lemmas.Slice.Eq.{bytes_eq-Decides}
 use Rattle.clap.specs.Words.{IsAmong, Kinds, Row}
 use Rattle.clap.specs.Faults.{is_simple_and_free}
 use Rattle.clap.specs.Simple.{is_simple}
@@ -12,7 +14,7 @@ use Rattle.clap.proofs.OnLiterals.{clap_on_literals}
 use Rattle.program_args.specs.declared.asked.Ask.TheVariants.{Play, Check, Migrate, Show, Draw, Serve, Host}
 use Rattle.program_args.specs.declared.misuse.Misuse.{Misuse}
 use Rattle.program_args.specs.declared.misuse.Misuse.TheVariants.{Help, Words, Memory}
-use Rattle.program_args.specs.Asked.{AsksFor, IsAsked, IsDrawingOf, IsHostingOf, IsPlayingOf, IsMisuse, IsMisuseOf, IsRefusal, IsServingOf, IsShowingOf, is_help, is_refusal}
+use Rattle.program_args.specs.Asked.{AsksFor, GiveAsked, IsAsked, IsDrawingOf, IsHostingOf, IsPlayingOf, IsMisuse, IsMisuseOf, IsRefusal, IsServingOf, IsShowingOf, is_help, is_refusal, subcommand_name}
 
 pub app_is_simple : is_simple slotctl_app ≡ true
 unfolding clap_on_literals
@@ -50,122 +52,65 @@ refused words kinds Memory is none never = tt
 refused words kinds (Help text) is none never = elim is [ ]
 refused words kinds (Words text) is none never = inr (none, never)
 
-other_name : codes "draw" ≡ codes "play" → ⊥
-other_name same = let first : 100 ≡ 112 = ap (λ l. get_or l 0 0) same in omega (arith, first)
+-- where one subcommand was met, what no subcommand of its name gives is not asked for
+pub nothing_met : {name : List ℕ} (rows : List Row) → ((a : Ask) → subcommand_name a ≡ name → GiveAsked rows a → ⊥) → (a : Ask) → IsAsked (Some (name, rows)) a → ⊥
+nothing_met {name} rows none a h =
+    let same = same_Some (name, rows) (subcommand_name a, h.0) h.1 in
+    none a (sym (ap (λ (p : List ℕ × List Row). p.0) same)) (subst (λ (r : List Row). GiveAsked r a) (sym (ap (λ (p : List ℕ × List Row). p.1) same)) h.2)
 
-check_is_not_play : codes "check" ≡ codes "play" → ⊥
-check_is_not_play same = let first : 99 ≡ 112 = ap (λ l. get_or l 0 0) same in omega (arith, first)
+-- names that differ are not one
+apart : (name other : List ℕ) → bytes_eq name other ≡ false → name ≡ other → ⊥
+apart name other differ same = let no : false ≡ true = sym differ ∙ (bytes_eq-Decides name other).1 same in cc
 
-serve_is_not_play : codes "serve" ≡ codes "play" → ⊥
-serve_is_not_play same = let first : 115 ≡ 112 = ap (λ l. get_or l 0 0) same in omega (arith, first)
+-- nothing of the name `play`, where its options give nothing
+pub nothing_played : (rows : List Row) → ((p : Playing) → IsPlayingOf rows p → ⊥) → (a : Ask) → subcommand_name a ≡ codes "play" → GiveAsked rows a → ⊥
+nothing_played rows none (Play p) same h = none p h
+nothing_played rows none Check same h = apart (codes "check") (codes "play") refl same
+nothing_played rows none Migrate same h = apart (codes "migrate") (codes "play") refl same
+nothing_played rows none (Show s) same h = apart (codes "show") (codes "play") refl same
+nothing_played rows none (Draw d) same h = apart (codes "draw") (codes "play") refl same
+nothing_played rows none (Serve s) same h = apart (codes "serve") (codes "play") refl same
+nothing_played rows none (Host x) same h = apart (codes "host") (codes "play") refl same
 
-serve_is_not_draw : codes "serve" ≡ codes "draw" → ⊥
-serve_is_not_draw same = let first : 115 ≡ 100 = ap (λ l. get_or l 0 0) same in omega (arith, first)
+-- nothing of the name `show`, where its options give nothing
+pub nothing_shown : (rows : List Row) → ((s : Showing) → IsShowingOf rows s → ⊥) → (a : Ask) → subcommand_name a ≡ codes "show" → GiveAsked rows a → ⊥
+nothing_shown rows none (Play p) same h = apart (codes "play") (codes "show") refl same
+nothing_shown rows none Check same h = apart (codes "check") (codes "show") refl same
+nothing_shown rows none Migrate same h = apart (codes "migrate") (codes "show") refl same
+nothing_shown rows none (Show s) same h = none s h
+nothing_shown rows none (Draw d) same h = apart (codes "draw") (codes "show") refl same
+nothing_shown rows none (Serve s) same h = apart (codes "serve") (codes "show") refl same
+nothing_shown rows none (Host x) same h = apart (codes "host") (codes "show") refl same
 
-check_is_not_draw : codes "check" ≡ codes "draw" → ⊥
-check_is_not_draw same = let first : 99 ≡ 100 = ap (λ l. get_or l 0 0) same in omega (arith, first)
+-- nothing of the name `draw`, where its options give nothing
+pub nothing_drawn : (rows : List Row) → ((d : Drawing) → IsDrawingOf rows d → ⊥) → (a : Ask) → subcommand_name a ≡ codes "draw" → GiveAsked rows a → ⊥
+nothing_drawn rows none (Play p) same h = apart (codes "play") (codes "draw") refl same
+nothing_drawn rows none Check same h = apart (codes "check") (codes "draw") refl same
+nothing_drawn rows none Migrate same h = apart (codes "migrate") (codes "draw") refl same
+nothing_drawn rows none (Show s) same h = apart (codes "show") (codes "draw") refl same
+nothing_drawn rows none (Draw d) same h = none d h
+nothing_drawn rows none (Serve s) same h = apart (codes "serve") (codes "draw") refl same
+nothing_drawn rows none (Host x) same h = apart (codes "host") (codes "draw") refl same
 
-serve_is_not_check : codes "serve" ≡ codes "check" → ⊥
-serve_is_not_check same = let first : 115 ≡ 99 = ap (λ l. get_or l 0 0) same in omega (arith, first)
+-- nothing of the name `serve`, where its options give nothing
+pub nothing_served : (rows : List Row) → ((s : Serving) → IsServingOf rows s → ⊥) → (a : Ask) → subcommand_name a ≡ codes "serve" → GiveAsked rows a → ⊥
+nothing_served rows none (Play p) same h = apart (codes "play") (codes "serve") refl same
+nothing_served rows none Check same h = apart (codes "check") (codes "serve") refl same
+nothing_served rows none Migrate same h = apart (codes "migrate") (codes "serve") refl same
+nothing_served rows none (Show s) same h = apart (codes "show") (codes "serve") refl same
+nothing_served rows none (Draw d) same h = apart (codes "draw") (codes "serve") refl same
+nothing_served rows none (Serve s) same h = none s h
+nothing_served rows none (Host x) same h = apart (codes "host") (codes "serve") refl same
 
-migrate_is_not_play : codes "migrate" ≡ codes "play" → ⊥
-migrate_is_not_play same = let first : 109 ≡ 112 = ap (λ l. get_or l 0 0) same in omega (arith, first)
-
-migrate_is_not_draw : codes "migrate" ≡ codes "draw" → ⊥
-migrate_is_not_draw same = let first : 109 ≡ 100 = ap (λ l. get_or l 0 0) same in omega (arith, first)
-
-serve_is_not_migrate : codes "serve" ≡ codes "migrate" → ⊥
-serve_is_not_migrate same = let first : 115 ≡ 109 = ap (λ l. get_or l 0 0) same in omega (arith, first)
-
-show_is_not_play : codes "show" ≡ codes "play" → ⊥
-show_is_not_play same = let first : 115 ≡ 112 = ap (λ l. get_or l 0 0) same in omega (arith, first)
-
-show_is_not_check : codes "show" ≡ codes "check" → ⊥
-show_is_not_check same = let first : 115 ≡ 99 = ap (λ l. get_or l 0 0) same in omega (arith, first)
-
-show_is_not_migrate : codes "show" ≡ codes "migrate" → ⊥
-show_is_not_migrate same = let first : 115 ≡ 109 = ap (λ l. get_or l 0 0) same in omega (arith, first)
-
-show_is_not_draw : codes "show" ≡ codes "draw" → ⊥
-show_is_not_draw same = let first : 115 ≡ 100 = ap (λ l. get_or l 0 0) same in omega (arith, first)
-
-serve_is_not_show : codes "serve" ≡ codes "show" → ⊥
-serve_is_not_show same = let second : 101 ≡ 104 = ap (λ l. get_or l 1 0) same in omega (arith, second)
-
-host_is_not_play : codes "host" ≡ codes "play" → ⊥
-host_is_not_play same = let first : 104 ≡ 112 = ap (λ l. get_or l 0 0) same in omega (arith, first)
-
-host_is_not_check : codes "host" ≡ codes "check" → ⊥
-host_is_not_check same = let first : 104 ≡ 99 = ap (λ l. get_or l 0 0) same in omega (arith, first)
-
-host_is_not_migrate : codes "host" ≡ codes "migrate" → ⊥
-host_is_not_migrate same = let first : 104 ≡ 109 = ap (λ l. get_or l 0 0) same in omega (arith, first)
-
-host_is_not_show : codes "host" ≡ codes "show" → ⊥
-host_is_not_show same = let first : 104 ≡ 115 = ap (λ l. get_or l 0 0) same in omega (arith, first)
-
-host_is_not_draw : codes "host" ≡ codes "draw" → ⊥
-host_is_not_draw same = let first : 104 ≡ 100 = ap (λ l. get_or l 0 0) same in omega (arith, first)
-
-host_is_not_serve : codes "host" ≡ codes "serve" → ⊥
-host_is_not_serve same = let first : 104 ≡ 115 = ap (λ l. get_or l 0 0) same in omega (arith, first)
-
--- a subcommand that was met with these rows is the one that was met
-met_name : (met : Option (List ℕ × List Row)) (a b : List ℕ) (rows others : List Row) → met ≡ Some (a, rows) → met ≡ Some (b, others) → a ≡ b
-met_name met a b rows others is that = ap (λ (p : List ℕ × List Row). p.0) (same_Some (a, rows) (b, others) (sym is ∙ that))
-
-met_rows : (met : Option (List ℕ × List Row)) (a b : List ℕ) (rows others : List Row) → met ≡ Some (a, rows) → met ≡ Some (b, others) → rows ≡ others
-met_rows met a b rows others is that = ap (λ (p : List ℕ × List Row). p.1) (same_Some (a, rows) (b, others) (sym is ∙ that))
-
--- where `play` was met and gives nothing, nothing is asked for
-pub nothing_played : (met : Option (List ℕ × List Row)) (rows : List Row) → met ≡ Some (codes "play", rows) → ((p : Playing) → IsPlayingOf rows p → ⊥) → (a : Ask) → IsAsked met a → ⊥
-nothing_played met rows is none (Play p) h = none p (subst (λ (r : List Row). IsPlayingOf r p) (sym (met_rows met (codes "play") (codes "play") rows h.0 is h.1)) h.2)
-nothing_played met rows is none Check h = check_is_not_play (sym (met_name met (codes "play") (codes "check") rows h.0 is h.1))
-nothing_played met rows is none Migrate h = migrate_is_not_play (sym (met_name met (codes "play") (codes "migrate") rows h.0 is h.1))
-nothing_played met rows is none (Show s) h = show_is_not_play (sym (met_name met (codes "play") (codes "show") rows h.0 is h.1))
-nothing_played met rows is none (Draw d) h = other_name (sym (met_name met (codes "play") (codes "draw") rows h.0 is h.1))
-nothing_played met rows is none (Serve s) h = serve_is_not_play (sym (met_name met (codes "play") (codes "serve") rows h.0 is h.1))
-nothing_played met rows is none (Host x) h = host_is_not_play (sym (met_name met (codes "play") (codes "host") rows h.0 is h.1))
-
--- where `draw` was met and gives nothing, nothing is asked for
-pub nothing_drawn : (met : Option (List ℕ × List Row)) (rows : List Row) → met ≡ Some (codes "draw", rows) → ((d : Drawing) → IsDrawingOf rows d → ⊥) → (a : Ask) → IsAsked met a → ⊥
-nothing_drawn met rows is none (Play playing) h = other_name (met_name met (codes "draw") (codes "play") rows h.0 is h.1)
-nothing_drawn met rows is none Check h = check_is_not_draw (sym (met_name met (codes "draw") (codes "check") rows h.0 is h.1))
-nothing_drawn met rows is none Migrate h = migrate_is_not_draw (sym (met_name met (codes "draw") (codes "migrate") rows h.0 is h.1))
-nothing_drawn met rows is none (Show s) h = show_is_not_draw (sym (met_name met (codes "draw") (codes "show") rows h.0 is h.1))
-nothing_drawn met rows is none (Draw d) h = none d (subst (λ (r : List Row). IsDrawingOf r d) (sym (met_rows met (codes "draw") (codes "draw") rows h.0 is h.1)) h.2)
-nothing_drawn met rows is none (Serve s) h = serve_is_not_draw (sym (met_name met (codes "draw") (codes "serve") rows h.0 is h.1))
-nothing_drawn met rows is none (Host x) h = host_is_not_draw (sym (met_name met (codes "draw") (codes "host") rows h.0 is h.1))
-
--- where `serve` was met and gives nothing, nothing is asked for
-pub nothing_served : (met : Option (List ℕ × List Row)) (rows : List Row) → met ≡ Some (codes "serve", rows) → ((s : Serving) → IsServingOf rows s → ⊥) → (a : Ask) → IsAsked met a → ⊥
-nothing_served met rows is none (Play playing) h = serve_is_not_play (met_name met (codes "serve") (codes "play") rows h.0 is h.1)
-nothing_served met rows is none Check h = serve_is_not_check (met_name met (codes "serve") (codes "check") rows h.0 is h.1)
-nothing_served met rows is none Migrate h = serve_is_not_migrate (met_name met (codes "serve") (codes "migrate") rows h.0 is h.1)
-nothing_served met rows is none (Show s) h = serve_is_not_show (met_name met (codes "serve") (codes "show") rows h.0 is h.1)
-nothing_served met rows is none (Draw d) h = serve_is_not_draw (met_name met (codes "serve") (codes "draw") rows h.0 is h.1)
-nothing_served met rows is none (Serve s) h = none s (subst (λ (r : List Row). IsServingOf r s) (sym (met_rows met (codes "serve") (codes "serve") rows h.0 is h.1)) h.2)
-nothing_served met rows is none (Host x) h = host_is_not_serve (sym (met_name met (codes "serve") (codes "host") rows h.0 is h.1))
-
--- where `show` was met and gives nothing, nothing is asked for
-pub nothing_shown : (met : Option (List ℕ × List Row)) (rows : List Row) → met ≡ Some (codes "show", rows) → ((s : Showing) → IsShowingOf rows s → ⊥) → (a : Ask) → IsAsked met a → ⊥
-nothing_shown met rows is none (Play playing) h = show_is_not_play (met_name met (codes "show") (codes "play") rows h.0 is h.1)
-nothing_shown met rows is none Check h = show_is_not_check (met_name met (codes "show") (codes "check") rows h.0 is h.1)
-nothing_shown met rows is none Migrate h = show_is_not_migrate (met_name met (codes "show") (codes "migrate") rows h.0 is h.1)
-nothing_shown met rows is none (Show s) h = none s (subst (λ (r : List Row). IsShowingOf r s) (sym (met_rows met (codes "show") (codes "show") rows h.0 is h.1)) h.2)
-nothing_shown met rows is none (Draw d) h = show_is_not_draw (met_name met (codes "show") (codes "draw") rows h.0 is h.1)
-nothing_shown met rows is none (Serve s) h = serve_is_not_show (sym (met_name met (codes "show") (codes "serve") rows h.0 is h.1))
-nothing_shown met rows is none (Host x) h = host_is_not_show (sym (met_name met (codes "show") (codes "host") rows h.0 is h.1))
-
--- where `host` was met and gives nothing, nothing is asked for
-pub nothing_hosted : (met : Option (List ℕ × List Row)) (rows : List Row) → met ≡ Some (codes "host", rows) → ((x : Hosting) → IsHostingOf rows x → ⊥) → (a : Ask) → IsAsked met a → ⊥
-nothing_hosted met rows is none (Play playing) h = host_is_not_play (met_name met (codes "host") (codes "play") rows h.0 is h.1)
-nothing_hosted met rows is none Check h = host_is_not_check (met_name met (codes "host") (codes "check") rows h.0 is h.1)
-nothing_hosted met rows is none Migrate h = host_is_not_migrate (met_name met (codes "host") (codes "migrate") rows h.0 is h.1)
-nothing_hosted met rows is none (Show s) h = host_is_not_show (met_name met (codes "host") (codes "show") rows h.0 is h.1)
-nothing_hosted met rows is none (Draw d) h = host_is_not_draw (met_name met (codes "host") (codes "draw") rows h.0 is h.1)
-nothing_hosted met rows is none (Serve s) h = host_is_not_serve (met_name met (codes "host") (codes "serve") rows h.0 is h.1)
-nothing_hosted met rows is none (Host x) h = none x (subst (λ (r : List Row). IsHostingOf r x) (sym (met_rows met (codes "host") (codes "host") rows h.0 is h.1)) h.2)
+-- nothing of the name `host`, where its options give nothing
+pub nothing_hosted : (rows : List Row) → ((x : Hosting) → IsHostingOf rows x → ⊥) → (a : Ask) → subcommand_name a ≡ codes "host" → GiveAsked rows a → ⊥
+nothing_hosted rows none (Play p) same h = apart (codes "play") (codes "host") refl same
+nothing_hosted rows none Check same h = apart (codes "check") (codes "host") refl same
+nothing_hosted rows none Migrate same h = apart (codes "migrate") (codes "host") refl same
+nothing_hosted rows none (Show s) same h = apart (codes "show") (codes "host") refl same
+nothing_hosted rows none (Draw d) same h = apart (codes "draw") (codes "host") refl same
+nothing_hosted rows none (Serve s) same h = apart (codes "serve") (codes "host") refl same
+nothing_hosted rows none (Host x) same h = none x h
 
 -- what was met, from its name and its rows
 pub both_met : {X A B : Type 0} (f : X → A) (g : X → B) (o : Option X) (a : A) (b : B) → Some a ≡ option_map f o →

@@ -117,15 +117,29 @@ pub record IsHostingOf (rows : List Row) (h : Hosting) : Type 0 where
   pub keeping : IsKeepingOf rows h.keeping
   pub verbose : h.verbose ≡ asks_flag (codes "verbose") rows
 
+-- the subcommand that asks for this
+abbrev pub subcommand_name : Ask → List ℕ
+subcommand_name (Play playing) = codes "play"
+subcommand_name Check = codes "check"
+subcommand_name Migrate = codes "migrate"
+subcommand_name (Show showing) = codes "show"
+subcommand_name (Draw drawing) = codes "draw"
+subcommand_name (Serve serving) = codes "serve"
+subcommand_name (Host hosting) = codes "host"
+
+-- what clap matched there gives this
+abbrev pub GiveAsked : List Row → Ask → Type 0
+GiveAsked rows (Play playing) = IsPlayingOf rows playing
+GiveAsked rows Check = ⊤
+GiveAsked rows Migrate = ⊤
+GiveAsked rows (Show showing) = IsShowingOf rows showing
+GiveAsked rows (Draw drawing) = IsDrawingOf rows drawing
+GiveAsked rows (Serve serving) = IsServingOf rows serving
+GiveAsked rows (Host hosting) = IsHostingOf rows hosting
+
 -- the subcommand that clap met, with what it matched there, asks for this
 abbrev pub IsAsked : Option (List ℕ × List Row) → Ask → Type 0
-IsAsked met (Play playing) = (rows : List Row) × (met ≡ Some (codes "play", rows)) × IsPlayingOf rows playing
-IsAsked met Check = (rows : List Row) × (met ≡ Some (codes "check", rows))
-IsAsked met Migrate = (rows : List Row) × (met ≡ Some (codes "migrate", rows))
-IsAsked met (Show showing) = (rows : List Row) × (met ≡ Some (codes "show", rows)) × IsShowingOf rows showing
-IsAsked met (Draw drawing) = (rows : List Row) × (met ≡ Some (codes "draw", rows)) × IsDrawingOf rows drawing
-IsAsked met (Serve serving) = (rows : List Row) × (met ≡ Some (codes "serve", rows)) × IsServingOf rows serving
-IsAsked met (Host hosting) = (rows : List Row) × (met ≡ Some (codes "host", rows)) × IsHostingOf rows hosting
+IsAsked met a = (rows : List Row) × (met ≡ Some (subcommand_name a, rows)) × GiveAsked rows a
 
 -- the words ask for this: its options are those that clap matched in the words, or the defaults
 abbrev pub AsksFor : List (List ℕ) → Ask → Type 0
