@@ -114,6 +114,9 @@ impl<S: Store + Drop, T: Pause + Drop> LogKeeper<S, T> {
         if token.contains(&LF) {
             return Err(LogFault::Token);
         }
+        let Ok(line) = first_line(alloc, config) else {
+            return Err(LogFault::Memory);
+        };
         let log = LogHall::new(alloc, store, config)?;
         let mut keeper = LogKeeper {
             alloc,
@@ -123,11 +126,7 @@ impl<S: Store + Drop, T: Pause + Drop> LogKeeper<S, T> {
             count: 0,
             pause,
         };
-        let Ok(line) = first_line(alloc, config) else {
-            return Err(LogFault::Memory);
-        };
-        keeper.begin(line.as_bytes())?;
-        keeper.apply_all()?;
+        keeper.start(line.as_bytes())?;
         Ok(keeper)
     }
 }
@@ -145,6 +144,16 @@ impl<S: Store, T: Pause> LogKeeper<S, T> {
         ensures { result ≡ self.now.log.replica.place }
     {
         self.log.place()
+    }
+
+    // Has the log begin with a line, and applies all that stands in it. A function of its own, since what owns a keeper takes it apart at each
+    // way out.
+    fn start(&mut self, line: &[u8]) -> Result<(), LogFault>
+        ensures begins { OnOk result (S.stands self.new.log.store 0 line.now) }
+        ensures config { self.new.log.config ≡ self.old.log.config }
+    {
+        self.begin(line)?;
+        self.apply_all()
     }
 
     // Has the log begin with a line, as soon as the store answers.

@@ -111,11 +111,11 @@ impl Sheet {
     pub(crate) fn new(alloc: Global, config: Config, stretch: Stretch) -> Result<Sheet, AllocError>
         ensures { IfOk result (HasPut config []) }
     {
-        let desk = fresh(alloc, config)?;
         let mut text = Text::new(alloc);
         put_opening(config, stretch, &mut text)?;
         Ok(Sheet {
-            desk,
+            // the last that may be refused, since a desk is taken apart at each way out behind it
+            desk: fresh(alloc, config)?,
             begun: Vec::new(alloc),
             reached: Vec::new(alloc),
             done: None,

@@ -8,7 +8,7 @@ pub returns : goal.returns
 returns c =
     let first = opening c.args.config c.args.stretch in
     record {
-      desk = c.in_ok-desk.ensures;
+      desk = c.in_ok-fresh.ensures;
       begun = c.new.ensures.items;
       reached = c.new-2.ensures.items;
       seen = refl;
