@@ -1,7 +1,7 @@
 use Rattle.std.proofs.Common.{arith, rules, ◌≡◌, ◌∷◌, ◌++◌, [], None, length, sym, ap, ◌∙◌, vec_capacity, is_some}
 use Rattle.rename_core.proofs.Common.{RenameState, has_place, beginner, begin_refusal, after_wish, let_in, KnownPlaces, places_by}
 use Rattle.std.proofs.lemmas.List.{length-append, length-map}
-use Rattle.snapshot_core.specs.SnapWorld.{after_snap_begin}
+use Rattle.snapshot_core.specs.SnapWorld.{after_snap_begin, place_in}
 use Rattle.step_memory.proofs.DistinctParticipants.{absent_alike, distinct_push, identities-push}
 use Rattle.rename_core.proofs.rounds.StepCases.{was_begun, begun_large, begun_state, begun_fits}
 use Rattle.rename_core.proofs.world.RenameWorld.take_begin.Given.{Over}
@@ -43,7 +43,8 @@ returns-clause-state g c =
     let w = before g (goal.at.returns-clause-state g c).After-push_reserved in
     let goes : begin_refusal c.self.inside.snap c.args.id ≡ None = was_begun (begin_refusal c.self.inside.snap c.args.id) c.in_ok-begin.field-0 c.in_ok-begin.ensures.answer in
     let state : c.begin.new.self ≡ after_snap_begin (known g) c.self.inside.snap c.args.id = c.in_ok-begin.ensures.state in
-    let placed : c.is_some-placed.result ≡ has_place (known g) w c.args.id = rw (← state) (c.is_some-placed.ensures ∙ ap is_some c.place_of.ensures.value) in
+    let there : c.is_some-placed.result ≡ is_some (place_in (known g) c.begin.new.self c.args.id) = rw (← c.place_of.ensures.value) c.is_some-placed.ensures in
+    let placed : c.is_some-placed.result ≡ has_place (known g) w c.args.id = rw (← state) there in
     rw (← c.self.view_is)
     (begun_state (known g) w c.args.id goes c.is_some-placed.result placed c.ask.new.snap (rw (← state, ← c.first.ensures) c.ask.ensures.state) c.push_reserved.new.self.items (search rules))
 
