@@ -45,6 +45,7 @@ impl SnapReply {
     }
 
     /// What a step tells, of which the participant says this.
+    #[inline(always)]
     pub(crate) fn of_step(note: Note<SnapReply>) -> Self
         ensures { result ≡ told note }
     {
