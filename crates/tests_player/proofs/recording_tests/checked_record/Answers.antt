@@ -1,5 +1,5 @@
 use Rattle.std.proofs.Common.{Some, sym, ap, ◌∙◌}
-use Rattle.tests_checker.proofs.recording_tests.checked_record.Goals as goal
+use Rattle.tests_player.proofs.recording_tests.checked_record.Goals as goal
 
 pub returns : goal.returns
 returns c = λ few.
