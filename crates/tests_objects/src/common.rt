@@ -9,6 +9,11 @@ pub fn same<T: PartialEq + Debug + Copy>(rt: &impl Abort, case: usize, got: T, d
     assert_eq!(rt; got, due, "case {case}");
 }
 
+/// Stops a trial unless what was got is what is due.
+pub fn equal<T: PartialEq + Debug + Drop>(rt: &impl Abort, got: T, due: T) {
+    assert_eq!(rt; got, due);
+}
+
 /// Takes a step of any program.
 pub fn take<P: StepProgram>(program: &mut P, got: Answer<P::Value>) -> Note<P::Output> {
     program.resume(got)

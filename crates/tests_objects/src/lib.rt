@@ -1,5 +1,6 @@
-//! Trials of the objects through their public calls, from a memory taken step by step to a desk: what no line
-//! of the program reaches, as rows worked by hand, the ends of each range, threads, and heaps that have no room left.
+//! Trials of the objects through their public calls, from a memory taken step by step to a desk, and of the pools and the grid over raw
+//! words: what no line of the program reaches, as rows worked by hand, the ends of each range, threads at once, and heaps that have no
+//! room left.
 //!
 //! They stand in a crate of their own, as a package's integration tests do, so that proving them does not prove the objects
 //! again. A trial that is proved returns and breaks no caller's condition; that it passes is seen by running it.
@@ -15,6 +16,8 @@ mod desk_tests;
 mod grid_tests;
 #[cfg(test)]
 mod heap_tests;
+#[cfg(test)]
+mod line_pool_tests;
 #[cfg(test)]
 mod memory_tests;
 #[cfg(test)]
@@ -35,3 +38,9 @@ mod splitter_tests;
 mod tree_memory_tests;
 #[cfg(test)]
 mod tree_tests;
+#[cfg(test)]
+mod word_grid_tests;
+#[cfg(test)]
+mod word_grid_threads;
+#[cfg(test)]
+mod word_pool_tests;

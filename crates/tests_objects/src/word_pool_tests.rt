@@ -2,7 +2,7 @@
 
 ghost use Rattle.std.specs.Prelude.{◌≡◌, IfOk};
 
-use crate::common::same;
+use crate::common::equal;
 use std::alloc::Global;
 use std::sync::atomic::AtomicU64;
 use std::sync::atomic::Ordering::SeqCst;
@@ -52,7 +52,7 @@ fn each_number_is_given_in_turn(rt: HostRuntime) {
         } else {
             Err(Refusal::OutOfRange)
         };
-        same(&rt, numbers_of(rt.alloc(), numbers), due);
+        equal(&rt, numbers_of(rt.alloc(), numbers), due);
     }
 }
 
@@ -67,7 +67,7 @@ fn a_hint_is_tried_first(rt: HostRuntime) -> Result<(), Fail> {
         (2, None),
     ] {
         let got = pool.acquire_near(hint).map(|held| held.number()).ok();
-        same(&rt, got, due);
+        equal(&rt, got, due);
     }
     Ok(())
 }

@@ -2,7 +2,7 @@
 
 ghost use Rattle.std.specs.Prelude.{◌≡◌};
 
-use crate::common::same;
+use crate::common::equal;
 use crate::word_pool_tests::{SIZES, marks_of};
 use std::alloc::Global;
 use std::sync::atomic::AtomicU64;
@@ -47,7 +47,7 @@ fn each_ticket_has_a_number(rt: HostRuntime) {
         } else {
             Err(Refusal::OutOfRange)
         };
-        same(&rt, numbers_of(rt.alloc(), numbers), due);
+        equal(&rt, numbers_of(rt.alloc(), numbers), due);
     }
 }
 

@@ -3,7 +3,7 @@
 ghost use Rattle.std.specs.Prelude.{◌≡◌, ◌<◌, ◌≤◌, IfSome};
 ghost use Rattle.word_grid.specs.Seats.{place_of};
 
-use crate::common::same;
+use crate::common::equal;
 use linked_list_allocator::LocalHeap;
 use std::alloc::Global;
 use std::process::Abort;
@@ -38,7 +38,7 @@ fn one_alone_has_the_corner(rt: HostRuntime) {
         Some(entered) => Some(entered.place()),
         None => None,
     };
-    same(&rt, place, Some(0));
+    equal(&rt, place, Some(0));
 }
 
 /// Enters with the next seat: the depth and the column of its door, its place, and its number.
@@ -58,10 +58,10 @@ fn each_that_comes_later_goes_right(rt: HostRuntime) -> Result<(), Fail> {
     for before in 0u8..64 {
         let place = Place::from(u16::from(before) * (u16::from(before) + 1) / 2);
         let due = Some((before, 0, place, u64::from(before)));
-        same(&rt, walk_next(&grid, &mut dealer), due);
+        equal(&rt, walk_next(&grid, &mut dealer), due);
     }
-    same(&rt, walk_next(&grid, &mut dealer), None);
-    same(&rt, dealer.dealt(), 64);
+    equal(&rt, walk_next(&grid, &mut dealer), None);
+    equal(&rt, dealer.dealt(), 64);
     Ok(())
 }
 
@@ -100,7 +100,7 @@ fn one_to_sixty_four_seats(rt: HostRuntime) {
         } else {
             Err(Refusal::OutOfRange)
         };
-        same(&rt, seats_of(rt.alloc(), most), due);
+        equal(&rt, seats_of(rt.alloc(), most), due);
     }
 }
 
@@ -129,6 +129,6 @@ fn each_want_of_memory_is_told(rt: HostRuntime) -> Result<(), Fail> {
         }
         drop(others);
     }
-    same(&rt, (refused, made), (true, true));
+    equal(&rt, (refused, made), (true, true));
     Ok(())
 }
