@@ -1,5 +1,5 @@
 -- what clap's answer tells of the words
-use Rattle.std.proofs.Common.{ap, sym, ◌≡◌, ◌⊎◌, ◌||◌, ◌∙◌, inl, inr, ℕ, List, [], ◌∷◌, Bool, true, false, codes, get_or, subst, arith, refl}
+use Rattle.std.proofs.Common.{ap, sym, ◌≡◌, ◌⊎◌, ◌||◌, ◌∙◌, inl, inr, ℕ, List, [], ◌∷◌, Bool, true, false, codes, subst, refl}
 use Rattle.std.proofs.Common.{Option, Some, None, option_map}
 use Rattle.program_args.proofs.Common.{same_Some, Ask, Drawing, Hosting, Playing, Serving, Showing, slotctl_app}
 use Rattle.std.specs.List.{list_any}

@@ -1,11 +1,10 @@
 -- when no hosting has the matched options
-use Rattle.std.proofs.Common.{ap, sym, subst, ◌≡◌, ◌∙◌, ℕ, List, Option, Some, None, Result, Ok, Err, ◌↔◌, Bool, MatchOption, IfSome, IsSome, codes, true, false}
+use Rattle.std.proofs.Common.{sym, subst, ◌≡◌, ◌∙◌, ℕ, List, Option, Some, None, Result, Ok, Err, ◌↔◌, Bool, MatchOption, IfSome, IsSome, codes, true, false}
 use Rattle.program_args.proofs.Common.{result_ok, same_Some, Row, first_of, Config, Hosting}
-use Rattle.std.specs.Borrow.{Bor}
 use Rattle.std.specs.Net.Grammar.{IsIpText, Parses}
 use Rattle.std.specs.declared.net.ip_addr.IpAddr.{IpAddr}
 use Rattle.program_args.specs.Asked.{HasAddress, HasNumber, IsConfigOf, IsHostingOf, IsKeepingOf, IsLogOf, asks_flag, asks_log}
-use Rattle.program_args.specs.Ranges.{IsHostingRange, IsPatience}
+use Rattle.program_args.specs.Ranges.{IsHostingRange}
 use Rattle.program_args.specs.declared.asked.Keeping.{Keeping}
 use Rattle.program_args.specs.declared.asked.Keeping.TheVariants.{Nothing, Journal, Log}
 use Rattle.program_args.specs.declared.asked.LogWords.{LogWords}
@@ -46,38 +45,12 @@ hosted rows c address port clients idle keeping verbose None config has_address 
     let bad : false ≡ true = range.1 (rw (same_port, same_clients, same_idle, same_kind) at fits) in
     cc
 
--- what is made of the matched texts, number and flag is the log, where there is one
-pub logged : (rows : List Row) (members prefix : Bor (List ℕ)) (patience : ℕ) (exported : Bool) (o : Option LogWords)
-    → Some members.now ≡ first_of (codes "etcd") rows → Some prefix.now ≡ first_of (codes "prefix") rows → HasNumber rows (codes "patience") patience → exported ≡ asks_flag (codes "export") rows
-    → IfSome o (λ l. (l.members ≡ members) × (l.prefix ≡ prefix)) → IfSome o (λ l. (l.patience ≡ patience) × (l.exported ≡ exported)) → (IsSome o ↔ IsPatience patience)
-    → MatchOption o ((l : LogWords) → IsLogOf rows l → ⊥) (IsLogOf rows)
-logged rows members prefix patience exported (Some l) has_members has_prefix has_patience asks texts others range = record {
-  members = sym has_members ∙ ap (λ (t : Bor (List ℕ)). Some t.now) (sym texts.0);
-  prefix = sym has_prefix ∙ ap (λ (t : Bor (List ℕ)). Some t.now) (sym texts.1);
-  patience = subst (λ x. HasNumber rows (codes "patience") x) (sym others.0) has_patience;
-  exported = others.1 ∙ asks;
-}
-logged rows members prefix patience exported None has_members has_prefix has_patience asks texts others range = λ l is.
-    let same_patience : l.patience ≡ patience = same_number rows (codes "patience") l.patience patience is.patience has_patience in
-    let fits = l.in_range in
-    let bad : false ≡ true = range.1 (rw same_patience at fits) in
-    cc
-
 -- no text is matched there, so no log has it
 pub no_members : (rows : List Row) → None ≡ first_of (codes "etcd") rows → (l : LogWords) → IsLogOf rows l → ⊥
 no_members rows none l h = let bad : None ≡ Some l.members.now = none ∙ h.members in cc
-
-pub no_prefix : (rows : List Row) → None ≡ first_of (codes "prefix") rows → (l : LogWords) → IsLogOf rows l → ⊥
-no_prefix rows none l h = let bad : None ≡ Some l.prefix.now = none ∙ h.prefix in cc
 
 -- a journal and a log together are neither
 pub not_both : (rows : List Row) (path : List ℕ) → Some path ≡ first_of (codes "journal") rows → asks_log rows ≡ true → (k : Keeping) → IsKeepingOf rows k → ⊥
 not_both rows path has asks Nothing h = let bad : Some path ≡ None = has ∙ h.0 in cc
 not_both rows path has asks (Journal other) h = let bad : true ≡ false = sym asks ∙ h.1 in cc
 not_both rows path has asks (Log l) h = let bad : Some path ≡ None = has ∙ h.0 in cc
-
--- a log is asked for, and none is given
-pub not_logged : (rows : List Row) → None ≡ first_of (codes "journal") rows → asks_log rows ≡ true → ((l : LogWords) → IsLogOf rows l → ⊥) → (k : Keeping) → IsKeepingOf rows k → ⊥
-not_logged rows has asks none Nothing h = let bad : true ≡ false = sym asks ∙ h.1 in cc
-not_logged rows has asks none (Journal path) h = let bad : true ≡ false = sym asks ∙ h.1 in cc
-not_logged rows has asks none (Log l) h = none l h.1

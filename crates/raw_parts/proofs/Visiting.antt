@@ -41,10 +41,6 @@ module _ (e : EndedVisit) (u : IsUnderRule (lone_view e.splitter.seats (gone_at 
   met_as Right h = h.0
   met_as Down h = h.0
 
-  -- it met another, or none where it stopped
-  pub met_by : MetBy e e.way
-  met_by = met_as e.way shown.meets
-
   -- the only seat stops
   pub alone_stops : e.splitter.seats ≡ 1 → e.way ≡ Stop
   alone_stops one =

@@ -160,7 +160,3 @@ module _ {S R V U K : Type 0} (t : KnownPlaces S R V U K) where
   stays_alike w new p state other alike =
       let same : program_of p w.participants ≡ program_of p other.participants = ap (option_map (λ (v : Participant (Client U K)). v.program)) alike.participant in
       rw (state, ← same) (stand_by w other p alike (program_of p w.participants))
-
--- who begins makes no access
-pub begin_spares : {S R V U K : Type 0} (t : KnownPlaces S R V U K) (w : SnapState S U K) (id : ℕ) → (after_snap_begin t w id).memory ≡ w.memory
-begin_spares t w id = elim (begin_refusal w id) as (λ o. (begun_unless o w id (beginner_at t w id)).memory ≡ w.memory) [ None ↦ refl | Some why ↦ refl ]

@@ -1,5 +1,5 @@
 use Rattle.std.proofs.Common.{arith, sym, ap, ◌≡◌, ◌∙◌, ◌+◌, ◌++◌, ◌∷◌, [], add-one}
-use Rattle.raw_parts.specs.Seats.{SplitterId, first_seats, seat_of}
+use Rattle.raw_parts.specs.Seats.{SplitterId, first_seats}
 use Rattle.raw_parts.specs.SplitterView.{undealt_from}
 use Rattle.raw_parts.proofs.raw_splitter.RawSplitter.new.Goals as goal
 
