@@ -30,8 +30,7 @@ pub fn put_event(event: Event, out: &mut Text) -> Result<(), AllocError>
         Event::Leave(id) => out.put_word(b"leave ", id),
         Event::Put(id, value) => {
             out.put_word(b"put ", id)?;
-            out.put_word(b" ", value)?;
-            Ok(())
+            out.put_word(b" ", value)
         }
         Event::Get(id) => out.put_word(b"get ", id),
         Event::Widen(size) => out.put_word(b"widen ", size),
@@ -43,8 +42,7 @@ fn put_place(place: Place, out: &mut Text) -> Result<(), AllocError>
     ensures { OnOk result (out.new ≡ out.old ++ (codes "place " ++ decimal place)) }
 {
     out.put(b"place ")?;
-    out.put(Buffer::new().format(place).as_bytes())?;
-    Ok(())
+    out.put(Buffer::new().format(place).as_bytes())
 }
 
 /// Appends pairs, each after a space.
@@ -63,8 +61,7 @@ pub fn put_view(pairs: &[(u64, u64)], out: &mut Text) -> Result<(), AllocError>
     ensures { OnOk result (out.new ≡ out.old ++ (codes "saw" ++ pair_words pairs.now)) }
 {
     out.put(b"saw")?;
-    put_pairs(pairs, out)?;
-    Ok(())
+    put_pairs(pairs, out)
 }
 
 /// Appends who has a name.
@@ -77,11 +74,9 @@ fn put_owner(owner: Option<u64>, out: &mut Text) -> Result<(), AllocError>
     }
 }
 
-/// Appends the words of what is told: those of each reply of which it is told. An error where a growth was refused.
-#[tactic(auto, using(crate::proofs::ToldWords::spelled))]
-pub fn put_told(told: &Told, out: &mut Text) -> Result<(), AllocError>
-    ensures words { OnOk result (out.new ≡ out.old ++ told_words told.now) }
-    ensures spelled { OnOk result ((shows : Bool) (r : ShownReply) → told_of shows r ≡ told.now → out.new ≡ out.old ++ reply_words r) }
+/// Appends the words of what is told.
+fn put_words(told: &Told, out: &mut Text) -> Result<(), AllocError>
+    ensures { OnOk result (out.new ≡ out.old ++ told_words told.now) }
 {
     match told {
         Told::Ok => out.put(b"ok"),
@@ -101,6 +96,15 @@ pub fn put_told(told: &Told, out: &mut Text) -> Result<(), AllocError>
         Told::Owner(owner) => put_owner(*owner, out),
         Told::Refused(number) => out.put_word(b"refused ", *number),
     }
+}
+
+/// Appends the words of what is told: those of each reply of which it is told. An error where a growth was refused.
+#[tactic(auto, using(crate::proofs::ToldWords::spelled))]
+pub fn put_told(told: &Told, out: &mut Text) -> Result<(), AllocError>
+    ensures words { OnOk result (out.new ≡ out.old ++ told_words told.now) }
+    ensures spelled { OnOk result ((shows : Bool) (r : ShownReply) → told_of shows r ≡ told.now → out.new ≡ out.old ++ reply_words r) }
+{
+    put_words(told, out)
 }
 
 /// Appends the pairs of a view, with a space between them.
@@ -125,8 +129,7 @@ fn put_named_by(told: &Told, view: &[(u64, u64)], out: &mut Text) -> Result<(), 
     }
     out.put(b",\"view\":\"")?;
     put_shown(view, out)?;
-    out.put(b"\"")?;
-    Ok(())
+    out.put(b"\"")
 }
 
 /// Appends the line of each exchange that this line tells, with this view by which a name was given.
@@ -139,8 +142,7 @@ pub fn put_line(line: &Line, view: &[(u64, u64)], out: &mut Text) -> Result<(), 
     put_told(&line.told, out)?;
     out.put(b"\"")?;
     put_named_by(&line.told, view, out)?;
-    out.put(b"}\n")?;
-    Ok(())
+    out.put(b"}\n")
 }
 
 /// Appends the name of a world.
@@ -159,6 +161,5 @@ pub fn put_header(config: Config, out: &mut Text) -> Result<(), AllocError>
     out.put_word(b",\"m\":", config.m)?;
     out.put(b",\"version\":2,\"world\":\"")?;
     put_world(config.world, out)?;
-    out.put(b"\"}\n")?;
-    Ok(())
+    out.put(b"\"}\n")
 }

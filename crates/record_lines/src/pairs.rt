@@ -1,6 +1,6 @@
 //! The pairs of a view, as a record writes them.
 
-ghost use Rattle.std.specs.Prelude.{◌≡◌, ◌↔◌, List, ℕ, [], ◌∷◌, ◌++◌, nat_le, position, OnOk, OnErr, IfOk, IsTrue};
+ghost use Rattle.std.specs.Prelude.{◌≡◌, ◌≤◌, ◌↔◌, List, ℕ, [], ◌∷◌, ◌++◌, length, nat_le, position, unwrap_or, OnOk, OnErr, IfOk, IsTrue};
 ghost use Rattle.step_memory.specs.View.{inserted};
 ghost use Rattle.record_lines.specs.Pairs.{HasAt};
 
@@ -18,6 +18,14 @@ fn first_from(pairs: &[(u64, u64)], id: u64) -> Option<usize>
     ensures { result ≡ position (λ pair. nat_le id pair.0) pairs.now }
 {
     pairs.iter().position(|pair| id <= pair.0)
+}
+
+/// Where the pair of an identity stands, or is to stand.
+fn place_for(pairs: &[(u64, u64)], id: u64) -> usize
+    ensures place { result ≡ unwrap_or (position (λ pair. nat_le id pair.0) pairs.now) (length pairs.now) }
+    ensures within { result ≤ length pairs.now }
+{
+    first_from(pairs, id).unwrap_or(pairs.len())
 }
 
 /// Whether a pair of this identity stands at a place.
@@ -60,7 +68,7 @@ impl Pairs {
         ensures put { OnOk result (self.new ≡ inserted self.old (id, number)) }
         ensures refused { OnErr result (self.new ≡ self.old) }
     {
-        let at = first_from(&self.items, id).unwrap_or(self.items.len());
+        let at = place_for(&self.items, id);
         if has_at(&self.items, at, id) {
             self.items[at] = (id, number);
             return Ok(());

@@ -56,8 +56,7 @@ impl Text {
         ensures { OnOk result (self.new ≡ self.old ++ (word.now ++ decimal number)) }
     {
         self.put(word)?;
-        self.put_number(number)?;
-        Ok(())
+        self.put_number(number)
     }
 
     /// Appends an identity and its number.
@@ -66,7 +65,6 @@ impl Text {
     {
         self.put_number(pair.0)?;
         self.put(b":")?;
-        self.put_number(pair.1)?;
-        Ok(())
+        self.put_number(pair.1)
     }
 }
