@@ -68,6 +68,6 @@ pub use Rattle.run_checker.specs.declared.moments.Moments.{Moments}
 pub use Rattle.run_checker.specs.Rows.{HasPair, LacksPair, IsRowOf, TellsMoments, TellsSince}
 pub use Rattle.run_checker.specs.declared.checker.Checker.{Checker}
 pub use Rattle.run_checker.specs.Gathered.{Gathers, AreGathered}
-pub use Rattle.run_checker.specs.SoFar.{RowsSoFar}
+pub use Rattle.run_checker.specs.SoFar.{RowsSoFar, TakesRow}
 pub use Rattle.run_checker.specs.declared.migration.Migration.{Migration}
 pub use Rattle.run_checker.specs.declared.verdict.Verdict.TheVariants.{Yes}

@@ -14,10 +14,19 @@ use std::collections::HashMap;
 
 /// The last moment, as a view; and for each participant the first moment since its last proposal in which no other proposed the
 /// same, once there was one.
-#[derive(Drop)]
 pub struct Firsts {
     present: Pairs,
     found: HashMap<u64, Pairs>,
+}
+
+// By hand, so that they are taken apart here alone, and not wherever a migration is dropped.
+impl Drop for Firsts {
+    fn drop(self) {
+        let Firsts {
+            present: _,
+            found: _,
+        } = self;
+    }
 }
 
 /// Whether a number is proposed in these pairs.

@@ -63,10 +63,7 @@ fn judge_line(alloc: Global, stage: &mut Stage, line: &[u8]) -> Result<(), Alloc
     ensures { OnOk result ((lines : List (List ℕ)) → StandsAfter lines stage.old → StandsAfter (lines ++ line.now ∷ []) stage.new) }
 {
     match stage {
-        Stage::Opening => {
-            take_first(alloc, stage, line)?;
-            Ok(())
-        }
+        Stage::Opening => take_first(alloc, stage, line),
         Stage::Judging(judge) => match judge.take(alloc, line)? {
             Some(verdict) => {
                 conclude(stage, verdict);
@@ -111,9 +108,9 @@ impl Judge {
             return judge_line(self.alloc, &mut self.stage, line);
         }
         self.held.extend_from_slice(line)?;
-        judge_line(self.alloc, &mut self.stage, &self.held)?;
+        let judged = judge_line(self.alloc, &mut self.stage, &self.held);
         self.held.clear();
-        Ok(())
+        judged
     }
 
     /// Takes some more bytes of the record, and judges the lines that end in them. An error where a growth was refused; then it is of no

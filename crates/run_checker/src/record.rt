@@ -1,16 +1,17 @@
 //! The verdict on a record.
 
-ghost use Rattle.std.specs.Prelude.{◌≡◌, [], IfOk, MatchOption};
+ghost use Rattle.std.specs.Prelude.{◌≡◌, [], IfOk, MatchOption, MatchResult};
 ghost use Rattle.std.specs.Option.{option_copied};
 ghost use Rattle.record_lines.specs.Records.{lines_left, record_lines};
 ghost use Rattle.run_checker.specs.declared.verdict.Verdict.TheVariants.{Yes};
 ghost use Rattle.run_checker.specs.Gathered.{AreGathered};
+ghost use Rattle.run_checker.specs.SoFar.{EndsAtRow, TakesRow};
 ghost use Rattle.run_checker.specs.Verdict.{HasHeader, IsSaid, IsSaidOfRows, IsVerdict, LacksHeader};
 
 use crate::checker::Checker;
 use crate::gather::{Gather, Nothing};
 use crate::verdict::Verdict;
-use record_lines::{Header, next_line, read_header, read_line};
+use record_lines::{Header, Line, next_line, read_header, read_line};
 use std::alloc::{AllocError, Global};
 
 /// The number of the first line that is one too many: a header and a million lines come before it.
@@ -56,6 +57,30 @@ pub fn opened(alloc: Global, bytes: &[u8]) -> Result<Option<(Header, Option<&[u8
     }
 }
 
+/// One more event line of a record with this header, of this number and without its LF: it as it was read, where it can follow those before
+/// it, or what else than Yes is said of the record. An error where a growth was refused.
+#[inline(always)]
+pub(crate) fn taken(
+    alloc: Global,
+    header: Header,
+    number: u64,
+    row: &[u8],
+    checker: &mut Checker,
+) -> Result<Result<Line, Verdict>, AllocError>
+    ensures { IfOk result (λ r. MatchResult r (TakesRow header number row.now checker.old checker.new) (EndsAtRow header number row.now checker.old)) }
+{
+    if LINES_END <= number {
+        return Ok(Err(Verdict::BadRecord(number)));
+    }
+    let Some(line) = read_line(alloc, header.config.world, header.version, row)? else {
+        return Ok(Err(Verdict::BadRecord(number)));
+    };
+    if let Some(reason) = checker.judge(&line)? {
+        return Ok(Err(Verdict::No(number, reason)));
+    }
+    Ok(Ok(line))
+}
+
 /// What is said of the event lines of a record with this header. Each that can follow those before it is gathered, up to the first
 /// that can't. An error where a growth was refused.
 pub fn judge_rows<G: Gather>(
@@ -68,23 +93,17 @@ pub fn judge_rows<G: Gather>(
     ensures gathered { IfOk result (λ v. v ≡ Yes → G.is_of header.config [] gathered.old →
         AreGathered header (lines_left (option_copied rows.entry)) (λ lines. G.is_of header.config lines gathered.new)) }
 {
-    let config = header.config;
-    let mut checker = Checker::new(alloc, config, room_for(rows))?;
+    let mut checker = Checker::new(alloc, header.config, room_for(rows))?;
     let mut number: u64 = 2;
     let mut left = rows;
     while let Some(bytes) = left {
         let Some((row, rest)) = next_line(bytes) else {
             break;
         };
-        if LINES_END <= number {
-            return Ok(Verdict::BadRecord(number));
-        }
-        let Some(line) = read_line(alloc, config.world, header.version, row)? else {
-            return Ok(Verdict::BadRecord(number));
+        let line = match taken(alloc, header, number, row, &mut checker)? {
+            Ok(line) => line,
+            Err(verdict) => return Ok(verdict),
         };
-        if let Some(reason) = checker.judge(&line)? {
-            return Ok(Verdict::No(number, reason));
-        }
         gathered.take(&line)?;
         number += 1;
         left = rest;

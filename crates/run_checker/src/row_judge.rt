@@ -4,9 +4,9 @@ ghost use Rattle.std.specs.Prelude.{◌≡◌, [], IfOk};
 ghost use Rattle.run_checker.specs.Stages.{HasJudged, JudgesRow};
 
 use crate::checker::Checker;
-use crate::record::LINES_END;
+use crate::record::taken;
 use crate::verdict::Verdict;
-use record_lines::{Header, read_line};
+use record_lines::Header;
 use std::alloc::{AllocError, Global};
 
 /// What is kept of the event lines so far of a record with a header.
@@ -35,15 +35,9 @@ impl RowJudge {
     pub fn take(&mut self, alloc: Global, row: &[u8]) -> Result<Option<Verdict>, AllocError>
         ensures { IfOk result (λ said. JudgesRow self.old row.now said self.new) }
     {
-        if LINES_END <= self.number {
-            return Ok(Some(Verdict::BadRecord(self.number)));
-        }
-        let world = self.header.config.world;
-        let Some(line) = read_line(alloc, world, self.header.version, row)? else {
-            return Ok(Some(Verdict::BadRecord(self.number)));
-        };
-        if let Some(reason) = self.checker.judge(&line)? {
-            return Ok(Some(Verdict::No(self.number, reason)));
+        match taken(alloc, self.header, self.number, row, &mut self.checker)? {
+            Ok(_) => {}
+            Err(verdict) => return Ok(Some(verdict)),
         }
         self.number += 1;
         Ok(None)

@@ -1,6 +1,6 @@
 -- the lines of a record, with what is gathered of them
-use Rattle.std.proofs.Common.{Bor, MatchOption, ◌≡◌, ℕ, ◌+◌, ◌<◌, List, [], ◌∷◌, Option, Some, None, ap, ◌∙◌, subst}
-use Rattle.run_checker.proofs.Common.{option_copied, Config, Header, Line, FindsLine, IsEventLine, record_lines, lines_left, Checker, Reason, Gathers, AreGathered, TakesMore, HasHeader, LacksHeader, RowsSoFar}
+use Rattle.std.proofs.Common.{Bor, MatchOption, ◌≡◌, ℕ, ◌+◌, List, [], ◌∷◌, Option, Some, ap, ◌∙◌, subst}
+use Rattle.run_checker.proofs.Common.{option_copied, Config, Header, Line, record_lines, lines_left, Checker, Gathers, AreGathered, HasHeader, LacksHeader, RowsSoFar, TakesRow}
 use Rattle.run_checker.proofs.records.Rows.{all_rows, next_row}
 
 -- the rows so far were read, taken and gathered, and these are left
@@ -18,11 +18,10 @@ module _ {G : Type 0} {IsOf : Config → List Line → G → Type 0} {first : G}
   row_here left s is e = subst (λ (l : List (List ℕ)). GatheredSoFar IsOf first h rows l checker number g) (ap (λ (o : Option (List ℕ)). lines_left o) is ∙ e) s
 
   -- one more row, of which the line was taken and gathered
-  pub row_gathered : {row : List ℕ} {more : List (List ℕ)} → GatheredSoFar IsOf first h rows (row ∷ more) checker number g → number < 1000002 → {found : Option Line} {l : Line} → found ≡ Some l →
-      FindsLine (IsEventLine h.config.world h.version row) found →
-      (new : Checker) → {said : Option Reason} → TakesMore l checker said new → said ≡ None → {g' : G} → Gathers IsOf l g g' → GatheredSoFar IsOf first h rows more new (number + 1) g'
-  row_gathered s early is read new judged none gathers =
-      let next = next_row s.so_far early is read new judged none in
+  pub row_gathered : {row : List ℕ} {more : List (List ℕ)} → GatheredSoFar IsOf first h rows (row ∷ more) checker number g → {l : Line} {new : Checker} → TakesRow h number row checker new l →
+      {g' : G} → Gathers IsOf l g g' → GatheredSoFar IsOf first h rows more new (number + 1) g'
+  row_gathered s t gathers =
+      let next = next_row s.so_far t in
       record { so_far = next; gathered = λ start. gathers h.config s.so_far.lines next.taken.object (s.gathered start) next.taken.run }
 
 -- what is known of the first line and the others, where a header was read

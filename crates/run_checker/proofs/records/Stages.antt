@@ -1,7 +1,8 @@
 -- records that are judged as their bytes come
-use Rattle.std.proofs.Common.{◌≡◌, ◌==◌, ℕ, ◌+◌, ◌<◌, true, false, cond, List, [], ◌∷◌, ◌++◌, length, Option, Some, None, inl, refl, sym, ap, ◌∙◌, subst, append_assoc, arith}
-use Rattle.run_checker.proofs.Common.{append-nil, Header, Line, FindsLine, IsEventLine, Judge, Reason, Verdict, Yes, TakesMore, RowsSoFar, IsSaid}
+use Rattle.std.proofs.Common.{◌≡◌, ◌==◌, ℕ, ◌+◌, true, false, cond, List, [], ◌∷◌, ◌++◌, length, Some, None, inl, refl, sym, ap, ◌∙◌, subst, append_assoc, arith}
+use Rattle.run_checker.proofs.Common.{append-nil, Header, Line, Judge, Verdict, Yes, RowsSoFar, TakesRow, IsSaid}
 use Rattle.command_lines.specs.Lines.{pieces_from, unless_empty}
+use Rattle.record_lines.specs.RecordLine.{IsHeaderLine}
 use Rattle.record_lines.specs.Records.{lines_from, lines_of, record_lines}
 use Rattle.run_checker.specs.declared.judge.Stage.{Stage}
 use Rattle.run_checker.specs.declared.judge.Stage.TheVariants.{Over}
@@ -85,6 +86,18 @@ judged_over lines row old new v o j = λ more. inl (record {
   said = j o.rows o.judged more;
 })
 
+pub judged_on : (lines : List (List ℕ)) (row : List ℕ) (old new : RowJudge) → HasOpened old lines → JudgesRow old row None new → HasOpened new (lines ++ row ∷ [])
+judged_on lines row old new o j = record {
+  head = o.head;
+  rows = o.rows ++ row ∷ [];
+  is = ap (λ (l : List (List ℕ)). l ++ row ∷ []) o.is;
+  says = subst (IsHeaderLine o.head) (sym j.0) o.says;
+  judged = j.1 o.rows o.judged;
+}
+
+pub still_over : (lines : List (List ℕ)) (row : List ℕ) (v : Verdict) → StandsAfter lines (Over v) → StandsAfter (lines ++ row ∷ []) (Over v)
+still_over lines row v said = λ more. subst (λ (l : List (List ℕ)). IsSaid l v) (sym (append_assoc lines (row ∷ []) more)) (said (row ∷ more))
+
 -- ---- what is said at the end
 
 pub all_said : (lines : List (List ℕ)) (j : RowJudge) → HasOpened j lines → IsSaid lines Yes
@@ -105,12 +118,10 @@ over_said lines v s = subst (λ (l : List (List ℕ)). IsSaid l v) (append-nil l
 -- ---- rows
 
 -- one more row is taken
-pub one_more_row : (old new : RowJudge) (row : List ℕ) → old.number < 1000002 → {found : Option Line} {l : Line} → found ≡ Some l →
-    FindsLine (IsEventLine old.header.config.world old.header.version row) found →
-    {said : Option Reason} → TakesMore l old.checker said new.checker → said ≡ None → new.header ≡ old.header → new.number ≡ old.number + 1 →
+pub one_more_row : (old new : RowJudge) (row : List ℕ) {l : Line} → TakesRow old.header old.number row old.checker new.checker l → new.header ≡ old.header → new.number ≡ old.number + 1 →
     (rows : List (List ℕ)) → HasJudged old rows → HasJudged new (rows ++ row ∷ [])
-one_more_row old new row early is read judged none same at rows so_far = λ left.
-    (let next : RowsSoFar old.header (rows ++ row ∷ left) left new.checker (old.number + 1) = next_row (so_far (row ∷ left)) early is read new.checker judged none in
+one_more_row old new row t same at rows so_far = λ left.
+    (let next : RowsSoFar old.header (rows ++ row ∷ left) left new.checker (old.number + 1) = next_row (so_far (row ∷ left)) t in
     subst (λ (n : ℕ). RowsSoFar new.header ((rows ++ row ∷ []) ++ left) left new.checker n) (sym at)
     (subst (λ (h : Header). RowsSoFar h ((rows ++ row ∷ []) ++ left) left new.checker (old.number + 1)) (sym same)
     (subst (λ (k : List (List ℕ)). RowsSoFar old.header k left new.checker (old.number + 1)) (sym (append_assoc rows (row ∷ []) left)) next)))

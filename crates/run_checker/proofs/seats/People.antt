@@ -1,6 +1,6 @@
 -- lists of participants
-use Rattle.std.proofs.Common.{◌≡◌, ℕ, suc, ◌<◌, ◌==◌, inl, inr, Bool, true, false, cond, List, [], ◌∷◌, ◌++◌, length, take, drop, get_or, set, refl, sym, ap, ◌∙◌, Some, None, Option, is_some, drop-cons, ◌||◌, option_and_then, option_map}
-use Rattle.run_checker.proofs.Common.{eq-eqb, cases_Bool, false≢true, is_held, list_any, eqb_tells, Participant, AreDistinct, beginner, participant_of, program_of, with_participant, set_at, set_at-cases, set_at-map}
+use Rattle.std.proofs.Common.{◌≡◌, ◌≢◌, ℕ, suc, ◌+◌, ◌<◌, ◌==◌, inl, inr, Bool, true, false, cond, List, [], ◌∷◌, ◌++◌, length, take, drop, get_or, set, refl, sym, ap, ◌∙◌, Some, None, Option, is_some, drop-cons, ◌||◌, option_and_then, option_map, arith}
+use Rattle.run_checker.proofs.Common.{eq-eqb, ne_eqb, cases_Bool, false≢true, is_held, list_any, eqb_tells, Participant, AreDistinct, beginner, participant_of, program_of, with_participant, set_at, set_at-cases, set_at-map}
 use Rattle.std.proofs.lemmas.List.{set_split}
 use Rattle.step_memory.proofs.ParticipantLemmas.{participant_of-push, participant_of-put}
 
@@ -10,6 +10,18 @@ pub put_here : {P : Type 0} (xs : List (Participant P)) (i : ℕ) (new d : Parti
 put_here xs i new d l same ahead =
     let here : with_participant new (drop i xs) ≡ new ∷ drop (suc i) xs = rw (drop-cons xs i d, eq-eqb (get_or xs i d).identity new.identity same) refl in
     set_split xs i new l ∙ sym (ahead ∙ ap (λ ys. take i xs ++ ys) here)
+
+-- the one that is met is whom is looked for, or stands further on
+met : {P : Type 0} (xs : List (Participant P)) (i : ℕ) (v : Participant P) → i < length xs → v ≡ get_or xs i v → drop i xs ≡ v ∷ drop (suc i) xs
+met xs i v l is = drop-cons xs i v l ∙ ap (λ y. y ∷ drop (suc i) xs) (sym is)
+
+pub found_here : {P : Type 0} (id : ℕ) (xs : List (Participant P)) (i : ℕ) (v : Participant P) → i < length xs → v ≡ get_or xs i v → v.identity ≡ id → program_of id (drop i xs) ≡ Some v.program
+found_here id xs i v l is same = rw (met xs i v l is, eq-eqb v.identity id same) refl
+
+pub found_further : {P : Type 0} (id : ℕ) (xs : List (Participant P)) (i : ℕ) (v : Participant P) → i < length xs → v ≡ get_or xs i v → v.identity ≢ id → program_of id (drop i xs) ≡ program_of id (drop (i + 1) xs)
+found_further id xs i v l is other =
+    let next : suc i ≡ i + 1 = omega arith in
+    rw (met xs i v l is, ne_eqb v.identity id other) (ap (λ (n : ℕ). program_of id (drop n xs)) next)
 
 -- what is not there is nothing
 pub absent : {X : Type 0} (o : Option X) → is_some o ≡ false → o ≡ None

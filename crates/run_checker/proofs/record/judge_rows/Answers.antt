@@ -1,52 +1,29 @@
-use Rattle.std.proofs.Common.{◌≡◌, ℕ, List, [], ◌∷◌, Option, Some, MatchOption, refl, ap, ◌∙◌, subst, arith}
-use Rattle.run_checker.proofs.Common.{option_copied, FindsLine, IsEventLine, lines_left}
+use Rattle.std.proofs.Common.{◌≡◌, ℕ, List, [], ◌∷◌, Option, Some, MatchOption, ap, ◌∙◌, subst}
+use Rattle.std.proofs.lemmas.Result.{MatchResult-at_ok, MatchResult-at_err}
+use Rattle.run_checker.proofs.Common.{option_copied, lines_left}
 use Rattle.run_checker.proofs.records.Gathered.{GatheredSoFar, all_gathered, row_gathered, row_here}
-use Rattle.run_checker.proofs.records.Rows.{all_rows, bad_row, row_at_fault}
+use Rattle.run_checker.proofs.records.Rows.{all_rows, no_row}
 use Rattle.run_checker.proofs.record.judge_rows.Goals.{in-Some+in_default-next_line, in_default}
 use Rattle.run_checker.proofs.record.judge_rows.Goals as goal
 
 pub loop-left-init : goal.loop-left-init
-loop-left-init g c = record {
-  so_far = record { before = []; lines = []; is = refl; read = tt; many = refl; few = omega arith; taken = c.in_ok-checker.ensures; at = refl };
-  gathered = λ start. start;
-}
+loop-left-init g c = record { so_far = no_row c.args.header _ c.in_ok-checker.checker c.in_ok-checker.ensures; gathered = λ start. start }
 
-pub returns-then-number-ge-LINES_END-clause-said : goal.returns-then-number-ge-LINES_END-clause-said
-returns-then-number-ge-LINES_END-clause-said g c =
+pub returns-in-Err-clause-said : goal.returns-in-Err-clause-said
+returns-in-Err-clause-said g c =
     let s = row_here (option_copied c.loop-left.left) c.loop-left.invariant (ap (λ o. option_copied o) c.in-Some.is) c.in-Some-next_line.ensures.lines in
-    let at = s.so_far.at in
-    let end = c.if-number-ge-LINES_END.true in
-    bad_row s.so_far (λ few. absurd (omega arith))
+    let ends = MatchResult-at_err _ _ _ c.in-Err.is c.in_ok-line.ensures in
+    ends.said _ _ s.so_far
 
-pub returns-in_default-2-clause-said : goal.returns-in_default-2-clause-said
-returns-in_default-2-clause-said g c =
-    let s = row_here (option_copied c.loop-left.left) c.loop-left.invariant (ap (λ o. option_copied o) c.in-Some.is) c.in-Some-next_line.ensures.lines in
-    bad_row s.so_far (λ few. subst (FindsLine (IsEventLine c.args.header.config.world c.args.header.version c.in-Some-next_line.row.now)) c.in_default-2.is c.in_ok-line.ensures)
-
-pub returns-in-Some-3-clause-said : goal.returns-in-Some-3-clause-said
-returns-in-Some-3-clause-said g c =
-    let s = row_here (option_copied c.loop-left.left) c.loop-left.invariant (ap (λ o. option_copied o) c.in-Some.is) c.in-Some-next_line.ensures.lines in
-    row_at_fault s.so_far c.if-number-ge-LINES_END.false c.in-Some-2.is c.in_ok-line.ensures c.judge.new.self c.in_ok-reason.ensures c.in-Some-3.is
-
-pub loop-left-preserved-in_ok-take : goal.loop-left-preserved-in_ok-take
-loop-left-preserved-in_ok-take g c =
-    let s = row_here (option_copied c.loop-left.left) c.loop-left.invariant (ap (λ o. option_copied o) c.in-Some.is) c.in-Some-next_line.ensures.lines in
-    row_gathered s c.if-number-ge-LINES_END.false c.in-Some-2.is c.in_ok-line.ensures c.judge.new.self c.in_ok-reason.ensures c.in_default-3.is c.in_ok-take.ensures
-
-pub loop-left-preserved-in_ok-take-2 : goal.loop-left-preserved-in_ok-take-2
-loop-left-preserved-in_ok-take-2 g c =
-    let s = row_here (option_copied c.loop-left.left) c.loop-left.invariant (ap (λ o. option_copied o) c.in-Some.is) c.in-Some-next_line.ensures.lines in
-    row_gathered s c.if-number-ge-LINES_END.false c.in-Some-2.is c.in_ok-line.ensures c.judge.new.self c.in_ok-reason.ensures c.in_default-3.is c.in_ok-take.ensures
-
-pub loop-left-preserved-in_ok-take-3 : goal.loop-left-preserved-in_ok-take-3
-loop-left-preserved-in_ok-take-3 g c =
-    let s = row_here (option_copied c.loop-left.left) c.loop-left.invariant (ap (λ o. option_copied o) c.in-Some.is) c.in-Some-next_line.ensures.lines in
-    row_gathered s c.if-number-ge-LINES_END.false c.in-Some-2.is c.in_ok-line.ensures c.judge.new.self c.in_ok-reason.ensures c.in_default-3.is c.in_ok-take.ensures
+pub returns-in-Err-clause-gathered : goal.returns-in-Err-clause-gathered
+returns-in-Err-clause-gathered g c = λ yes.
+    (let ends = MatchResult-at_err _ _ _ c.in-Err.is c.in_ok-line.ensures in
+    absurd (ends.other yes))
 
 pub loop-left-preserved : goal.loop-left-preserved
 loop-left-preserved g c =
     let s = row_here (option_copied c.loop-left.left) c.loop-left.invariant (ap (λ o. option_copied o) c.in-Some.is) c.in-Some-next_line.ensures.lines in
-    row_gathered s c.if-number-ge-LINES_END.false c.in-Some-2.is c.in_ok-line.ensures c.judge.new.self c.in_ok-reason.ensures c.in_default-3.is c.in_ok-take.ensures
+    row_gathered s (MatchResult-at_ok _ _ _ c.in-Ok.is c.in_ok-line.ensures) c.in_ok-take.ensures
 
 pub returns : goal.returns
 returns g c =

@@ -10,7 +10,10 @@ returns-then-is_empty-clause-stands c =
     let same : c.args.line.now ≡ j.held.items ++ c.args.line.now = ap (λ (l : List ℕ). l ++ c.args.line.now) (sym none) in
     on_ok_weaker c.judge_line.result (λ f. λ lines h. subst (λ (l : List ℕ). StandsAfter (lines ++ l ∷ []) c.judge_line.new.stage) same (f lines h)) c.judge_line.ensures
 
+pub returns-clause-held : goal.returns-clause-held
+returns-clause-held c = on_ok_weaker c.judge_line-judged.result (λ _. c.clear.ensures.items) c.judge_line-judged.ensures
+
 pub returns-clause-stands : goal.returns-clause-stands
-returns-clause-stands c = λ lines h.
-    (let same : c.deref.result.now ≡ c.args.self.now.held.items ++ c.args.line.now = c.deref.ensures.value ∙ c.in_ok-extend_from_slice.ensures.items in
-    subst (λ (l : List ℕ). StandsAfter (lines ++ l ∷ []) c.judge_line-2.new.stage) same (c.in_ok-judge_line.ensures lines h))
+returns-clause-stands c =
+    let same : c.deref.result.now ≡ c.args.self.now.held.items ++ c.args.line.now = c.deref.ensures.value ∙ c.in_ok-extend_from_slice.ensures.items in
+    on_ok_weaker c.judge_line-judged.result (λ f lines h. subst (λ (l : List ℕ). StandsAfter (lines ++ l ∷ []) c.judge_line-judged.new.stage) same (f lines h)) c.judge_line-judged.ensures
