@@ -40,7 +40,7 @@ pub(crate) struct Sheet {
 impl Drop for Sheet {
     fn drop(self) {
         let Sheet {
-            desk: _,
+            desk,
             begun: _,
             reached: _,
             done: _,
@@ -50,6 +50,7 @@ impl Drop for Sheet {
             text: _,
             listed: _,
         } = self;
+        drop(desk);
     }
 }
 
