@@ -8,7 +8,7 @@ use crate::reason::Reason;
 use std::alloc::AllocError;
 
 /// Why a checker does not go on after a line.
-#[derive(Clone, Copy, Debug, Drop, PartialEq, Eq)]
+#[derive(Clone, Copy, Drop)]
 pub enum Fault {
     /// The line can't follow those before it.
     Unlawful(Reason),

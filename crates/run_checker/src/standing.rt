@@ -3,7 +3,7 @@
 use step_memory::Place;
 
 /// Where a participant is in its rounds.
-#[derive(Clone, Copy, Debug, Drop)]
+#[derive(Clone, Copy, Drop)]
 pub struct Turn {
     /// Where its proposal stands in a row of the moments.
     pub seat: usize,
@@ -16,7 +16,7 @@ pub struct Turn {
 }
 
 /// What is kept of a participant.
-#[derive(Clone, Copy, Debug, Drop)]
+#[derive(Clone, Copy, Drop)]
 pub struct Standing {
     /// Its place, once it has one.
     pub place: Option<Place>,

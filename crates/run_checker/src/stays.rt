@@ -17,7 +17,7 @@ use std::alloc::{AllocError, Global};
 use step_memory::{Participant, Refusal};
 
 /// A competitor's present stay.
-#[derive(Clone, Copy, Debug, Drop)]
+#[derive(Clone, Copy, Drop)]
 pub struct Stay {
     /// How many probes it has made.
     pub probes: u64,
