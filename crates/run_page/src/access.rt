@@ -9,10 +9,11 @@ use record_lines::Text;
 use std::alloc::{AllocError, Global};
 use step_memory::Place;
 
-/// Appends the number of a place.
-pub(crate) fn put_place(place: Place, out: &mut Text) -> Result<(), AllocError>
-    ensures { OnOk result (out.new ≡ out.old ++ decimal place) }
+/// Appends a word with its space, and the number of a place.
+pub(crate) fn put_word_of_place(word: &[u8], place: Place, out: &mut Text) -> Result<(), AllocError>
+    ensures { OnOk result (out.new ≡ out.old ++ (word.now ++ decimal place)) }
 {
+    out.put(word)?;
     out.put(Buffer::new().format(place).as_bytes())
 }
 
@@ -21,22 +22,10 @@ pub(crate) fn put_register(register: Register, out: &mut Text) -> Result<(), All
     ensures { OnOk result (out.new ≡ out.old ++ register_words register) }
 {
     match register {
-        Register::X(place) => {
-            out.put(b"X ")?;
-            put_place(place, out)
-        }
-        Register::Y(place) => {
-            out.put(b"Y ")?;
-            put_place(place, out)
-        }
-        Register::Mark(place) => {
-            out.put(b"mark ")?;
-            put_place(place, out)
-        }
-        Register::Segment(place) => {
-            out.put(b"segment ")?;
-            put_place(place, out)
-        }
+        Register::X(place) => put_word_of_place(b"X ", place, out),
+        Register::Y(place) => put_word_of_place(b"Y ", place, out),
+        Register::Mark(place) => put_word_of_place(b"mark ", place, out),
+        Register::Segment(place) => put_word_of_place(b"segment ", place, out),
     }
 }
 

@@ -4,7 +4,7 @@ ghost use Rattle.std.specs.Prelude.{◌≡◌, ◌++◌, [], OnOk, if◌then◌e
 ghost use Rattle.command_lines.specs.Replies.{owner_words, reply_words};
 ghost use Rattle.run_page.specs.Row.{done_words, held_words, row_of, words_of};
 
-use crate::access::{put_access, put_place};
+use crate::access::{put_access, put_word_of_place};
 use crate::done::Done;
 use crate::form::Form;
 use crate::standing::put_standing;
@@ -33,10 +33,7 @@ fn put_reply(reply: &Reply<View>, out: &mut Text) -> Result<(), AllocError>
         Reply::Stop => out.put(b"stop"),
         Reply::Right => out.put(b"right"),
         Reply::Down => out.put(b"down"),
-        Reply::Place(place) => {
-            out.put(b"place ")?;
-            put_place(*place, out)
-        }
+        Reply::Place(place) => put_word_of_place(b"place ", *place, out),
         Reply::Proposed(number) => out.put_word(b"proposed ", *number),
         Reply::Saw(view) => put_view(view.pairs(), out),
         Reply::Named(name, _) => out.put_word(b"named ", *name),

@@ -6,7 +6,7 @@ ghost use Rattle.bit_allocator.specs.Pool.{number_answer};
 ghost use Rattle.slot_array.specs.SlotsState.{SlotsState};
 ghost use Rattle.run_page.specs.Standing.{is_spent_by, name_words, place_words, standing_on, standing_words, stay_words, value_words};
 
-use crate::access::{put_access, put_place};
+use crate::access::{put_access, put_word_of_place};
 use crate::form::Form;
 use bit_allocator::Stay;
 use desk::{Coming, Desk, Event};
@@ -68,10 +68,7 @@ fn put_own_place(place: Option<Place>, out: &mut Text) -> Result<(), AllocError>
 {
     match place {
         None => Ok(()),
-        Some(place) => {
-            out.put(b"place ")?;
-            put_place(place, out)
-        }
+        Some(place) => put_word_of_place(b"place ", place, out),
     }
 }
 

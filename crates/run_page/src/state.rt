@@ -24,8 +24,7 @@ fn put_person(form: Form, desk: &Desk<Global>, id: u64, out: &mut Text) -> Resul
     out.put_word(form.begin(), id)?;
     out.put(form.colon())?;
     put_standing(form, &Standing::on(desk, id), out)?;
-    out.put(form.end())?;
-    Ok(())
+    out.put(form.end())
 }
 
 /// Appends where each of these stands.
@@ -88,8 +87,7 @@ fn put_held(
     out.put(form.begin())?;
     put_register(register, out)?;
     out.put_word(form.colon(), word)?;
-    out.put(form.end())?;
-    Ok(())
+    out.put(form.end())
 }
 
 /// Appends what stands in the registers of a place.
@@ -130,8 +128,7 @@ fn put_fact(form: Form, of: &[u8], number: u64, is: u64, out: &mut Text) -> Resu
     out.put(form.begin())?;
     out.put_word(of, number)?;
     out.put_word(form.colon(), is)?;
-    out.put(form.end())?;
-    Ok(())
+    out.put(form.end())
 }
 
 /// Appends who has a name, where one has.
@@ -188,8 +185,7 @@ fn put_size(form: Form, size: u64, out: &mut Text) -> Result<(), AllocError>
     out.put(form.begin())?;
     out.put(b"size")?;
     out.put_word(form.colon(), size)?;
-    out.put(form.end())?;
-    Ok(())
+    out.put(form.end())
 }
 
 /// Appends all that a desk holds, on which these have begun and these places were reached. An error where a growth was
@@ -209,8 +205,7 @@ pub(crate) fn put_state(
     put_registers(form, desk, reached, out)?;
     put_names(form, desk, MOST_NAMES, out)?;
     put_slots(form, slots.values(), out)?;
-    put_size(form, slots.pool().size(), out)?;
-    Ok(())
+    put_size(form, slots.pool().size(), out)
 }
 
 /// Appends all that a desk holds, as data, where that is asked for. An error where a growth was refused.
