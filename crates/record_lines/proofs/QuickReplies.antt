@@ -3,7 +3,7 @@ use Rattle.std.proofs.Common.{◌≡◌, ℕ, ◌-◌, ◌≤◌, ◌==◌, true
 use Rattle.record_lines.proofs.Common.{list_all, nat_tests, words, is_digit, number_in, same_bytes, Version, One, Two, Told, is_plain, told_by, told_with, told_in, told_of_words, word_with, lacks, pieces-last, pieces-cut}
 use Rattle.std.proofs.lemmas.List.{take_all, length-drop}
 use Rattle.command_lines.specs.Quick.{is_of_words}
-use Rattle.record_lines.specs.PlainLine.{SpellsReply, SpellsLastNumber}
+use Rattle.record_lines.specs.PlainLine.{SpellsReply, SpellsNumberAfter}
 use Rattle.record_lines.proofs.written.PlainLines.{close}
 use Rattle.record_lines.proofs.written.Words.{all_by, plain_both, digit_plain, digit_no_space}
 
@@ -30,12 +30,13 @@ pub word_spelled : (text replied : List ℕ) (t : Told) → text ≡ replied ++ 
 word_spelled text replied t written plain is one two = record { replied = replied; end = record { written = written; plain = plain; plain_view = tt }; tells = told_in_both replied t is one two }
 
 -- a reply of a word and a number
-pub number_spelled : (text word rest : List ℕ) (t : Told) (n : ℕ) → text ≡ (word ++ 32 ∷ []) ++ rest → SpellsLastNumber rest n → list_all is_plain word ≡ true → lacks 32 word ≡ true → same_bytes word (codes "saw") ≡ false →
+pub number_spelled : (text word : List ℕ) (t : Told) (n : ℕ) → SpellsNumberAfter text (word ++ 32 ∷ []) n → list_all is_plain word ≡ true → lacks 32 word ≡ true → same_bytes word (codes "saw") ≡ false →
     ((digits : List ℕ) → number_in digits ≡ Some n → word_with word digits ≡ Some t) → told_with One t None ≡ Some t → told_with Two t None ≡ Some t → SpellsReply text t
-number_spelled text word rest t n split s plain whole other tells one two =
+number_spelled text word t n after plain whole other tells one two =
+    let s = after.number in
     let replied : List ℕ = word ++ 32 ∷ s.digits in
     let cut : words replied ≡ word ∷ s.digits ∷ [] =
     pieces-cut 32 [] word s.digits whole ∙ ap (λ (l : List (List ℕ)). word ∷ l) (pieces-last 32 [] s.digits (all_by is_digit (λ b. not (b == 32)) digit_no_space s.digits s.are_digits)) in
     let means : told_of_words (word ∷ s.digits ∷ []) ≡ Some t = rw other (tells s.digits s.number) in
-    let written : text ≡ replied ++ close = split ∙ ap (λ (l : List ℕ). (word ++ 32 ∷ []) ++ l) s.written ∙ simp append_assoc in
+    let written : text ≡ replied ++ close = after.split ∙ ap (λ (l : List ℕ). (word ++ 32 ∷ []) ++ l) s.written ∙ simp append_assoc in
     word_spelled text replied t written (plain_both word (32 ∷ s.digits) plain (plain_both (32 ∷ []) s.digits refl (all_by is_digit is_plain digit_plain s.digits s.are_digits))) (ap told_of_words cut ∙ means) one two

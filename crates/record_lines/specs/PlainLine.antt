@@ -61,3 +61,9 @@ pub record SpellsLastNumber (text : List ℕ) (n : ℕ) : Type 0 where
   pub written : text ≡ digits ++ codes "\"}"
   pub are_digits : list_all is_digit digits ≡ true
   pub number : number_in digits ≡ Some n
+
+-- and has this word before them
+pub record SpellsNumberAfter (text word : List ℕ) (n : ℕ) : Type 0 where
+  pub rest : List ℕ
+  pub split : text ≡ word ++ rest
+  pub number : SpellsLastNumber rest n

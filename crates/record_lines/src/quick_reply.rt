@@ -1,7 +1,7 @@
 //! Replies of the commonest words, with which lines end in the spelling in which records are written, in one pass over their bytes.
 
 ghost use Rattle.std.specs.Prelude.{IfSome};
-ghost use Rattle.record_lines.specs.PlainLine.{SpellsReply, SpellsLastNumber};
+ghost use Rattle.record_lines.specs.PlainLine.{SpellsReply, SpellsLastNumber, SpellsNumberAfter};
 
 use crate::plain_line::after;
 use crate::told::Told;
@@ -30,22 +30,30 @@ pub fn quick_told(text: &[u8]) -> Option<Told>
 fn quick_number_told(text: &[u8]) -> Option<Told>
     ensures { IfSome result (λ t. SpellsReply text.now t) }
 {
-    if let Some(number) = after(text, b"proposed ") {
-        return Some(Told::Proposed(last_number(number)?));
+    if let Some(number) = number_after(text, b"proposed ") {
+        return Some(Told::Proposed(number));
     }
-    if let Some(number) = after(text, b"refused ") {
-        return Some(Told::Refused(last_number(number)?));
+    if let Some(number) = number_after(text, b"refused ") {
+        return Some(Told::Refused(number));
     }
-    if let Some(number) = after(text, b"got ") {
-        return Some(Told::Got(last_number(number)?));
+    if let Some(number) = number_after(text, b"got ") {
+        return Some(Told::Got(number));
     }
-    if let Some(number) = after(text, b"left ") {
-        return Some(Told::Left(last_number(number)?));
+    if let Some(number) = number_after(text, b"left ") {
+        return Some(Told::Left(number));
     }
-    if let Some(number) = after(text, b"value ") {
-        return Some(Told::Value(last_number(number)?));
+    if let Some(number) = number_after(text, b"value ") {
+        return Some(Told::Value(number));
     }
     None
+}
+
+/// The number with which a line ends behind this word.
+#[inline(always)]
+fn number_after(text: &[u8], word: &[u8]) -> Option<u64>
+    ensures { IfSome result (SpellsNumberAfter text.now word.now) }
+{
+    last_number(after(text, word)?)
 }
 
 /// The number with which a line ends.
