@@ -76,7 +76,7 @@ fn owner(other: &[u8]) -> Option<Told>
     if is_word(other, b"none") {
         return Some(Told::Owner(None));
     }
-    Some(Told::Owner(Some(number(other)?)))
+    number(other).map(|id| Told::Owner(Some(id)))
 }
 
 /// The reply of a word and another.
@@ -84,19 +84,19 @@ fn with(word: &[u8], other: &[u8]) -> Option<Told>
     ensures { result ≡ word_with word.now other.now }
 {
     if is_word(word, b"place") {
-        Some(Told::Place(wide_number(other)?))
+        wide_number(other).map(Told::Place)
     } else if is_word(word, b"proposed") {
-        Some(Told::Proposed(number(other)?))
+        number(other).map(Told::Proposed)
     } else if is_word(word, b"named") {
-        Some(Told::Named(number(other)?, None))
+        number(other).map(|name| Told::Named(name, None))
     } else if is_word(word, b"got") {
-        Some(Told::Got(number(other)?))
+        number(other).map(Told::Got)
     } else if is_word(word, b"left") {
-        Some(Told::Left(number(other)?))
+        number(other).map(Told::Left)
     } else if is_word(word, b"value") {
-        Some(Told::Value(number(other)?))
+        number(other).map(Told::Value)
     } else if is_word(word, b"refused") {
-        Some(Told::Refused(number(other)?))
+        number(other).map(Told::Refused)
     } else if is_word(word, b"owner") {
         owner(other)
     } else {
