@@ -67,8 +67,8 @@ impl Checker {
         ensures { IfOk result (HasTaken (terms_of config) config.k []) }
     {
         Ok(Checker {
-            names: Names::new(alloc, config.m, config.limit, lines)?,
             stays: Stays::new(alloc, config.k)?,
+            names: Names::new(alloc, config.m, config.limit, lines)?,
             grows: config.world.is_tree(),
         })
     }

@@ -90,8 +90,8 @@ impl Names {
         let proposals = most.saturating_mul(limit);
         let room = (lines as u64).min(proposals) as usize;
         Ok(Names {
-            participants: Vec::new(alloc),
             moments: Moments::new(alloc, room)?,
+            participants: Vec::new(alloc),
             most,
             limit,
         })

@@ -10,8 +10,8 @@ returns c =
       object = fresh_desk_object config.k;
       run = refl;
       held = record {
-        names = c.in_ok-new.ensures (terms_of config) refl refl (few_take_part config) r.4 r.5;
-        slots = c.in_ok-new-2.ensures r.2 r.3;
+        names = c.in_ok-new-2.ensures (terms_of config) refl refl (few_take_part config) r.4 r.5;
+        slots = c.in_ok-new.ensures r.2 r.3;
         grows_is = c.is_tree.ensures;
       };
       few = omega arith;
