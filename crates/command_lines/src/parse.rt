@@ -3,8 +3,8 @@
 ghost use Rattle.std.specs.Prelude.{◌≡◌, ◌∷◌};
 ghost use Rattle.std.specs.List.{list_all};
 ghost use Rattle.std.specs.Option.{option_copied};
-ghost use Rattle.command_lines.specs.Meaning.{meaning, command_of, desk_command_of, slot_command_of, words, is_printable};
-ghost use Rattle.command_lines.specs.WordsLeft.{words_left, no_word, one_number, two_numbers};
+ghost use Rattle.command_lines.specs.Meaning.{meaning, command_of, desk_command_of, slot_command_of, words, is_printable, number_in};
+ghost use Rattle.command_lines.specs.WordsLeft.{words_left, no_word, one_number, numbers_if, two_numbers};
 
 use crate::words::{cut, is_word, number};
 use commands::{Bad, Command, Event, WorldKind};
@@ -72,8 +72,10 @@ fn slot_command_of(word: &[u8], others: Option<&[u8]>) -> Result<Command, Bad>
     ensures { result ≡ slot_command_of word.now (words_left (option_copied others.entry)) }
 {
     if is_word(word, b"put") {
-        let (id, value) = two_numbers(others)?;
-        return Ok(Command::Event(Event::Put(id, value)));
+        return match two_numbers(others) {
+            Ok((id, value)) => Ok(Command::Event(Event::Put(id, value))),
+            Err(bad) => Err(bad),
+        };
     }
     if is_word(word, b"get") {
         return Ok(Command::Event(Event::Get(only_number(others)?)));
@@ -105,21 +107,42 @@ fn cut_word(bytes: &[u8]) -> (&[u8], Option<&[u8]>)
 fn only_number(words: Option<&[u8]>) -> Result<u64, Bad>
     ensures { result ≡ one_number (words_left (option_copied words.entry)) }
 {
-    let (word, others) = cut_word(words.ok_or(Bad::WrongCount)?);
-    no_more(others)?;
-    number(word).ok_or(Bad::BadNumber)
+    let Some(words) = words else {
+        return Err(Bad::WrongCount);
+    };
+    let (word, others) = cut_word(words);
+    match no_more(others) {
+        Ok(()) => number(word).ok_or(Bad::BadNumber),
+        Err(bad) => Err(bad),
+    }
 }
 
 // The numbers that the words which are left write, where they are two words.
 fn two_numbers(words: Option<&[u8]>) -> Result<(u64, u64), Bad>
     ensures { result ≡ two_numbers (words_left (option_copied words.entry)) }
 {
-    let (first, rest) = cut_word(words.ok_or(Bad::WrongCount)?);
-    let (second, others) = cut_word(rest.ok_or(Bad::WrongCount)?);
-    no_more(others)?;
-    let one = number(first).ok_or(Bad::BadNumber)?;
-    let other = number(second).ok_or(Bad::BadNumber)?;
-    Ok((one, other))
+    let Some(words) = words else {
+        return Err(Bad::WrongCount);
+    };
+    let (first, rest) = cut_word(words);
+    let Some(rest) = rest else {
+        return Err(Bad::WrongCount);
+    };
+    let (second, others) = cut_word(rest);
+    match no_more(others) {
+        Ok(()) => both_numbers(first, second),
+        Err(bad) => Err(bad),
+    }
+}
+
+// The numbers that both words write.
+fn both_numbers(first: &[u8], second: &[u8]) -> Result<(u64, u64), Bad>
+    ensures { result ≡ numbers_if (number_in first.now) (number_in second.now) }
+{
+    match (number(first), number(second)) {
+        (Some(one), Some(other)) => Ok((one, other)),
+        _ => Err(Bad::BadNumber),
+    }
 }
 
 // No word is left.
