@@ -71,3 +71,22 @@ returns-in_default-clause-line g c =
       longer = omega arith;
       counted = (let lines = ap (λ (q : TalkerState). q.summary.lines) same in omega arith);
     }
+
+pub returns-then-is_empty-clause-line : goal.returns-then-is_empty-clause-line
+returns-then-is_empty-clause-line g c = record {
+  some = omega arith;
+  inside = omega (arith, c.in-Some.ensures.0.high);
+  kept = c.answer.ensures.kept;
+  longer = c.answer.ensures.longer;
+  counted = omega (arith, c.answer.ensures.counted);
+}
+
+pub returns-clause-line : goal.returns-clause-line
+returns-clause-line g c =
+    let same = c.self.view_is in record {
+      some = omega arith;
+      inside = omega (arith, c.in-Some.ensures.0.high);
+      kept = c.answer_line.ensures.kept ∙ ap (λ (q : TalkerState). q.kind) same;
+      longer = c.answer_line.ensures.longer;
+      counted = (let lines = ap (λ (q : TalkerState). q.summary.lines) same in omega (arith, c.answer_line.ensures.counted));
+    }
