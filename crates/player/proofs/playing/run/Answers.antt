@@ -1,9 +1,8 @@
 use Rattle.std.proofs.Common.{◌≡◌, ◌≢◌, true, false, ◌∙◌, ◌≤◌, ◌++◌, inl, inr, sym, ap, arith, take, length, List, [], ℕ, refl, Result, Err}
-use Rattle.command_lines.specs.declared.fault.Fault.TheVariants.{Read, Write, Memory}
+use Rattle.command_lines.specs.declared.fault.Fault.TheVariants.{Write, Memory}
 use Rattle.player.proofs.Common.{append-nil, err_from_is_err_and, IsAtEnd, Fault, READ_BYTES, Summary, asked_by, lines, at_start, after_bytes, Stands}
 use Rattle.std.proofs.KnownBytes.{Consumes-nil, Consumes-trans, Consumes-kept}
-use Rattle.player.specs.Played.{HasRead, reading}
-use Rattle.player.specs.PlayedProofs.{as_played}
+use Rattle.player.specs.Played.{HasRead, reading, writing}
 use Rattle.player.proofs.StandsLemmas.{stands_start}
 use Rattle.player.proofs.ProgressLemmas.{after_bytes-append, asked-all, asked_begins}
 use Rattle.player.proofs.SaysLemmas.{after_end-over}
@@ -29,17 +28,17 @@ loop-reads-init g c = record {
 pub returns-in-Err-clause-played : goal.returns-in-Err-clause-played
 returns-in-Err-clause-played g c =
     let inv = c.loop-reads.invariant in
-    as_played _ _ _ _ _ _ (Err Read) (to_read_fault g.D.Service.may g.F.Form.text c.args.player.now.kind c.args.world.now c.loop-reads.world _ _ inv.bytes
+    to_read_fault g.D.Service.may g.F.Form.text c.args.player.now.kind c.args.world.now c.loop-reads.world (reading g.R.Read.remaining g.R.Source.calls g.R.Source.failed c.args.reader.now c.read_once.new.self) (writing g.W.Write.contents g.W.Sink.failed c.args.writer.now c.loop-reads.writer) inv.bytes
     c.loop-reads.player (inl (omega (arith, c.in-Err.ensures.failed, inv.no_read_failed)))
     (Consumes-kept (g.R.Read.remaining c.args.reader.now) (g.R.Read.remaining c.loop-reads.reader) (g.R.Read.remaining c.read_once.new.self) inv.bytes inv.came c.in-Err.ensures.bytes)
-    inv.going inv.stands inv.empty inv.no_write_failed) (omega (arith, c.in-Err.ensures.called, inv.reads, c.loop-reads-test.true))
+    inv.going inv.stands inv.empty inv.no_write_failed (omega (arith, c.in-Err.ensures.called, inv.reads, c.loop-reads-test.true))
 
 pub returns-clause-played : goal.returns-clause-played
 returns-clause-played g c =
     let inv = c.loop-reads.invariant in
-    as_played _ _ _ _ _ _ (Err Read) (to_read_fault g.D.Service.may g.F.Form.text c.args.player.now.kind c.args.world.now c.loop-reads.world _ _ inv.bytes
+    to_read_fault g.D.Service.may g.F.Form.text c.args.player.now.kind c.args.world.now c.loop-reads.world (reading g.R.Read.remaining g.R.Source.calls g.R.Source.failed c.args.reader.now c.loop-reads.reader) (writing g.W.Write.contents g.W.Sink.failed c.args.writer.now c.loop-reads.writer) inv.bytes
     c.loop-reads.player (inr (omega (arith, inv.reads, c.loop-reads-test.false, c.loop-reads.auto.reads-end), inv.no_read_failed)) inv.came
-    inv.going inv.stands inv.empty inv.no_write_failed) (omega (arith, inv.reads, c.loop-reads.auto.reads-end))
+    inv.going inv.stands inv.empty inv.no_write_failed (omega (arith, inv.reads, c.loop-reads.auto.reads-end))
 
 -- the last read, where it gave nothing, and where it gave some
 read_nothing : (g : _) (c : After-finish g) → HasRead c.args.player.now.kind (reading g.R.Read.remaining g.R.Source.calls g.R.Source.failed c.args.reader.now c.read_once.new.self) c.loop-reads.invariant.bytes × IsAtEnd (g.R.Read.remaining c.read_once.new.self)
@@ -59,8 +58,8 @@ returns-then-count-eq0-clause-played g c =
     let inv = c.loop-reads.invariant in
     let read = read_nothing g (goal.at.returns-then-count-eq0-clause-played g c).After-finish in
     let stands = rw inv.kind at (c.in_ok-finish.ensures.ok c.args.world.now (after_bytes c.args.player.now.kind at_start inv.bytes) (g.W.Write.contents c.args.writer.now) inv.stands) in
-    rw c.summary.ensures (as_played _ _ _ _ _ _ _ (to_end g.D.Service.may g.F.Form.text c.args.player.now.kind c.args.world.now c.finish.new.world _ _ inv.bytes
-    c.finish.new.self read.0 (inl read.1) stands c.in_ok-finish.ensures.empty (omega (arith, c.in-Ok.ensures.failed, inv.no_read_failed)) (c.in_ok-finish.ensures.unfailed ∙ inv.no_write_failed))
+    rw c.summary.ensures (to_end g.D.Service.may g.F.Form.text c.args.player.now.kind c.args.world.now c.finish.new.world (reading g.R.Read.remaining g.R.Source.calls g.R.Source.failed c.args.reader.now c.read_once.new.self) (writing g.W.Write.contents g.W.Sink.failed c.args.writer.now c.finish.new.writer) inv.bytes
+    c.finish.new.self read.0 (inl read.1) stands c.in_ok-finish.ensures.empty (omega (arith, c.in-Ok.ensures.failed, inv.no_read_failed)) (c.in_ok-finish.ensures.unfailed ∙ inv.no_write_failed)
     (omega (arith, c.in-Ok.ensures.called, inv.reads, c.loop-reads-test.true)))
 
 pub returns-in_err-finish-clause-played : goal.returns-in_err-finish-clause-played
@@ -70,9 +69,9 @@ returns-in_err-finish-clause-played g c =
     let fault = err_from_is_err_and c.from_residual.result c.from_residual.ensures.1 in
     let read = read_nothing g (goal.at.returns-in_err-finish-clause-played g c).After-finish in
     let part = rw inv.kind at (c.in_err-finish.ensures.part c.args.world.now (after_bytes kind at_start inv.bytes) (g.W.Write.contents c.args.writer.now) inv.stands) in
-    rw (fault.1 ∙ ap Err (fault.2 ∙ c.in_err-finish.ensures.only)) (as_played _ _ _ _ _ _ (Err Write) (to_write_fault g.D.Service.may g.F.Form.text kind c.args.world.now c.finish.new.world _ _ inv.bytes
+    rw (fault.1 ∙ ap Err (fault.2 ∙ c.in_err-finish.ensures.only)) (to_write_fault g.D.Service.may g.F.Form.text kind c.args.world.now c.finish.new.world (reading g.R.Read.remaining g.R.Source.calls g.R.Source.failed c.args.reader.now c.read_once.new.self) (writing g.W.Write.contents g.W.Sink.failed c.args.writer.now c.finish.new.writer) inv.bytes
     g.D.Service.knows c.requires.knows g.D.Service.answers _ read.0 (λ input left parts whole. ([], ap (λ (l : List ℕ). asked_by kind (lines l)) (whole read.1) ∙ sym (asked-all kind inv.bytes) ∙ sym (append-nil _))) part
-    (omega (arith, c.in_err-finish.ensures.failed, inv.no_write_failed)) (omega (arith, c.in-Ok.ensures.failed, inv.no_read_failed)))
+    (omega (arith, c.in_err-finish.ensures.failed, inv.no_write_failed)) (omega (arith, c.in-Ok.ensures.failed, inv.no_read_failed))
     (omega (arith, c.in-Ok.ensures.called, inv.reads, c.loop-reads-test.true)))
 
 pub returns-in_err-feed-clause-played : goal.returns-in_err-feed-clause-played
@@ -82,9 +81,9 @@ returns-in_err-feed-clause-played g c =
     let got : List ℕ = inv.bytes ++ take c.in-Ok.count c.read_once.new.buf in
     let fault = err_from_is_err_and c.from_residual-in_err-feed.result c.from_residual-in_err-feed.ensures.1 in
     let part = rw inv.kind at (c.in_err-feed.ensures.part c.args.world.now (after_bytes kind at_start inv.bytes) (g.W.Write.contents c.args.writer.now) inv.stands) in
-    rw (fault.1 ∙ ap Err (fault.2 ∙ c.in_err-feed.ensures.only)) (as_played _ _ _ _ _ _ (Err Write) (to_write_fault g.D.Service.may g.F.Form.text kind c.args.world.now c.feed.new.world _ _ got
+    rw (fault.1 ∙ ap Err (fault.2 ∙ c.in_err-feed.ensures.only)) (to_write_fault g.D.Service.may g.F.Form.text kind c.args.world.now c.feed.new.world (reading g.R.Read.remaining g.R.Source.calls g.R.Source.failed c.args.reader.now c.read_once.new.self) (writing g.W.Write.contents g.W.Sink.failed c.args.writer.now c.feed.new.writer) got
     g.D.Service.knows c.requires.knows g.D.Service.answers (after_bytes kind at_start got) (read_some g (goal.at.returns-in_err-feed-clause-played g c).After-feed) (λ input left parts whole. asked_begins kind input got left parts)
-    (rw after_bytes-append part) (omega (arith, c.in_err-feed.ensures.failed, inv.no_write_failed)) (omega (arith, c.in-Ok.ensures.failed, inv.no_read_failed)))
+    (rw after_bytes-append part) (omega (arith, c.in_err-feed.ensures.failed, inv.no_write_failed)) (omega (arith, c.in-Ok.ensures.failed, inv.no_read_failed))
     (omega (arith, c.in-Ok.ensures.called, inv.reads, c.loop-reads-test.true)))
 
 -- where the player stands after the bytes that were read
@@ -102,9 +101,9 @@ returns-then-is_over-clause-played g c =
     let stands = fed g (goal.at.returns-then-is_over-clause-played g c).After-is_over in
     let quit : c.feed.new.self.over ≡ true = cc in
     let over = sym stands.over_is ∙ quit in
-    rw c.summary-then-is_over.ensures (as_played _ _ _ _ _ _ _ (to_end g.D.Service.may g.F.Form.text kind c.args.world.now c.feed.new.world _ _ got
+    rw c.summary-then-is_over.ensures (to_end g.D.Service.may g.F.Form.text kind c.args.world.now c.feed.new.world (reading g.R.Read.remaining g.R.Source.calls g.R.Source.failed c.args.reader.now c.read_once.new.self) (writing g.W.Write.contents g.W.Sink.failed c.args.writer.now c.feed.new.writer) got
     c.feed.new.self (read_some g (goal.at.returns-then-is_over-clause-played g c).After-feed) (inr over) (rw (after_end-over kind (after_bytes kind at_start got) over) stands) c.in_ok-feed.ensures.empty
-    (omega (arith, c.in-Ok.ensures.failed, inv.no_read_failed)) (c.in_ok-feed.ensures.unfailed ∙ inv.no_write_failed))
+    (omega (arith, c.in-Ok.ensures.failed, inv.no_read_failed)) (c.in_ok-feed.ensures.unfailed ∙ inv.no_write_failed)
     (omega (arith, c.in-Ok.ensures.called, inv.reads, c.loop-reads-test.true)))
 
 pub loop-reads-preserved : goal.loop-reads-preserved

@@ -1,5 +1,6 @@
 use Rattle.std.proofs.Common.{◌≡◌, true, refl, ap}
-use Rattle.player.proofs.Common.{TalkerState, Ended, Misread}
+use Rattle.commands.specs.Replies.{with_view}
+use Rattle.player.proofs.Common.{TalkerState, Answered, Told, Ended, Misread}
 use Rattle.commands.specs.declared.command.Command.TheVariants as command
 use Rattle.player.proofs.SaysLemmas.{says_one}
 use Rattle.player.proofs.talker.Talker.answer.Goals as goal
@@ -7,12 +8,12 @@ use Rattle.player.proofs.talker.Talker.answer.Goals as goal
 pub returns-in-Ok-Event-clause-says : goal.returns-in-Ok-Event-clause-says
 returns-in-Ok-Event-clause-says g c =
     let event : c.in-Ok-Event.field-0 ≡ command.Event c.in-Ok-Event.event = rw c.in-Ok-Event.is at c.in-Ok-Event.field-0-is in
-    rw (c.in-Ok-Event.is, event) (says_one g.D.Service.may g.F.Form.text c.args.service.now c.apply-reply.new.self c.args.self.now c.args.self.now c.hold_answered.new.self c.args.out.now c.hold_answered.new.out _ (c.apply-reply.ensures, refl) c.hold_answered.ensures.held)
+    rw (c.in-Ok-Event.is, event) (says_one g.D.Service.may g.F.Form.text c.args.service.now c.apply-reply.new.self c.args.self.now c.args.self.now c.hold_answered.new.self c.args.out.now c.hold_answered.new.out (Answered (record { event = c.in-Ok-Event.event; reply = with_view c.apply-reply.result c.apply-reply.new.view })) (c.apply-reply.ensures, refl) c.hold_answered.ensures.held)
 
 pub returns-in-Ok-Owner-clause-says : goal.returns-in-Ok-Owner-clause-says
 returns-in-Ok-Owner-clause-says g c =
     let owner : c.in-Ok-Owner.field-0 ≡ command.Owner c.in-Ok-Owner.n = rw c.in-Ok-Owner.is at c.in-Ok-Owner.field-0-is in
-    rw (c.in-Ok-Owner.is, owner) (says_one g.D.Service.may g.F.Form.text c.args.service.now c.tell_owner.new.service c.args.self.now c.args.self.now c.tell_owner.new.self c.args.out.now c.tell_owner.new.out _ (c.tell_owner.ensures.told.1, refl) c.tell_owner.ensures.told.2)
+    rw (c.in-Ok-Owner.is, owner) (says_one g.D.Service.may g.F.Form.text c.args.service.now c.tell_owner.new.service c.args.self.now c.args.self.now c.tell_owner.new.self c.args.out.now c.tell_owner.new.out (Told c.in-Ok-Owner.n c.tell_owner.ensures.told.0) (c.tell_owner.ensures.told.1, refl) c.tell_owner.ensures.told.2)
 
 pub returns-in-Ok-Quit-clause-says : goal.returns-in-Ok-Quit-clause-says
 returns-in-Ok-Quit-clause-says g c =
