@@ -170,6 +170,21 @@ looked_long kind long asks batch bytes at long' asks' ends batch' so none ends_i
     let all : requests_in kind long (take (length bytes) bytes) ends ≡ requests_in kind long (take at bytes) false = rw ends_is (looked_all kind long asks batch bytes at long' asks' batch' so none) in
     (so.added ∙ ap (λ l. batch ++ with_ends l) (sym all), λ h. (let b = so.asked h in (b.0, all ∙ b.1)))
 
+-- what no LF ends is a line, unless it is empty
+some_line : (rest : List ℕ) → (length rest == 0) ≡ false → unless_empty rest ≡ rest ∷ []
+some_line [] some = absurd cc
+some_line (b ∷ bs) some = refl
+
+pub last_line : (bytes rest : List ℕ) → rest ≡ bytes → (length rest == 0) ≡ false → unless_empty bytes ≡ rest ∷ []
+last_line bytes rest same some = ap unless_empty (sym same) ∙ some_line rest some
+
+empty_line : (rest : List ℕ) → (length rest == 0) ≡ true → unless_empty rest ≡ []
+empty_line [] none = refl
+empty_line (b ∷ bs) none = absurd (let same = eqb-true (length (b ∷ bs)) 0 none in omega (arith, same))
+
+pub no_last_line : (bytes rest : List ℕ) → rest ≡ bytes → (length rest == 0) ≡ true → unless_empty bytes ≡ []
+no_last_line bytes rest same none = ap unless_empty (sym same) ∙ empty_line rest none
+
 -- what a batch holds more than before
 pub kept_by : (old new xs : List ℕ) → new ≡ old ++ xs → (more : List ℕ) × (new ≡ old ++ more)
 kept_by old new xs is = (xs, is)

@@ -2,8 +2,7 @@
 
 ghost use Rattle.std.specs.Prelude.{◌≡◌, ◌++◌, ◌≤◌, List, ℕ, true, false, [], ◌∷◌, length, take, drop, IfOk};
 ghost use Rattle.command_lines.specs.Lines.{has_no_lf, unless_empty, with_ends};
-ghost use Rattle.command_lines.specs.Meaning.{meaning};
-ghost use Rattle.event_server.specs.Told.{is_request, requests, behind, requests_in, HasLooked};
+ghost use Rattle.event_server.specs.Told.{requests, behind, requests_in, HasLooked};
 
 use crate::wire::UNSENT_ROOM;
 use commands::{Command, Event, WorldKind};
@@ -52,12 +51,15 @@ enum Sight {
     Quit,
 }
 
-// What a turn takes of a line.
-fn look_at(line: &[u8], kind: WorldKind) -> Sight
-    ensures request { (room : ℕ) → result ≡ Sight.Request room → is_request (meaning kind line.now) ≡ true }
-    ensures nothing { result ≡ Sight.Nothing → is_request (meaning kind line.now) ≡ false }
-    ensures quit { result ≡ Sight.Quit → is_request (meaning kind line.now) ≡ false }
+// What a turn takes of a line, or of the end of a longer one.
+fn look_at(long: bool, line: &[u8], kind: WorldKind) -> Sight
+    ensures request { (room : ℕ) → result ≡ Sight.Request room → requests kind (behind long (line.now ∷ [])) ≡ line.now ∷ [] }
+    ensures nothing { result ≡ Sight.Nothing → requests kind (behind long (line.now ∷ [])) ≡ [] }
+    ensures quit { result ≡ Sight.Quit → requests kind (behind long (line.now ∷ [])) ≡ [] }
 {
+    if long {
+        return Sight::Nothing;
+    }
     match parse_line(line, kind) {
         Ok(Command::Quit) => Sight::Quit,
         Ok(Command::Event(Event::Step(_))) => Sight::Request(REPLY_ROOM),
@@ -80,6 +82,16 @@ pub struct Limits {
 /// Whether there is room for one line more in a batch of so many bytes at most.
 pub fn has_room<B: Allocator>(most: usize, batch: &Vec<u8, B>) -> bool {
     batch.len() <= most.saturating_sub(REQUEST_ROOM)
+}
+
+// A line is added to a batch, with its LF.
+fn add_line<B: Allocator>(line: &[u8], batch: &mut Vec<u8, B>) -> Result<(), AllocError>
+    ensures added { IfOk result (λ done. batch.new.items ≡ batch.old.items ++ with_ends (line.now ∷ [])) }
+    ensures kept { (more : List ℕ) × (batch.new.items ≡ batch.old.items ++ more) }
+{
+    batch.extend_from_slice(line)?;
+    batch.push(LF)?;
+    Ok(())
 }
 
 impl Limits {
@@ -218,12 +230,15 @@ impl Look {
         ensures kept { (more : List ℕ) × (batch.new.items ≡ batch.old.items ++ more) }
     {
         let rest = &bytes[self.bytes..];
-        if !rest.is_empty() {
-            self.take_line(rest, limits, batch)?;
-        }
         self.bytes = bytes.len();
         self.ends = true;
-        Ok(())
+        if rest.is_empty() {
+            return Ok(());
+        }
+        match self.take_line(rest, limits, batch) {
+            Ok(_) => Ok(()),
+            Err(fault) => Err(fault),
+        }
     }
 
     // One line more is taken: a request is added to the batch. Says whether to look on.
@@ -241,16 +256,11 @@ impl Look {
         ensures limits { limits.new ≡ record limits.old { said = limits.new.said } }
         ensures kept { (more : List ℕ) × (batch.new.items ≡ batch.old.items ++ more) }
     {
-        let sight = if self.goes_on {
-            Sight::Nothing
-        } else {
-            look_at(line, limits.kind)
-        };
+        let sight = look_at(self.goes_on, line, limits.kind);
         self.goes_on = false;
         match sight {
             Sight::Request(reply) => {
-                batch.extend_from_slice(line)?;
-                batch.push(LF)?;
+                add_line(line, batch)?;
                 self.asks = true;
                 limits.said = limits.said.saturating_add(reply);
                 Ok(true)

@@ -1,3 +1,4 @@
+use borrow.Author.Rules.{scaled_Fits}
 use Rattle.std.proofs.Common.{◌≡◌, ◌+◌, ◌∙◌, ◌++◌, inl, inr, [], ap, refl, subst, sym, arith, get_or}
 use Rattle.event_server.proofs.Common.{WorldKind, with_ends, tagged, SeatLooked, seats_of, SeatLines, all_lines}
 use Rattle.event_server.specs.declared.connection.Stage.TheVariants as stage
@@ -83,3 +84,15 @@ returns-after-loop-looked-clause-looked g c = c.loop-looked.invariant.inside
 
 pub returns-after-loop-looked-clause-room : goal.returns-after-loop-looked-clause-room
 returns-after-loop-looked-clause-room g c = c.loop-looked.invariant.room
+
+pub bounds-ready-looked : goal.bounds-ready-looked
+bounds-ready-looked g c = c.loop-looked-test.true
+
+pub offset_bounds-ready-looked : goal.offset_bounds-ready-looked
+offset_bounds-ready-looked g c = scaled_Fits _ _ _ c.loop-looked-test.true c.well_formed.1.1.1.0.1
+
+pub overflow_add-looked : goal.overflow_add-looked
+overflow_add-looked g c = omega (arith, c.loop-looked-test.true, c.well_formed.1.1.1.0.1)
+
+pub loop-looked-smaller : goal.loop-looked-smaller
+loop-looked-smaller g c = omega (arith, c.loop-looked-test.true)

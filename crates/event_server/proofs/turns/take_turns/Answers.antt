@@ -1,3 +1,4 @@
+use borrow.Author.Rules.{scaled_Fits}
 use Rattle.std.proofs.Common.{◌≡◌, inl, inr, ◌++◌, [], arith}
 use Rattle.event_server.proofs.Common.{TurnLog, tagged, seats_of}
 use Rattle.event_server.specs.declared.connection.Stage.TheVariants as stage
@@ -32,3 +33,15 @@ returns-else-not-is_full g c = record { taken = (c.loop-called.invariant.so.0, c
 
 pub returns-after-loop-called : goal.returns-after-loop-called
 returns-after-loop-called g c = record { taken = (c.loop-called.invariant.so.0, c.loop-called.invariant.so.1.taken); called = c.loop-called.invariant.inside; room = c.loop-called.invariant.room }
+
+pub bounds-ready-called : goal.bounds-ready-called
+bounds-ready-called g c = c.loop-called-test.true
+
+pub offset_bounds-ready-called : goal.offset_bounds-ready-called
+offset_bounds-ready-called g c = scaled_Fits _ _ _ c.loop-called-test.true c.well_formed.1.1.1.1.1.0.1
+
+pub overflow_add-called : goal.overflow_add-called
+overflow_add-called g c = omega (arith, c.loop-called-test.true, c.well_formed.1.1.1.1.1.0.1)
+
+pub loop-called-smaller : goal.loop-called-smaller
+loop-called-smaller g c = omega (arith, c.loop-called-test.true)

@@ -19,3 +19,18 @@ returns-in_err-keep-clause-turned g c = ok_never c.from_residual.result _ c.from
 
 pub slice_bounds-send_replies-end : goal.slice_bounds-send_replies-end
 slice_bounds-send_replies-end g c = sym (length-take-le c.take_turns-called.result c.args.ready.now c.take_turns-called.ensures.called)
+
+pub returns-clause-called : goal.returns-clause-called
+returns-clause-called g c = c.take_turns-called.ensures.called
+
+pub returns-clause-room : goal.returns-clause-room
+returns-clause-room g c = c.take_turns-called.ensures.room
+
+pub returns-clause-unsent : goal.returns-clause-unsent
+returns-clause-unsent g c = tt
+
+pub returns-in_err-keep-clause-room : goal.returns-in_err-keep-clause-room
+returns-in_err-keep-clause-room g c = c.take_turns-called.ensures.room
+
+pub take_turns-called-requires : goal.take_turns-called-requires
+take_turns-called-requires g c = record { knows = c.requires.knows; room = c.requires.room }

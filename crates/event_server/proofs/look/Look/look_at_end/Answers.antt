@@ -1,16 +1,24 @@
-use Rattle.std.proofs.Common.{◌≡◌, ◌∙◌, ◌++◌, ℕ, List, [], ap, refl, sym}
-use Rattle.std.proofs.lemmas.List.{append-nil}
-use Rattle.event_server.proofs.look.Look.look_at_end.Goals.{then-not-is_empty+in_ok-take_line, else-not-is_empty}
+use Rattle.std.proofs.Common.{refl, sym, drop, ◌∙◌}
+use Rattle.std.proofs.lemmas.List.{append-nil, take_rest}
+use Rattle.event_server.proofs.LookLemmas.{behind_none, last_line, no_last_line}
 use Rattle.event_server.proofs.look.Look.look_at_end.Goals as goal
 
-pub returns-clause-end : goal.returns-clause-end
-returns-clause-end g c = (refl, refl)
+pub returns-in-Ok-clause-told : goal.returns-in-Ok-clause-told
+returns-in-Ok-clause-told g c =
+    let from = c.args.self.now.bytes in
+    rw (last_line (drop from c.args.bytes.now) _ (take_rest c.args.bytes.now from) (sym c.is_empty.ensures ∙ c.if-is_empty.false)) c.in-Ok.ensures.told
 
-pub returns-in_err-take_line-clause-kept : goal.returns-in_err-take_line-clause-kept
-returns-in_err-take_line-clause-kept g c = c.take_line.ensures.kept
+pub returns-in-Ok-clause-asks : goal.returns-in-Ok-clause-asks
+returns-in-Ok-clause-asks g c =
+    let from = c.args.self.now.bytes in
+    rw (last_line (drop from c.args.bytes.now) _ (take_rest c.args.bytes.now from) (sym c.is_empty.ensures ∙ c.if-is_empty.false)) c.in-Ok.ensures.asks
 
-pub returns-clause-kept : goal.returns-clause-kept
-returns-clause-kept g c = elim c.if-not-is_empty.branch as (λ _. (more : List ℕ) × (c.if-not-is_empty.batch.items ≡ c.args.batch.now.items ++ more)) [
-  | then-not-is_empty+in_ok-take_line w ↦ (w.take_line.ensures.kept.0, ap (λ b. b.items) w.batch-is ∙ w.take_line.ensures.kept.1)
-  | else-not-is_empty w ↦ ([], ap (λ b. b.items) w.batch-is ∙ sym (append-nil c.args.batch.now.items))
-]
+pub returns-then-is_empty-clause-told : goal.returns-then-is_empty-clause-told
+returns-then-is_empty-clause-told g c =
+    let from = c.args.self.now.bytes in
+    rw (no_last_line (drop from c.args.bytes.now) _ (take_rest c.args.bytes.now from) (sym c.is_empty.ensures ∙ c.if-is_empty.true), behind_none c.args.self.now.goes_on) (sym (append-nil c.args.batch.now.items))
+
+pub returns-then-is_empty-clause-asks : goal.returns-then-is_empty-clause-asks
+returns-then-is_empty-clause-asks g c = λ asked.
+    let from = c.args.self.now.bytes in
+    (asked, rw (no_last_line (drop from c.args.bytes.now) _ (take_rest c.args.bytes.now from) (sym c.is_empty.ensures ∙ c.if-is_empty.true), behind_none c.args.self.now.goes_on) refl)
