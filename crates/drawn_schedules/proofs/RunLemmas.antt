@@ -1,10 +1,10 @@
 -- runs of drawn schedules, event by event
-use Rattle.std.proofs.Common.{◌≡◌, ◌≢◌, ℕ, ◌+◌, ◌-◌, ◌%◌, ◌<◌, suc, ◌⊎◌, Bool, true, false, inl, inr, List, [], ◌∷◌, ◌++◌, map, length, ◌^◌, Option, length-append, get_or, set, refl, sym, ap, subst, ◌∙◌, append_assoc, arith, Result, Ok, Err, IfOk}
+use Rattle.std.proofs.Common.{◌≡◌, ◌≢◌, ℕ, ◌+◌, ◌-◌, ◌%◌, ◌<◌, suc, ◌⊎◌, Bool, true, false, inl, inr, List, [], ◌∷◌, ◌++◌, map, length, take, ◌^◌, Option, length-append, get_or, set, refl, sym, ap, subst, ◌∙◌, append_assoc, arith, Result, Ok, Err, IfOk}
 use Rattle.drawn_schedules.proofs.Common.{Lcg, pcg32, Config, Event, Tally, begins_from, opened, schedule, steps_drawn, IsUnderWay}
 use Rattle.std.specs.Result.{result_ok}
 use Rattle.std.proofs.lemmas.Bool.Decides.{eqb_tells}
 use Rattle.std.proofs.lemmas.Grind.{get_or-set_at}
-use Rattle.std.proofs.lemmas.List.{append-nil, map-append, get_or-set_other}
+use Rattle.std.proofs.lemmas.List.{append-nil, map-append, get_or-set_other, take-append-le, take_all}
 use Rattle.step_memory.specs.declared.refusal.Refusal.TheVariants as refusal
 use Rattle.commands.specs.declared.event.Event.TheVariants as event
 use Rattle.commands.specs.declared.exchange.Exchange.{Exchange}
@@ -198,3 +198,7 @@ told_one_more config seed ids n first i tallies told inside here before k d low 
 pub told_if_made : {E : Type 0} (config : Config) (seed ids n j : ℕ) (made : Result Tally E) → IfOk made (λ t. (r : List Exchange) × IsDrawnRun config ((seed + j) % 2 ^ 64) ids n r × IsTallyOf r t) → IsToldOf config seed ids n j (result_ok made)
 told_if_made config seed ids n j (Ok t) h = h
 told_if_made config seed ids n j (Err e) h = tt
+
+-- what a vector holds once all its places are written
+pub written_all : {X : Type 0} (n : ℕ) (xs ys : List X) → length xs ≡ n → take n (xs ++ ys) ≡ xs
+written_all n xs ys many = take-append-le n xs ys (omega (arith, many)) ∙ take_all n xs (omega (arith, many))

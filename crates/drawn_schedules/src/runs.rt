@@ -140,7 +140,9 @@ fn play_one<A: Allocator + Clone>(
     let Ok(mut desk) = Desk::new(alloc, config) else {
         return Err(Fault::Memory);
     };
-    play_on(&mut desk, seed, ids, n)
+    let tally = play_on(&mut desk, seed, ids, n);
+    drop(desk);
+    tally
 }
 
 /// As `play_one`, in an arena, which is reset after it.

@@ -1,4 +1,4 @@
-use Rattle.std.proofs.Common.{rules, ◌≡◌, [], Err, Some, refl, arith, length, subst}
+use Rattle.std.proofs.Common.{rules, ◌≡◌, [], Err, refl, arith, length, subst}
 use Rattle.drawn_schedules.proofs.Common.{on_ok_weaker, on_err_weaker, Appends, IsUnderWay, HasPartOf, IsToldOf}
 use Rattle.drawn_schedules.proofs.RunLemmas.{no_run_yet, one_run_more, told_otherwise}
 use Rattle.drawn_schedules.proofs.ResultLemmas.{on_ok_both}
