@@ -1,7 +1,7 @@
 //! The command line of the program, for `clap`.
 
 ghost use Rattle.std.specs.Prelude.{◌≡◌, false, IfOk};
-ghost use Rattle.clap.specs.Words.{App, Rule, app_of, rule_of, with_rule, with_subcommand};
+ghost use Rattle.clap.specs.Words.{App, Rule, app_of, new_app, rule_of, with_rule, with_subcommand};
 ghost use Rattle.program_args.specs.CommandLine.{IsCommandOf, address_option, check_app, config_app, draw_app, draw_needs_app, flag, host_app, host_keeping_app, host_network_app, limit_option, m_option, migrate_app, needed_option, number_option, play_app, port_option, records_app, serve_app, show_app, slotctl_app, text_option, world_option};
 
 use clap::builder::ValueParser;
@@ -45,17 +45,24 @@ const HOST_EXAMPLES: &str = "Examples:
   slotctl host --port 7070 --etcd 10.0.0.1:2379,10.0.0.2:2379 --prefix slots/
   slotctl host --etcd 10.0.0.1:2379 --prefix slots/ --export | slotctl play";
 
+// An option with a text.
+fn text_option<'a>(alloc: Global, name: &'a str, value: &'a str, help: &'a str) -> Arg<'a>
+    ensures rule { rule_of result ≡ text_option name.now }
+    ensures local { result.global ≡ false }
+{
+    Arg::new(alloc, name)
+        .long(name)
+        .action(ArgAction::Set)
+        .value_name(value)
+        .help(help)
+}
+
 // `--world NAME`, of one of the worlds that the help names.
 fn world_option<'a>(alloc: Global, help: &'a str) -> Arg<'a>
     ensures rule { rule_of result ≡ world_option }
     ensures local { result.global ≡ false }
 {
-    Arg::new(alloc, "world")
-        .long("world")
-        .action(ArgAction::Set)
-        .default_value("rename")
-        .value_name("NAME")
-        .help(help)
+    text_option(alloc, "world", "NAME", help).default_value("rename")
 }
 
 // An option with a number in this range, and a text of the number that it has where it is not given.
@@ -70,13 +77,9 @@ fn number_option<'a>(
     ensures rule { rule_of result ≡ number_option name.now least most default.now }
     ensures local { result.global ≡ false }
 {
-    Arg::new(alloc, name)
-        .long(name)
-        .action(ArgAction::Set)
+    text_option(alloc, name, "NUMBER", help)
         .value_parser(ValueParser::unsigned(least, most))
         .default_value(default)
-        .value_name("NUMBER")
-        .help(help)
 }
 
 // An option with a number in this range, which has to be given.
@@ -84,13 +87,9 @@ fn needed_option<'a>(alloc: Global, name: &'a str, least: u64, most: u64, help: 
     ensures rule { rule_of result ≡ needed_option name.now least most }
     ensures local { result.global ≡ false }
 {
-    Arg::new(alloc, name)
-        .long(name)
-        .action(ArgAction::Set)
+    text_option(alloc, name, "NUMBER", help)
         .required(true)
         .value_parser(ValueParser::unsigned(least, most))
-        .value_name("NUMBER")
-        .help(help)
 }
 
 // `--m NUMBER`.
@@ -154,26 +153,16 @@ fn address_option<'a>(alloc: Global) -> Arg<'a>
     ensures rule { rule_of result ≡ address_option }
     ensures local { result.global ≡ false }
 {
-    Arg::new(alloc, "address")
-        .long("address")
-        .action(ArgAction::Set)
-        .default_value("127.0.0.1")
-        .value_name("ADDRESS")
-        .help(
-            "the address; whoever reaches another than this may say everything: no encryption, no authentication",
-        )
+    let help =
+        "the address; whoever reaches another than this may say everything: no encryption, no authentication";
+    text_option(alloc, "address", "ADDRESS", help).default_value("127.0.0.1")
 }
 
-// An option with a text.
-fn text_option<'a>(alloc: Global, name: &'a str, value: &'a str, help: &'a str) -> Arg<'a>
-    ensures rule { rule_of result ≡ text_option name.now }
-    ensures local { result.global ≡ false }
+// A subcommand that has no options yet.
+fn plain_command<'a>(alloc: Global, name: &'a str, about: &'a str, examples: &'a str) -> Command<'a>
+    ensures { IsCommandOf (new_app name.now) result }
 {
-    Arg::new(alloc, name)
-        .long(name)
-        .action(ArgAction::Set)
-        .value_name(value)
-        .help(help)
+    Command::new(alloc, name).about(about).after_help(examples)
 }
 
 // A command with one option more, where it was made. What makes a command passes it on as it was made, so that it is dropped
@@ -185,7 +174,13 @@ fn add_option<'a>(
     ensures { (app : App) (rule : Rule) → IfOk made.entry (IsCommandOf app) → rule_of option.entry ≡ rule → option.entry.global ≡ false →
         IfOk result (IsCommandOf (with_rule app rule)) }
 {
-    made?.arg(option)
+    match made {
+        Ok(command) => command.arg(option),
+        Err(error) => {
+            drop(option);
+            Err(error)
+        }
+    }
 }
 
 // A program with one subcommand more, where both were made.
@@ -196,7 +191,20 @@ fn add_subcommand<'a>(
     ensures { (app : App) (sub : App) → IfOk program.entry (λ c. app_of c ≡ app) → IfOk made.entry (IsCommandOf sub) →
         IfOk result (λ c. app_of c ≡ with_subcommand app sub.top) }
 {
-    program?.subcommand(made?)
+    let command = match made {
+        Ok(command) => command,
+        Err(error) => {
+            drop(program);
+            return Err(error);
+        }
+    };
+    match program {
+        Ok(program) => program.subcommand(command),
+        Err(error) => {
+            drop(command);
+            Err(error)
+        }
+    }
 }
 
 // A subcommand with a world and all its sizes.
@@ -209,7 +217,7 @@ fn config_command<'a>(
 ) -> Result<Command<'a>, AllocError>
     ensures { IfOk result (IsCommandOf (config_app name.now)) }
 {
-    let made = Ok(Command::new(alloc, name).about(about).after_help(examples));
+    let made = Ok(plain_command(alloc, name, about, examples));
     let made = add_option(made, world_option(alloc, worlds));
     let made = add_option(made, m_option(alloc));
     let size = number_option(alloc, "k", 1, 64, "4", "the size of the pool, from 1 to 64");
@@ -240,11 +248,12 @@ fn play_command<'a>(alloc: Global) -> Result<Command<'a>, AllocError>
 fn draw_needs<'a>(alloc: Global) -> Result<Command<'a>, AllocError>
     ensures { IfOk result (IsCommandOf draw_needs_app) }
 {
-    let made = Ok(
-        Command::new(alloc, "draw")
-            .about("Draws schedules, and writes one, or a line for each of many that are played")
-            .after_help(DRAW_EXAMPLES),
-    );
+    let made = Ok(plain_command(
+        alloc,
+        "draw",
+        "Draws schedules, and writes one, or a line for each of many that are played",
+        DRAW_EXAMPLES,
+    ));
     let seed = needed_option(alloc, "seed", 0, u64::MAX, "the seed of the generator");
     let made = add_option(made, seed);
     let ids = needed_option(alloc, "ids", 1, 64, "how many identities, from 1 to 64");
@@ -291,29 +300,36 @@ fn draw_command<'a>(alloc: Global) -> Result<Command<'a>, AllocError>
 fn check_command<'a>(alloc: Global) -> Command<'a>
     ensures { IsCommandOf check_app result }
 {
-    Command::new(alloc, "check")
-        .about("Checks the record of the standard input, and writes its verdict")
-        .after_help(CHECK_EXAMPLES)
+    plain_command(
+        alloc,
+        "check",
+        "Checks the record of the standard input, and writes its verdict",
+        CHECK_EXAMPLES,
+    )
 }
 
 // The subcommand `migrate`, which has no options.
 fn migrate_command<'a>(alloc: Global) -> Command<'a>
     ensures { IsCommandOf migrate_app result }
 {
-    Command::new(alloc, "migrate")
-        .about("Writes the record of the standard input again, in version 2")
-        .after_help(MIGRATE_EXAMPLES)
+    plain_command(
+        alloc,
+        "migrate",
+        "Writes the record of the standard input again, in version 2",
+        MIGRATE_EXAMPLES,
+    )
 }
 
 // The subcommand `show` with its options.
 fn show_command<'a>(alloc: Global) -> Result<Command<'a>, AllocError>
     ensures { IfOk result (IsCommandOf show_app) }
 {
-    let made = Ok(
-        Command::new(alloc, "show")
-            .about("Writes the record of the standard input as a page that shows its run")
-            .after_help(SHOW_EXAMPLES),
-    );
+    let made = Ok(plain_command(
+        alloc,
+        "show",
+        "Writes the record of the standard input as a page that shows its run",
+        SHOW_EXAMPLES,
+    ));
     let from = number_option(
         alloc,
         "from",

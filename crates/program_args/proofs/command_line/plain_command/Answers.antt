@@ -1,6 +1,6 @@
 use Rattle.std.proofs.Common.{ap, ◌∙◌}
 use Rattle.program_args.proofs.Common.{app_of_fields}
-use Rattle.program_args.proofs.command_line.check_command.Goals as goal
+use Rattle.program_args.proofs.command_line.plain_command.Goals as goal
 
 pub returns : goal.returns
 returns c = record {
