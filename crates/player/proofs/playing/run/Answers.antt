@@ -1,5 +1,5 @@
 use Rattle.std.proofs.Common.{◌≡◌, ◌≢◌, true, false, ◌∙◌, ◌≤◌, ◌++◌, inl, inr, sym, ap, arith, take, length, List, [], ℕ, refl, Result, Err}
-use Rattle.command_lines.specs.declared.fault.Fault.TheVariants.{Write, Memory}
+use Rattle.command_lines.specs.declared.fault.Fault.TheVariants.{Read, Write, Memory}
 use Rattle.player.proofs.Common.{append-nil, err_from_is_err_and, IsAtEnd, Fault, READ_BYTES, Summary, asked_by, lines, at_start, after_bytes, Stands}
 use Rattle.std.proofs.KnownBytes.{Consumes-nil, Consumes-trans, Consumes-kept}
 use Rattle.player.specs.Played.{HasRead, reading, writing}
@@ -128,6 +128,9 @@ loop-reads-preserved g c =
 
 not_memory : (r : Result Summary Fault) (f : Fault) → r ≡ Err f → f ≡ Write → r ≢ Err Memory
 not_memory r f is write memory = absurd (let same : Err Write ≡ Err Memory = sym (is ∙ ap Err write) ∙ memory in cc)
+
+pub returns-in-Err-clause-never : goal.returns-in-Err-clause-never
+returns-in-Err-clause-never g c = λ memory. absurd (let same : Err Read ≡ Err Memory = memory in cc)
 
 pub returns-in_err-finish-clause-never : goal.returns-in_err-finish-clause-never
 returns-in_err-finish-clause-never g c = let fault = err_from_is_err_and c.from_residual.result c.from_residual.ensures.1 in not_memory _ _ fault.1 (fault.2 ∙ c.in_err-finish.ensures.only)
