@@ -10,6 +10,7 @@ use mio::event::Event;
 use mio::net::TcpStream;
 use mio::{Interest, Poll, Token};
 use std::alloc::{AllocError, Global};
+use std::mem;
 use std::net::Shutdown;
 
 /// For how many ticks a connection that is at its end may take nothing of the replies to it.
@@ -55,6 +56,20 @@ impl House {
         Ok(key)
     }
 
+    // Whoever sat there leaves, and this connection has the seat, or none. Says whether there is such a seat.
+    fn fill(&mut self, key: usize, connection: Option<Connection<Socket, Global>>) -> bool {
+        match self.seats.get_mut(key) {
+            Some(seat) => {
+                drop(mem::replace(seat, connection));
+                true
+            }
+            None => {
+                drop(connection);
+                false
+            }
+        }
+    }
+
     /// Gives a seat to a stream. One that cannot be waited for is closed.
     pub fn admit(
         &mut self,
@@ -78,8 +93,8 @@ impl House {
         let Ok(wire) = Wire::new(alloc, kind) else {
             return Err(AllocError);
         };
-        if let Some(seat) = self.seats.get_mut(key) {
-            *seat = Some(Connection::new(Socket { stream }, wire, tick));
+        let connection = Connection::new(Socket { stream }, wire, tick);
+        if self.fill(key, Some(connection)) {
             self.open = self.open.saturating_add(1);
         }
         Ok(())
@@ -135,9 +150,7 @@ impl House {
 
     // Whoever sits there leaves, and the seat is empty then.
     fn leave(&mut self, key: usize) {
-        if let Some(seat) = self.seats.get_mut(key) {
-            *seat = None;
-        }
+        self.fill(key, None);
         let _ = self.empty.push(key);
         self.open = self.open.saturating_sub(1);
         self.served = self.served.saturating_add(1);

@@ -1,5 +1,5 @@
-use Rattle.std.proofs.Common.{◌≡◌, ◌∙◌, ap, sym, Ok, Err}
-use Rattle.player.proofs.Common.{Memory, PlayerState}
+use Rattle.std.proofs.Common.{◌≡◌, ◌∙◌, ap, sym, refl, inr, Ok, Err}
+use Rattle.player.proofs.Common.{err_from_is_err_and, Memory, PlayerState}
 use Rattle.player.specs.Recorded.{end_of}
 use Rattle.player.proofs.RecordedLemmas.{recorded}
 use Rattle.player.proofs.recording.record_run.Goals as goal
@@ -23,3 +23,9 @@ returns-in-Err-clause-recorded g c =
 
 pub returns-in-Err-clause-never : goal.returns-in-Err-clause-never
 returns-in-Err-clause-never g c = λ e. let same : c.in-Err.fault ≡ Memory = cc in c.run.ensures.never (c.in-Err.is ∙ ap Err same)
+
+pub returns-in_err-write_header-clause-recorded : goal.returns-in_err-write_header-clause-recorded
+returns-in_err-write_header-clause-recorded g c =
+    let fault = err_from_is_err_and c.from_residual.result c.from_residual.ensures.1 in
+    let header = c.in_err-write_header.ensures in
+    inr (fault.1 ∙ ap Err (fault.2 ∙ header.only), record { why = header.failed; unread = refl; part = header.part }, refl)
