@@ -1,7 +1,7 @@
-use Rattle.std.proofs.Common.{rules, ◌≡◌, [], Err, refl, arith, length, subst}
+use Rattle.std.proofs.Common.{◌≡◌, [], refl, arith, length, subst}
 use Rattle.drawn_schedules.proofs.Common.{on_ok_weaker, on_err_weaker, Appends, IsUnderWay, HasPartOf, IsToldOf}
 use Rattle.drawn_schedules.proofs.RunLemmas.{no_run_yet, one_run_more, told_otherwise}
-use Rattle.drawn_schedules.proofs.ResultLemmas.{on_ok_both}
+use Rattle.drawn_schedules.proofs.ResultLemmas.{handed_on, on_ok_both}
 use Rattle.drawn_schedules.proofs.UnderWayLemmas.{at_last, part_written}
 use Rattle.drawn_schedules.proofs.runs.write_tallies.Goals as goal
 
@@ -23,7 +23,7 @@ returns-in_default-tallies-clause-part g c = λ config seed ids n told.
 
 pub returns-in_err-make_room-clause-part : goal.returns-in_err-make_room-clause-part
 returns-in_err-make_room-clause-part g c =
-    let fault : c.from_residual.result ≡ Err c.in_err-make_room.field-0.0 = search rules in
+    let fault = handed_on c.from_residual.result c.in_err-make_room.field-0.0 c.from_residual.ensures.1 in
     let old = g.W.Write.contents c.args.writer.now in
     let mid = g.W.Write.contents c.loop-run.writer in
     let now = g.W.Write.contents c.make_room.new.writer in

@@ -1,12 +1,13 @@
-use Rattle.std.proofs.Common.{rules, ◌≡◌, Err, ◌+◌, ◌-◌, ◌∷◌, [], ◌++◌, arith}
+use Rattle.std.proofs.Common.{◌+◌, ◌-◌, ◌∷◌, [], ◌++◌, arith}
 use Rattle.drawn_schedules.proofs.Common.{Begin, begins_from, event_words, event_lines}
 use Rattle.drawn_schedules.proofs.ScheduleLemmas.{begins_more}
 use Rattle.drawn_schedules.proofs.UnderWayLemmas.{goes_on, stops}
+use Rattle.drawn_schedules.proofs.ResultLemmas.{handed_on}
 use Rattle.drawn_schedules.proofs.schedule.draw_begins.Goals as goal
 
 pub returns-in_err-put_line-clause-within : goal.returns-in_err-put_line-clause-within
 returns-in_err-put_line-clause-within g c =
-    let fault : c.from_residual.result ≡ Err c.in_err-put_line.field-0.0 = search rules in
+    let fault = handed_on c.from_residual.result c.in_err-put_line.field-0.0 c.from_residual.ensures.1 in
     let b = c.loop-before.before in
     rw fault (stops (event_lines (begins_from 1 c.args.ids)) (g.W.Write.contents c.args.writer.now) c.args.held.now (g.W.Write.contents c.loop-before.writer) c.loop-before.held
     (event_words (Begin (b + 1)) ++ 10 ∷ []) (event_lines (begins_from (b + 1 + 1) (c.args.ids - (b + 1)))) (g.W.Write.contents c.put_line.new.writer)

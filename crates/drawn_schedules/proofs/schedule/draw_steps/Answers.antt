@@ -1,12 +1,13 @@
-use Rattle.std.proofs.Common.{rules, ◌≡◌, Err, ◌+◌, ◌-◌, ◌%◌, ◌∷◌, [], ◌++◌, arith}
+use Rattle.std.proofs.Common.{◌+◌, ◌-◌, ◌%◌, ◌∷◌, [], ◌++◌, arith}
 use Rattle.drawn_schedules.proofs.Common.{Step, pcg32, steps_drawn, event_words, event_lines}
 use Rattle.drawn_schedules.proofs.ScheduleLemmas.{steps_more}
 use Rattle.drawn_schedules.proofs.UnderWayLemmas.{goes_on, stops}
+use Rattle.drawn_schedules.proofs.ResultLemmas.{handed_on}
 use Rattle.drawn_schedules.proofs.schedule.draw_steps.Goals as goal
 
 pub returns-in_err-put_line-clause-within : goal.returns-in_err-put_line-clause-within
 returns-in_err-put_line-clause-within g c =
-    let fault : c.from_residual.result ≡ Err c.in_err-put_line.field-0.0 = search rules in
+    let fault = handed_on c.from_residual.result c.in_err-put_line.field-0.0 c.from_residual.ensures.1 in
     let k = c.loop-done._done in
     let words = c.loop-done.words in
     rw fault (stops (event_lines (steps_drawn c.args.ids c.args.n c.args.words)) (g.W.Write.contents c.args.writer.now) c.args.held.now (g.W.Write.contents c.loop-done.writer) c.loop-done.held
