@@ -1,5 +1,5 @@
 -- One line more is looked at, up to its LF.
-use Rattle.std.proofs.Common.{rules, ◌-◌, length, take, drop, ap, refl}
+use Rattle.std.proofs.Common.{rules, ◌-◌, ◌∙◌, length, take, drop, ap, refl}
 use Rattle.event_server.proofs.Common.{Look, Limits}
 use Rattle.std.proofs.lemmas.List.{take_rest}
 use Rattle.event_server.proofs.LookLemmas.{kept_by, kept_more, looked_next, looked_none, no_lf_in}
@@ -38,7 +38,7 @@ loop-rest-preserved g c =
           rest c.in-Some.end c.take_line.new.self.bytes c.loop-rest.limits.kind c.take_line.new.self.goes_on c.take_line.new.self.asks c.take_line.new.batch.items
           (take_rest c.args.bytes.now c.loop-rest.self.bytes) (ap (λ (q : Limits). q.kind) i.limits) (ap (λ (q : Look). q.bytes) is) (ap (λ (q : Look). q.goes_on) is) c.in-Some.ensures line.told line.asks;
       rest = search rules;
-      limits = search rules;
+      limits = c.take_line.ensures.limits ∙ ap (λ (q : Limits). let r : Limits = record q { said = c.take_line.new.limits.said } in r) i.limits;
     }
 
 pub returns-clause-looked : goal.returns-clause-looked

@@ -1,7 +1,7 @@
 -- What stands behind the whole lines: the end, the beginning of a long line, or nothing that is looked at.
-use Rattle.std.proofs.Common.{rules, ◌≡◌, false, Ok, ap, subst}
+use Rattle.std.proofs.Common.{◌≡◌, ◌∙◌, false, Ok, ap, subst}
 use Rattle.event_server.proofs.Common.{HasLooked, Look, Limits}
-use Rattle.event_server.proofs.LookLemmas.{looked_to_end, looked_long}
+use Rattle.event_server.proofs.LookLemmas.{kept_more, looked_to_end, looked_long}
 use Rattle.event_server.proofs.look.Look.look_over.Goals as goal
 
 pub returns-in_ok-look_at_end : goal.returns-in_ok-look_at_end
@@ -13,13 +13,18 @@ returns-in_ok-look_at_end g c =
     let so = subst (λ (q : Look). HasLooked c.args.limits.now.kind q.long q.asks c.args.batch.now.items c.args.bytes.now l.self.bytes l.self.goes_on l.self.asks l.batch.items) c.nothing.ensures lines.looked in
     let both = looked_to_end c.args.limits.now.kind l.limits.kind c.args.self.now.long c.args.self.now.asks c.args.batch.now.items c.args.bytes.now l.self.bytes l.self.goes_on l.self.asks l.batch.items e.self.bytes e.self.ends e.self.asks e.batch.items
     so (lines.none (ap Ok c.if-not-branch.false)) (ap (λ (q : Limits). q.kind) lines.limits) end.end.0 end.end.1 end.told end.asks in
-    record { told = both.0; asks = both.1; long = search rules; kept = search rules }
+    record {
+      told = both.0;
+      asks = both.1;
+      long = c.look_at_end.ensures.long ∙ ap (λ (q : Look). q.long) lines.rest ∙ ap (λ (q : Look). q.long) c.nothing.ensures;
+      kept = kept_more c.args.batch.now.items l.batch.items e.batch.items _ _ c.look_at_lines.ensures.kept.1 c.look_at_end.ensures.kept.1;
+    }
 
 pub returns-then-self-eq0 : goal.returns-then-self-eq0
 returns-then-self-eq0 g c =
     let l = c.look_at_lines.new in
     let lines = c.in_ok-look_at_lines.ensures in
     let so = subst (λ (q : Look). HasLooked c.args.limits.now.kind q.long q.asks c.args.batch.now.items c.args.bytes.now l.self.bytes l.self.goes_on l.self.asks l.batch.items) c.nothing.ensures lines.looked in
-    let ends : l.self.ends ≡ false = search rules in
+    let ends : l.self.ends ≡ false = ap (λ (q : Look). q.ends) lines.rest ∙ ap (λ (q : Look). q.ends) c.nothing.ensures in
     let both = looked_long c.args.limits.now.kind c.args.self.now.long c.args.self.now.asks c.args.batch.now.items c.args.bytes.now l.self.bytes l.self.goes_on l.self.asks l.self.ends l.batch.items so (lines.none (ap Ok c.if-not-branch.false)) ends in
-    record { told = both.0; asks = both.1; long = search rules; kept = search rules }
+    record { told = both.0; asks = both.1; long = ap (λ (q : Look). q.long) lines.rest ∙ ap (λ (q : Look). q.long) c.nothing.ensures; kept = c.look_at_lines.ensures.kept }
