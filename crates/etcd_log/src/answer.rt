@@ -62,20 +62,36 @@ pub fn get_said<'v>(answer: &Value<'v>, index: usize, key: &str) -> Option<Optio
     }
 }
 
+// The value that the body of an answer is.
+fn parsed<'a>(
+    alloc: Global,
+    body: &'a [u8],
+    scratch: &'a mut Scratch<Global>,
+) -> Result<Value<'a>, StoreFault>
+    ensures said { IfOk result (λ answer. document body.now ≡ Some (value_view answer)) }
+    ensures fault { IfErr result IsOverNetwork }
+{
+    match Value::from_slice(alloc, body, scratch) {
+        Ok(answer) => Ok(answer),
+        Err(Error::OutOfMemory) => Err(StoreFault::Memory),
+        Err(_) => Err(StoreFault::Wrong),
+    }
+}
+
 /// Reads the body of an answer to a request that puts.
 pub fn read_put(alloc: Global, body: &[u8]) -> Result<Put, StoreFault>
     ensures said { IfOk result (λ put. option_and_then put_said (document body.now) ≡ Some (is_written put)) }
     ensures fault { IfErr result IsOverNetwork }
 {
     let mut scratch = Scratch::new(alloc);
-    match Value::from_slice(alloc, body, &mut scratch) {
-        Ok(answer) => match put_said(&answer) {
-            Some(true) => Ok(Put::Written),
-            Some(false) => Ok(Put::Taken),
-            None => Err(StoreFault::Wrong),
-        },
-        Err(Error::OutOfMemory) => Err(StoreFault::Memory),
-        Err(_) => Err(StoreFault::Wrong),
+    let said = match parsed(alloc, body, &mut scratch) {
+        Ok(answer) => put_said(&answer),
+        Err(fault) => return Err(fault),
+    };
+    match said {
+        Some(true) => Ok(Put::Written),
+        Some(false) => Ok(Put::Taken),
+        None => Err(StoreFault::Wrong),
     }
 }
 
@@ -151,6 +167,24 @@ fn read_from(
     read_from(alloc, answer, index + 1, most - 1, prefix, next, found)
 }
 
+// What stands at the places from one on, as an answer says it from its first entry on, so many at most.
+fn read_all(
+    alloc: Global,
+    answer: &Value<'_>,
+    most: usize,
+    prefix: &str,
+    place: u64,
+) -> Result<Vec<Vec<u8>>, StoreFault>
+    ensures said { IfOk result (λ found. SaysFrom most (value_view answer.now) 0 prefix.now place found.items) }
+    ensures fault { IfErr result IsOverNetwork }
+{
+    let mut found = Vec::new(alloc);
+    match read_from(alloc, answer, 0, most, prefix, place, &mut found) {
+        Ok(()) => Ok(found),
+        Err(fault) => Err(fault),
+    }
+}
+
 /// Reads the body of an answer to a request for what stands under a prefix at the places from one on, so many at most. An answer is wrong
 /// where more than the last place is asked and something stands there.
 pub fn read_get(
@@ -164,14 +198,8 @@ pub fn read_get(
     ensures fault { IfErr result IsOverNetwork }
 {
     let mut scratch = Scratch::new(alloc);
-    let answer = match Value::from_slice(alloc, body, &mut scratch) {
-        Ok(answer) => answer,
-        Err(Error::OutOfMemory) => return Err(StoreFault::Memory),
-        Err(_) => return Err(StoreFault::Wrong),
-    };
-    let mut found = Vec::new(alloc);
-    match read_from(alloc, &answer, 0, most, prefix, place, &mut found) {
-        Ok(()) => Ok(found),
+    match parsed(alloc, body, &mut scratch) {
+        Ok(answer) => read_all(alloc, &answer, most, prefix, place),
         Err(fault) => Err(fault),
     }
 }

@@ -31,6 +31,13 @@ impl<'r, R: Net> TcpDial<'r, R> {
     }
 }
 
+// Sets that a stream sends at once, and that each of its reads and writes has so long, and tells whether it could.
+fn is_set<S: OpenStream>(stream: &S, wait: Duration) -> bool {
+    stream.set_nodelay(true).is_ok()
+        && stream.set_read_timeout(Some(wait)).is_ok()
+        && stream.set_write_timeout(Some(wait)).is_ok()
+}
+
 impl<'r, R: Net> Dial for TcpDial<'r, R> {
     type Stream = R::Stream;
 
@@ -41,9 +48,9 @@ impl<'r, R: Net> Dial for TcpDial<'r, R> {
     fn dial(&mut self, member: usize) -> Option<R::Stream> {
         let address = *self.members.get(member)?;
         let stream = TcpStream::connect_timeout(self.rt, &address, self.wait).ok()?;
-        stream.set_nodelay(true).ok()?;
-        stream.set_read_timeout(Some(self.wait)).ok()?;
-        stream.set_write_timeout(Some(self.wait)).ok()?;
+        if !is_set(&stream, self.wait) {
+            return None;
+        }
         Some(stream)
     }
 }

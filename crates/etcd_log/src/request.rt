@@ -1,7 +1,8 @@
 //! What etcd is asked.
 
 ghost use Rattle.std.specs.Prelude.{◌≡◌, ◌<◌, ◌^◌, ◌∷◌, [], codes, map, IfOk, string_bytes};
-ghost use Rattle.json.specs.Value.{value_view};
+ghost use Rattle.json.specs.Json.{object};
+ghost use Rattle.json.specs.Value.{members_view, value_view};
 ghost use Rattle.etcd_log.specs.Requests.{SaysGet, SaysPut, alone, get_request, never_created, only, pair, put_request};
 
 use crate::key::key64;
@@ -13,8 +14,7 @@ use std::alloc::{AllocError, Global};
 fn alone<'a>(alloc: Global, value: Value<'a>) -> Result<Value<'a>, AllocError>
     ensures { IfOk result (λ v. value_view v ≡ alone (value_view value.entry)) }
 {
-    let mut items = Vec::new(alloc);
-    items.push(value)?;
+    let items = vec![in alloc; value]?;
     Ok(Value::Array(items))
 }
 
@@ -22,8 +22,15 @@ fn alone<'a>(alloc: Global, value: Value<'a>) -> Result<Value<'a>, AllocError>
 fn only<'a>(alloc: Global, name: &'a str, value: Value<'a>) -> Result<Value<'a>, AllocError>
     ensures { IfOk result (λ v. value_view v ≡ only name.now (value_view value.entry)) }
 {
-    let mut members = Vec::new(alloc);
-    members.push((name, value))?;
+    let members = vec![in alloc; (name, value)]?;
+    Ok(Value::Object(members))
+}
+
+// An object of two members.
+fn object_of<'a>(alloc: Global, members: [(&'a str, Value<'a>); 2]) -> Result<Value<'a>, AllocError>
+    ensures { IfOk result (λ v. value_view v ≡ object (members_view members.entry)) }
+{
+    let members = Vec::from_array(alloc, members)?;
     Ok(Value::Object(members))
 }
 
@@ -31,11 +38,12 @@ fn only<'a>(alloc: Global, name: &'a str, value: Value<'a>) -> Result<Value<'a>,
 fn compare<'a>(alloc: Global, key: &'a str) -> Result<Value<'a>, AllocError>
     ensures { IfOk result (λ v. value_view v ≡ never_created key.now) }
 {
-    let mut members = Vec::new(alloc);
-    members.push(("key", Value::String(key)))?;
-    members.push(("target", Value::String("CREATE")))?;
-    members.push(("result", Value::String("EQUAL")))?;
-    members.push(("create_revision", Value::String("0")))?;
+    let members = vec![in alloc;
+        ("key", Value::String(key)),
+        ("target", Value::String("CREATE")),
+        ("result", Value::String("EQUAL")),
+        ("create_revision", Value::String("0")),
+    ]?;
     Ok(Value::Object(members))
 }
 
@@ -43,21 +51,27 @@ fn compare<'a>(alloc: Global, key: &'a str) -> Result<Value<'a>, AllocError>
 fn pair<'a>(alloc: Global, key: &'a str, value: &'a str) -> Result<Value<'a>, AllocError>
     ensures { IfOk result (λ v. value_view v ≡ pair key.now value.now) }
 {
-    let mut members = Vec::new(alloc);
-    members.push(("key", Value::String(key)))?;
-    members.push(("value", Value::String(value)))?;
-    Ok(Value::Object(members))
+    object_of(
+        alloc,
+        [("key", Value::String(key)), ("value", Value::String(value))],
+    )
+}
+
+// The list of the request that puts a value at a key.
+fn success<'a>(alloc: Global, key: &'a str, value: &'a str) -> Result<Value<'a>, AllocError>
+    ensures { IfOk result (λ v. value_view v ≡ alone (only (codes "request_put") (pair key.now value.now))) }
+{
+    let put = pair(alloc, key, value)?;
+    alone(alloc, only(alloc, "request_put", put)?)
 }
 
 // The transaction that puts a value at a key to which nothing was ever put.
 fn transaction<'a>(alloc: Global, key: &'a str, value: &'a str) -> Result<Value<'a>, AllocError>
     ensures { IfOk result (λ v. value_view v ≡ put_request key.now value.now) }
 {
-    let put = only(alloc, "request_put", pair(alloc, key, value)?)?;
-    let mut members = Vec::new(alloc);
-    members.push(("compare", alone(alloc, compare(alloc, key)?)?))?;
-    members.push(("success", alone(alloc, put)?))?;
-    Ok(Value::Object(members))
+    let compared = alone(alloc, compare(alloc, key)?)?;
+    let success = success(alloc, key, value)?;
+    object_of(alloc, [("compare", compared), ("success", success)])
 }
 
 /// The text of the request that puts an entry at a place under a prefix, if nothing was ever put there.
@@ -78,10 +92,13 @@ pub fn put_text(
 fn range<'a>(alloc: Global, key: &'a str, end: &'a str) -> Result<Value<'a>, AllocError>
     ensures { IfOk result (λ v. value_view v ≡ get_request key.now end.now) }
 {
-    let mut members = Vec::new(alloc);
-    members.push(("key", Value::String(key)))?;
-    members.push(("range_end", Value::String(end)))?;
-    Ok(Value::Object(members))
+    object_of(
+        alloc,
+        [
+            ("key", Value::String(key)),
+            ("range_end", Value::String(end)),
+        ],
+    )
 }
 
 /// The text of the request that gets what stands under a prefix at the places from one on that come before another.
