@@ -57,11 +57,19 @@ impl<A: Allocator + Clone> Desk<A> {
         ensures only { IfErr result (λ why. (why ≡ Refusal.NoMemory) ⊎ (why ≡ Refusal.OutOfRange)) }
     {
         if config.world.is_tree() {
-            let parts = Parts::Tree(DeskOver::new(alloc, config)?);
-            return Ok(Desk { parts });
+            return match DeskOver::new(alloc, config) {
+                Ok(desk) => Ok(Desk {
+                    parts: Parts::Tree(desk),
+                }),
+                Err(why) => Err(why),
+            };
         }
-        let parts = Parts::Grid(DeskOver::new(alloc, config)?);
-        Ok(Desk { parts })
+        match DeskOver::new(alloc, config) {
+            Ok(desk) => Ok(Desk {
+                parts: Parts::Grid(desk),
+            }),
+            Err(why) => Err(why),
+        }
     }
 
     /// Takes one event and answers it, by at most one access. A refusal changes nothing. Want of memory is answered only
@@ -154,8 +162,8 @@ impl<A: Allocator + Clone> Desk<A> {
         ensures { result.now ≡ slots_of self.now }
     {
         match &self.parts {
-            Parts::Grid(desk) => desk.slots(),
-            Parts::Tree(desk) => desk.slots(),
+            Parts::Grid(desk) => &desk.slots,
+            Parts::Tree(desk) => &desk.slots,
         }
     }
 

@@ -25,7 +25,7 @@ use step_memory::{Access, Place, Refusal, StepProgram, View};
 #[derive(Drop)]
 pub(crate) struct DeskOver<W: RenamePlaces<A>, A: Allocator> {
     names: RenameWorld<W, A>,
-    slots: Slots<u64, A>,
+    pub(crate) slots: Slots<u64, A>,
 }
 
 impl<W: RenamePlaces<A>, A: Allocator> Model for DeskOver<W, A> {
@@ -64,9 +64,11 @@ where
         if !config.world.is_played_over(W::world()) {
             return Err(Refusal::OutOfRange);
         }
-        let names = RenameWorld::new(alloc.clone()?, config)?;
-        let slots = zero_slots(alloc, config.k)?;
-        Ok(DeskOver { names, slots })
+        let slots = zero_slots(alloc.clone()?, config.k)?;
+        match RenameWorld::new(alloc, config) {
+            Ok(names) => Ok(DeskOver { names, slots }),
+            Err(why) => Err(why),
+        }
     }
 }
 
@@ -98,15 +100,14 @@ where
     pub(crate) fn refusal(&self, event: Event) -> Option<Refusal>
         ensures { result ≡ refusal_over self.now event }
     {
+        let pool = self.slots.pool();
         match event {
             Event::Begin(id) => self.names.begin_refusal(id),
             Event::Step(id) => self.names.step_refusal(id),
-            Event::Enter(id) => self.slots.pool().enter_refusal(id),
-            Event::Probe(id) => self.slots.pool().probe_refusal(id),
-            Event::Leave(id) => self.slots.pool().number_of(id).err(),
-            Event::Put(id, _) => self.slots.pool().number_of(id).err(),
-            Event::Get(id) => self.slots.pool().number_of(id).err(),
-            Event::Widen(size) => self.slots.pool().widen_refusal(size),
+            Event::Enter(id) => pool.enter_refusal(id),
+            Event::Probe(id) => pool.probe_refusal(id),
+            Event::Leave(id) | Event::Put(id, _) | Event::Get(id) => pool.number_of(id).err(),
+            Event::Widen(size) => pool.widen_refusal(size),
         }
     }
 
@@ -139,13 +140,6 @@ where
         ensures { result ≡ name_in self.now.names id }
     {
         self.names.name_of(id)
-    }
-
-    /// The slots over their pool, for what watches from outside.
-    pub(crate) fn slots(&self) -> &Slots<u64, A>
-        ensures { result.now ≡ self.now.slots }
-    {
-        &self.slots
     }
 
     /// Who has a name, or that nobody has it; a refusal where names don't reach there.
