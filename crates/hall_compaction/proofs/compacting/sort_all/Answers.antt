@@ -13,3 +13,6 @@ loop-place-init c =
     let old : slots_in c.in_ok-old.old ≡ record { pool = fresh_pool c.args.hall.now.config.k; values = replicate c.args.hall.now.config.k 0 } =
     subst (λ (k : Config). slots_in c.in_ok-old.old ≡ record { pool = fresh_pool k.k; values = replicate k.k 0 }) config c.in_ok-old.ensures in
     none_sorted c.args.hall.now c.in_ok-new.new c.in_ok-old.old hall c.in_ok-new.ensures.copied old
+
+pub loop-place-preserved : goal.loop-place-preserved
+loop-place-preserved c = c.in_ok-sort.ensures c.loop-place.invariant
