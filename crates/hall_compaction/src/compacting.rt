@@ -40,12 +40,13 @@ fn sort(hall: &Hall, place: usize, new: &mut Rebuilding, old: &mut SlotsCopy) ->
     let Some(exchange) = hall.get(place) else {
         return Err(Stuck);
     };
-    if is_renaming(exchange.event) {
-        new.take(exchange.event)?;
-        return Ok(());
+    if !is_renaming(exchange.event) {
+        return old.follow(exchange.event);
     }
-    old.follow(exchange.event)?;
-    Ok(())
+    match new.take(exchange.event) {
+        Ok(_) => Ok(()),
+        Err(stuck) => Err(stuck),
+    }
 }
 
 /// A hall with the renaming of another, and a copy of the pool and the slots of that.
