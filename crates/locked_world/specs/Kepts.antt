@@ -1,5 +1,5 @@
 -- what callers keep: their accepted events, with replies and places that rise
-use Rattle.std.specs.Prelude.{◌≡◌, ℕ, ◌+◌, ◌<◌, ◌==◌, List, [], ◌∷◌, ◌++◌, length, Bool, true, false, ◌&&◌, nat_le, nat_lt, sum_by, count_by, All, if◌then◌else◌, Some, slice_get}
+use Rattle.std.specs.Prelude.{◌≡◌, ℕ, ◌+◌, ◌<◌, ◌≤◌, ◌==◌, List, [], ◌∷◌, ◌++◌, length, Bool, true, false, ◌&&◌, nat_le, nat_lt, sum_by, count_by, All, if◌then◌else◌, Some, slice_get}
 use Rattle.commands.specs.declared.event.Event.{Event}
 use Rattle.commands.specs.declared.event.Event.TheVariants.{Begin}
 use Rattle.commands.specs.declared.exchange.Exchange.{Exchange}
@@ -11,7 +11,7 @@ use mathlib.Core.List.{IsPrefix}
 use Rattle.commands.specs.declared.config.Config.{Config}
 use Rattle.desk.specs.Desk.{owner_reply}
 use Rattle.locked_world.specs.Answers.{IsAnswered}
-use Rattle.locked_world.specs.CallerState.{CallerState}
+use Rattle.locked_world.specs.CallerState.{CallerState, caller_of}
 use Rattle.hall.specs.Halls.{hall_of, desk_of, IsLawful}
 use Rattle.locked_world.specs.KeptLogs.{kept_of}
 
@@ -40,6 +40,16 @@ times p kepts = sum_by (λ ks. count_by (λ k. k.place == p) ks) kepts
 
 abbrev pub Fits : List Exchange → List Kept → Type 0
 Fits history ks = All (λ k. slice_get history k.place ≡ Some k.exchange) ks
+
+-- what a clerk's type says: it has one share of its lock's count, which counts what it kept, at places that rise; and that stands in what it
+-- has seen, which is a lawful history
+abbrev pub IsClerk : Config → ℕ → ℕ → List Kept → ℕ → List Exchange → Type 0
+IsClerk c parts amount ks next seen =
+    (parts ≡ 1) × (amount ≡ length ks) × (rises 0 ks next ≡ true) × (next ≤ length seen) × Fits seen ks × IsLawful (hall_of c seen)
+
+-- a clerk that was just opened has kept nothing, and has seen this history, which is lawful
+abbrev pub IsNew : Config → List Exchange → CallerState → Type 0
+IsNew c history s = (s ≡ caller_of [] history) × IsLawful (hall_of c s.seen)
 
 -- each place of the history was kept once, with the exchange there, and no other place
 pub record IsJust (history : List Exchange) (kepts : List (List Kept)) : Type 0 where

@@ -45,8 +45,9 @@ fn with_sessions<L: LockName>(rest: Share<L>, sessions: Vec<Session<L>>) -> Shar
 
 impl<L: LockName> Clerk<L> {
     /// Its share of the lock's count.
-    fn into_share(self) -> Share<L>
-        ensures { result.parts ≡ 1 }
+    pub(crate) fn into_share(self) -> Share<L>
+        ensures parts { result.parts ≡ 1 }
+        ensures amount { result.amount ≡ length self.kept }
     {
         let Clerk { share, .. } = self;
         share

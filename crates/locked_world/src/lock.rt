@@ -1,13 +1,13 @@
 //! A hall under a lock.
 
-ghost use Rattle.std.specs.Prelude.{◌≡◌, ◌+◌, ◌-◌, ◌<◌, ◌≤◌, ◌⊎◌, ◌↔◌, [], IfOk, IfErr, length, Err, true, false};
+ghost use Rattle.std.specs.Prelude.{◌≡◌, ◌+◌, ◌-◌, ◌<◌, ◌≤◌, ◌⊎◌, ◌↔◌, [], IfOk, IfErr, IfNone, IfSome, length, vec_len, vec_capacity, Err, None, true, false};
 ghost use Rattle.commands.specs.Config.{gives_names};
 ghost use Rattle.locked_world.specs.Acts.{event_of};
 ghost use Rattle.commands.specs.Replies.{is_refusal, with_view};
 ghost use Rattle.locked_world.specs.Answers.{IsRefusedBegin, IsSomeOwner};
 ghost use Rattle.locked_world.specs.CallerState.{caller_of};
-ghost use Rattle.hall.specs.Halls.{hall_of, HallMay, IsLawful};
-ghost use Rattle.locked_world.specs.Kepts.{IsOpened, IsTaken, IsTold};
+ghost use Rattle.hall.specs.Halls.{hall_of, hall_refusal, HallMay, IsLawful};
+ghost use Rattle.locked_world.specs.Kepts.{IsNew, IsOpened, IsTaken, IsTold};
 
 use crate::act::Act;
 use crate::kept_log::KeptLog;
@@ -35,6 +35,28 @@ impl<L: LockName> Clerk<L> {
             seen,
         }
     }
+}
+
+/// Why an event is refused before it is applied: as the hall refuses it, or for want of room to keep it.
+fn refusal_of(
+    hall: &Hall,
+    kept: &mut KeptLog,
+    marks: &mut Vec<bool>,
+    event: Event,
+) -> Option<Refusal>
+    ensures refused { IfSome result (λ why. HallMay hall.now event (Reply.Refused why) hall.now) }
+    ensures due { IfNone result (hall_refusal hall.now event ≡ None) }
+    ensures room { IfNone result ((kept.new.room ≡ true) × (vec_len marks.new < vec_capacity marks.new)) }
+    ensures items { kept.new.items ≡ kept.old.items }
+    ensures marks { marks.new.items ≡ marks.old.items }
+{
+    if let Some(refusal) = hall.refusal(event) {
+        return Some(refusal);
+    }
+    if !kept.reserve() || marks.reserve(1).is_err() {
+        return Some(Refusal::NoMemory);
+    }
+    None
 }
 
 impl<L: LockName> Locked<L> {
@@ -69,11 +91,8 @@ impl<L: LockName> Locked<L> {
         begins(rt, front, seen);
         *seen = front.again();
         let place = hall.len();
-        if let Some(refusal) = hall.refusal(event) {
+        if let Some(refusal) = refusal_of(hall, kept, marks, event) {
             return Reply::Refused(refusal);
-        }
-        if !kept.reserve() || marks.reserve(1).is_err() {
-            return Reply::Refused(Refusal::NoMemory);
         }
         let reply = hall.apply_short(event, view);
         if reply.is_refusal() {
@@ -90,7 +109,8 @@ impl<L: LockName> Locked<L> {
 
     /// Opens one more clerk.
     fn open(&mut self, alloc: Global) -> Result<Clerk<L>, Refusal>
-        ensures new { IfOk result (λ c. (c ≡ caller_of [] self.old.hall.history) × IsLawful (hall_of L.config c.seen) × (self.new.opened ≡ self.old.opened + 1)) }
+        ensures new { IfOk result (IsNew L.config self.old.hall.history) }
+        ensures more { IfOk result (λ c. self.new.opened ≡ self.old.opened + 1) }
         ensures refused { IfErr result (λ why. (why ≡ Refusal.Full) ⊎ (why ≡ Refusal.NoMemory)) }
         ensures full { result ≡ Err Refusal.Full ↔ (1000000 ≤ self.old.opened) }
         ensures same { IfErr result (λ why. self.new.opened ≡ self.old.opened) }
@@ -114,12 +134,7 @@ impl<L: LockName> Locked<L> {
         ensures opened { self.new.opened ≡ self.old.opened - 1 }
         ensures hall { self.new.hall ≡ self.old.hall }
     {
-        let Clerk {
-            kept: _,
-            next: _,
-            share,
-            seen: _,
-        } = clerk;
+        let share = clerk.into_share();
         let Locked { rest, opened, .. } = self;
         if *opened > 0 {
             rest.merge(share);

@@ -70,14 +70,12 @@ impl<L: LockName> Model for Clerk<L> {
 
     ghost Value = { CallerState };
 
-    ghost use Rattle.std.specs.Prelude.{◌≡◌, ◌≤◌, length, true};
     ghost use Rattle.locked_world.specs.CallerState.{caller_of};
-    ghost use Rattle.hall.specs.Halls.{IsLawful, hall_of};
-    ghost use Rattle.locked_world.specs.Kepts.{Fits, rises};
+    ghost use Rattle.locked_world.specs.Kepts.{IsClerk};
 
     ghost view = { λ c. caller_of c.kept.items c.seen };
 
-    ghost invariant = { λ c. (c.share.parts ≡ 1) × (c.share.amount ≡ length c.kept.items) × (rises 0 c.kept.items c.next ≡ true) × (c.next ≤ length c.seen) × Fits c.seen c.kept.items × IsLawful (hall_of L.config c.seen) };
+    ghost invariant = { λ c. IsClerk L.config c.share.parts c.share.amount c.kept.items c.next c.seen };
 }
 
 /// One participant of a lock, with its accepted events.

@@ -1,15 +1,13 @@
-use Rattle.std.proofs.Common.{rules, ◌≡◌, ◌≤◌, ◌++◌, [], ◌∷◌, None, false, true, refl, ap, sym, subst, ◌∙◌, length, arith, length-append, List}
-use Rattle.locked_world.proofs.Common.{Exchange, Refused, exchange, is_refusal, with_view, hall_refusal, HallState, Fits, kept_of}
+use Rattle.std.proofs.Common.{rules, ◌≡◌, ◌≤◌, ◌++◌, [], ◌∷◌, false, true, refl, ap, sym, subst, ◌∙◌, length, arith, length-append, List}
+use Rattle.locked_world.proofs.Common.{Exchange, Refused, exchange, is_refusal, with_view, HallState, Fits, kept_of}
 use mathlib.Core.List.{IsPrefix}
 use Rattle.locked_world.specs.CallerState.{CallerState, caller_of}
 use Rattle.history_book.proofs.Fronts.{prefix_length}
-use Rattle.step_memory.specs.declared.refusal.Refusal.TheVariants.{NoMemory}
-use Rattle.hall.proofs.Histories.{none_of, kept_refused, room_left, refuses_so, lacks_so}
+use Rattle.hall.proofs.Histories.{kept_refused, room_left}
 use Rattle.hall.proofs.HallLaws.{goes_by, stays_by}
 use Rattle.locked_world.proofs.Places.{rises_more}
 use Rattle.locked_world.proofs.Standing.{taken_refused, taken_accepted, taken_unchanged, stands_answered, stands_kept}
 use Rattle.locked_world.proofs.parts.Locked.apply.Goals as goal
-use Rattle.locked_world.proofs.parts.Locked.apply.Goals.{then-not-reserve-via-then-not-reserve, then-not-reserve-via-else-not-reserve+then-is_err}
 
 pub invariant_of-self-then-is_refusal : goal.invariant_of-self-then-is_refusal
 invariant_of-self-then-is_refusal g c =
@@ -18,7 +16,7 @@ invariant_of-self-then-is_refusal g c =
     let same : c.apply_short-reply.new.self ≡ old.hall = kept_refused old.hall c.apply_short-reply.new.self c.args.event (with_view c.apply_short-reply.result c.apply_short-reply.new.view) c.len-place.ensures.lawful c.apply_short-reply.ensures refused in
     record {
       counted = ap (λ (h : HallState). length h.history) same ∙ old.counted;
-      clear = rw same (search rules);
+      clear = rw same (c.refusal_of.ensures.marks ∙ old.clear);
       parts = old.parts;
       few = old.few;
       none = old.none;
@@ -32,7 +30,7 @@ invariant_of-clerk-then-is_refusal g c =
     let inv = c.clerk.invariant in
     let old = c.args.self.now in
     let s = stands_answered g.L.LockName.config old.hall k.seen old.front c.again.result k.kept.items k.next old.config c.len-place.ensures.lawful old.whole c.begins.ensures c.again.ensures inv.4 inv.3 in
-    rw c.reserve.ensures.same (inv.0, inv.1, inv.2, s.within, s.fits, s.lawful)
+    rw c.refusal_of.ensures.items (inv.0, inv.1, inv.2, s.within, s.fits, s.lawful)
 
 pub returns-then-is_refusal-clause-taken : goal.returns-then-is_refusal-clause-taken
 returns-then-is_refusal-clause-taken g c =
@@ -43,15 +41,14 @@ returns-then-is_refusal-clause-taken g c =
     let longer : IsPrefix c.args.clerk.now.seen h.history = subst (λ (v : CallerState). IsPrefix v.seen h.history) c.clerk.view_is (subst (λ (l : List Exchange). IsPrefix c.clerk.inside.seen l) c.args.self.now.whole c.begins.ensures) in
     let fits = subst (λ (v : CallerState). Fits v.seen v.kept) c.clerk.view_is c.clerk.invariant.4 in
     let stays = stays_by h c.args.event r u c.len-place.ensures.lawful c.apply_short-reply.ensures refused in
-    taken_refused g.L.LockName.config h c.args.event r u c.args.clerk.now (caller_of c.reserve.new.self.items c.again.result) c.args.self.now.config c.len-place.ensures.lawful longer fits c.apply_short-reply.ensures refused
+    taken_refused g.L.LockName.config h c.args.event r u c.args.clerk.now (caller_of c.refusal_of.new.kept.items c.again.result) c.args.self.now.config c.len-place.ensures.lawful longer fits c.apply_short-reply.ensures refused
     (c.again.ensures ∙ c.args.self.now.whole ∙ sym stays)
-    (c.reserve.ensures.same ∙ ap (λ (v : CallerState). v.kept) c.clerk.view_is)
+    (c.refusal_of.ensures.items ∙ ap (λ (v : CallerState). v.kept) c.clerk.view_is)
 
 pub tell-requires : goal.tell-requires
 tell-requires g c =
     let h = c.args.self.now.hall in
-    let due : hall_refusal h c.args.event ≡ None = sym c.refusal.ensures ∙ none_of c.refusal.result c.in_default.not-Some in
-    omega (arith, room_left h c.args.event due, ap length c.args.self.now.whole)
+    omega (arith, room_left h c.args.event c.in_default.ensures.due, ap length c.args.self.now.whole)
 
 pub invariant_of-clerk-2 : goal.invariant_of-clerk-2
 invariant_of-clerk-2 g c =
@@ -66,7 +63,7 @@ invariant_of-clerk-2 g c =
     let accepted : is_refusal r ≡ false = search (rules, c.is_refusal.ensures c.apply_short-reply.new.view) in
     let longer : IsPrefix k.seen h.history = subst (λ (l : List Exchange). IsPrefix k.seen l) c.args.self.now.whole c.begins.ensures in
     let s = stands_kept g.L.LockName.config h k.seen k.kept.items k.next c.args.self.now.config c.len-place.ensures.lawful longer inv.4 inv.3 c.args.event r c.apply_short-reply.new.self c.apply_short-reply.ensures accepted in
-    let items : c.push_reserved.new.self.items ≡ k.kept.items ++ one ∷ [] = c.push_reserved.ensures ∙ ap (λ j. j ++ one ∷ []) c.reserve.ensures.same in
+    let items : c.push_reserved.new.self.items ≡ k.kept.items ++ one ∷ [] = c.push_reserved.ensures ∙ ap (λ j. j ++ one ∷ []) c.refusal_of.ensures.items in
     let seen : c.again-2.result ≡ h.history ++ x ∷ [] = c.again-2.ensures ∙ c.tell.ensures ∙ ap (λ l. l ++ x ∷ []) c.args.self.now.whole in
     let below : k.next ≤ place = omega (arith, at, inv.3, prefix_length k.seen h.history longer) in
     rw (items, seen) (
@@ -88,76 +85,10 @@ returns-clause-taken g c =
     let longer : IsPrefix c.args.clerk.now.seen h.history = subst (λ (v : CallerState). IsPrefix v.seen h.history) c.clerk.view_is (subst (λ (l : List Exchange). IsPrefix c.clerk.inside.seen l) c.args.self.now.whole c.begins.ensures) in
     let fits = subst (λ (v : CallerState). Fits v.seen v.kept) c.clerk.view_is c.clerk.invariant.4 in
     let seen : c.again-2.result ≡ h.history ++ x ∷ [] = c.again-2.ensures ∙ c.tell.ensures ∙ ap (λ l. l ++ x ∷ []) c.args.self.now.whole in
-    let kept : c.push_reserved.new.self.items ≡ c.args.clerk.now.kept ++ kept_of c.len-place.result x ∷ [] = c.push_reserved.ensures ∙ ap (λ j. j ++ kept_of c.len-place.result x ∷ []) (c.reserve.ensures.same ∙ ap (λ (v : CallerState). v.kept) c.clerk.view_is) in
+    let kept : c.push_reserved.new.self.items ≡ c.args.clerk.now.kept ++ kept_of c.len-place.result x ∷ [] = c.push_reserved.ensures ∙ ap (λ j. j ++ kept_of c.len-place.result x ∷ []) (c.refusal_of.ensures.items ∙ ap (λ (v : CallerState). v.kept) c.clerk.view_is) in
     taken_accepted g.L.LockName.config h c.args.event r u c.args.clerk.now (caller_of c.push_reserved.new.self.items c.again-2.result) c.args.self.now.config c.len-place.ensures.lawful longer fits c.apply_short-reply.ensures accepted
     (seen ∙ sym (goes_by h c.args.event r u c.len-place.ensures.lawful c.apply_short-reply.ensures accepted))
     (kept ∙ ap (λ n. c.args.clerk.now.kept ++ kept_of n x ∷ []) c.len-place.ensures.count)
-
-pub invariant_of-self : goal.invariant_of-self
-invariant_of-self g c =
-    let old = c.args.self.now in
-    record { counted = old.counted; clear = old.clear; parts = old.parts; few = old.few; none = old.none; config = old.config; whole = old.whole }
-
-pub invariant_of-self-then-not-reserve : goal.invariant_of-self-then-not-reserve
-invariant_of-self-then-not-reserve g c =
-    let old = c.args.self.now in
-    record { counted = old.counted; clear = old.clear; parts = old.parts; few = old.few; none = old.none; config = old.config; whole = old.whole }
-
-pub invariant_of-self-then-is_err : goal.invariant_of-self-then-is_err
-invariant_of-self-then-is_err g c =
-    let old = c.args.self.now in
-    record {
-      counted = old.counted;
-      clear = c.reserve-else-not-reserve.ensures.items ∙ old.clear;
-      parts = old.parts;
-      few = old.few;
-      none = old.none;
-      config = old.config;
-      whole = old.whole;
-    }
-
-pub invariant_of-clerk : goal.invariant_of-clerk
-invariant_of-clerk g c =
-    let k = c.clerk.inside in
-    let inv = c.clerk.invariant in
-    let old = c.args.self.now in
-    let s = stands_answered g.L.LockName.config old.hall k.seen old.front c.again.result k.kept.items k.next old.config c.len-place.ensures.lawful old.whole c.begins.ensures c.again.ensures inv.4 inv.3 in
-    (inv.0, inv.1, inv.2, s.within, s.fits, s.lawful)
-
-pub invariant_of-clerk-then-not-reserve : goal.invariant_of-clerk-then-not-reserve
-invariant_of-clerk-then-not-reserve g c =
-    let k = c.clerk.inside in
-    let inv = c.clerk.invariant in
-    let old = c.args.self.now in
-    let s = stands_answered g.L.LockName.config old.hall k.seen old.front c.again.result k.kept.items k.next old.config c.len-place.ensures.lawful old.whole c.begins.ensures c.again.ensures inv.4 inv.3 in
-    elim c.then-not-reserve.branch [
-      | then-not-reserve-via-then-not-reserve w ↦ rw (w.clerk-inside-is, c.reserve.ensures.same) (inv.0, inv.1, inv.2, s.within, s.fits, s.lawful)
-      | then-not-reserve-via-else-not-reserve+then-is_err w ↦ rw (w.clerk-inside-is, c.reserve.ensures.same) (inv.0, inv.1, inv.2, s.within, s.fits, s.lawful)
-    ]
-
-pub returns-in-Some-clause-taken : goal.returns-in-Some-clause-taken
-returns-in-Some-clause-taken g c =
-    let old = c.args.self.now in
-    let may = refuses_so old.hall c.args.event c.in-Some.refusal (sym c.refusal.ensures ∙ c.in-Some.is) in
-    taken_unchanged g.L.LockName.config old.hall c.args.event (Refused c.in-Some.refusal) c.args.clerk.now (caller_of c.clerk.inside.kept.items c.again.result) old.front old.config c.len-place.ensures.lawful old.whole
-    (subst (λ (v : CallerState). IsPrefix v.seen old.front) c.clerk.view_is c.begins.ensures) (subst (λ (v : CallerState). Fits v.seen v.kept) c.clerk.view_is c.clerk.invariant.4)
-    may refl c.again.ensures (ap (λ (v : CallerState). v.kept) c.clerk.view_is)
-
-pub returns-then-not-reserve-clause-taken : goal.returns-then-not-reserve-clause-taken
-returns-then-not-reserve-clause-taken g c =
-    let old = c.args.self.now in
-    let kept = c.reserve.ensures.same ∙ ap (λ (v : CallerState). v.kept) c.clerk.view_is in
-    let may = lacks_so old.hall c.args.event (sym c.refusal.ensures ∙ c.in_default.is) in
-    let taken = taken_unchanged g.L.LockName.config old.hall c.args.event (Refused NoMemory) c.args.clerk.now (caller_of c.reserve.new.self.items c.again.result) old.front old.config c.len-place.ensures.lawful old.whole
-    (subst (λ (v : CallerState). IsPrefix v.seen old.front) c.clerk.view_is c.begins.ensures) (subst (λ (v : CallerState). Fits v.seen v.kept) c.clerk.view_is c.clerk.invariant.4)
-    may refl c.again.ensures kept in
-    elim c.then-not-reserve.branch [
-      | then-not-reserve-via-then-not-reserve w ↦ rw w.clerk-inside-is taken
-      | then-not-reserve-via-else-not-reserve+then-is_err w ↦ rw w.clerk-inside-is taken
-    ]
-
-pub returns-in-Some-clause-hall : goal.returns-in-Some-clause-hall
-returns-in-Some-clause-hall g c = refuses_so c.args.self.now.hall c.args.event c.in-Some.refusal (sym c.refusal.ensures ∙ c.in-Some.is)
 
 pub returns-in-Some-clause-refused : goal.returns-in-Some-clause-refused
 returns-in-Some-clause-refused g c = λ refused. refl
@@ -176,10 +107,33 @@ pub returns-clause-refused : goal.returns-clause-refused
 returns-clause-refused g c = λ refused.
     kept_refused c.args.self.now.hall c.apply_short-reply.new.self c.args.event (with_view c.apply_short-reply.result c.apply_short-reply.new.view) c.len-place.ensures.lawful c.apply_short-reply.ensures refused
 
-pub returns-then-not-reserve-clause-hall : goal.returns-then-not-reserve-clause-hall
-returns-then-not-reserve-clause-hall g c =
-    let may = lacks_so c.args.self.now.hall c.args.event (sym c.refusal.ensures ∙ c.in_default.is) in
-    elim c.then-not-reserve.branch [
-      | then-not-reserve-via-then-not-reserve w ↦ rw w.self-is may
-      | then-not-reserve-via-else-not-reserve+then-is_err w ↦ rw w.self-is may
-    ]
+pub invariant_of-self : goal.invariant_of-self
+invariant_of-self g c =
+    let old = c.args.self.now in
+    record {
+      counted = old.counted;
+      clear = c.refusal_of.ensures.marks ∙ old.clear;
+      parts = old.parts;
+      few = old.few;
+      none = old.none;
+      config = old.config;
+      whole = old.whole;
+    }
+
+pub invariant_of-clerk : goal.invariant_of-clerk
+invariant_of-clerk g c =
+    let k = c.clerk.inside in
+    let inv = c.clerk.invariant in
+    let old = c.args.self.now in
+    let s = stands_answered g.L.LockName.config old.hall k.seen old.front c.again.result k.kept.items k.next old.config c.len-place.ensures.lawful old.whole c.begins.ensures c.again.ensures inv.4 inv.3 in
+    rw c.refusal_of.ensures.items (inv.0, inv.1, inv.2, s.within, s.fits, s.lawful)
+
+pub returns-in-Some-clause-taken : goal.returns-in-Some-clause-taken
+returns-in-Some-clause-taken g c =
+    let old = c.args.self.now in
+    taken_unchanged g.L.LockName.config old.hall c.args.event (Refused c.in-Some.refusal) c.args.clerk.now (caller_of c.refusal_of.new.kept.items c.again.result) old.front old.config c.len-place.ensures.lawful old.whole
+    (subst (λ (v : CallerState). IsPrefix v.seen old.front) c.clerk.view_is c.begins.ensures) (subst (λ (v : CallerState). Fits v.seen v.kept) c.clerk.view_is c.clerk.invariant.4)
+    c.in-Some.ensures.refused refl c.again.ensures (c.refusal_of.ensures.items ∙ ap (λ (v : CallerState). v.kept) c.clerk.view_is)
+
+pub returns-in-Some-clause-hall : goal.returns-in-Some-clause-hall
+returns-in-Some-clause-hall g c = c.in-Some.ensures.refused
