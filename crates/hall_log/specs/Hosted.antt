@@ -19,6 +19,10 @@ pub record IsLearnt (stands : ℕ → List ℕ → Type 0) (config : Config) (pl
   pub due : IsDueAt HallApplies stands (hall_of config []) batch tape r
   pub later : place < r.place
 
+-- the same, of the lines of a batch
+abbrev pub IsServed : (ℕ → List ℕ → Type 0) → Config → ℕ → List ℕ → TapeState → ReplicaState HallState → Type 0
+IsServed stands config place batch tape r = IsLearnt stands config place (behind_first_line batch) tape r
+
 -- all that was on the tape was said again, to just those who asked for it, and keeper and tape are as they were
 pub record IsUsedUp {K : Type 0} (k : K) (w : TapeState) (l : K) (u : TapeState) : Type 0 where
   pub all : w.left ≡ []

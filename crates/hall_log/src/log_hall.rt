@@ -40,6 +40,22 @@ impl<S: Store> Model for LogHall<S> {
     ghost invariant = { λ l. IsReplica HallApplies (S.stands l.store) (hall_of l.config []) l.replica };
 }
 
+// Has a store begin with this line, where nothing stands in it; tells whether it does, once what stands there was read.
+fn begins_with<S: Store>(
+    store: &mut S,
+    line: &[u8],
+    entry: &mut Vec<u8>,
+) -> Result<bool, StoreFault>
+    ensures begins { result ≡ Ok true → S.stands store.new 0 line.now }
+    ensures keeps { Keeps (S.stands store.old) (S.stands store.new) }
+{
+    store.put(0, line)?;
+    match store.get(0, entry) {
+        Ok(found) => Ok(found && entry.as_slice() == line),
+        Err(fault) => Err(fault),
+    }
+}
+
 impl<S: Store + Drop> LogHall<S> {
     /// A hall of this config, to which no entry was applied.
     pub fn new(alloc: Global, store: S, config: Config) -> Result<LogHall<S>, Refusal>
@@ -75,9 +91,7 @@ impl<S: Store> LogHall<S> {
         ensures same { (self.new.replica ≡ self.old.replica) × (self.new.config ≡ self.old.config) }
     {
         law_of_following::<HallMachine, S>();
-        self.store.put(0, line)?;
-        let found = self.store.get(0, entry)?;
-        Ok(found && entry.as_slice() == line)
+        begins_with(&mut self.store, line, entry)
     }
 
     /// Has a batch come to stand in the log, applies all that stands before it and then it, and puts the answers on the tape

@@ -4,7 +4,7 @@ ghost use Rattle.std.specs.Prelude.{◌≡◌, ◌≢◌, ◌+◌, ◌<◌, ◌�
 ghost use Rattle.std.specs.String.{string_bytes};
 ghost use Rattle.one_log.specs.Places.{Keeps};
 ghost use Rattle.hall_log.specs.Entries.{behind_first_line, first_line_of};
-ghost use Rattle.hall_log.specs.Hosted.{IsLearnt, IsUsedUp};
+ghost use Rattle.hall_log.specs.Hosted.{IsServed};
 ghost use Rattle.hall_log.specs.Said.{tape_of};
 
 use crate::log_fault::LogFault;
@@ -201,7 +201,7 @@ impl<S: Store, T: Pause> LogKeeper<S, T> {
     // Has the batch come to stand in the log, as soon as the store answers.
     fn serve_batch(&mut self, tape: &mut Tape) -> Result<Ahead, LogFault>
         ensures learnt { result ≡ Ok Ahead.Known →
-            IsLearnt (S.stands self.new.log.store) self.new.log.config self.old.log.replica.place (behind_first_line self.old.batch.items) tape.new self.new.log.replica }
+            IsServed (S.stands self.new.log.store) self.new.log.config self.old.log.replica.place self.old.batch.items tape.new self.new.log.replica }
         ensures lost { result ≢ Ok Ahead.Known → tape.new ≡ tape_of [] }
     {
         tape.clear();
