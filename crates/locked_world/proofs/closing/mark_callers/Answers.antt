@@ -1,7 +1,15 @@
-use Rattle.std.proofs.Common.{◌≡◌, false, arith, ap, length}
+use Rattle.std.proofs.Common.{◌≡◌, false, arith, ap, ◌∙◌, length}
 use Rattle.std.proofs.lemmas.List.{length-replicate}
 use Rattle.locked_world.proofs.Marking.{just}
 use Rattle.locked_world.proofs.closing.mark_callers.Goals as goal
+
+pub mark_sessions-requires : goal.mark_sessions-requires
+mark_sessions-requires g c = ap length c.requires ∙ length-replicate (length c.args.hall.now.history) false
+
+pub mark_clerks-requires : goal.mark_clerks-requires
+mark_clerks-requires g c =
+    let h = c.args.hall.now.history in
+    omega (arith, c.mark_sessions.auto.marks, ap length c.requires, length-replicate (length h) false)
 
 pub returns : goal.returns
 returns g c = λ full.

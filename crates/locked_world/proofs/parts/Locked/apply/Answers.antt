@@ -1,10 +1,11 @@
-use Rattle.std.proofs.Common.{rules, ◌≡◌, ◌≤◌, ◌++◌, [], ◌∷◌, false, true, refl, ap, sym, subst, ◌∙◌, length, arith, length-append, List}
+use Rattle.std.proofs.Common.{rules, ◌≡◌, ◌≤◌, ◌+◌, ◌++◌, [], ◌∷◌, false, true, refl, ap, sym, subst, ◌∙◌, length, arith, length-append, List, replicate}
+use Rattle.std.proofs.lemmas.List.{replicate_more}
 use Rattle.locked_world.proofs.Common.{Exchange, Refused, exchange, is_refusal, with_view, HallState, Fits, kept_of}
 use mathlib.Core.List.{IsPrefix}
 use Rattle.locked_world.specs.CallerState.{CallerState, caller_of}
 use Rattle.history_book.proofs.Fronts.{prefix_length}
 use Rattle.hall.proofs.Histories.{kept_refused, room_left}
-use Rattle.hall.proofs.HallLaws.{goes_by, stays_by}
+use Rattle.hall.proofs.HallLaws.{goes_by, goes_on, stays_by}
 use Rattle.locked_world.proofs.Places.{rises_more}
 use Rattle.locked_world.proofs.Standing.{taken_refused, taken_accepted, taken_unchanged, stands_answered, stands_kept}
 use Rattle.locked_world.proofs.parts.Locked.apply.Goals as goal
@@ -137,3 +138,28 @@ returns-in-Some-clause-taken g c =
 
 pub returns-in-Some-clause-hall : goal.returns-in-Some-clause-hall
 returns-in-Some-clause-hall g c = c.in-Some.ensures.refused
+
+pub invariant_of-self-2 : goal.invariant_of-self-2
+invariant_of-self-2 g c =
+    let old = c.args.self.now in
+    let h = old.hall in
+    let u = c.apply_short-reply.new.self in
+    let r = with_view c.apply_short-reply.result c.apply_short-reply.new.view in
+    let x = exchange c.args.event r in
+    let accepted : is_refusal r ≡ false = search (rules, c.is_refusal.ensures c.apply_short-reply.new.view) in
+    let longer : u.history ≡ h.history ++ x ∷ [] = goes_by h c.args.event r u c.len-place.ensures.lawful c.apply_short-reply.ensures accepted in
+    let many : length u.history ≡ length h.history + 1 = ap length longer ∙ length-append h.history (x ∷ []) in
+    let stays = goes_on h u c.args.event r c.len-place.ensures.lawful c.apply_short-reply.ensures in
+    record {
+      counted = omega (arith, many, old.counted, c.add.ensures.total);
+      clear =
+          c.push_reserved-2.ensures.items
+          ∙ ap (λ l. l ++ false ∷ []) (c.refusal_of.ensures.marks ∙ old.clear)
+          ∙ replicate_more (length h.history) false
+          ∙ ap (λ n. replicate n false) (sym many);
+      parts = old.parts;
+      few = old.few;
+      none = old.none;
+      config = stays.config ∙ old.config;
+      whole = c.tell.ensures ∙ ap (λ l. l ++ x ∷ []) old.whole ∙ sym longer;
+    }
