@@ -5,7 +5,7 @@ ghost use Rattle.std.specs.Prelude.{◌≡◌, ◌++◌, codes, decimal, IfOk};
 
 use crate::gate::OpenGate;
 use crate::server_fault::{ServeFault, ServerFault};
-use crate::workers::serve_many;
+use crate::workers::{Served, serve_many};
 use commands::{Config, Exchange};
 use history_book::Opened;
 use locked_world::{Clerk, HallLock, LockName};
@@ -89,6 +89,41 @@ fn clerks_of<L: LockName, R: Wait>(
     Some(clerks)
 }
 
+// Serves all connections of a plan by these clerks, once it has told the port.
+fn serve_all<L: LockName + Send + Sync, R, W: Write>(
+    rt: &R,
+    alloc: Global,
+    plan: Plan,
+    output: &mut W,
+    lock: &HallLock<L>,
+    clerks: Vec<Clerk<L>>,
+) -> Result<Served<L>, ServeFault>
+where
+    R: Net<Listener = TcpListener, Stream = TcpStream> + Threads + Wait + Sync,
+{
+    let (listener, port) = listening(rt, plan.port)?;
+    match tell(alloc, "listening", u64::from(port), output) {
+        Ok(()) => Ok(serve_many(rt, alloc, &listener, lock, &OpenGate, clerks, plan.count)),
+        Err(fault) => Err(fault),
+    }
+}
+
+// Closes the hall against all that its clerks answered, and tells how many connections were served.
+fn end<L: LockName, W: Write>(
+    alloc: Global,
+    lock: HallLock<L>,
+    served: Served<L>,
+    output: &mut W,
+) -> Result<(), ServeFault> {
+    if let Some(fault) = served.fault {
+        return Err(ServeFault::Server(fault));
+    }
+    if lock.close(Vec::new(alloc), served.clerks).is_err() {
+        return Err(ServeFault::Server(ServerFault::History));
+    }
+    tell(alloc, "served", served.served, output)
+}
+
 /// Serves connections to 127.0.0.1 over one hall, by threads. Before the first it writes a line with the port that it listens on,
 /// behind the last one, once the hall was closed against all that its clerks answered, with how many it served.
 pub fn serve<L: LockName + Send + Sync, R, W: Write>(
@@ -109,17 +144,12 @@ where
     let Ok(lock) = HallLock::<L>::new(alloc, plan.config, blank, history) else {
         return Err(ServeFault::Server(ServerFault::Memory));
     };
-    let Some(clerks) = clerks_of(rt, alloc, &lock, plan.workers) else {
-        return Err(ServeFault::Server(ServerFault::Memory));
+    let served = match clerks_of(rt, alloc, &lock, plan.workers) {
+        Some(clerks) => serve_all(rt, alloc, plan, output, &lock, clerks),
+        None => Err(ServeFault::Server(ServerFault::Memory)),
     };
-    let (listener, port) = listening(rt, plan.port)?;
-    tell(alloc, "listening", u64::from(port), output)?;
-    let served = serve_many(rt, alloc, &listener, &lock, &OpenGate, clerks, plan.count);
-    if let Some(fault) = served.fault {
-        return Err(ServeFault::Server(fault));
+    match served {
+        Ok(served) => end(alloc, lock, served, output),
+        Err(fault) => Err(fault),
     }
-    if lock.close(Vec::new(alloc), served.clerks).is_err() {
-        return Err(ServeFault::Server(ServerFault::History));
-    }
-    tell(alloc, "served", served.served, output)
 }

@@ -1,6 +1,6 @@
 //! Workers, one for each clerk, that serve the connections of a listener.
 
-ghost use Rattle.std.specs.Prelude.{◌≡◌, ◌≢◌, IfNone, Some, vec_len};
+ghost use Rattle.std.specs.Prelude.{◌≡◌, ◌≢◌, ◌<◌, ◌^◌, IfNone, Some, vec_len};
 ghost use Rattle.locked_world.specs.Serving.{ClerkGoesOn};
 ghost use Rattle.slot_server.specs.Clerks.{ClerksGoOn};
 
@@ -10,7 +10,7 @@ use crate::server_fault::ServerFault;
 use crate::serving::serve_one;
 use crate::watched::Watched;
 use locked_world::{Clerk, HallLock, LockName, ServingClerk};
-use player::Tried;
+use player::{Sink, Source, Tried};
 use std::alloc::Global;
 use std::io::Read;
 use std::net::{Shutdown, TcpListener, TcpStream};
@@ -65,9 +65,24 @@ fn serve_stream<R: Wait, L: LockName, G: Gate<R>>(
 {
     let mut reader = Watched::new(rt, gate, connection, Tried::new(stream));
     let mut writer = Watched::new(rt, gate, connection, Tried::new(stream));
-    if serve_one(rt, alloc, &mut reader, &mut writer, service).is_ok() {
+    if serve_lines(rt, alloc, &mut reader, &mut writer, service) {
         end(stream);
     }
+}
+
+// Serves what a reader gives, and tells whether that came to its end: of any reader and writer, since a proof over those of a stream is long.
+fn serve_lines<R: Wait, L: LockName, I: Source, O: Sink>(
+    rt: &R,
+    alloc: Global,
+    reader: &mut I,
+    writer: &mut O,
+    service: &mut ServingClerk<'_, L>,
+) -> bool
+    requires reads { I.calls reader.old < 2 ^ 64 }
+    requires writes { O.calls writer.old < 2 ^ 64 }
+    ensures { ClerkGoesOn L.config service.old service.new }
+{
+    serve_one(rt, alloc, reader, writer, service).is_ok()
 }
 
 // Serves connections as long as there are some.
