@@ -182,11 +182,26 @@ fn host_log<R, W: Write, E: Write>(
 where
     R: Net + Wait + Clock + Files<File = File>,
 {
-    let mut keeper = open_log(rt, alloc, plan.config, log)?;
+    match open_log(rt, alloc, plan.config, log) {
+        Ok(keeper) => host_followed(rt, alloc, plan, keeper, output, errors),
+        Err(failure) => Err(failure),
+    }
+}
+
+// Serves what a keeper follows, whatever its log stands in: it takes the keeper, which whoever opened it would have to take apart.
+fn host_followed<R: Net + Wait + Clock, S: Store + Drop, P: Pause + Drop, W: Write, E: Write>(
+    rt: &R,
+    alloc: Global,
+    plan: &HostPlan<'_>,
+    keeper: LogKeeper<S, P>,
+    output: &mut W,
+    errors: &mut E,
+) -> Result<(), HostFailure> {
+    let mut keeper = keeper;
     host_kept(rt, alloc, plan, &mut keeper, output, errors)
 }
 
-// Serves what a keeper follows, whatever its log stands in.
+// The same, of a keeper that is lent.
 fn host_kept<R: Net + Wait + Clock, S: Store, P: Pause, W: Write, E: Write>(
     rt: &R,
     alloc: Global,
@@ -208,14 +223,16 @@ pub fn export_hall<R: Net + Clock + Files<File = File>, W: Write>(
     log: LogPlan<'_>,
     output: &mut W,
 ) -> Result<(), HostFailure> {
-    let keeper = open_log(rt, alloc, config, log)?;
-    export_kept(alloc, &keeper, output)
+    match open_log(rt, alloc, config, log) {
+        Ok(keeper) => export_kept(alloc, keeper, output),
+        Err(failure) => Err(failure),
+    }
 }
 
 // Writes the events of the hall that a keeper follows, whatever its log stands in.
-fn export_kept<S: Store, P: Pause, W: Write>(
+fn export_kept<S: Store + Drop, P: Pause + Drop, W: Write>(
     alloc: Global,
-    keeper: &LogKeeper<S, P>,
+    keeper: LogKeeper<S, P>,
     output: &mut W,
 ) -> Result<(), HostFailure> {
     write_events(alloc, keeper.hall(), output)
