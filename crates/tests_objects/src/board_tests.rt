@@ -2,147 +2,119 @@
 
 ghost use Rattle.std.specs.Prelude.{◌≡◌, IfSome};
 
-use crate::common::same;
+use crate::common::{holds, same};
 use raw_parts::{Board, Grant, ReaderSeat};
 use std::alloc::Global;
-use std::process::Abort;
 use std::test::Fail;
 use std::thread::{Threads, join};
 use step_memory::Refusal;
 
-/// Whose name it is, by a grant, if there is one.
-type Granted = Option<(u64, u64)>;
-
-fn granted(grant: Option<Grant>) -> Granted {
-    let grant = grant?;
-    Some((grant.name(), grant.identity()))
+/// Whether this name was granted to this identity.
+fn is_of(grant: Option<Grant>, name: u64, identity: u64) -> bool {
+    match grant {
+        Some(grant) => grant.name() == name && grant.identity() == identity,
+        None => false,
+    }
 }
 
-/// How many names a board for so many has, and what one is granted who posts at the first, past the last and at the last.
-fn first_and_last(alloc: Global, names: u64) -> Result<(u64, [Granted; 3]), Refusal> {
+/// Whether of a board for so many the first name is granted, and the last, where that is another.
+fn grants_first_and_last(alloc: Global, names: u64) -> Result<bool, Refusal> {
     let (board, mut seat) = Board::new(alloc, names)?;
-    let told = [
-        granted(board.post(&mut seat, 1, 5)),
-        granted(board.post(&mut seat, names.saturating_add(1), 7)),
-        granted(board.post(&mut seat, names, 7)),
-    ];
-    Ok((board.names(), told))
+    let first = is_of(board.post(&mut seat, 1, 5), 1, 5);
+    let last = is_of(board.post(&mut seat, names, 7), names, 7);
+    Ok(first && last != (names == 1) && board.names() == names)
 }
 
 #[test]
 fn one_to_127_names(rt: HostRuntime) {
     for names in 1..=127 {
-        let last = (names != 1).then_some((names, 7));
-        let due = Ok((names, [Some((1, 5)), None, last]));
-        same(&rt, names as usize, first_and_last(rt.alloc(), names), due);
+        let told = grants_first_and_last(rt.alloc(), names);
+        same(&rt, names as usize, told, Ok(true));
     }
 }
 
-/// What a reader is granted where 1 is held by 10 and 3 by 20: of the name that is held, and of others.
-fn tries(board: &Board<Global>, reader: &mut ReaderSeat) -> (Granted, [Granted; 8])
-    requires { reader.old.board ≡ board.now }
-{
-    let held = granted(board.confirm(reader, 3, 20));
-    // Held by another, free, past the last, the least that is no name, and nobody's.
-    let others = [
-        granted(board.confirm(reader, 1, 20)),
-        granted(board.confirm(reader, 2, 10)),
-        granted(board.confirm(reader, 9, 10)),
-        granted(board.confirm(reader, 0, 10)),
-        granted(board.confirm(reader, 2, 0)),
-        granted(board.post(reader, 0, 10)),
-        granted(board.post(reader, 4, 10)),
-        granted(board.post(reader, 2, 0)),
-    ];
-    (held, others)
-}
-
-/// The owners of a name that is held, of one that is free, and of the numbers next to the names.
-fn owners(board: &Board<Global>) -> [Option<u64>; 4] {
-    [
-        board.owner(3),
-        board.owner(2),
-        board.owner(0),
-        board.owner(4),
-    ]
-}
-
-/// What a further seat, split off this one, finds.
-fn looks(rt: &impl Abort, board: &Board<Global>, seat: &mut ReaderSeat)
+/// Two names, posted by a seat and by a further one.
+fn posts(board: &Board<Global>, seat: &mut ReaderSeat) -> Option<(Grant, Grant)>
     requires { seat.old.board ≡ board.now }
-    ensures { seat.new ≡ seat.old }
-{
-    let mut third = board.reader(seat);
-    let due = (Some((3, 20)), [None; 8]);
-    same(rt, 1, tries(board, &mut third), due);
-    same(rt, 2, owners(board), [Some(20), None, None, None]);
-}
-
-/// Two names, posted by a seat and by a further one, of which the second post is beside the first and the last is again the same.
-fn posts(
-    rt: &impl Abort,
-    board: &Board<Global>,
-    seat: &mut ReaderSeat,
-) -> (Option<Grant>, Option<Grant>)
-    requires { seat.old.board ≡ board.now }
-    ensures one { IfSome result.0 (λ grant. grant.board ≡ board.now) }
-    ensures two { IfSome result.1 (λ grant. grant.board ≡ board.now) }
+    ensures seat { seat.new.board ≡ board.now }
+    ensures grants { IfSome result (λ grants. (grants.0.board ≡ board.now) × (grants.1.board ≡ board.now)) }
 {
     let mut second = board.reader(seat);
-    let one = board.post(seat, 1, 10);
-    let beside = granted(board.post(&mut second, 1, 20));
-    let two = board.post(&mut second, 3, 20);
-    let again = granted(board.post(&mut second, 3, 20));
-    same(rt, 3, [beside, again], [None, Some((3, 20))]);
-    looks(rt, board, &mut second);
-    (one, two)
+    let one = board.post(seat, 1, 10)?;
+    let two = board.post(&mut second, 3, 20)?;
+    Some((one, two))
 }
 
-/// The words of a board as it ends, where two grants have met and the last is handed in.
-fn words_at_end(board: Board<Global>, one: Option<Grant>, two: Option<Grant>) -> Option<Vec<u64>>
-    requires one { IfSome one (λ grant. grant.board ≡ board) }
-    requires two { IfSome two (λ grant. grant.board ≡ board) }
+/// Whether a further seat, split off this one, finds 1 held by 10, 2 free and 3 held by 20, who may post there again.
+fn finds(board: &Board<Global>, seat: &mut ReaderSeat) -> bool
+    requires { seat.old.board ≡ board.now }
 {
-    let (mut one, mut two) = (one?, two?);
+    let mut third = board.reader(seat);
+    let another = board.post(&mut third, 1, 20).is_none();
+    let again = is_of(board.post(&mut third, 3, 20), 3, 20);
+    let held = is_of(board.confirm(&mut third, 3, 20), 3, 20);
+    let beside = board.confirm(&mut third, 1, 20).is_none();
+    let free = board.confirm(&mut third, 2, 10).is_none();
+    let owners = board.owner(3) == Some(20) && board.owner(2).is_none();
+    another && again && held && beside && free && owners
+}
+
+/// Whether a board ends with the words that are due, where two grants have met and the last is handed in.
+fn ends_with_two(board: Board<Global>, grants: Option<(Grant, Grant)>) -> bool
+    requires { IfSome grants (λ grants. (grants.0.board ≡ board) × (grants.1.board ≡ board)) }
+{
+    let Some((mut one, mut two)) = grants else {
+        return false;
+    };
     board.meet(&mut one, &mut two);
-    board.close(two).ok()
+    match board.close(two) {
+        Ok(words) => words.as_slice() == [10, 0, 20].as_slice(),
+        Err(_) => false,
+    }
 }
 
 /// Two names on a board of three, posted, confirmed and closed.
 #[test]
 fn two_post_their_names(rt: HostRuntime) -> Result<(), Fail> {
     let (board, mut seat) = Board::new(rt.alloc(), 3)?;
-    let (one, two) = posts(&rt, &board, &mut seat);
-    let words = words_at_end(board, one, two);
-    let are_told = words.as_deref() == Some([10, 0, 20].as_slice());
-    same(&rt, 4, are_told, true);
+    let grants = posts(&board, &mut seat);
+    let are_found = finds(&board, &mut seat);
+    holds(&rt, 3, ends_with_two(board, grants) && are_found);
     Ok(())
 }
 
-/// Two threads post at one name at once: what both are granted.
-fn race<R: Threads + Sync>(rt: &R, alloc: Global) -> Result<[Granted; 2], Refusal> {
-    let (board, mut one) = Board::new(alloc, 1)?;
-    let mut other = board.reader(&mut one);
-    let shared = &board;
+/// Whether just one of two threads that post at one name at once is granted it.
+fn race<R: Threads + Sync>(
+    rt: &R,
+    board: &Board<Global>,
+    mut one: ReaderSeat,
+    mut other: ReaderSeat,
+) -> bool
+    requires one { one.board ≡ board.now }
+    requires other { other.board ≡ board.now }
+{
     let (first, second) = join(
         rt,
-        move || -> Option<Grant>
-            requires { one.board ≡ shared.now }
-            ensures { IfSome result (λ g. g.board ≡ shared.entry.now) }
-        { shared.post(&mut one, 1, 10) },
-        move || -> Option<Grant>
-            requires { other.board ≡ shared.now }
-            ensures { IfSome result (λ g. g.board ≡ shared.entry.now) }
-        { shared.post(&mut other, 1, 20) },
+        move || -> bool
+            requires { one.board ≡ board.now }
+        { board.post(&mut one, 1, 10).is_some() },
+        move || -> bool
+            requires { other.board ≡ board.now }
+        { board.post(&mut other, 1, 20).is_some() },
     );
-    Ok([granted(first), granted(second)])
+    first != second
+}
+
+/// The same on a new board.
+fn goes_to_one<R: Threads + Sync>(rt: &R, alloc: Global) -> Result<bool, Refusal> {
+    let (board, mut one) = Board::new(alloc, 1)?;
+    let other = board.reader(&mut one);
+    Ok(race(rt, &board, one, other))
 }
 
 #[test]
 fn one_of_two_threads_gets_the_name(rt: HostRuntime) {
     for turn in 0..1000 {
-        let told = race(&rt, rt.alloc());
-        let is_one = told == Ok([Some((1, 10)), None]) || told == Ok([None, Some((1, 20))]);
-        same(&rt, turn, is_one, true);
+        same(&rt, turn, goes_to_one(&rt, rt.alloc()), Ok(true));
     }
 }

@@ -1,31 +1,31 @@
 //! What the trials share.
 
-use std::fmt::Debug;
 use std::process::Abort;
 use step_memory::{Answer, Note, Refusal, StepProgram};
 
-/// Stops a trial unless in this case of it, named by a size or a row, what was got is what is due.
-pub fn same<T: PartialEq + Debug + Copy>(rt: &impl Abort, case: usize, got: T, due: T) {
-    assert_eq!(rt; got, due, "case {case}");
+/// What a trial tells of what was made: whether it goes so; or why it was not made.
+pub type Told = Result<bool, Refusal>;
+
+/// Stops a trial unless in this case of it, named by a size or a row, what it tells is what is due.
+pub fn same(rt: &impl Abort, case: usize, told: Told, due: Told) {
+    assert_eq!(rt; told, due, "case {case}");
 }
 
-/// Stops a trial unless what was got is what is due.
-pub fn equal<T: PartialEq + Debug + Drop>(rt: &impl Abort, got: T, due: T) {
-    assert_eq!(rt; got, due);
+/// What a trial tells of a world that was made, which is lent to it; or why none was made. Here a world is of any type, so that
+/// nothing is proved again of what it holds.
+pub fn lent<W: Drop, F: FnOnce(&mut W) -> bool + Drop>(made: Result<W, Refusal>, trial: F) -> Told
+    requires { F.IsAlwaysCallable trial }
+{
+    let mut world = made?;
+    Ok(trial(&mut world))
+}
+
+/// Stops a trial unless this case of it, named by a size or a row, is so.
+pub fn holds(rt: &impl Abort, case: usize, is_so: bool) {
+    assert!(rt; is_so, "case {case}");
 }
 
 /// Takes a step of any program.
 pub fn take<P: StepProgram>(program: &mut P, got: Answer<P::Value>) -> Note<P::Output> {
     program.resume(got)
-}
-
-/// What a trial tells of a world that was made, which is lent to it; or why none was made.
-pub fn lent<W: Drop, F: FnOnce(&mut W) -> bool + Drop>(
-    made: Result<W, Refusal>,
-    trial: F,
-) -> Result<bool, Refusal>
-    requires { F.IsAlwaysCallable trial }
-{
-    let mut world = made?;
-    Ok(trial(&mut world))
 }

@@ -1,7 +1,7 @@
 //! How the doors of a grid are numbered, walks one after another, and a walk as a program. Walks of several participants are tried
 //! where they are played as lines, in `tests_player`.
 
-use crate::common::{lent, same, take};
+use crate::common::{holds, lent, same, take};
 use splitter_grid::{Door, GridWorld, Walker, law_of_doors_and_walks, law_of_grid_calls};
 use std::alloc::Global;
 use step_memory::{Access, Answer, Note, StepProgram};
@@ -52,8 +52,12 @@ fn doors_are_numbered_by_diagonals(rt: HostRuntime) {
         (5, down.down()),
     ];
     for (k, door) in doors {
-        let told = (usize::from(door.number()), door.x(), door.y());
-        same(&rt, k, told, (k, 2 * k, 2 * k + 1));
+        let is_numbered = usize::from(door.number()) == k;
+        holds(
+            &rt,
+            k,
+            is_numbered && door.x() == 2 * k && door.y() == 2 * k + 1,
+        );
     }
 }
 
@@ -74,12 +78,10 @@ fn a_walk_as_a_program(rt: HostRuntime) {
         (Access::Write(0, 9), Note::Quiet),
         (Access::Read(1), Note::Quiet),
     ];
-    let right = Walker::new(9, Door::corner().right());
-    let ended = (walker.next(), walker.place());
-    same(
+    let is_right = walker == Walker::new(9, Door::corner().right());
+    holds(
         &rt,
         2,
-        (told, walker, ended),
-        (due, right, (Access::Write(2, 9), None)),
+        told == due && is_right && walker.next() == Access::Write(2, 9),
     );
 }

@@ -1,11 +1,12 @@
 //! Objects that are made in heaps with more and more room: each want of memory is told.
 
-use crate::common::same;
+use crate::common::holds;
 use linked_list_allocator::LocalHeap;
 use raw_parts::RawSplitter;
 use splitter::SplitterWorld;
 use std::alloc::{AllocError, Global};
 use step_memory::Refusal;
+use word_grid::WordGrid;
 
 /// The bytes of a heap in which each of these objects finds room.
 const ROOM: usize = 1_600;
@@ -19,23 +20,23 @@ fn is_told<T: Drop>(made: Result<T, Refusal>, taken: usize) -> bool {
 }
 
 /// Whether each is made or told of in a heap of which so much is taken.
-fn are_told(alloc: Global, taken: usize) -> Result<[bool; 3], AllocError> {
+fn are_told(alloc: Global, taken: usize) -> Result<bool, AllocError> {
     let heap = LocalHeap::new(alloc, ROOM)?;
     let others = Vec::<u8, &LocalHeap>::with_capacity(&heap, taken)?;
     let told = [
         is_told(SplitterWorld::new(&heap, 16), taken),
         is_told(RawSplitter::new(&heap, 64), taken),
         is_told(RawSplitter::pair(&heap), taken),
+        is_told(WordGrid::new(&heap, 3), taken),
     ];
     drop(others);
-    Ok(told)
+    Ok(told == [true; 4])
 }
 
 /// A heap gives a growth at least 16 bytes, so each growth in turn is the first that finds no room.
 #[test]
 fn each_want_of_memory_is_told(rt: HostRuntime) {
     for blocks in 0..=100usize {
-        let told = are_told(rt.alloc(), 16 * blocks).ok();
-        same(&rt, blocks, told, Some([true; 3]));
+        holds(&rt, blocks, are_told(rt.alloc(), 16 * blocks) == Ok(true));
     }
 }

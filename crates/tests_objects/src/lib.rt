@@ -25,8 +25,6 @@ mod places_tests;
 #[cfg(test)]
 mod pool_tests;
 #[cfg(test)]
-mod ranges_tests;
-#[cfg(test)]
 mod raw_splitter_tests;
 #[cfg(test)]
 mod renaming_tests;

@@ -2,9 +2,9 @@
 
 ghost use Rattle.std.specs.Prelude.{◌≡◌};
 
-use crate::common::equal;
+use crate::common::same;
 use crate::word_pool_tests::{SIZES, marks_of};
-use std::alloc::Global;
+use std::alloc::{AllocError, Global};
 use std::sync::atomic::AtomicU64;
 use std::sync::atomic::Ordering::SeqCst;
 use std::thread::{self, Threads};
@@ -32,22 +32,17 @@ fn held_in_turn(line: &LinePool<Global>, mut tickets: Tickets) -> u64
     u64::MAX
 }
 
-/// How many numbers a line for so many has: as it says, as it has tickets, and as these have them.
-fn numbers_of(alloc: Global, numbers: u64) -> Result<(u64, u64, u64), Refusal> {
+/// Whether a line for so many has as many numbers: as it says, as it has tickets, and as these have them.
+fn has_numbers(alloc: Global, numbers: u64) -> Result<bool, Refusal> {
     let (line, tickets) = LinePool::new(alloc, numbers)?;
-    let count = tickets.count();
-    Ok((line.numbers(), count, held_in_turn(&line, tickets)))
+    let are_told = line.numbers() == numbers && tickets.count() == numbers;
+    Ok(held_in_turn(&line, tickets) == numbers && are_told)
 }
 
 #[test]
 fn each_ticket_has_a_number(rt: HostRuntime) {
-    for (numbers, is_made) in SIZES {
-        let due = if is_made {
-            Ok((numbers, numbers, numbers))
-        } else {
-            Err(Refusal::OutOfRange)
-        };
-        equal(&rt, numbers_of(rt.alloc(), numbers), due);
+    for (i, (numbers, due)) in SIZES.iter().enumerate() {
+        same(&rt, i, has_numbers(rt.alloc(), *numbers), *due);
     }
 }
 
@@ -91,75 +86,98 @@ fn stay_often(stayer: Stayer<'_>) -> Stays {
     Stays { clashes, greatest }
 }
 
-/// So many stayers in a line, each with a ticket of its own, or none where there are fewer tickets or no memory.
+/// The next stayer of a line, where there is a ticket for it.
+fn next_stayer<'a>(
+    line: &'a LinePool<Global>,
+    tickets: &mut Tickets,
+    marks: &'a [AtomicU64],
+) -> Option<Stayer<'a>>
+    requires ours { tickets.old.table ≡ line.now.table }
+    ensures ours { tickets.new.table ≡ line.now.table }
+{
+    let ticket = line.deal(tickets)?;
+    Some(Stayer {
+        line,
+        ticket,
+        marks,
+    })
+}
+
+/// So many stayers in a line, each with a ticket of its own, as far as there are tickets.
 fn stayers_of<'a>(
     alloc: Global,
     line: &'a LinePool<Global>,
     tickets: &mut Tickets,
     marks: &'a [AtomicU64],
     count: usize,
-) -> Option<Vec<Stayer<'a>, Global>>
+) -> Result<Vec<Stayer<'a>, Global>, AllocError>
     requires ours { tickets.old.table ≡ line.now.table }
     ensures ours { tickets.new.table ≡ line.now.table }
 {
-    let mut stayers = Vec::with_capacity(alloc, count).ok()?;
+    let mut stayers = Vec::new(alloc);
     for _ in 0..count {
-        let ticket = line.deal(tickets)?;
-        stayers
-            .push(Stayer {
-                line,
-                ticket,
-                marks,
-            })
-            .ok()?;
+        if let Some(stayer) = next_stayer(line, tickets, marks) {
+            stayers.push(stayer)?;
+        }
     }
-    Some(stayers)
+    Ok(stayers)
 }
 
-/// What so many threads saw that stayed at once in a line; none where there are fewer tickets or no memory.
-fn seen_at_once<R: Threads + Sync>(
+/// Whether so many threads stayed, none found its number in another's hands, and none had a number above their count.
+fn are_apart(seen: &[Stays], threads: usize) -> bool {
+    let apart = seen.iter().all(|stays| stays.clashes == 0 && stays.greatest <= threads as u64);
+    apart && seen.len() == threads
+}
+
+/// The same of threads that stay at once in a line.
+fn stay_apart<R: Threads + Sync>(
     rt: &R,
     alloc: Global,
     line: &LinePool<Global>,
     tickets: &mut Tickets,
     threads: usize,
-) -> Option<Vec<Stays, Global>>
+) -> Result<bool, AllocError>
     requires ours { tickets.old.table ≡ line.now.table }
     ensures ours { tickets.new.table ≡ line.now.table }
 {
     let marks = marks_of(alloc, line.numbers())?;
     let stayers = stayers_of(alloc, line, tickets, marks.as_slice(), threads)?;
-    thread::map_vec(rt, stayers, &|stayer| stay_often(stayer)).ok()
+    let seen = thread::map_vec(rt, stayers, &|stayer| stay_often(stayer))?;
+    Ok(are_apart(&seen, threads))
 }
 
-/// What so many threads saw that stayed at once in a line of so many numbers, and the line's words when all had ended; none
-/// where there are fewer tickets or no memory.
-fn stay_at_once<R: Threads + Sync>(
+/// Whether a line ends with so many words, none of which is set.
+fn is_free_at_end(
+    alloc: Global,
+    line: LinePool<Global>,
+    tickets: Tickets,
+    numbers: u64,
+) -> Result<bool, AllocError>
+    requires ours { tickets.table ≡ line.table }
+{
+    let words = line.close(alloc, tickets, Vec::new(alloc))?;
+    let are_free = words.iter().all(|word| *word == 0);
+    Ok(are_free && words.len() == numbers as usize)
+}
+
+/// Whether so many threads that stay at once in a line of so many numbers have distinct small numbers, and no word is set then.
+fn go_apart<R: Threads + Sync>(
     rt: &R,
     alloc: Global,
-    numbers: u64,
-    threads: usize,
-) -> Option<(Vec<Stays, Global>, Vec<u64, Global>)> {
-    let (line, mut tickets) = LinePool::new(alloc, numbers).ok()?;
-    let seen = seen_at_once(rt, alloc, &line, &mut tickets, threads)?;
-    let words = line.close(alloc, tickets, Vec::new(alloc)).ok()?;
-    Some((seen, words))
+    (numbers, threads): (u64, usize),
+) -> Result<bool, Refusal> {
+    let (line, mut tickets) = LinePool::new(alloc, numbers)?;
+    let are_apart = stay_apart(rt, alloc, &line, &mut tickets, threads)?;
+    let are_free = is_free_at_end(alloc, line, tickets, numbers)?;
+    Ok(are_apart && are_free)
 }
 
-/// Whether none of so many threads found its number in another's hands, none had a number above their count, and no word is still set.
-fn are_apart(seen: &[Stays], words: &[u64], numbers: u64, threads: usize) -> bool {
-    let apart = seen.iter().all(|stays| stays.clashes == 0 && stays.greatest <= threads as u64);
-    let ended = words.iter().all(|word| *word == 0);
-    apart && ended && seen.len() == threads && words.len() == numbers as usize
-}
+/// How many numbers a line has, and how many threads.
+const STAYS: [(u64, usize); 4] = [(2, 2), (8, 8), (64, 8), (4096, 3)];
 
 #[test]
 fn threads_have_distinct_small_numbers_and_give_them_back(rt: HostRuntime) {
-    for (numbers, threads) in [(2, 2), (8, 8), (64, 8), (4096, 3)] {
-        let is_so = match stay_at_once(&rt, rt.alloc(), numbers, threads) {
-            Some((seen, words)) => are_apart(&seen, &words, numbers, threads),
-            None => false,
-        };
-        assert!(rt; is_so, "{threads} threads in a line of {numbers}");
+    for (i, stays) in STAYS.iter().enumerate() {
+        same(&rt, i, go_apart(&rt, rt.alloc(), *stays), Ok(true));
     }
 }

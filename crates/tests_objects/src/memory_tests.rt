@@ -3,7 +3,7 @@
 ghost use Rattle.std.specs.Prelude.{◌≡◌, IsErr};
 ghost use Rattle.step_memory.specs.declared.note.Note.TheVariants as note;
 
-use crate::common::same;
+use crate::common::holds;
 use std::alloc::Global;
 use std::process::Abort;
 use std::test::Fail;
@@ -114,21 +114,27 @@ fn next_of(
 /// Makes these calls, each of which answers what stands beside it.
 fn plays(rt: &impl Abort, world: &mut World<Once, Memory<u64, Global>, Global>) {
     for (i, (id, call, due)) in EACH.iter().enumerate() {
-        same(rt, i, told(world, *id, *call), *due);
+        holds(rt, i, told(world, *id, *call) == *due);
     }
-    let ended = (
-        next_of(world, 10),
-        next_of(world, 30),
-        world.participants().len(),
-    );
-    same(rt, 21, ended, (Some(Access::Clear(1)), None, 2));
+}
+
+/// Whether who has begun is there at the end, with the access that is due.
+fn ends(world: &World<Once, Memory<u64, Global>, Global>) -> bool {
+    let is_due = matches!(next_of(world, 10), Some(Access::Clear(1)));
+    is_due && next_of(world, 30).is_none() && world.participants().len() == 2
+}
+
+/// A new world of two.
+fn world_of_two(alloc: Global) -> Result<World<Once, Memory<u64, Global>, Global>, Refusal> {
+    let memory = Memory::new(alloc, 3, 2, 2)?;
+    Ok(World::new(alloc, memory, 2)?)
 }
 
 #[test]
 fn each_call_and_each_refusal(rt: HostRuntime) -> Result<(), Fail> {
-    let memory = Memory::new(rt.alloc(), 3, 2, 2)?;
-    let mut world = World::new(rt.alloc(), memory, 2)?;
+    let mut world = world_of_two(rt.alloc())?;
     plays(&rt, &mut world);
+    holds(&rt, 21, ends(&world));
     Ok(())
 }
 
@@ -157,17 +163,19 @@ impl StepMemory for Refusing {
     ghost others = { λ m a r h. refl };
 }
 
+/// Whether one begins, and is refused each step.
+fn is_refused(world: &mut World<Once, Refusing, Global>) -> bool {
+    let access = Access::Write(0, 7);
+    let begun = world.begin(10, Once { access }).is_ok();
+    let first = world.step(10) == Err(Refusal::NoMemory);
+    let again = world.step(10) == Err(Refusal::NoMemory);
+    begun && first && again
+}
+
 #[test]
 fn want_of_memory_may_be_asked_again(rt: HostRuntime) -> Result<(), Fail> {
     let mut world = World::new(rt.alloc(), Refusing, 1)?;
-    let access = Access::Write(0, 7);
-    let told = (
-        world.begin(10, Once { access }),
-        world.step(10),
-        world.step(10),
-    );
-    let refused = Err(Refusal::NoMemory);
-    same(&rt, 1, told, (Ok(()), refused, refused));
+    holds(&rt, 1, is_refused(&mut world));
     Ok(())
 }
 
@@ -189,14 +197,21 @@ const REFUSALS: [Refusal; 14] = [
     Refusal::OutOfRange,
 ];
 
+/// Whether the refusals have these numbers.
+fn are_numbered() -> bool {
+    for (i, refusal) in REFUSALS.iter().enumerate() {
+        if usize::from(refusal.number()) != i + 1 {
+            return false;
+        }
+    }
+    true
+}
+
 #[test]
 fn refusals_have_numbers(rt: HostRuntime) -> Result<(), Fail> {
-    for (i, refusal) in REFUSALS.iter().enumerate() {
-        same(&rt, i, usize::from(refusal.number()), i + 1);
-    }
     let text = format!(in rt.alloc(); "{}", Refusal::Crowded)?;
     let is_told = text.as_str() == "as many compete as there are numbers";
-    same(&rt, 14, is_told, true);
+    holds(&rt, 14, is_told && are_numbered());
     Ok(())
 }
 
@@ -237,11 +252,19 @@ fn three_falling() -> View {
     view
 }
 
+/// Whether it has those three, in order.
+fn has_three(view: &View) -> bool {
+    let is_kept = view.pairs() == [(10, 1), (20, 5), (30, 3)].as_slice();
+    is_kept && view.len() == 3 && view.get(20) == Some(5) && view.get(25).is_none()
+}
+
 #[test]
 fn views_are_kept_in_order(rt: HostRuntime) {
-    let (none, view) = (View::new(), three());
-    let is_kept = view.pairs() == [(10, 1), (20, 5), (30, 3)].as_slice();
-    let are_told = none.is_empty() && !view.is_full() && view != none && view == three_falling();
-    let told = (is_kept && are_told, view.len(), view.get(20), view.get(25));
-    same(&rt, 3, told, (true, 3, Some(5), None));
+    let view = three();
+    let is_told = View::new().is_empty() && !view.is_full() && view != View::new();
+    holds(
+        &rt,
+        3,
+        is_told && has_three(&view) && view == three_falling(),
+    );
 }

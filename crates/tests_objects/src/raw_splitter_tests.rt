@@ -2,7 +2,7 @@
 
 ghost use Rattle.std.specs.Prelude.{◌≡◌};
 
-use crate::common::same;
+use crate::common::{holds, same};
 use raw_parts::{EnteredSeat, FreshSeat, RawSplitter};
 use splitter::Way;
 use std::alloc::Global;
@@ -10,13 +10,14 @@ use std::test::Fail;
 use std::thread::{Threads, join};
 use step_memory::Refusal;
 
-/// The number of each of three seats and its way; the second enters first, and the third last.
-fn ways(
+/// Whether of three seats that enter one after another, the second first, the first to enter stops and the others go right, by
+/// the numbers that they were made with.
+fn go_so(
     splitter: &RawSplitter<Global>,
     first: FreshSeat,
     second: FreshSeat,
     third: FreshSeat,
-) -> [(u64, Way); 3]
+) -> bool
     requires first { first.splitter ≡ splitter.now }
     requires second { second.splitter ≡ splitter.now }
     requires third { third.splitter ≡ splitter.now }
@@ -26,11 +27,8 @@ fn ways(
     let (mut third, third_way) = splitter.enter(third);
     splitter.meet(&mut first, &mut third);
     splitter.meet(&mut second, &mut third);
-    [
-        (first.number(), first_way),
-        (second.number(), second_way),
-        (third.number(), third_way),
-    ]
+    let are_numbered = (first.number(), second.number(), third.number()) == (0, 1, 2);
+    are_numbered && (first_way, second_way, third_way) == (Way::Right, Way::Stop, Way::Right)
 }
 
 #[test]
@@ -39,38 +37,44 @@ fn the_first_of_three_stops(rt: HostRuntime) -> Result<(), Fail> {
     let (Some(third), Some(second), Some(first)) = (seats.pop(), seats.pop(), seats.pop()) else {
         panic!(rt; "too few seats");
     };
-    let told = ways(&splitter, first, second, third);
-    let due = [(0, Way::Right), (1, Way::Stop), (2, Way::Right)];
-    same(&rt, 3, told, due);
+    holds(&rt, 3, go_so(&splitter, first, second, third));
     Ok(())
 }
 
-/// The ways of two threads that enter the seats of a pair at once.
-fn race<R: Threads + Sync>(rt: &R, alloc: Global) -> Result<(Way, Way), Refusal> {
-    let (splitter, first, second) = RawSplitter::pair(alloc)?;
-    let shared = &splitter;
+/// Whether two threads that enter at once, and then meet, have different ways.
+fn are_split<R: Threads + Sync>(
+    rt: &R,
+    splitter: &RawSplitter<Global>,
+    first: FreshSeat,
+    second: FreshSeat,
+) -> bool
+    requires first { first.splitter ≡ splitter.now }
+    requires second { second.splitter ≡ splitter.now }
+{
     let ((mut one, first_way), (mut other, second_way)) = join(
         rt,
         move || -> (EnteredSeat, Way)
-            requires { first.splitter ≡ shared.now }
-            ensures { result.0.splitter ≡ shared.entry.now }
-        { shared.enter(first) },
+            requires { first.splitter ≡ splitter.now }
+            ensures { result.0.splitter ≡ splitter.entry.now }
+        { splitter.enter(first) },
         move || -> (EnteredSeat, Way)
-            requires { second.splitter ≡ shared.now }
-            ensures { result.0.splitter ≡ shared.entry.now }
-        { shared.enter(second) },
+            requires { second.splitter ≡ splitter.now }
+            ensures { result.0.splitter ≡ splitter.entry.now }
+        { splitter.enter(second) },
     );
     splitter.meet(&mut one, &mut other);
-    Ok((first_way, second_way))
+    first_way != second_way
+}
+
+/// The same of a new pair.
+fn race<R: Threads + Sync>(rt: &R, alloc: Global) -> Result<bool, Refusal> {
+    let (splitter, first, second) = RawSplitter::pair(alloc)?;
+    Ok(are_split(rt, &splitter, first, second))
 }
 
 #[test]
 fn two_threads_are_split(rt: HostRuntime) {
     for turn in 0..1000 {
-        let are_split = match race(&rt, rt.alloc()) {
-            Ok((one, other)) => one != other,
-            Err(_) => false,
-        };
-        same(&rt, turn, are_split, true);
+        same(&rt, turn, race(&rt, rt.alloc()), Ok(true));
     }
 }

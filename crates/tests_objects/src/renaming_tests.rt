@@ -1,12 +1,11 @@
 //! Worlds of every size over segments in a row, and two participants there. Those over a grid and over a tree are tried at
 //! desks, in `desk_tests`, and schedules over these where they are played as lines, in `tests_player`.
 
-use crate::common::same;
+use crate::common::{holds, lent, same};
 use commands::{Config, WorldKind};
 use rename_core::{RenameWorld, Reply, fixed_rename_law, next_proposal};
 use snapshot_core::Fixed;
 use std::alloc::Global;
-use std::process::Abort;
 use step_memory::{Refusal, View};
 
 /// Who steps how often, what the last of these steps answers, with the view of it; those before it are quiet.
@@ -32,45 +31,58 @@ const SEGMENTS: [Row; 10] = [
     (20, 4, Reply::Named(3, ()), APART),
 ];
 
+/// Whether a step is answered so, with this view.
+fn is_told(answer: Result<Reply<View>, Refusal>, last: Reply<()>, shown: &[(u64, u64)]) -> bool {
+    let mut view = View::new();
+    match answer {
+        Ok(reply) => reply.shorten(&mut view) == last && view.pairs() == shown,
+        Err(_) => false,
+    }
+}
+
+/// The name that a reply tells.
+fn name_in(reply: Reply<()>) -> Option<u64> {
+    match reply {
+        Reply::Named(name, ()) => Some(name),
+        _ => None,
+    }
+}
+
 /// Whether the steps of a row are answered as it says, and the participant then has the name that it was told, and else none.
 fn goes(world: &mut RenameWorld<Fixed<Global>, Global>, row: &Row) -> bool {
     let (id, count, last, shown) = *row;
     for _ in 1..count {
-        if !matches!(world.step(id), Ok(Reply::Quiet)) {
+        if !is_told(world.step(id), Reply::Quiet, &[]) {
             return false;
         }
     }
-    let mut view = View::new();
-    let told = match world.step(id) {
-        Ok(reply) => reply.shorten(&mut view) == last && view.pairs() == shown,
-        Err(_) => false,
-    };
-    let named = match last {
-        Reply::Named(name, ()) => Some(name),
-        _ => None,
-    };
-    told && world.name_of(id) == named
+    is_told(world.step(id), last, shown) && world.name_of(id) == name_in(last)
 }
 
-/// Two begin and go as the rows say.
-fn two_go(rt: &impl Abort, world: &mut RenameWorld<Fixed<Global>, Global>) {
-    let _ = world.begin(20);
-    let _ = world.begin(10);
-    for (i, row) in SEGMENTS.iter().enumerate() {
-        same(rt, i, goes(world, row), true);
-    }
-}
-
-/// In a new world for so many one begins; where it is for two, two go. Or why there is none.
-fn goes_on(rt: &impl Abort, alloc: Global, most: u64) -> Result<(), Refusal> {
+/// A new world for so many.
+fn world_for(alloc: Global, most: u64) -> Result<RenameWorld<Fixed<Global>, Global>, Refusal> {
     let config = Config::new(WorldKind::Rename, most, 4, 2)?;
-    let mut world = RenameWorld::<Fixed<Global>, Global>::new(alloc, config)?;
-    fixed_rename_law(&world);
-    if most == 2 {
-        two_go(rt, &mut world);
-        return Ok(());
+    RenameWorld::new(alloc, config)
+}
+
+/// Whether two begin and go as the rows say.
+fn two_go(world: &mut RenameWorld<Fixed<Global>, Global>) -> bool {
+    fixed_rename_law(world);
+    let mut go = world.begin(20) == Ok(()) && world.begin(10) == Ok(());
+    for row in &SEGMENTS {
+        go = go && goes(world, row);
     }
-    world.begin(7)
+    go
+}
+
+#[test]
+fn two_over_segments_in_a_row(rt: HostRuntime) {
+    same(&rt, 2, lent(world_for(rt.alloc(), 2), two_go), Ok(true));
+}
+
+/// Whether one begins.
+fn begins(world: &mut RenameWorld<Fixed<Global>, Global>) -> bool {
+    world.begin(7) == Ok(())
 }
 
 #[test]
@@ -79,35 +91,10 @@ fn worlds_of_every_size(rt: HostRuntime) {
         let due = if most == 0 || most == 17 {
             Err(Refusal::OutOfRange)
         } else {
-            Ok(())
+            Ok(true)
         };
-        same(&rt, most as usize, goes_on(&rt, rt.alloc(), most), due);
-    }
-}
-
-/// Most participants, the pool's size and the round limit, and why they are refused.
-const SIZES: [(WorldKind, u64, u64, u64, Option<Refusal>); 9] = [
-    (WorldKind::Rename, 0, 4, 1000, Some(Refusal::OutOfRange)),
-    (WorldKind::Rename, 4, 0, 1000, Some(Refusal::OutOfRange)),
-    (WorldKind::Rename, 4, 65, 1000, Some(Refusal::OutOfRange)),
-    (WorldKind::Rename, 4, 4, 0, Some(Refusal::OutOfRange)),
-    (
-        WorldKind::Rename,
-        4,
-        4,
-        1_000_001,
-        Some(Refusal::OutOfRange),
-    ),
-    (WorldKind::Tree, 64, 64, 1_000_000, None),
-    (WorldKind::Splitter, 1, 1, 1, None),
-    (WorldKind::Splitter, 16, 64, 1_000, None),
-    (WorldKind::Grid, 16, 64, 1_000, None),
-];
-
-#[test]
-fn ranges_of_a_config(rt: HostRuntime) {
-    for (i, (kind, m, k, limit, due)) in SIZES.iter().enumerate() {
-        same(&rt, i, Config::new(*kind, *m, *k, *limit).err(), *due);
+        let told = lent(world_for(rt.alloc(), most), begins);
+        same(&rt, most as usize, told, due);
     }
 }
 
@@ -123,10 +110,7 @@ fn three() -> View {
 #[test]
 fn the_next_proposal_of_each_rank(rt: HostRuntime) {
     let view = three();
-    let next = [
-        next_proposal(&view, 10),
-        next_proposal(&view, 20),
-        next_proposal(&view, 30),
-    ];
-    same(&rt, 3, next, [2, 3, 4]);
+    for (i, id) in [10, 20, 30].iter().enumerate() {
+        holds(&rt, i, next_proposal(&view, *id) == 2 + i as u64);
+    }
 }

@@ -1,6 +1,6 @@
 //! Updates and scans over segments in a row, and what plays calls of a snapshot object.
 
-use crate::common::same;
+use crate::common::{holds, same};
 use snapshot_core::{
     Fixed, Places, SnapReply, SnapWorld, law_of_clients, law_of_snapshot_calls, snapshot_law,
 };
@@ -58,6 +58,26 @@ fn is_stepped(answer: &Result<SnapReply, Refusal>, told: Told) -> bool {
 /// Who makes a call, and what it answers.
 pub type Row = (u64, Call, Told);
 
+/// Whether the last of so many steps is told so, and those before it are quiet.
+fn are_stepped<W: Places + Drop, A: Allocator>(
+    world: &mut SnapWorld<W, A>,
+    id: u64,
+    count: usize,
+    told: Told,
+) -> bool
+where
+    W::Walker: Copy,
+    W::Walk: Copy,
+    W::Value: Drop,
+{
+    for _ in 1..count {
+        if !is_stepped(&world.step(id), Told::Quiet) {
+            return false;
+        }
+    }
+    is_stepped(&world.step(id), told)
+}
+
 /// Whether a call of a participant is told so, over any places.
 fn answers<W: Places + Drop, A: Allocator>(world: &mut SnapWorld<W, A>, row: &Row) -> bool
 where
@@ -66,19 +86,13 @@ where
     W::Value: Drop,
 {
     let (id, call, told) = *row;
-    let count = match call {
-        Call::Begin => return is_asked(world.begin(id), told),
-        Call::Update(value) => return is_asked(world.update(id, value), told),
-        Call::Scan => return is_asked(world.scan(id), told),
-        Call::Place => return is_placed(world.place_of(id), told),
-        Call::Steps(count) => count,
-    };
-    for _ in 1..count {
-        if !is_stepped(&world.step(id), Told::Quiet) {
-            return false;
-        }
+    match call {
+        Call::Begin => is_asked(world.begin(id), told),
+        Call::Update(value) => is_asked(world.update(id, value), told),
+        Call::Scan => is_asked(world.scan(id), told),
+        Call::Place => is_placed(world.place_of(id), told),
+        Call::Steps(count) => are_stepped(world, id, count, told),
     }
-    is_stepped(&world.step(id), told)
 }
 
 /// Makes these calls, each of which answers what stands beside it.
@@ -93,7 +107,7 @@ where
     W::Value: Drop,
 {
     for (i, row) in rows.iter().enumerate() {
-        same(rt, i, answers(world, row), true);
+        holds(rt, i, answers(world, row));
     }
 }
 
@@ -201,24 +215,24 @@ fn first_record(places: &Fixed<Global>) -> Option<Written> {
     Some((record.identity, record.value, record.number, pairs))
 }
 
-/// Makes the calls of a schedule: what places there are, and the first record.
-fn recorded(
-    rt: &impl Abort,
-    alloc: Global,
-    schedule: &Schedule,
-) -> Result<(usize, Option<Written>), Refusal> {
-    let places = Fixed::new(alloc, schedule.most)?;
-    let mut world = SnapWorld::new(alloc, places)?;
+/// A new world for so many.
+fn world_for(alloc: Global, most: usize) -> Result<SnapWorld<Fixed<Global>, Global>, Refusal> {
+    SnapWorld::new(alloc, Fixed::new(alloc, most)?)
+}
+
+/// Makes the calls of a schedule: whether there are as many places, and the first record is the one that is due.
+fn records(rt: &impl Abort, alloc: Global, schedule: &Schedule) -> Result<bool, Refusal> {
+    let mut world = world_for(alloc, schedule.most)?;
     plays(rt, &mut world, schedule.rows);
     snapshot_law(&world);
-    Ok((world.places().most(), first_record(world.places())))
+    let places = world.places();
+    Ok(places.most() == schedule.most && first_record(places) == schedule.record)
 }
 
 #[test]
 fn schedules_over_a_row(rt: HostRuntime) {
     for (i, schedule) in SCHEDULES.iter().enumerate() {
-        let due = (schedule.most, schedule.record);
-        same(&rt, i, recorded(&rt, rt.alloc(), schedule), Ok(due));
+        same(&rt, i, records(&rt, rt.alloc(), schedule), Ok(true));
     }
     law_of_snapshot_calls::<Fixed<Global>>();
     law_of_clients::<Fixed<Global>>();

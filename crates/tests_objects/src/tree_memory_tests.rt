@@ -1,6 +1,6 @@
 //! Examples of accesses to a tree: how deep it goes, and want of memory.
 
-use crate::common::same;
+use crate::common::holds;
 use linked_list_allocator::LocalHeap;
 use splitter_tree::{Tree, TreeRegister, TreeValue};
 use std::alloc::{AllocError, Allocator};
@@ -42,7 +42,7 @@ fn is_so<A: Allocator + Clone>(tree: &mut Tree<A>, row: Row) -> bool {
 /// Takes rows in turn, each of which is so.
 fn takes<A: Allocator + Clone>(rt: &impl Abort, tree: &mut Tree<A>, rows: &[Row]) {
     for (i, row) in rows.iter().enumerate() {
-        same(rt, i, is_so(tree, *row), true);
+        holds(rt, i, is_so(tree, *row));
     }
 }
 
@@ -51,7 +51,7 @@ fn as_deep_as_numbers_go(rt: HostRuntime) {
     let mut tree = Tree::new(rt.alloc());
     for depth in 0..128u32 {
         let refused = refuses(&mut tree, TreeRegister::Mark(1 << depth), 1);
-        same(&rt, depth as usize, refused, false);
+        holds(&rt, depth as usize, !refused);
     }
     let deepest = 1u128 << 127;
     takes(

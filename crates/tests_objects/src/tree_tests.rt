@@ -1,6 +1,6 @@
 //! Worked examples of `splitter_tree`: walks, stores and collects of one to three participants, and refusals.
 
-use crate::common::{lent, same, take};
+use crate::common::{holds, lent, same, take};
 use splitter_tree::{
     Client, TreeRegister, TreeValue, TreeWorld, Walker, law_of_collect_calls, law_of_collects,
     law_of_collects_at_places, law_of_nodes_and_walks, law_of_own_accesses, law_of_places,
@@ -90,7 +90,7 @@ fn goes(world: &mut TreeWorld<Global>, row: &Row) -> bool {
 fn plays(rt: &impl Abort, alloc: Global, most: usize, rows: &[Row]) -> Result<(), Refusal> {
     let mut world = TreeWorld::new(alloc, most)?;
     for (i, row) in rows.iter().enumerate() {
-        same(rt, i, goes(&mut world, row), true);
+        holds(rt, i, goes(&mut world, row));
     }
     Ok(())
 }
@@ -150,7 +150,7 @@ const SCHEDULES: [(usize, &[Row]); 3] = [(2, &ONE), (2, &TWO), (1, &REFUSALS)];
 #[test]
 fn schedules_of_a_tree(rt: HostRuntime) {
     for (i, (most, rows)) in SCHEDULES.iter().enumerate() {
-        same(&rt, i, plays(&rt, rt.alloc(), *most, rows), Ok(()));
+        holds(&rt, i, plays(&rt, rt.alloc(), *most, rows).is_ok());
     }
 }
 
@@ -205,7 +205,6 @@ fn is_access(access: Access<TreeRegister, TreeValue>, at: TreeRegister, word: Op
 #[test]
 fn a_walk_as_a_program(rt: HostRuntime) {
     let mut walker = Walker::new(9);
-    let mut client = Client::new(9);
     let rows = [
         (TreeRegister::Mark(1), Some(1), Answer::Done),
         (TreeRegister::X(1), Some(9), Answer::Done),
@@ -216,12 +215,9 @@ fn a_walk_as_a_program(rt: HostRuntime) {
         are_next = are_next && is_access(walker.next(), *at, *word);
         are_next = are_next && take(&mut walker, *got) == Note::Quiet;
     }
-    let told = [
-        are_next,
-        is_access(walker.next(), TreeRegister::Mark(3), Some(1)),
-        walker.place().is_none(),
-        matches!(take(&mut client, Answer::Done), Note::Quiet),
-        client.is_placing(),
-    ];
-    same(&rt, 3, told, [true; 5]);
+    let is_right = is_access(walker.next(), TreeRegister::Mark(3), Some(1));
+    holds(&rt, 3, are_next && is_right && walker.place().is_none());
+    let mut client = Client::new(9);
+    let is_quiet = matches!(take(&mut client, Answer::Done), Note::Quiet);
+    holds(&rt, 9, is_quiet && client.is_placing());
 }

@@ -1,12 +1,10 @@
 //! Walks that are made one after another.
 
 ghost use Rattle.std.specs.Prelude.{◌≡◌, ◌<◌, ◌≤◌, IfSome};
-ghost use Rattle.word_grid.specs.Seats.{place_of};
+ghost use Rattle.word_grid.specs.Seats.{dealer_of, place_of};
 
-use crate::common::equal;
-use linked_list_allocator::LocalHeap;
+use crate::common::{holds, same};
 use std::alloc::Global;
-use std::process::Abort;
 use std::test::Fail;
 use step_memory::{Place, Refusal};
 use word_grid::{Dealer, EnteredSeat, WordGrid};
@@ -21,24 +19,27 @@ fn enter_next(grid: &WordGrid<Global>, dealer: &mut Dealer) -> Option<EnteredSea
     Some(grid.enter(fresh))
 }
 
-/// Who has a grid to itself: its place, of which it is proved that four accesses led there.
-fn enter_alone(alloc: Global) -> Option<EnteredSeat>
+/// Enters with the first seat while there is no other: its place, of which it is proved that four accesses led there.
+fn enter_alone(grid: &WordGrid<Global>, dealer: &mut Dealer) -> Option<EnteredSeat>
+    requires first { dealer.old ≡ dealer_of grid.now 0 }
+    ensures ours { dealer.new.grid ≡ grid.now }
     ensures alone { IfSome result (λ e. (place_of e ≡ 0) × (e.accesses ≡ 4)) }
 {
-    let (grid, mut dealer) = WordGrid::new(alloc, 64).ok()?;
-    let fresh = grid.deal(&mut dealer)?;
+    let fresh = grid.deal(dealer)?;
     let mut entered = grid.enter(fresh);
-    grid.tally(&mut dealer, &mut entered);
+    grid.tally(dealer, &mut entered);
     Some(entered)
 }
 
-#[test]
-fn one_alone_has_the_corner(rt: HostRuntime) {
-    let place = match enter_alone(rt.alloc()) {
-        Some(entered) => Some(entered.place()),
-        None => None,
-    };
-    equal(&rt, place, Some(0));
+/// Whether one who enters alone has the place in the corner.
+fn has_corner(grid: &WordGrid<Global>, dealer: &mut Dealer) -> bool
+    requires first { dealer.old ≡ dealer_of grid.now 0 }
+    ensures ours { dealer.new.grid ≡ grid.now }
+{
+    match enter_alone(grid, dealer) {
+        Some(entered) => entered.place() == 0,
+        None => false,
+    }
 }
 
 /// Enters with the next seat: the depth and the column of its door, its place, and its number.
@@ -52,16 +53,25 @@ fn walk_next(grid: &WordGrid<Global>, dealer: &mut Dealer) -> Option<(u8, u8, Pl
     Some((door.depth, door.column, entered.place(), entered.number()))
 }
 
+/// Whether each after the first has the place at the right end of its row, and nobody comes after the last.
+fn go_right(grid: &WordGrid<Global>, dealer: &mut Dealer) -> bool
+    requires ours { dealer.old.grid ≡ grid.now }
+    ensures ours { dealer.new.grid ≡ grid.now }
+{
+    for before in 1u8..64 {
+        let place = Place::from(u16::from(before) * (u16::from(before) + 1) / 2);
+        if walk_next(grid, dealer) != Some((before, 0, place, u64::from(before))) {
+            return false;
+        }
+    }
+    walk_next(grid, dealer).is_none() && dealer.dealt() == 64
+}
+
 #[test]
 fn each_that_comes_later_goes_right(rt: HostRuntime) -> Result<(), Fail> {
     let (grid, mut dealer) = WordGrid::new(rt.alloc(), 64)?;
-    for before in 0u8..64 {
-        let place = Place::from(u16::from(before) * (u16::from(before) + 1) / 2);
-        let due = Some((before, 0, place, u64::from(before)));
-        equal(&rt, walk_next(&grid, &mut dealer), due);
-    }
-    equal(&rt, walk_next(&grid, &mut dealer), None);
-    equal(&rt, dealer.dealt(), 64);
+    holds(&rt, 0, has_corner(&grid, &mut dealer));
+    holds(&rt, 64, go_right(&grid, &mut dealer));
     Ok(())
 }
 
@@ -78,57 +88,26 @@ fn dealt(grid: &WordGrid<Global>, mut dealer: Dealer) -> (u64, u64)
     (u64::MAX, dealer.dealt())
 }
 
-/// How many seats a grid for so many has: as it says, as they are dealt, and as its dealer then says.
-fn seats_of(alloc: Global, most: u64) -> Result<(u64, (u64, u64)), Refusal> {
+/// Whether a grid for so many has as many seats: as it says, as they are dealt, and as its dealer then says.
+fn has_seats(alloc: Global, most: u64) -> Result<bool, Refusal> {
     let (grid, dealer) = WordGrid::new(alloc, most)?;
-    Ok((grid.most(), dealt(&grid, dealer)))
+    Ok(grid.most() == most && dealt(&grid, dealer) == (most, most))
 }
+
+/// For how many a grid is asked, and whether it has as many seats, or why it is not made.
+const SIZES: [(u64, Result<bool, Refusal>); 7] = [
+    (0, Err(Refusal::OutOfRange)),
+    (1, Ok(true)),
+    (2, Ok(true)),
+    (63, Ok(true)),
+    (64, Ok(true)),
+    (65, Err(Refusal::OutOfRange)),
+    (u64::MAX, Err(Refusal::OutOfRange)),
+];
 
 #[test]
 fn one_to_sixty_four_seats(rt: HostRuntime) {
-    for (most, is_made) in [
-        (0, false),
-        (1, true),
-        (2, true),
-        (63, true),
-        (64, true),
-        (65, false),
-        (u64::MAX, false),
-    ] {
-        let due = if is_made {
-            Ok((most, (most, most)))
-        } else {
-            Err(Refusal::OutOfRange)
-        };
-        equal(&rt, seats_of(rt.alloc(), most), due);
+    for (i, (most, due)) in SIZES.iter().enumerate() {
+        same(&rt, i, has_seats(rt.alloc(), *most), *due);
     }
-}
-
-/// Whether a grid was made: if not, then for want of memory.
-fn is_made<T: Drop>(rt: &impl Abort, made: Result<T, Refusal>) -> bool {
-    let refused = made.err();
-    assert!(rt;
-        matches!(refused, None | Some(Refusal::NoMemory)),
-        "{refused:?}"
-    );
-    refused.is_none()
-}
-
-#[test]
-fn each_want_of_memory_is_told(rt: HostRuntime) -> Result<(), Fail> {
-    // A heap gives a growth at least 16 bytes, so each in turn is the first that finds no room.
-    let mut refused = false;
-    let mut made = false;
-    for blocks in 0..80 {
-        let heap = LocalHeap::new(rt.alloc(), 1_280)?;
-        let others = Vec::<u8, &LocalHeap>::with_capacity(&heap, 1_280 - 16 * blocks)?;
-        if is_made(&rt, WordGrid::new(&heap, 3)) {
-            made = true;
-        } else {
-            refused = true;
-        }
-        drop(others);
-    }
-    equal(&rt, (refused, made), (true, true));
-    Ok(())
 }

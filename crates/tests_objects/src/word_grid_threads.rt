@@ -2,10 +2,10 @@
 
 ghost use Rattle.std.specs.Prelude.{◌≡◌, IfSome};
 
-use std::alloc::Global;
-use std::test::Fail;
+use crate::common::same;
+use std::alloc::{AllocError, Global};
 use std::thread::{self, Threads, join};
-use step_memory::Place;
+use step_memory::{Place, Refusal};
 use word_grid::{Dealer, EnteredSeat, FreshSeat, WordGrid};
 
 /// A thread's part: the grid, and a seat of it.
@@ -22,28 +22,31 @@ fn place_of(visitor: Visitor<'_>) -> Place {
     grid.enter(seat).place()
 }
 
-/// So many visitors of a grid, each with a seat of its own.
+/// The next visitor of a grid, where there is a seat for it.
+fn next_visitor<'a>(grid: &'a WordGrid<Global>, dealer: &mut Dealer) -> Option<Visitor<'a>>
+    requires ours { dealer.old.grid ≡ grid.now }
+    ensures ours { dealer.new.grid ≡ grid.now }
+{
+    let seat = grid.deal(dealer)?;
+    Some(Visitor { grid, seat })
+}
+
+/// So many visitors of a grid, each with a seat of its own, as far as there are seats.
 fn visitors_of<'a>(
     alloc: Global,
     grid: &'a WordGrid<Global>,
     mut dealer: Dealer,
     count: u8,
-) -> Option<Vec<Visitor<'a>, Global>>
+) -> Result<Vec<Visitor<'a>, Global>, AllocError>
     requires ours { dealer.grid ≡ grid.now }
 {
-    let mut visitors = Vec::with_capacity(alloc, usize::from(count)).ok()?;
+    let mut visitors = Vec::new(alloc);
     for _ in 0..count {
-        let seat = grid.deal(&mut dealer)?;
-        visitors.push(Visitor { grid, seat }).ok()?;
+        if let Some(visitor) = next_visitor(grid, &mut dealer) {
+            visitors.push(visitor)?;
+        }
     }
-    Some(visitors)
-}
-
-/// The places of so many threads that enter a grid for 64 at once, or none where a seat or memory was wanting.
-fn race<R: Threads + Sync>(rt: &R, alloc: Global, count: u8) -> Option<Vec<Place, Global>> {
-    let (grid, dealer) = WordGrid::new(alloc, 64).ok()?;
-    let visitors = visitors_of(alloc, &grid, dealer, count)?;
-    thread::map_vec(rt, visitors, &|visitor| place_of(visitor)).ok()
+    Ok(visitors)
 }
 
 /// Whether there are so many places, each among the first `count(count + 1)/2` and no two alike.
@@ -57,27 +60,39 @@ fn are_places_of(places: &[Place], count: u8) -> bool {
     places.len() == usize::from(count) && low && apart
 }
 
-#[test]
-fn sixty_four_threads_have_places_of_their_own(rt: HostRuntime) {
-    for round in 0..1000 {
-        let Some(places) = race(&rt, rt.alloc(), 64) else {
-            panic!(rt; "no places in round {round}");
-        };
-        assert!(rt; are_places_of(&places, 64), "round {round}: {places:?}");
-    }
+/// Whether so many threads that enter a grid at once have places of their own among the first.
+fn race<R: Threads + Sync>(
+    rt: &R,
+    alloc: Global,
+    grid: &WordGrid<Global>,
+    dealer: Dealer,
+    count: u8,
+) -> Result<bool, AllocError>
+    requires ours { dealer.grid ≡ grid.now }
+{
+    let visitors = visitors_of(alloc, grid, dealer, count)?;
+    let places = thread::map_vec(rt, visitors, &|visitor| place_of(visitor))?;
+    Ok(are_places_of(&places, count))
 }
 
+/// The same of a new grid for 64.
+fn have_places<R: Threads + Sync>(rt: &R, alloc: Global, count: u8) -> Result<bool, Refusal> {
+    let (grid, dealer) = WordGrid::new(alloc, 64)?;
+    let are_apart = race(rt, alloc, &grid, dealer, count)?;
+    Ok(are_apart)
+}
+
+/// In each tenth round as many as a grid has seats for.
 #[test]
-fn a_few_threads_have_the_first_places(rt: HostRuntime) {
-    for round in 0..1000u64 {
-        let count = 2 + (round % 6) as u8;
-        let Some(places) = race(&rt, rt.alloc(), count) else {
-            panic!(rt; "no places in round {round}");
+fn threads_have_places_of_their_own(rt: HostRuntime) {
+    for round in 0..1000 {
+        let count = if round % 10 == 0 {
+            64
+        } else {
+            2 + (round % 6) as u8
         };
-        assert!(rt;
-            are_places_of(&places, count),
-            "round {round} of {count}: {places:?}"
-        );
+        let told = have_places(&rt, rt.alloc(), count);
+        same(&rt, round, told, Ok(true));
     }
 }
 
@@ -91,35 +106,43 @@ fn two_seats(grid: &WordGrid<Global>, dealer: &mut Dealer) -> Option<(FreshSeat,
     Some((first, second))
 }
 
-/// The places of two threads that enter at once, and then meet.
-fn meet<R: Threads + Sync>(rt: &R, alloc: Global) -> Option<(Place, Place)> {
-    let (grid, mut dealer) = WordGrid::new(alloc, 2).ok()?;
-    let (first, second) = two_seats(&grid, &mut dealer)?;
-    let shared = &grid;
+/// Whether two threads that enter at once, and then meet, have two places of the first three.
+fn enter_at_once<R: Threads + Sync>(
+    rt: &R,
+    grid: &WordGrid<Global>,
+    first: FreshSeat,
+    second: FreshSeat,
+) -> bool
+    requires first { first.grid ≡ grid.now }
+    requires second { second.grid ≡ grid.now }
+{
     let (mut one, mut other) = join(
         rt,
         move || -> EnteredSeat
-            requires { first.grid ≡ shared.now }
-            ensures { result.grid ≡ shared.entry.now }
-        { shared.enter(first) },
+            requires { first.grid ≡ grid.now }
+            ensures { result.grid ≡ grid.entry.now }
+        { grid.enter(first) },
         move || -> EnteredSeat
-            requires { second.grid ≡ shared.now }
-            ensures { result.grid ≡ shared.entry.now }
-        { shared.enter(second) },
+            requires { second.grid ≡ grid.now }
+            ensures { result.grid ≡ grid.entry.now }
+        { grid.enter(second) },
     );
     grid.meet(&mut one, &mut other);
-    Some((one.place(), other.place()))
+    one.place() != other.place() && one.place() < 3 && other.place() < 3
+}
+
+/// The same in a new grid for two; no where there are no two seats.
+fn meet<R: Threads + Sync>(rt: &R, alloc: Global) -> Result<bool, Refusal> {
+    let (grid, mut dealer) = WordGrid::new(alloc, 2)?;
+    Ok(match two_seats(&grid, &mut dealer) {
+        Some((first, second)) => enter_at_once(rt, &grid, first, second),
+        None => false,
+    })
 }
 
 #[test]
 fn two_threads_that_meet_have_two_places(rt: HostRuntime) {
     for round in 0..1000 {
-        let Some((one, other)) = meet(&rt, rt.alloc()) else {
-            panic!(rt; "no places in round {round}");
-        };
-        assert!(rt;
-            one != other && one < 3 && other < 3,
-            "round {round}: {one} and {other}"
-        );
+        same(&rt, round, meet(&rt, rt.alloc()), Ok(true));
     }
 }

@@ -2,8 +2,8 @@
 
 ghost use Rattle.std.specs.Prelude.{◌≡◌, IfOk};
 
-use crate::common::equal;
-use std::alloc::Global;
+use crate::common::{holds, same};
+use std::alloc::{AllocError, Global};
 use std::sync::atomic::AtomicU64;
 use std::sync::atomic::Ordering::SeqCst;
 use std::test::Fail;
@@ -11,17 +11,17 @@ use std::thread::{self, Threads, join};
 use step_memory::Refusal;
 use word_pool::{AllHeld, Held, WordPool};
 
-/// For how many numbers a pool or a line is asked, and whether it is made.
-pub(crate) const SIZES: [(u64, bool); 9] = [
-    (0, false),
-    (1, true),
-    (2, true),
-    (63, true),
-    (64, true),
-    (65, true),
-    (4096, true),
-    (4097, false),
-    (u64::MAX, false),
+/// For how many numbers a pool or a line is asked, and whether it has as many, or why it is not made.
+pub(crate) const SIZES: [(u64, Result<bool, Refusal>); 9] = [
+    (0, Err(Refusal::OutOfRange)),
+    (1, Ok(true)),
+    (2, Ok(true)),
+    (63, Ok(true)),
+    (64, Ok(true)),
+    (65, Ok(true)),
+    (4096, Ok(true)),
+    (4097, Err(Refusal::OutOfRange)),
+    (u64::MAX, Err(Refusal::OutOfRange)),
 ];
 
 /// How many calls of a pool, one after another, have numbers that rise from 1.
@@ -35,30 +35,30 @@ fn given_in_turn(pool: &WordPool<Global>) -> u64 {
     u64::MAX
 }
 
-/// How many numbers a pool for so many has: as it says, as it gives them, and how many words are set then.
-fn numbers_of(alloc: Global, numbers: u64) -> Result<(u64, u64, usize), Refusal> {
-    let pool = WordPool::new(alloc, numbers)?;
-    let (says, gives) = (pool.numbers(), given_in_turn(&pool));
+/// How many words a pool ends with, and how many of them are then set.
+fn words_at_end(alloc: Global, pool: WordPool<Global>) -> Result<(usize, usize), AllocError> {
     let (words, _) = pool.close(alloc, Vec::new(alloc))?;
-    let set = words.iter().filter(|word| **word == 1).count();
-    Ok((says, gives, set))
+    let set = words.iter().filter(|word| **word != 0).count();
+    Ok((words.len(), set))
+}
+
+/// Whether a pool for so many has as many numbers: as it says, as it gives them, and as its words are set then.
+fn has_numbers(alloc: Global, numbers: u64) -> Result<bool, Refusal> {
+    let pool = WordPool::new(alloc, numbers)?;
+    let are_given = pool.numbers() == numbers && given_in_turn(&pool) == numbers;
+    let (words, set) = words_at_end(alloc, pool)?;
+    Ok(are_given && words == numbers as usize && set == words)
 }
 
 #[test]
 fn each_number_is_given_in_turn(rt: HostRuntime) {
-    for (numbers, is_made) in SIZES {
-        let due = if is_made {
-            Ok((numbers, numbers, numbers as usize))
-        } else {
-            Err(Refusal::OutOfRange)
-        };
-        equal(&rt, numbers_of(rt.alloc(), numbers), due);
+    for (i, (numbers, due)) in SIZES.iter().enumerate() {
+        same(&rt, i, has_numbers(rt.alloc(), *numbers), *due);
     }
 }
 
-#[test]
-fn a_hint_is_tried_first(rt: HostRuntime) -> Result<(), Fail> {
-    let pool = WordPool::new(rt.alloc(), 4)?;
+/// Whether a pool of four tries each hint first, and gives the least that is free where it was in vain.
+fn takes_hints(pool: &WordPool<Global>) -> bool {
     for (hint, due) in [
         (3, Some(3)),
         (3, Some(1)),
@@ -66,40 +66,51 @@ fn a_hint_is_tried_first(rt: HostRuntime) -> Result<(), Fail> {
         (5, Some(4)),
         (2, None),
     ] {
-        let got = pool.acquire_near(hint).map(|held| held.number()).ok();
-        equal(&rt, got, due);
+        if pool.acquire_near(hint).map(|held| held.number()).ok() != due {
+            return false;
+        }
     }
+    true
+}
+
+#[test]
+fn a_hint_is_tried_first(rt: HostRuntime) -> Result<(), Fail> {
+    let pool = WordPool::new(rt.alloc(), 4)?;
+    holds(&rt, 4, takes_hints(&pool));
     Ok(())
 }
 
-/// What a thread of its own took is given back here: the words of the pool then.
-fn give_back<R: Threads + Sync>(rt: &R, alloc: Global) -> Option<Vec<u64, Global>> {
-    let pool = WordPool::new(alloc, 2).ok()?;
-    let shared = &pool;
+/// Whether two threads each took a number at once, which are then given back here.
+fn are_given_back<R: Threads + Sync>(rt: &R, pool: &WordPool<Global>) -> bool {
     let (one, other) = join(
         rt,
         move || -> Result<Held, AllHeld>
-            ensures { IfOk result (λ h. h.pool ≡ shared.entry.now.table) }
-        { shared.acquire() },
+            ensures { IfOk result (λ h. h.pool ≡ pool.entry.now.table) }
+        { pool.acquire() },
         move || -> Result<Held, AllHeld>
-            ensures { IfOk result (λ h. h.pool ≡ shared.entry.now.table) }
-        { shared.acquire() },
+            ensures { IfOk result (λ h. h.pool ≡ pool.entry.now.table) }
+        { pool.acquire() },
     );
-    let (mut one, mut other) = (one.ok()?, other.ok()?);
+    let (Ok(mut one), Ok(mut other)) = (one, other) else {
+        return false;
+    };
     pool.meet(&mut one, &mut other);
     pool.release(one);
     pool.release(other);
-    let (words, _) = pool.close(alloc, Vec::new(alloc)).ok()?;
-    Some(words)
+    true
+}
+
+/// Whether threads of their own take both numbers of a pool, which are given back here, and no word is set then.
+fn goes_back<R: Threads + Sync>(rt: &R, alloc: Global) -> Result<bool, Refusal> {
+    let pool = WordPool::new(alloc, 2)?;
+    let are_given_back = are_given_back(rt, &pool);
+    let ended = words_at_end(alloc, pool)?;
+    Ok(are_given_back && ended == (2, 0))
 }
 
 #[test]
 fn a_number_is_given_back_by_another_thread(rt: HostRuntime) {
-    let is_given_back = match give_back(&rt, rt.alloc()) {
-        Some(words) => words.as_slice() == [0, 0].as_slice(),
-        None => false,
-    };
-    assert!(rt; is_given_back);
+    same(&rt, 2, goes_back(&rt, rt.alloc()), Ok(true));
 }
 
 /// How often a stay of many found its number in another's hands, or none at a walk from 1, which finds one wherever no more
@@ -124,49 +135,55 @@ fn clashes(pool: &WordPool<Global>, marks: &[AtomicU64], near: bool) -> u64 {
     clashes
 }
 
-/// A mark for each number up to this one; none where there is no memory.
-pub fn marks_of(alloc: Global, numbers: u64) -> Option<Vec<AtomicU64, Global>> {
+/// A mark for each number up to this one.
+pub fn marks_of(alloc: Global, numbers: u64) -> Result<Vec<AtomicU64, Global>, AllocError> {
     let mut marks = Vec::new(alloc);
     for _ in 0..=numbers {
-        marks.push(AtomicU64::new(0)).ok()?;
+        marks.push(AtomicU64::new(0))?;
     }
-    Some(marks)
+    Ok(marks)
 }
 
-/// How often threads that stayed at once in a pool of so many numbers found their numbers in another's hands, and the pool's
-/// words when all had ended; none where memory was refused.
-fn stay_at_once<R: Threads + Sync>(
+/// Whether eight threads that stay at once in a pool never find their numbers in another's hands.
+fn are_apart<R: Threads + Sync>(
     rt: &R,
     alloc: Global,
-    numbers: u64,
-    threads: usize,
+    pool: &WordPool<Global>,
     near: bool,
-) -> Option<(Vec<u64, Global>, Vec<u64, Global>)> {
-    let pool = WordPool::new(alloc, numbers).ok()?;
-    let marks = marks_of(alloc, numbers)?;
-    let (shared, seen) = (&pool, marks.as_slice());
-    let clashes = thread::map_indices(rt, alloc, threads, &|_| clashes(shared, seen, near)).ok()?;
-    let (words, _) = pool.close(alloc, Vec::new(alloc)).ok()?;
-    Some((clashes, words))
+) -> Result<bool, AllocError> {
+    let marks = marks_of(alloc, pool.numbers())?;
+    let seen = marks.as_slice();
+    let clashes = thread::map_indices(rt, alloc, 8, &|_| clashes(pool, seen, near))?;
+    Ok(clashes.as_slice() == [0; 8].as_slice())
 }
 
 /// Whether eight threads that stay at once in a pool of so many numbers never find their own in another's hands, and no word is set then.
-fn eight_are_apart<R: Threads + Sync>(rt: &R, alloc: Global, numbers: u64, near: bool) -> bool {
-    match stay_at_once(rt, alloc, numbers, 8, near) {
-        Some((clashes, words)) => {
-            let apart = clashes.as_slice() == [0; 8].as_slice();
-            let ended = words.iter().all(|word| *word == 0);
-            apart && ended && words.len() == numbers as usize
-        }
-        None => false,
-    }
+fn eight_are_apart<R: Threads + Sync>(
+    rt: &R,
+    alloc: Global,
+    numbers: u64,
+    near: bool,
+) -> Result<bool, Refusal> {
+    let pool = WordPool::new(alloc, numbers)?;
+    let are_apart = are_apart(rt, alloc, &pool, near)?;
+    let ended = words_at_end(alloc, pool)?;
+    Ok(are_apart && ended == (numbers as usize, 0))
 }
+
+/// How many numbers a pool has, and whether its threads walk or try the number first that they had last.
+const STAYS: [(u64, bool); 6] = [
+    (8, false),
+    (8, true),
+    (9, false),
+    (9, true),
+    (64, false),
+    (64, true),
+];
 
 #[test]
 fn eight_threads_have_distinct_numbers_and_give_them_back(rt: HostRuntime) {
-    for numbers in [8, 9, 64] {
-        let walks = eight_are_apart(&rt, rt.alloc(), numbers, false);
-        let near = eight_are_apart(&rt, rt.alloc(), numbers, true);
-        assert!(rt; walks && near, "a pool of {numbers}: {walks} {near}");
+    for (i, (numbers, near)) in STAYS.iter().enumerate() {
+        let told = eight_are_apart(&rt, rt.alloc(), *numbers, *near);
+        same(&rt, i, told, Ok(true));
     }
 }
