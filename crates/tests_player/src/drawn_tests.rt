@@ -3,15 +3,29 @@
 //! Which steps a seed gives, and that each of many runs is that of its seed alone, is tried on the built program
 //! (`tests/program`), and so is what comes of a growth that is refused (`tests/growths`).
 
+ghost use Rattle.std.specs.Prelude.{◌<◌, ◌^◌};
+
 use commands::{Config, WorldKind};
 use drawn_schedules::{draw, play_drawn};
-use schedule_player::{Fault, Tried};
+use schedule_player::{Fault, Sink, Tried};
 use std::alloc::Global;
 use std::process::Abort;
 use tests_doubles::FaultyWriter;
 
 /// How many bytes a writer below takes a write.
 const PIECE: usize = 3;
+
+/// Draws from seed 7 for four, over any writer that was not called too often.
+fn outcome_of<W: Sink>(alloc: Global, played: Option<Config>, writer: &mut W) -> Result<(), Fault>
+    requires { W.calls writer.old < 2 ^ 64 }
+{
+    match played {
+        Some(config) if config.world.gives_names() => {
+            play_drawn(alloc, 7, 4, 200, 3, config, writer)
+        }
+        _ => draw(alloc, 7, 4, 200, writer),
+    }
+}
 
 /// What is drawn from seed 7 for four, over a writer that fails at this write: the lines of three runs, or a schedule where
 /// nothing is played. How it ends, and what was written.
@@ -22,12 +36,7 @@ fn drawn(
     takes_nothing: bool,
 ) -> (Result<(), Fault>, Vec<u8>) {
     let mut writer = Tried::new(FaultyWriter::new(alloc, PIECE, fails_at, takes_nothing));
-    let outcome = match played {
-        Some(config) if config.world.gives_names() => {
-            play_drawn(alloc, 7, 4, 200, 3, config, &mut writer)
-        }
-        _ => draw(alloc, 7, 4, 200, &mut writer),
-    };
+    let outcome = outcome_of(alloc, played, &mut writer);
     (outcome, writer.into_inner().taken)
 }
 

@@ -55,6 +55,12 @@ fn refused_line(rt: &impl Abort, alloc: Global, line: &[u8], is_kept: bool) -> V
     told
 }
 
+/// Whether a run writes its text without a fault where the growth of this number is refused.
+fn writes_all(alloc: Global, case: &Case<'_>, growth: u64) -> bool {
+    let (p, _) = refusing(alloc, case, growth);
+    p.fault.is_none() && p.text.as_slice() == case.text
+}
+
 /// One line was refused, so that this was written: asked again, it is answered as if nothing had been.
 fn is_answered_again(rt: &impl Abort, alloc: Global, case: &Case<'_>, growth: u64, text: &[u8]) {
     let header = if case.is_kept { 1 } else { 0 };
@@ -69,8 +75,7 @@ fn is_answered_again(rt: &impl Abort, alloc: Global, case: &Case<'_>, growth: u6
         text: &text,
         ..*case
     };
-    let (p, _) = refusing(alloc, &again, growth);
-    assert!(rt; p.fault.is_none() && p.text == text, "at {growth}");
+    assert!(rt; writes_all(alloc, &again, growth), "at {growth}");
 }
 
 /// What a refused growth comes to.

@@ -6,7 +6,7 @@ use run_checker::{
     read_reply,
 };
 use schedule_player::{Command, parse_line};
-use std::alloc::Global;
+use std::alloc::{AllocError, Global};
 use std::process::Abort;
 
 /// Lines, each a command and a reply with a colon between them, that are judged in a world for so many participants,
@@ -27,50 +27,63 @@ fn config(rt: &impl Abort, world: WorldKind, (m, k, limit): (u64, u64, u64)) -> 
     Config::new(world, m, k, limit).expect(rt, "a config in range")
 }
 
-/// The line of a command and a reply.
-fn line(rt: &impl Abort, alloc: Global, (command, reply): (&str, &str)) -> Line {
+/// The line of a command and a reply; none where they are none, and where there is no memory.
+fn line(alloc: Global, (command, reply): (&str, &str)) -> Option<Line> {
     let Ok(Command::Event(event)) = parse_line(command.as_bytes(), WorldKind::Rename) else {
-        panic!(rt; "{command}");
+        return None;
     };
-    let read = read_reply(alloc, reply.as_bytes()).expect(rt, "room for a reply");
-    Line {
-        event,
-        told: read.expect(rt, "a reply"),
-    }
+    let told = read_reply(alloc, reply.as_bytes()).ok()??;
+    Some(Line { event, told })
+}
+
+/// The line of a text with a colon.
+fn line_of(alloc: Global, text: &str) -> Option<Line> {
+    line(alloc, text.split_once(':')?)
 }
 
 /// The lines of a text.
-fn lines_of(rt: &impl Abort, alloc: Global, text: &str) -> Vec<Line> {
+fn lines_of(alloc: Global, text: &str) -> Option<Vec<Line>> {
     let mut lines = Vec::new(alloc);
     for piece in text.split(", ") {
-        let words = piece.split_once(':').expect(rt, "a command and a reply");
-        let pushed = lines.push(line(rt, alloc, words)).ok();
-        pushed.expect(rt, "room for a line");
+        lines.push(line_of(alloc, piece)?).ok()?;
     }
-    lines
+    Some(lines)
 }
 
-/// Compares the first fault of the lines of a text and a last one.
-fn judge(
-    rt: &impl Abort,
+/// The first fault of lines; none too where there are too many.
+fn fault_of(
+    alloc: Global,
+    config: Config,
+    lines: &[Line],
+) -> Result<Option<(usize, Reason)>, AllocError> {
+    if 1_000_000 < lines.len() {
+        return Ok(None);
+    }
+    first_fault(alloc, config, lines)
+}
+
+/// The first fault of the lines of a text and a last one.
+fn fault_behind(
     alloc: Global,
     config: Config,
     (before, last): (&str, Line),
-    fault: Option<(usize, Reason)>,
-) {
-    let mut lines = lines_of(rt, alloc, before);
-    lines.push(last).ok().expect(rt, "room for one more");
-    assert!(rt; lines.len() <= 1_000_000);
-    let found = first_fault(alloc, config, &lines).expect(rt, "room for a desk");
-    assert!(rt; found == fault, "{found:?} for {lines:?}");
+) -> Option<Option<(usize, Reason)>> {
+    let mut lines = lines_of(alloc, before)?;
+    lines.push(last).ok()?;
+    fault_of(alloc, config, &lines).ok()
 }
 
 /// Judges the lines of a trial with each of its last lines.
 fn judge_trial(rt: &impl Abort, alloc: Global, trial: &Trial) {
     let config = config(rt, trial.world, trial.sizes);
     for (command, reply, fault) in trial.lasts {
-        let last = line(rt, alloc, (command, reply));
-        judge(rt, alloc, config, (trial.before, last), *fault);
+        let last = line(alloc, (command, reply)).expect(rt, "a line");
+        let found = fault_behind(alloc, config, (trial.before, last));
+        assert!(rt;
+            found == Some(*fault),
+            "{command}, {reply}: {found:?} behind {}",
+            trial.before
+        );
     }
 }
 
@@ -234,6 +247,18 @@ const CROSSED: &str =
     "begin 10:ok, begin 20:ok, begin 30:ok, step 10:proposed 2, step 20:proposed 1, step 10:proposed 1, \
     step 20:proposed 2";
 
+/// The line of a view that 10 saw.
+fn line_of_view(alloc: Global, pairs: &[(u64, u64)]) -> Option<Line> {
+    let mut view = Pairs::new(alloc);
+    for (id, number) in pairs {
+        view.push(*id, *number).ok()?;
+    }
+    Some(Line {
+        event: Event::Step(10),
+        told: Told::Saw(view),
+    })
+}
+
 /// Judges a view of 10 after these lines.
 fn judge_view(
     rt: &impl Abort,
@@ -241,16 +266,10 @@ fn judge_view(
     pairs: &[(u64, u64)],
     fault: Option<(usize, Reason)>,
 ) {
-    let mut view = Pairs::new(alloc);
-    for (id, number) in pairs {
-        view.push(*id, *number).expect(rt, "room for a view");
-    }
-    let last = Line {
-        event: Event::Step(10),
-        told: Told::Saw(view),
-    };
     let config = config(rt, WorldKind::Tree, (3, 3, 3));
-    judge(rt, alloc, config, (CROSSED, last), fault);
+    let last = line_of_view(alloc, pairs).expect(rt, "room for a view");
+    let found = fault_behind(alloc, config, (CROSSED, last));
+    assert!(rt; found == Some(fault), "{pairs:?}: {found:?}");
 }
 
 /// Views of others than were seen since the last proposal.

@@ -3,7 +3,6 @@
 use commands::Event;
 use schedule_player::{Bad, Command, LineBuffer, WorldKind, parse_line};
 use std::alloc::Global;
-use std::process::Abort;
 
 /// A line, and what it means.
 type Row = (&'static [u8], Result<Command, Bad>);
@@ -74,8 +73,8 @@ const OF_NAMES: [Row; 22] = [
     (b"owner none", Err(Bad::BadNumber)),
 ];
 
-/// Compares what a line means in each world: in those of splitters it may be that its word is not known.
-fn means(rt: &impl Abort, line: &[u8], want: Result<Command, Bad>, is_of_names: bool) {
+/// Whether a line means this in each world: in those of splitters it may be that its word is not known.
+fn means(line: &[u8], want: Result<Command, Bad>, is_of_names: bool) -> bool {
     for world in WorldKind::all() {
         let is_known = !is_of_names || world.gives_names();
         let want = if is_known {
@@ -83,30 +82,38 @@ fn means(rt: &impl Abort, line: &[u8], want: Result<Command, Bad>, is_of_names: 
         } else {
             Err(Bad::UnknownWord)
         };
-        assert!(rt; parse_line(line, world) == want, "at {line:?}");
+        if parse_line(line, world) != want {
+            return false;
+        }
     }
+    true
 }
 
 #[test]
 fn a_desk_knows_more_words(rt: HostRuntime) {
     for (line, want) in &OF_NAMES {
-        means(&rt, line, *want, true);
+        assert!(rt; means(line, *want, true), "at {line:?}");
     }
 }
 
-/// Compares what a line means that comes byte by byte, where others may have come before.
-fn comes(
-    rt: &impl Abort,
-    buffer: &mut LineBuffer<Global>,
-    line: &[u8],
-    want: Result<Command, Bad>,
-) {
+/// Whether a line means this that comes byte by byte, where others may have come before.
+fn comes(buffer: &mut LineBuffer<Global>, line: &[u8], want: Result<Command, Bad>) -> bool {
     buffer.clear();
     for byte in line {
         buffer.push(*byte);
     }
     let is_so = buffer.meaning(WorldKind::Splitter) == want;
-    assert!(rt; is_so && buffer.is_empty() == line.is_empty(), "{want:?}");
+    is_so && buffer.is_empty() == line.is_empty()
+}
+
+/// Whether each row means the same whole and as it comes byte by byte.
+fn rows_come(buffer: &mut LineBuffer<Global>) -> bool {
+    for (line, want) in &ROWS {
+        if !means(line, *want, false) || !comes(buffer, line, *want) {
+            return false;
+        }
+    }
+    true
 }
 
 /// Lines mean the same whole and as they come byte by byte. That the room of a long line does not grow is tried on the built
@@ -114,10 +121,7 @@ fn comes(
 #[test]
 fn lines_come_byte_by_byte(rt: HostRuntime) {
     let mut buffer = LineBuffer::new(rt.alloc()).expect(&rt, "room for a line");
-    for (line, want) in &ROWS {
-        means(&rt, line, *want, false);
-        comes(&rt, &mut buffer, line, *want);
-    }
+    assert!(rt; rows_come(&mut buffer));
     let long = vec![in rt.alloc(); b'a'; 1_000_000].expect(&rt, "room for a long line");
-    comes(&rt, &mut buffer, &long, Err(Bad::TooLong));
+    assert!(rt; comes(&mut buffer, &long, Err(Bad::TooLong)));
 }

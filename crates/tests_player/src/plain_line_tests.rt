@@ -4,7 +4,6 @@ use commands::WorldKind;
 use record_lines::Version;
 use record_lines::plain_line::plain_line;
 use std::alloc::Global;
-use std::process::Abort;
 
 /// Lines of a record of version 2 that are read so.
 const READ: [&[u8]; 13] = [
@@ -33,17 +32,29 @@ const OTHERS: [&[u8]; 6] = [
     b"{\"command\":\"probe 7",
 ];
 
-/// Whether each of these lines is read so, or none.
-fn are_read(rt: &impl Abort, alloc: Global, lines: &[&[u8]], want: bool) {
-    for line in lines {
-        let read = plain_line(alloc, WorldKind::Rename, Version::Two, line);
-        let is_read = read.expect(rt, "room for a line").is_some();
-        assert!(rt; is_read == want, "{line:?}");
+/// Whether a line is read so; none where there is no room for it.
+fn is_read(alloc: Global, line: &[u8]) -> Option<bool> {
+    match plain_line(alloc, WorldKind::Rename, Version::Two, line) {
+        Ok(read) => Some(read.is_some()),
+        Err(_) => None,
     }
+}
+
+/// How many of these lines are read so, or not, up to the first that is other.
+fn read(alloc: Global, lines: &[&[u8]], want: bool) -> usize {
+    for (i, line) in lines.iter().enumerate() {
+        if is_read(alloc, line) != Some(want) {
+            return i;
+        }
+    }
+    lines.len()
 }
 
 #[test]
 fn lines_as_they_are_written_are_read(rt: HostRuntime) {
-    are_read(&rt, rt.alloc(), &READ, true);
-    are_read(&rt, rt.alloc(), &OTHERS, false);
+    let told = (
+        read(rt.alloc(), &READ, true),
+        read(rt.alloc(), &OTHERS, false),
+    );
+    assert!(rt; told == (13, 6), "{told:?}");
 }

@@ -1,12 +1,12 @@
 //! Runs of commands over readers and writers in memory.
 
-ghost use Rattle.std.specs.Prelude.{◌≡◌, true};
+ghost use Rattle.std.specs.Prelude.{◌≡◌, ◌<◌, ◌^◌, true};
 
 use crate::toys::{Coin, Shelf};
 use crate::worlds_tests::{LARGEST, spelled};
 use schedule_player::{
-    Config, Fault, MOST_READS, READ_BYTES, Tried, World, WorldKind, law_of_growths, law_of_lines,
-    law_of_play, law_of_world, play, play_in, play_on, record,
+    Config, Fault, MOST_READS, READ_BYTES, Sink, Source, Tried, World, WorldKind, law_of_growths,
+    law_of_lines, law_of_play, law_of_world, play, play_in, play_on, record,
 };
 use std::alloc::{Allocator, Global};
 use std::process::Abort;
@@ -37,6 +37,23 @@ pub(crate) fn config(rt: &impl Abort, world: WorldKind, m: u64) -> Config
     Config::new(world, m, 4, 1000).expect(rt, "a config in range")
 }
 
+/// The fault of a case that is run over a heap, over any reader and any writer that were not called too often.
+fn fault_of<A: Allocator + Clone, R: Source, W: Sink>(
+    heap: A,
+    case: &Case<'_>,
+    reader: &mut R,
+    writer: &mut W,
+) -> Option<Fault>
+    requires reads { R.calls reader.old < 2 ^ 64 }
+    requires writes { W.calls writer.old < 2 ^ 64 }
+{
+    if case.is_kept && case.config.world.gives_names() {
+        record(heap, reader, writer, case.config).err()
+    } else {
+        play(heap, reader, writer, case.config).err()
+    }
+}
+
 /// Runs a case over a heap: how many bytes a read gives at most and which fails; the same of the writes, and whether the one that
 /// fails takes nothing. None fails where it is 0.
 pub(crate) fn run<A: Allocator + Clone>(
@@ -48,11 +65,7 @@ pub(crate) fn run<A: Allocator + Clone>(
 ) -> Played {
     let mut reader = Tried::new(FaultyReader::new(case.input, given, bad_read));
     let mut writer = Tried::new(FaultyWriter::new(alloc, taken, bad_write, takes_nothing));
-    let fault = if case.is_kept && case.config.world.gives_names() {
-        record(heap, &mut reader, &mut writer, case.config).err()
-    } else {
-        play(heap, &mut reader, &mut writer, case.config).err()
-    };
+    let fault = fault_of(heap, case, &mut reader, &mut writer);
     let writer = writer.into_inner();
     Played {
         fault,
@@ -292,31 +305,46 @@ fn walks_in_a_grid_end_at_places(rt: HostRuntime) {
     }
 }
 
+/// Plays a shelf over any reader and any writer: how many events it accepts and how many it refuses.
+fn counted<R: Source, W: Sink>(
+    alloc: Global,
+    config: Config,
+    reader: &mut R,
+    writer: &mut W,
+) -> Option<(u64, u64)>
+    requires world { config.world ≡ WorldKind.Splitter }
+    requires reads { R.calls reader.old < 2 ^ 64 }
+    requires writes { W.calls writer.old < 2 ^ 64 }
+{
+    let mut shelf = <Shelf as World<Global, ()>>::open(alloc, config).ok()?;
+    match play_in(alloc, &(), &mut shelf, config, reader, writer) {
+        Ok(summary) => Some((summary.accepted, summary.refused)),
+        Err(_) => None,
+    }
+}
+
+/// Whether a shelf accepts five of seven events, and is asked again where it refused two.
+fn shelf_is_played(alloc: Global, config: Config) -> bool
+    requires { config.world ≡ WorldKind.Splitter }
+{
+    let lines = b"begin 1\nbegin 2\nbegin 3\nbegin 3\nstep 9\nstep 9\nquit\n";
+    let mut reader = Tried::new(lines.as_slice());
+    let mut writer = Tried::new(Vec::new(alloc));
+    let is_counted = counted(alloc, config, &mut reader, &mut writer) == Some((5, 2));
+    let said = b"ok\nok\nrefused 12\nok\nok\nrefused 12\nok\n";
+    writer.into_inner().as_slice() == said.as_slice() && is_counted
+}
+
 #[test]
 fn a_world_that_refuses_growths_takes_the_event_when_asked_again(rt: HostRuntime) {
     let config = config(&rt, WorldKind::Splitter, 4);
-    let mut reader = Tried::new(
-        b"begin 1\nbegin 2\nbegin 3\nbegin 3\nstep 9\nstep 9\nquit\n".as_slice(),
-    );
-    let mut writer = Tried::new(Vec::new(rt.alloc()));
-    let mut shelf = <Shelf as World<Global, ()>>::open(rt.alloc(), config).expect(&rt, "a shelf");
-    let outcome = play_in(
-        rt.alloc(),
-        &(),
-        &mut shelf,
-        config,
-        &mut reader,
-        &mut writer,
-    );
-    let said = b"ok\nok\nrefused 12\nok\nok\nrefused 12\nok\n";
-    let is_counted =
-        matches!(outcome, Ok(summary) if (summary.accepted, summary.refused) == (5, 2));
-    assert!(rt; is_counted && writer.into_inner().as_slice() == said.as_slice());
+    assert!(rt; shelf_is_played(rt.alloc(), config));
     law_of_world::<Shelf, Global, ()>();
 }
 
-/// Plays a coin over a reader that fails at this read: whether there was no fault, whether `stop` is next, and what was written.
-fn coin_is_played(alloc: Global, fails_at: u64) -> (bool, bool, Vec<u8>) {
+/// Plays a coin over a reader that fails at this read: whether there is no fault and `stop` is next, or neither, as is due, and
+/// this is written.
+fn coin_is_played(alloc: Global, fails_at: u64, is_left: bool, text: &[u8]) -> bool {
     let mut coin = Coin { stops: false };
     let lines = b"begin 1\nstep 1\nowner 1\nenter 1\n";
     let mut reader = Tried::new(FaultyReader::new(lines, 8, fails_at));
@@ -329,15 +357,15 @@ fn coin_is_played(alloc: Global, fails_at: u64) -> (bool, bool, Vec<u8>) {
         &mut reader,
         &mut writer,
     );
-    (outcome.is_ok(), coin.stops, writer.into_inner())
+    let is_so = outcome.is_ok() == is_left && coin.stops == is_left;
+    writer.into_inner().as_slice() == text && is_so
 }
 
 #[test]
 fn a_world_whose_replies_vary_is_played_and_left_where_the_replies_went_out(rt: HostRuntime) {
     let all = b"right\nstop\nowner none\nright\n".as_slice();
     let part = b"right\nstop\nowner none\n".as_slice();
-    for (fails_at, is_left, text) in [(0, true, all), (4, false, part)] {
-        let (is_ok, stops, written) = coin_is_played(rt.alloc(), fails_at);
-        assert!(rt; is_ok == is_left && stops == is_left && written.as_slice() == text);
-    }
+    let whole = coin_is_played(rt.alloc(), 0, true, all);
+    let cut = coin_is_played(rt.alloc(), 4, false, part);
+    assert!(rt; whole && cut);
 }
