@@ -5,7 +5,7 @@ use Rattle.std.specs.Str.Parse.{ParsesUnsigned, digits_value, without_leading_pl
 use Rattle.clap.specs.Words.{ReadsOne, Row, first_of, one_of}
 use Rattle.commands.specs.Config.{world_name}
 use Rattle.commands.specs.Ranges.{IsConfigRange}
-use Rattle.rename_core.proofs.MostIn.{few_take_part}
+use Rattle.commands.specs.ConfigProofs.{few_take_part}
 use Rattle.step_memory.specs.declared.refusal.Refusal.{Refusal}
 use Rattle.commands.specs.declared.kind.WorldKind.{WorldKind}
 use Rattle.program_args.specs.Asked.{HasNumber, HasWorld, IsConfigOf, IsDrawingOf, IsPlayingOf, IsServingOf, IsShowingOf, asks_flag}

@@ -11,4 +11,3 @@ pub mod NamedPlaces
 mod FreshWorlds
 pub mod AfterCalls
 pub mod PlacesLaw
-pub mod MostIn

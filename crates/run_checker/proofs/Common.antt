@@ -31,7 +31,7 @@ pub use Rattle.player.specs.Turns.Turn.{Answered, Told, Ended, Misread}
 pub use Rattle.snapshot_core.specs.Snapshot.{IsMoment}
 pub use Rattle.rename_core.specs.RenameObject.{RenameTerms, RenameObject, IsRecent, IsConflict, IsSole, IsFreeName, no_begin, no_step, ShowsConflict, ShowsSole}
 pub use Rattle.rename_core.specs.Reply.{StepReply}
-pub use Rattle.rename_core.proofs.MostIn.{few_take_part}
+pub use Rattle.commands.specs.ConfigProofs.{few_take_part}
 pub use Rattle.bit_allocator.specs.Calls.Call.{Entered, Probed, Widened, Left}
 pub use Rattle.bit_allocator.specs.PoolObject.{number_in, competes}
 pub use Rattle.bit_allocator.proofs.PoolKeeps.{may_widen}

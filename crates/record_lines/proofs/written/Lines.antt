@@ -2,7 +2,7 @@
 use Rattle.std.proofs.Common.{◌≡◌, ℕ, ◌+◌, ◌^◌, ◌<◌, ◌≤◌, true, List, [], ◌∷◌, ◌++◌, length, map, flat_map, Option, Some, None, option_and_then, codes, decimal, IsUtf8, refl, ap, ◌∙◌, arith, append_assoc, length-append}
 use Rattle.record_lines.proofs.Common.{list_all, nat_tests, IsUtf8-append, are_ascii, IsUtf8-are_ascii, WorldKind, ShownReply, event_words, has_no_lf, with_ends, reply_words, Two, told_with, SaysSizes, is_plain, IsEventLine, IsHeaderLine, IsPlainView}
 use Rattle.commands.specs.declared.config.Config.{Config}
-use Rattle.rename_core.proofs.MostIn.{few_take_part}
+use Rattle.commands.specs.ConfigProofs.{few_take_part}
 use Rattle.commands.specs.declared.exchange.Exchange.{Exchange}
 use Rattle.commands.specs.declared.reply.Reply.TheVariants as reply
 use Rattle.commands.specs.Config.{facts_of, gives_names, world_name}

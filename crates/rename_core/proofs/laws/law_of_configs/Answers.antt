@@ -1,4 +1,4 @@
-use Rattle.rename_core.proofs.MostIn.{few_take_part}
+use Rattle.commands.specs.ConfigProofs.{few_take_part}
 use Rattle.rename_core.proofs.laws.law_of_configs.Goals as goal
 
 pub returns : goal.returns

@@ -2,7 +2,7 @@ use Rattle.std.proofs.Common.{◌≡◌, ◌≤◌, true, false, inr, refl, sym,
 use Rattle.rename_core.proofs.Common.{KnownPlaces, places_by}
 use Rattle.commands.specs.Config.{most_in, is_played_over}
 use Rattle.rename_core.proofs.FreshWorlds.{are_fresh, are_started, are_lawful, only_for_memory, refused_for, never_both}
-use Rattle.rename_core.proofs.MostIn.{most_played}
+use Rattle.commands.specs.ConfigProofs.{most_played}
 use Rattle.rename_core.proofs.NamedPlaces.{law_always}
 use Rattle.rename_core.proofs.world.RenameWorld.new.Given.{Over}
 use Rattle.rename_core.proofs.world.RenameWorld.new.Goals as goal
