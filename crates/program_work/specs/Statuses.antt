@@ -13,8 +13,6 @@ status_of (failure.Misuse Memory) = 3
 status_of (failure.No number why) = 1
 status_of (failure.BadRecord number) = 1
 status_of (failure.Fault fault) = 3
-status_of (failure.Server fault) = 3
-status_of (failure.Host fault) = 3
 
 -- a run that came to its end is done, with status 0; a fault of it is told
 abbrev pub status_after : {T : Type 0} → Result T Fault → Result ℕ Fault

@@ -3,10 +3,8 @@
 ghost use Rattle.std.specs.Prelude.{◌≡◌};
 ghost use Rattle.program_work.specs.Statuses.{status_of};
 
-use hall_host::HostFailure;
 use player::Fault;
 use program_args::Misuse;
-use slot_server::ServerFault;
 use thiserror::Error;
 
 /// Why the program did nothing, or did not come to its end. Its `Display` is the text for the user.
@@ -24,12 +22,6 @@ pub enum Failure {
     /// A fault of the input, of the output or of memory.
     #[error("slotctl: {0}\n")]
     Fault(#[from] Fault),
-    /// A fault of what serves connections.
-    #[error("slotctl: {0}\n")]
-    Server(#[from] ServerFault),
-    /// A fault of what hosts a hall, or a journal that is not opened.
-    #[error("slotctl: {0}\n")]
-    Host(#[from] HostFailure),
 }
 
 impl Failure {
@@ -45,8 +37,6 @@ impl Failure {
             Failure::No(_, _) => 1,
             Failure::BadRecord(_) => 1,
             Failure::Fault(_) => 3,
-            Failure::Server(_) => 3,
-            Failure::Host(_) => 3,
         }
     }
 }

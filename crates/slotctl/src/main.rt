@@ -7,6 +7,8 @@
 //! memory; at 2 and 3, and where a page was asked for at 1, a text on the standard error says why.
 #![tactic(auto)]
 
+ghost use Rattle.std.specs.Prelude.{◌≡◌};
+
 use hall_host::{HostFailure, HostPlan, Keeping, LogPlan, export_hall, host_hall};
 use history_book::Opened;
 use player::{Fault, Tried};
@@ -16,6 +18,7 @@ use program_work::{Failure, Outcome, in_sight, may_take_long};
 use slot_server::{Plan, ServeFault, serve};
 use std::alloc::{AllocGlobal, Global};
 use std::env;
+use std::fmt::Display;
 use std::fs::File;
 use std::io::{ErrorKind, IsTerminal, Write};
 use std::marker::Brand;
@@ -65,11 +68,22 @@ fn plan_of(serving: Serving) -> Plan {
     }
 }
 
-// Why not all was served, as a failure of the program.
-fn failure_of(fault: ServeFault) -> Failure {
+// Tells a fault of what serves or hosts, and answers the status.
+fn tell<F: Display, E: Write>(fault: &F, errors: &mut E) -> u8
+    ensures { result ≡ 3 }
+{
+    // A standard error that takes no text leaves the status alone to tell.
+    let _ = write!(errors, "slotctl: {fault}\n");
+    3
+}
+
+// Tells why not all was served, and answers the status.
+fn report_served<W: Write, E: Write>(fault: ServeFault, output: &mut W, errors: &mut E) -> u8
+    ensures { result ≡ 3 }
+{
     match fault {
-        ServeFault::Server(fault) => Failure::Server(fault),
-        ServeFault::Write => Failure::Fault(Fault::Write),
+        ServeFault::Server(fault) => tell(&fault, errors),
+        ServeFault::Write => report(Failure::Fault(Fault::Write), output, errors),
     }
 }
 
@@ -108,9 +122,14 @@ fn host_plan_of<'a>(hosting: Hosting<'a>, seen: bool) -> HostPlan<'a> {
     }
 }
 
-// Why no hall is hosted, as a failure of the program: of a journal that is no record, the line of `check` is told.
-fn host_failure_of(alloc: Global, failure: HostFailure) -> Failure {
-    match failure {
+// Tells why no hall is hosted, and answers the status: of a journal that is no record, the line of `check` is told.
+fn report_hosted<W: Write, E: Write>(
+    alloc: Global,
+    failure: HostFailure,
+    output: &mut W,
+    errors: &mut E,
+) -> u8 {
+    let failure = match failure {
         HostFailure::NoMembers => {
             Failure::Misuse(refused(alloc, "error: no such address of a member\n"))
         }
@@ -118,8 +137,9 @@ fn host_failure_of(alloc: Global, failure: HostFailure) -> Failure {
         HostFailure::BadRecord(line) => Failure::BadRecord(line),
         HostFailure::Output => Failure::Fault(Fault::Write),
         HostFailure::Memory => Failure::Fault(Fault::Memory),
-        other => Failure::Host(other),
-    }
+        other => return tell(&other, errors),
+    };
+    report(failure, output, errors)
 }
 
 // A hall is hosted, or its history is written out.
@@ -164,14 +184,14 @@ fn main(rt: HostRuntime) -> ExitCode {
             let history = Opened::new();
             match serve::<Brand, _, _>(&rt, alloc, plan_of(serving), &mut output, blank, history) {
                 Ok(()) => 0,
-                Err(fault) => report(failure_of(fault), &mut output, &mut errors),
+                Err(fault) => report_served(fault, &mut output, &mut errors),
             }
         }
         Outcome::Host(hosting) => {
             let seen = errors.is_terminal();
             match host_words(&rt, alloc, hosting, seen, &mut output, &mut errors) {
                 Ok(()) => 0,
-                Err(failure) => report(host_failure_of(alloc, failure), &mut output, &mut errors),
+                Err(failure) => report_hosted(alloc, failure, &mut output, &mut errors),
             }
         }
     };

@@ -1,4 +1,4 @@
-use Rattle.std.proofs.Common.{rules, ◌≡◌, ◌≢◌, subst, refl, List, ℕ, Err}
+use Rattle.std.proofs.Common.{rules, ◌≡◌, subst, refl, List, ℕ, Err}
 use Rattle.program_work.proofs.Common.{Appends, reading, writing, HasPartOf}
 use Rattle.program_work.specs.Checked.{verdict_text, IsVerdictText}
 use Rattle.program_work.proofs.CheckLemmas.{half_told, unread}

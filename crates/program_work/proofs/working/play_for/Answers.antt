@@ -1,5 +1,5 @@
 -- What was played in the config's world is a talk of the config.
-use Rattle.std.proofs.Common.{◌≡◌, ℕ, Bool, false, Ok, sym, subst, ap}
+use Rattle.std.proofs.Common.{Bool, false, Ok, sym, subst, ap}
 use Rattle.player.specs.Played.{reading, writing}
 use Rattle.program_work.specs.Done.{IsPlayedBy}
 use Rattle.program_work.specs.Statuses.{status_after}
