@@ -16,7 +16,8 @@ fn put_event(
     line: &mut Replies<Global>,
     lines: &mut Vec<u8>,
 ) -> Result<(), NoMemory>
-    ensures { OnOk result (lines.old.items ≡ record_of_hall (hall_after_first place hall.now) → lines.new.items ≡ record_of_hall (hall_after_first (place + 1) hall.now)) }
+    ensures { OnOk result (lines.old.items ≡ record_of_hall (hall_after_first place hall.now) →
+        lines.new.items ≡ record_of_hall (hall_after_first (place + 1) hall.now)) }
 {
     let Some(exchange) = hall.get(place) else {
         return Err(NoMemory);

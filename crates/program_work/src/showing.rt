@@ -35,7 +35,8 @@ pub fn show_for<R: Source, W: Sink>(
 ) -> Result<Verdict, Fault>
     requires reads { R.calls reader.old < 2 ^ 64 }
     requires writes { W.calls writer.old < 2 ^ 64 }
-    ensures { IsShownFor (stretch_asked showing) (reading R.remaining R.calls R.failed reader.old reader.new) (writing W.contents W.failed writer.old writer.new) result }
+    ensures { IsShownFor (stretch_asked showing) (reading R.remaining R.calls R.failed reader.old reader.new)
+        (writing W.contents W.failed writer.old writer.new) result }
 {
     let Ok(mut chunk) = Vec::from_elem(alloc, 0, READ_BYTES) else {
         return Err(Fault::Memory);

@@ -70,7 +70,8 @@ fn write_below<A: Allocator>(
 )
     requires within { depth < 128 }
     requires number { 0 < number_in register.now / 2 ^ depth }
-    ensures { let top = number_in register.now / 2 ^ depth in IsWritten (registers_below top link.old) (registers_below top link.new) register.now (value_of value.entry) }
+    ensures { let top = number_in register.now / 2 ^ depth in
+        IsWritten (registers_below top link.old) (registers_below top link.new) register.now (value_of value.entry) }
 {
     let Some(node) = link else {
         return;
