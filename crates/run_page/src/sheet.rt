@@ -40,7 +40,7 @@ pub(crate) struct Sheet {
 impl Drop for Sheet {
     fn drop(self) {
         let Sheet {
-            desk,
+            desk: _,
             begun: _,
             reached: _,
             done: _,
@@ -50,7 +50,6 @@ impl Drop for Sheet {
             text: _,
             listed: _,
         } = self;
-        drop(desk);
     }
 }
 
