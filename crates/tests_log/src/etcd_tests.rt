@@ -114,20 +114,18 @@ fn answered(alloc: Global, etcd: &mut EtcdStore<Script<'_>>, calls: &[Call]) -> 
     calls.len()
 }
 
-/// How many calls of a trial do.
-fn made(alloc: Global, trial: &Trial) -> Result<usize, AllocError> {
-    let mut etcd = store(alloc, trial.texts)?;
-    Ok(answered(alloc, &mut etcd, trial.calls))
+/// Whether all calls of a trial do.
+fn goes(alloc: Global, trial: &Trial) -> bool {
+    match store(alloc, trial.texts) {
+        Ok(mut etcd) => answered(alloc, &mut etcd, trial.calls) == trial.calls.len(),
+        Err(AllocError) => false,
+    }
 }
 
 #[test]
 fn answers_are_read(rt: HostRuntime) {
     for trial in &TRIALS {
-        assert!(rt;
-            made(rt.alloc(), trial) == Ok(trial.calls.len()),
-            "{}",
-            trial.title
-        );
+        assert!(rt; goes(rt.alloc(), trial), "{}", trial.title);
     }
 }
 
@@ -138,18 +136,16 @@ fn tells_a_loss(alloc: Global, etcd: &mut EtcdStore<Script<'_>>) -> bool {
 }
 
 /// Whether it does where each text is this.
-fn is_lost(alloc: Global, text: &[u8]) -> Result<bool, AllocError> {
-    let texts = [text; 4];
-    let mut etcd = store(alloc, &texts)?;
-    Ok(tells_a_loss(alloc, &mut etcd))
+fn is_lost(alloc: Global, text: &[u8]) -> bool {
+    match store(alloc, &[text; 4]) {
+        Ok(mut etcd) => tells_a_loss(alloc, &mut etcd),
+        Err(AllocError) => false,
+    }
 }
 
 #[test]
 fn an_answer_that_is_cut_is_none(rt: HostRuntime) {
     for end in 0..FOUND.len() {
-        assert!(rt;
-            is_lost(rt.alloc(), &FOUND[..end]) == Ok(true),
-            "cut at {end}"
-        );
+        assert!(rt; is_lost(rt.alloc(), &FOUND[..end]), "cut at {end}");
     }
 }

@@ -49,16 +49,26 @@ fn drawn(state: &mut u64) -> u8
     ((*state >> 33) % 64) as u8
 }
 
+// Adds the drawn first line of a batch, which has this length.
+fn draw_head(state: &mut u64, batch: &mut Vec<u8>) -> Result<(), AllocError> {
+    let mut head = [b'\n'; HEAD];
+    for byte in &mut head[..HEAD - 1] {
+        *byte = b'0' + drawn(state);
+    }
+    batch.extend_from_slice(&head)
+}
+
+// Adds a drawn line.
+fn draw_line(state: &mut u64, batch: &mut Vec<u8>) -> Result<(), AllocError> {
+    batch.extend_from_slice(WORDS[(drawn(state) % 10) as usize])?;
+    batch.extend_from_slice(&[b'1' + drawn(state) % 6, b'\n'])
+}
+
 // Adds a drawn batch: a first line, and eight lines of commands.
 fn draw_batch(state: &mut u64, batch: &mut Vec<u8>) -> Result<(), AllocError> {
-    for _ in 1..HEAD {
-        batch.push(b'0' + drawn(state))?;
-    }
-    batch.push(b'\n')?;
+    draw_head(state, batch)?;
     for _ in 0..8 {
-        batch.extend_from_slice(WORDS[(drawn(state) % 10) as usize])?;
-        batch.push(b'1' + drawn(state) % 6)?;
-        batch.push(b'\n')?;
+        draw_line(state, batch)?;
     }
     Ok(())
 }
@@ -92,25 +102,26 @@ pub(crate) fn answers<D: Service<()>>(
     Some(writer.into_inner().taken)
 }
 
-impl Front {
-    // What it answers to what it was asked, by its tape, which says no more.
-    fn answer(&mut self, alloc: Global) -> Option<Vec<u8>> {
-        let lines = self.batch.get(HEAD..).unwrap_or(&[]);
-        let answer = answers(alloc, &mut self.tape, lines)?;
-        if !self.tape.is_used_up() {
-            return None;
-        }
-        self.batch.clear();
-        Some(answer)
-    }
+// What a tape answers to a batch; it says no more.
+fn answer_by(alloc: Global, tape: &mut Tape, batch: &[u8]) -> Option<Vec<u8>> {
+    let answer = answers(alloc, tape, batch.get(HEAD..).unwrap_or(&[]))?;
+    tape.is_used_up().then_some(answer)
+}
 
-    // Tells what it answers, and tells whether it did.
-    fn tell(&mut self, alloc: Global, told: &mut Vec<Told>) -> bool {
-        let place = self.hall.place().saturating_sub(1);
-        match self.answer(alloc) {
-            Some(answer) => told.push(Told { place, answer }).is_ok(),
-            None => false,
-        }
+// Tells what was answered at a place, and tells whether anything was.
+fn tell(told: &mut Vec<Told>, place: u64, answer: Option<Vec<u8>>) -> bool {
+    match answer {
+        Some(answer) => told.push(Told { place, answer }).is_ok(),
+        None => false,
+    }
+}
+
+impl Front {
+    // What it answers to what it was asked, by its tape.
+    fn answer(&mut self, alloc: Global) -> Option<Vec<u8>> {
+        let answer = answer_by(alloc, &mut self.tape, &self.batch);
+        self.batch.clear();
+        answer
     }
 
     // One step for what it was asked. Where all was answered it is asked for more. Whether it went right, an answer that is lost included.
@@ -125,7 +136,10 @@ impl Front {
             return false;
         }
         match self.hall.step(store, &self.batch, &mut self.tape) {
-            Ok(Step::Answered) => self.tell(alloc, told),
+            Ok(Step::Answered) => {
+                let place = self.hall.place().saturating_sub(1);
+                tell(told, place, self.answer(alloc))
+            }
             Ok(_) | Err(Cause::Store(StoreFault::Lost)) => true,
             Err(_) => false,
         }
@@ -143,16 +157,36 @@ fn count_at(told: &[Told], place: u64, due: &[u8]) -> usize {
     count
 }
 
+// How many of the answers that were told at a place are what a hall says there.
+fn count_said(
+    alloc: Global,
+    hall: &mut Hall,
+    (log, told): (&MemoryStore, &[Told]),
+    place: usize,
+) -> Option<usize> {
+    let lines = log.entry(place).unwrap_or(&[]).get(HEAD..).unwrap_or(&[]);
+    let due = answers(alloc, hall, lines)?;
+    Some(count_at(told, place as u64, &due))
+}
+
 // How many of the answers that were told at places of a log are what one hall says there.
-fn count_due(alloc: Global, log: &MemoryStore, told: &[Told]) -> Option<usize> {
-    let mut hall = Hall::new(alloc, config()?).ok()?;
+fn count_due(alloc: Global, hall: &mut Hall, log: &MemoryStore, told: &[Told]) -> Option<usize> {
     let mut count = 0usize;
     for place in 0..log.len() {
-        let lines = log.entry(place).unwrap_or(&[]).get(HEAD..).unwrap_or(&[]);
-        let due = answers(alloc, &mut hall, lines)?;
-        count = count.saturating_add(count_at(told, place as u64, &due));
+        count = count.saturating_add(count_said(alloc, hall, (log, told), place)?);
     }
     Some(count)
+}
+
+// Whether all are.
+fn are_due(alloc: Global, log: &MemoryStore, told: &[Told]) -> bool {
+    let Some(config) = config() else {
+        return false;
+    };
+    match Hall::new(alloc, config) {
+        Ok(mut hall) => count_due(alloc, &mut hall, log, told) == Some(told.len()),
+        Err(_) => false,
+    }
 }
 
 // A hall that has applied nothing and was asked nothing.
@@ -165,13 +199,34 @@ fn new_front(alloc: Global) -> Option<Front> {
     })
 }
 
+// Puts one more beside the others; none where there is no memory.
+fn add_front(alloc: Global, fronts: &mut Vec<Front>) -> Option<()> {
+    fronts.push(new_front(alloc)?).ok()
+}
+
 // So many of them.
 fn fronts_of(alloc: Global, halls: u8) -> Option<Vec<Front>> {
     let mut fronts = Vec::new(alloc);
     for _ in 0..halls {
-        fronts.push(new_front(alloc)?).ok()?;
+        add_front(alloc, &mut fronts)?;
     }
     Some(fronts)
+}
+
+// A step of one of the first so many halls. Whether it went right.
+fn one_steps(
+    alloc: Global,
+    fronts: &mut [Front],
+    present: usize,
+    state: &mut u64,
+    store: &mut Lossy,
+    told: &mut Vec<Told>,
+) -> bool {
+    let at = drawn(state) as usize % present.max(1);
+    match fronts.get_mut(at) {
+        Some(front) => front.step(alloc, state, store, told),
+        None => false,
+    }
 }
 
 // The steps of halls over one store, of which all but the first begin late. Whether each went right.
@@ -185,11 +240,7 @@ fn all_step(
     let mut state = store.every;
     for turn in 0..STEPS {
         let present = if turn < late { 1 } else { fronts.len() };
-        let at = drawn(&mut state) as usize % present.max(1);
-        let Some(front) = fronts.get_mut(at) else {
-            return false;
-        };
-        if !front.step(alloc, &mut state, store, told) {
+        if !one_steps(alloc, fronts, present, &mut state, store, told) {
             return false;
         }
     }
@@ -201,8 +252,8 @@ fn tell_one_history(alloc: Global, fronts: &mut [Front], late: usize, store: &mu
     let mut told = Vec::new(alloc);
     let right = all_step(alloc, fronts, late, store, &mut told);
     let most = told.len() + fronts.len();
-    let due = count_due(alloc, &store.store, &told);
-    right && due == Some(told.len()) && STEPS / 9 < told.len() && store.store.len() <= most
+    let due = are_due(alloc, &store.store, &told);
+    right && due && STEPS / 9 < told.len() && store.store.len() <= most
 }
 
 // Whether so many halls do, over one store that loses each so many answers, and of which all but the first begin late.

@@ -71,11 +71,7 @@ fn says(
     (lines, want): (&[u8], Option<&[u8]>),
 ) -> bool {
     match told(alloc, keeper, lines) {
-        Ok(Some(answer)) => match want {
-            Some(text) => answer.as_slice() == text,
-            None => false,
-        },
-        Ok(None) => want.is_none(),
+        Ok(answer) => answer.as_deref() == want,
         Err(_) => false,
     }
 }

@@ -229,16 +229,26 @@ fn replies_of_two_over_one_store(rt: HostRuntime) {
     }
 }
 
-/// Whether a batch is too long, and the same without its first byte is served.
+/// Whether a replica refuses a batch as too long, and serves the same without its first byte.
+fn refuses_long(
+    one: &mut Replica<Notebook>,
+    store: &mut Lossy,
+    long: &[u8],
+    replies: &mut Vec<u8>,
+) -> bool {
+    let refused = one.serve(store, long, replies) == Err(ServeFault::TooLong);
+    let none = store.store.len() == 0;
+    let shorter = long.get(1..).unwrap_or(&[]);
+    let served = one.serve(store, shorter, replies) == Ok(());
+    refused && none && served && store.store.len() == 1
+}
+
+/// Whether a new one does.
 fn is_one_too_long(alloc: Global, long: &[u8]) -> bool {
     let mut store = lossy(alloc, 0);
     let mut replies = Vec::new(alloc);
     let mut one = Replica::new(alloc, notebook(alloc, 0));
-    let refused = one.serve(&mut store, long, &mut replies) == Err(ServeFault::TooLong);
-    let none = store.store.len() == 0;
-    let shorter = long.get(1..).unwrap_or(&[]);
-    let served = one.serve(&mut store, shorter, &mut replies) == Ok(());
-    refused && none && served && store.store.len() == 1
+    refuses_long(&mut one, &mut store, long, &mut replies)
 }
 
 #[test]
