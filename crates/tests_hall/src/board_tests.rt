@@ -151,8 +151,27 @@ fn four_posted<L: LockName + Send + Sync, R: Abort + Threads + Wait + Sync>(
     (sessions, four)
 }
 
-/// Four threads are named and post their names. Whether the words are those four, and agree with the closed history, and whether
-/// that is as long as the lists of the four together.
+/// Whether the words of a board are four, and agree with the history of a lock that closes with these sessions, and whether that is as
+/// long as their lists together.
+fn closes_so<L: LockName>(
+    rt: &impl Abort,
+    alloc: Global,
+    lock: HallLock<L>,
+    board: Board<Global>,
+    sessions: Vec<Session<L>>,
+    grant: Grant,
+) -> bool
+    requires { grant.board ≡ board }
+{
+    let words = board.close(grant).expect(rt, "room for the words");
+    let kept = kept_by(&sessions);
+    let closed = lock.close(sessions, Vec::new(alloc)).ok();
+    let closed = closed.expect(rt, "each caller is handed in");
+    let posted = words.iter().filter(|word| **word != 0).count();
+    posted == 4 && agrees(&closed, &words) && closed.hall.len() == kept
+}
+
+/// Four threads are named and post their names, and their board and their lock close so.
 fn four_post<L: LockName + Send + Sync, R: Abort + Threads + Wait + Sync>(
     rt: &R,
     alloc: Global,
@@ -165,12 +184,7 @@ fn four_post<L: LockName + Send + Sync, R: Abort + Threads + Wait + Sync>(
     let lock = opened::<L>(rt, alloc, opening);
     let (board, mut seat) = Board::new(alloc, 7).expect(rt, "room for a board");
     let (sessions, grant) = four_posted(rt, alloc, &lock, &board, &mut seat);
-    let words = board.close(grant).expect(rt, "room for the words");
-    let kept = kept_by(&sessions);
-    let closed = lock.close(sessions, Vec::new(alloc)).ok();
-    let closed = closed.expect(rt, "each caller is handed in");
-    let posted = words.iter().filter(|word| **word != 0).count();
-    posted == 4 && agrees(&closed, &words) && closed.hall.len() == kept
+    closes_so(rt, alloc, lock, board, sessions, grant)
 }
 
 /// Each has a name of its own from 1 to 7, since the board has so many words and four of them hold who posted there.

@@ -1,13 +1,13 @@
 //! The command language over halls and clerks, and connections over sockets.
 
-ghost use Rattle.std.specs.Prelude.{◌≡◌};
+ghost use Rattle.std.specs.Prelude.{◌≡◌, ◌<◌, ◌^◌};
 
 use crate::lock_tests::hall;
 use crate::opening::{Opening, opened};
 use commands::Reply;
 use hall::{Hall, law_of_serving};
 use locked_world::{Clerk, HallLock, LockName, ServingClerk};
-use player::{Event, Fault, Tried, WorldKind};
+use player::{Event, Fault, Sink, Source, Summary, Tried, WorldKind};
 use slot_server::{Gate, Served, Watched, serve_many, serve_one};
 use std::alloc::Global;
 use std::io::{Read, Write};
@@ -47,17 +47,29 @@ struct Ending {
     events: &'static [Event],
 }
 
-/// Whether such a run ends so.
-fn ends_so(rt: &impl Abort, alloc: Global, ending: &Ending) -> bool {
+/// Serves a hall over any reader and any writer that were not called too often.
+fn served<R, I: Source, O: Sink>(
+    rt: &R,
+    alloc: Global,
+    reader: &mut I,
+    writer: &mut O,
+    hall: &mut Hall,
+) -> Result<Summary, Fault>
+    requires reads { I.calls reader.old < 2 ^ 64 }
+    requires writes { O.calls writer.old < 2 ^ 64 }
+{
+    serve_one(rt, alloc, reader, writer, hall)
+}
+
+/// Whether a run over a hall ends so.
+fn ends_so(rt: &impl Abort, alloc: Global, hall: &mut Hall, ending: &Ending) -> bool {
     let (piece, at) = ending.reads;
     let mut reader = Tried::new(FaultyReader::new(ending.asked, piece, at));
     let (piece, at) = ending.writes;
     let mut writer = Tried::new(FaultyWriter::new(alloc, piece, at, false));
-    let mut hall = hall(rt, alloc, (WorldKind::Rename, 1, 4));
-    let outcome = serve_one(rt, alloc, &mut reader, &mut writer, &mut hall);
-    outcome.err() == ending.fault
-        && writer.into_inner().taken.as_slice() == ending.text
-        && has_just(&hall, ending.events)
+    let fault = served(rt, alloc, &mut reader, &mut writer, hall).err();
+    let is_written = writer.into_inner().taken.as_slice() == ending.text;
+    fault == ending.fault && is_written && has_just(hall, ending.events)
 }
 
 /// What a run is asked, with no LF at its end, and with one.
@@ -139,7 +151,8 @@ const ENDINGS: [Ending; 7] = [
 fn a_fault_over_a_hall(rt: HostRuntime) {
     law_of_serving();
     for (row, ending) in ENDINGS.iter().enumerate() {
-        assert!(rt; ends_so(&rt, rt.alloc(), ending), "row {row}");
+        let mut hall = hall(&rt, rt.alloc(), (WorldKind::Rename, 1, 4));
+        assert!(rt; ends_so(&rt, rt.alloc(), &mut hall, ending), "row {row}");
     }
 }
 
@@ -171,22 +184,41 @@ impl<R> Gate<R> for Counting {
     }
 }
 
+/// Whether so many lines of a text that is cut into such pieces are served, over a hall with a gate.
+fn are_served(
+    rt: &impl Abort,
+    alloc: Global,
+    hall: &mut Hall,
+    gate: &Counting,
+    (input, piece, lines): (&[u8], usize, u64),
+) -> bool {
+    let mut reader = Watched::new(rt, gate, 3, Tried::new(FaultyReader::new(input, piece, 0)));
+    let mut writer = Watched::new(rt, gate, 3, Tried::new(Vec::new(alloc)));
+    match served(rt, alloc, &mut reader, &mut writer, hall) {
+        Ok(summary) => summary.lines == lines,
+        Err(_) => false,
+    }
+}
+
 /// Whether a gate is told so often of the lines and of the replies of a text that is cut into such pieces, and of no other
 /// connection.
-fn is_told(rt: &impl Abort, alloc: Global, input: &[u8], piece: usize, lines: u64) -> bool {
+fn is_told(
+    rt: &impl Abort,
+    alloc: Global,
+    hall: &mut Hall,
+    (input, piece, lines): (&[u8], usize, u64),
+) -> bool {
     let gate = Counting {
         read: AtomicU64::new(0),
         answered: AtomicU64::new(0),
         other: AtomicU64::new(0),
     };
-    let mut hall = hall(rt, alloc, (WorldKind::Tree, 1, 4));
-    let mut reader = Watched::new(rt, &gate, 3, Tried::new(FaultyReader::new(input, piece, 0)));
-    let mut writer = Watched::new(rt, &gate, 3, Tried::new(Vec::new(alloc)));
-    let summary = serve_one(rt, alloc, &mut reader, &mut writer, &mut hall);
-    summary.is_ok_and(|summary| summary.lines == lines)
-        && gate.read.load(Ordering::SeqCst) == lines
-        && gate.answered.load(Ordering::SeqCst) == lines
-        && gate.other.load(Ordering::SeqCst) == 0
+    let are_served = are_served(rt, alloc, hall, &gate, (input, piece, lines));
+    let (read, answered) = (
+        gate.read.load(Ordering::SeqCst),
+        gate.answered.load(Ordering::SeqCst),
+    );
+    are_served && read == lines && answered == lines && gate.other.load(Ordering::SeqCst) == 0
 }
 
 /// Texts, and how many lines they have.
@@ -201,10 +233,9 @@ const TEXTS: [(&[u8], u64); 3] = [
 fn a_gate_is_told_of_lines_and_replies(rt: HostRuntime) {
     for piece in [1, 3, 8, 100] {
         for (input, lines) in &TEXTS {
-            assert!(rt;
-                is_told(&rt, rt.alloc(), input, piece, *lines),
-                "{piece} {input:?}"
-            );
+            let mut hall = hall(&rt, rt.alloc(), (WorldKind::Tree, 1, 4));
+            let is_so = is_told(&rt, rt.alloc(), &mut hall, (input, piece, *lines));
+            assert!(rt; is_so, "{piece} {input:?}");
         }
     }
 }
