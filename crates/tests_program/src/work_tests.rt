@@ -2,10 +2,12 @@
 //! fails, and which status and text each failure has, is tried on the built program, by `tests/program`; what comes of a
 //! refused growth, by `tests/growths`.
 
+ghost use Rattle.std.specs.Prelude.{◌<◌, ◌^◌};
+
 use program_work::program::program;
 use program_work::progress::tell_until;
 use program_work::{Outcome, may_take_long};
-use schedule_player::Tried;
+use schedule_player::{Sink, Source, Tried};
 use std::alloc::Global;
 use std::io;
 use std::sync::atomic::{AtomicBool, AtomicU64, Ordering};
@@ -26,6 +28,21 @@ struct Ending {
     told: &'static [u8],
 }
 
+// The status of the program for these words, over any reader and any writer that were not called too often.
+fn status<T: Threads + Sync, R: Source, W: Sink>(
+    threads: &T,
+    alloc: Global,
+    words: &[&str],
+    reader: &mut R,
+    writer: &mut W,
+    errors: &mut Vec<u8>,
+) -> u8
+    requires reads { R.calls reader.old < 2 ^ 64 }
+    requires writes { W.calls writer.old < 2 ^ 64 }
+{
+    status_of(&program(threads, alloc, words, reader, writer, errors))
+}
+
 // Whether the program ends so.
 fn ends<T: Threads + Sync>(threads: &T, alloc: Global, ending: &Ending) -> bool {
     let (most, at) = ending.reads;
@@ -33,7 +50,7 @@ fn ends<T: Threads + Sync>(threads: &T, alloc: Global, ending: &Ending) -> bool 
     let (most, at) = ending.writes;
     let mut writer = Tried::new(FaultyWriter::new(alloc, most, at, false));
     let mut errors = Vec::new(alloc);
-    let outcome = program(
+    let status = status(
         threads,
         alloc,
         ending.words,
@@ -41,9 +58,8 @@ fn ends<T: Threads + Sync>(threads: &T, alloc: Global, ending: &Ending) -> bool 
         &mut writer,
         &mut errors,
     );
-    status_of(&outcome) == ending.status
-        && writer.into_inner().taken.as_slice() == ending.text
-        && errors.as_slice() == ending.told
+    let is_told = errors.as_slice() == ending.told;
+    writer.into_inner().taken.as_slice() == ending.text && is_told && status == ending.status
 }
 
 // The status of an outcome, or 100 where the program is left to serve.
