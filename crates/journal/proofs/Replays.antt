@@ -19,6 +19,3 @@ shorter h u left rest g =
     let many = ap length (g.line ∙ line_ended g.exchange rest) in
     let all = length-append (row_of g.exchange) (10 ∷ rest) in
     omega arith
-
-pub all_replayed : (h : HallState) (all left : List ℕ) → all ≡ flat_map exchange_line h.history ++ left → left ≡ [] → all ≡ flat_map exchange_line h.history
-all_replayed h all left is none = is ∙ ap (λ (l : List ℕ). flat_map exchange_line h.history ++ l) none ∙ append-nil (flat_map exchange_line h.history)
