@@ -90,7 +90,7 @@ fn a_crash_in_its_midst_leaves_old_or_new(rt: HostRuntime) {
     for (calls, reverts, events) in &LEFT {
         let none = are_left(rt.alloc(), *calls, *reverts, 0, *events);
         let all = are_left(rt.alloc(), *calls, *reverts, usize::MAX, *events);
-        assert!(rt; none && all, "{calls} {reverts}: {none} {all}");
+        assert!(rt; none && all, "{calls} {reverts}");
     }
 }
 

@@ -23,12 +23,15 @@ fn is_replaced<D: Disk>(alloc: Global, disk: &mut D) -> bool {
 fn a_file_is_replaced_and_stays_locked(rt: HostRuntime) -> Result<(), Fail> {
     let _ = fs::remove_file(&rt, PATH);
     let mut disk = FileDisk::open(&rt, PATH).map_err(|_| "not opened")?;
-    assert!(rt; is_replaced(rt.alloc(), &mut disk));
-    assert!(rt; matches!(FileDisk::open(&rt, PATH), Err(FileFault::InUse)));
-    assert!(rt; disk.append(b"four\n").is_ok());
-    let bytes = fs::read(&rt, PATH).map_err(|_| "no file")?;
-    assert!(rt; bytes.as_slice() == b"two\nthree\nfour\n".as_slice());
+    let is_replaced = is_replaced(rt.alloc(), &mut disk);
+    let is_locked = matches!(FileDisk::open(&rt, PATH), Err(FileFault::InUse));
+    let is_appended = disk.append(b"four\n").is_ok();
+    let is_there = match fs::read(&rt, PATH) {
+        Ok(bytes) => bytes.as_slice() == b"two\nthree\nfour\n".as_slice(),
+        Err(_) => false,
+    };
     let _ = fs::remove_file(&rt, PATH);
+    assert!(rt; is_replaced && is_locked && is_appended && is_there);
     Ok(())
 }
 
@@ -58,16 +61,19 @@ fn is_taken_back(alloc: Global, calls: usize, bytes: &[u8]) -> bool {
     }
 }
 
+/// What a crash leaves, and one that takes the replacing back, after each number of calls.
+const LEFT: [(&[u8], &[u8]); 4] = [
+    (b"old", b"old"),
+    (b"old", b"old"),
+    (b"new", b"old"),
+    (b"new", b"new"),
+];
+
 #[test]
 fn a_replacing_that_fails_leaves_old_or_new(rt: HostRuntime) {
-    let rows: [(&[u8], &[u8]); 4] = [
-        (b"old", b"old"),
-        (b"old", b"old"),
-        (b"new", b"old"),
-        (b"new", b"new"),
-    ];
-    for (calls, (crashed, reverted)) in rows.iter().enumerate() {
-        assert!(rt; is_left(rt.alloc(), calls, calls == 3, crashed), "{calls}");
-        assert!(rt; is_taken_back(rt.alloc(), calls, reverted), "{calls}");
+    for (calls, (crashed, reverted)) in LEFT.iter().enumerate() {
+        let is_left = is_left(rt.alloc(), calls, calls == 3, crashed);
+        let is_taken_back = is_taken_back(rt.alloc(), calls, reverted);
+        assert!(rt; is_left && is_taken_back, "{calls}");
     }
 }

@@ -154,13 +154,20 @@ const OTHERS: [(&[u8], OpenFault); 4] = [
     ),
 ];
 
-#[test]
-fn other_files_are_refused(rt: HostRuntime) -> Result<(), Fail> {
-    for (bytes, due) in &OTHERS {
-        let told = fault(rt.alloc(), bytes.to_vec(rt.alloc())?, ALL_CALLS);
-        assert!(rt; told == Some(*due), "{bytes:?}");
+/// Whether the journal of these bytes is not opened for this reason.
+fn is_refused(alloc: Global, bytes: Result<Vec<u8>, AllocError>, due: OpenFault) -> bool {
+    match bytes {
+        Ok(bytes) => fault(alloc, bytes, ALL_CALLS) == Some(due),
+        Err(AllocError) => false,
     }
-    Ok(())
+}
+
+#[test]
+fn other_files_are_refused(rt: HostRuntime) {
+    for (i, (bytes, due)) in OTHERS.iter().enumerate() {
+        let bytes = bytes.to_vec(rt.alloc());
+        assert!(rt; is_refused(rt.alloc(), bytes, *due), "row {i}");
+    }
 }
 
 /// What no hall writes behind the first two events, and why that is not opened: what another object answers, a refusal that is not due, one
@@ -186,12 +193,11 @@ const BEHIND: [(&[u8], OpenFault); 5] = [
 ];
 
 #[test]
-fn lines_that_no_hall_writes_are_refused(rt: HostRuntime) -> Result<(), Fail> {
-    for (bytes, due) in &BEHIND {
-        let told = fault(rt.alloc(), record(rt.alloc(), 2, bytes)?, ALL_CALLS);
-        assert!(rt; told == Some(*due), "{bytes:?}");
+fn lines_that_no_hall_writes_are_refused(rt: HostRuntime) {
+    for (i, (bytes, due)) in BEHIND.iter().enumerate() {
+        let bytes = record(rt.alloc(), 2, bytes);
+        assert!(rt; is_refused(rt.alloc(), bytes, *due), "row {i}");
     }
-    Ok(())
 }
 
 /// A chronicle that is full takes an event only once its lines were committed.

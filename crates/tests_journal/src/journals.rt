@@ -145,11 +145,22 @@ fn how_many_are_so(
     count
 }
 
+/// As many of a journal that was opened, and its disk then.
+fn tried_in(alloc: Global, opened: Opened<MemoryDisk>, acts: &[Act]) -> (usize, MemoryDisk) {
+    let Opened {
+        mut journal,
+        mut chronicle,
+    } = opened;
+    let count = how_many_are_so(alloc, &mut journal, &mut chronicle, acts);
+    (count, journal.into_disk())
+}
+
 /// As many of the journal of a disk, and the disk then; none where it is not opened.
 pub(crate) fn tried(alloc: Global, disk: MemoryDisk, acts: &[Act]) -> Option<(usize, MemoryDisk)> {
-    let mut opened = opened(alloc, disk).ok()?;
-    let count = how_many_are_so(alloc, &mut opened.journal, &mut opened.chronicle, acts);
-    Some((count, opened.journal.into_disk()))
+    match opened(alloc, disk) {
+        Ok(opened) => Some(tried_in(alloc, opened, acts)),
+        Err(_) => None,
+    }
 }
 
 /// The disk of a journal of which all of these are so; none where they are not.
