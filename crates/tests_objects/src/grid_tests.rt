@@ -78,7 +78,7 @@ fn a_walk_as_a_program(rt: HostRuntime) {
         (Access::Write(0, 9), Note::Quiet),
         (Access::Read(1), Note::Quiet),
     ];
-    let is_right = walker == Walker::new(9, Door::corner().right());
+    let is_right = walker == Walker::new(9, Door::corner().right()) && walker.place().is_none();
     holds(
         &rt,
         2,
