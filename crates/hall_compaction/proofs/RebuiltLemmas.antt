@@ -121,6 +121,12 @@ stays h e is = record {
 pub goes_on : (old new : Rebuilding) (e : Event) → HasTaken old e new → is_renaming e ≡ false → GoesOn old new
 goes_on old new e t is = record { same = subst (λ (h : HallState). HasRenaming old.hall h) (sym t.hall) (stays old.hall e is); copied = t.copied }
 
+pub goes_self : (old : Rebuilding) → GoesOn old old
+goes_self old = record { same = renaming_self old.hall; copied = λ is. is }
+
+pub goes_along : (a b c : Rebuilding) → GoesOn a b → GoesOn b c → GoesOn a c
+goes_along a b c x y = record { same = renaming_along a.hall b.hall c.hall x.same y.same; copied = λ is. y.copied (x.copied is) }
+
 -- nothing is sorted yet
 pub none_sorted : (h : HallState) (new : Rebuilding) (old : SlotsCopy) → new.hall ≡ hall_of h.config [] → IsCopied new.hall new.slots →
     slots_in old ≡ record { pool = fresh_pool h.config.k; values = replicate h.config.k 0 } → IsSorted h 0 new old

@@ -42,3 +42,8 @@ module _ (once : (bytes : List ℕ) → IsCutOnce bytes) where
 -- it is written, and surely there
 pub replaced_synced : (new : HallState) (s t : DiskState) → t ≡ replaced_by s (record_of_hall new) → HasSynced (chronicle_of new (length new.history)) t
 replaced_synced new s t is = subst (λ (x : DiskState). HasSynced (chronicle_of new (length new.history)) x) (sym is) (record { contents = sym (told_all new); synced = refl })
+
+-- what became of the chronicle
+pub may_compact : (done : Bool) (new : HallState) (c u : ChronicleState) → IsCompacted c.hall new → TakesHall done new c u → MayCompact c u
+may_compact true new c u k is = inr (subst (λ (x : ChronicleState). HasCompacted c x) (sym is) (record { compacted = k; told = refl }))
+may_compact false new c u k is = inl is

@@ -1,8 +1,9 @@
 //! What the words of a command line ask `slotctl` for, done over any reader and writer.
 //!
-//! `program` has the words read (`ask` of `program_args`), does what they ask for, tells a failure and answers the status. `done` is the
-//! same up to what is told, and `work` does what was asked for: `play_for`, `check_for`, `migrate_for` or `draw_for`; `show_for` shows a
-//! record. To serve is left to the caller (`Outcome::Serve`), with nothing read and nothing written.
+//! `program` has the words read (`ask` of `program_args`), does what they ask for, tells a failure and answers the status; `program_over`
+//! is the same over streams of std, whose calls it counts. `done` is the same up to what is told, and `work` does what was asked for:
+//! `play_for`, `check_for`, `migrate_for` or `draw_for`; `show_for` shows a record. To serve is left to the caller (`Outcome::Serve`),
+//! with nothing read and nothing written.
 //!
 //! What is proved of `done` (`IsRead`, `IsDone`): some `Ask` that the words mean is done, or they ask for nothing and nothing is read or
 //! written. A run is played with the theorem of `play`, or recorded with that of `record` (`IsPlayedBy`); a record is read to its end,

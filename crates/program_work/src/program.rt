@@ -12,11 +12,11 @@ use crate::failure::Failure;
 use crate::outcome::Outcome;
 use crate::showing::{after_showing, show_for};
 use crate::working;
-use player::{Fault, Sink, Source};
+use player::{Fault, Sink, Source, Tried};
 use program_args::{Ask, Misuse, ask};
 use std::alloc::Global;
 use std::convert::AsStr;
-use std::io::Write;
+use std::io::{Read, Write};
 use std::thread::Threads;
 
 /// Does what the words of a command line ask for, the first of which is the program's name, and answers the status of the
@@ -37,6 +37,21 @@ pub fn program<'a, T: Threads + Sync, S: AsStr, R: Source, W: Sink, E: Write>(
         Ok(outcome) => outcome,
         Err(failure) => Outcome::Ended(report(failure, output, errors)),
     }
+}
+
+/// As `program`, over any reader and writer of std, whose calls are counted. It stands here, where their types are open, since what is
+/// asked of `program` is dear to prove of each type that it is called with.
+pub fn program_over<'a, T: Threads + Sync, S: AsStr, R: Read + Drop, W: Write + Drop, E: Write>(
+    rt: &T,
+    alloc: Global,
+    words: &'a [S],
+    input: R,
+    output: W,
+    errors: &mut E,
+) -> Outcome<'a> {
+    let mut input = Tried::new(input);
+    let mut output = Tried::new(output);
+    program(rt, alloc, words, &mut input, &mut output, errors)
 }
 
 /// Does what the words ask for, but to serve and to host.

@@ -13,7 +13,7 @@ use hall_host::{HostFailure, HostPlan, Keeping, LogPlan, export_hall, host_hall}
 use history_book::Opened;
 use player::{Fault, Tried};
 use program_args::{Hosting, Keeping as KeepingWords, LogWords, Misuse, Serving, refused};
-use program_work::program::{program, report};
+use program_work::program::{program_over, report};
 use program_work::{Failure, Outcome, in_sight, may_take_long};
 use slot_server::{Plan, ServeFault, serve};
 use std::alloc::{AllocGlobal, Global};
@@ -46,14 +46,12 @@ fn by_words<'a, T: Threads + Sync>(
     alloc: Global,
     words: &'a [String],
 ) -> Outcome<'a> {
-    let mut input = Tried::new(rt.stdin());
-    let mut output = Tried::new(rt.stdout());
-    program(
+    program_over(
         threads,
         alloc,
         words,
-        &mut input,
-        &mut output,
+        rt.stdin(),
+        rt.stdout(),
         &mut rt.stderr(),
     )
 }
