@@ -1,8 +1,8 @@
 -- the law of renaming over a grid, over a tree and over segments in a row
 use Rattle.std.proofs.Common.{◌≡◌, ℕ, ◌≤◌, true, false, List, Option, refl, ap, subst, ◌∙◌}
 use Rattle.rename_core.proofs.Common.{After, snapshot, RenameState}
-use Rattle.snapshot_core.specs.FixedTies.{fixed_places, fixed_bounds}
-use Rattle.snapshot_core.specs.FixedProofs.{fixed_laws}
+use Rattle.snapshot_world.specs.FixedTies.{fixed_places, fixed_bounds}
+use Rattle.snapshot_world.specs.FixedProofs.{fixed_laws}
 use Rattle.snapshot_places.specs.Bounds.{grid_bounds, tree_bounds}
 use Rattle.snapshot_places.specs.GridProofs.{grid_laws}
 use Rattle.snapshot_places.specs.GridState.{GridState}
@@ -15,11 +15,11 @@ use Rattle.snapshot_places.specs.declared.grid_walk.GridWalk.{GridWalk}
 use Rattle.snapshot_places.specs.declared.grid_walker.GridWalker.{GridWalker}
 use Rattle.snapshot_places.specs.declared.tree_walk.TreeWalk.{TreeWalk}
 use Rattle.snapshot_places.specs.declared.tree_walker.TreeWalker.{TreeWalker}
-use Rattle.snapshot_core.proofs.FixedLaw.{fits_row}
+use Rattle.snapshot_world.proofs.FixedLaw.{fits_row}
 use Rattle.snapshot_places.proofs.GridLaw.{fits_grid, grid_alike}
 use Rattle.snapshot_places.proofs.TreeLaw.{fits_tree, tree_alike, tree_makes}
-use Rattle.snapshot_core.specs.declared.fixed.FixedWalk.{FixedWalk}
-use Rattle.snapshot_core.specs.declared.fixed.FixedWalker.{FixedWalker}
+use Rattle.snapshot_world.specs.declared.fixed.FixedWalk.{FixedWalk}
+use Rattle.snapshot_world.specs.declared.fixed.FixedWalker.{FixedWalker}
 use Rattle.step_memory.specs.declared.record.Record.{Record}
 use Rattle.rename_core.specs.Ample.{fixed_ample, grid_ample}
 use Rattle.commands.specs.declared.kind.WorldKind.TheVariants.{Rename, Tree}

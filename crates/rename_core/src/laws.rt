@@ -1,7 +1,7 @@
 //! Laws of renaming, which run nothing: of the calls of a world, and over a grid, over a tree and over segments in a row.
 
 ghost use Rattle.std.specs.Prelude.{◌≡◌, ℕ, ◌+◌, ◌-◌, ◌*◌, ◌≤◌, false};
-ghost use Rattle.snapshot_core.specs.FixedTies.{fixed_places, fixed_bounds};
+ghost use Rattle.snapshot_world.specs.FixedTies.{fixed_places, fixed_bounds};
 ghost use Rattle.snapshot_places.specs.Bounds.{grid_bounds, tree_bounds};
 ghost use Rattle.snapshot_places.specs.Grid.{segments_for};
 ghost use Rattle.snapshot_places.specs.GridTies.{grid_places};
@@ -19,8 +19,9 @@ ghost use Rattle.step_memory.specs.Calls.{Call};
 
 use crate::places::RenamePlaces;
 use crate::world::RenameWorld;
-use snapshot_core::{Fixed, Known, Places};
+use snapshot_core::{Known, Places};
 use snapshot_places::{Grid, TreePlaces};
+use snapshot_world::Fixed;
 use std::alloc::Allocator;
 
 /// A law, which runs nothing: renaming is a machine whose calls lead on, whose lists of calls, with every prefix of them, keep

@@ -27,13 +27,13 @@ pub use Rattle.snapshot_core.specs.declared.client.Pending.{Pending}
 pub use Rattle.snapshot_core.specs.declared.client.Pending.TheVariants.{Nothing, Placing as Places, Scan as Scans, Update, Write as Writing}
 pub use Rattle.snapshot_core.specs.declared.client.SnapReply.{SnapReply}
 pub use Rattle.snapshot_core.specs.Client.{is_idle, access_for, after_for, note_for, note_after, pending_after, placed_note, updating, scanning}
-pub use Rattle.snapshot_core.specs.Places.{KnownPlaces, PlacesLaws, value_for, BoundsScans, KeepsWalks, segment_in, places_by}
+pub use Rattle.snapshot_core.specs.Places.{KnownPlaces, PlacesLaws, value_for, BoundsScans, KeepsWalks, segment_in}
 pub use Rattle.snapshot_core.specs.Scan.{scan_after, scan_view, scan_from, is_change, is_second_change, met_anew, met_at, view_at, goes_after, goes_view}
 pub use Rattle.snapshot_core.specs.SnapCalls.{SnapCall, next}
 pub use Rattle.snapshot_core.specs.Machine.{snapshot}
 pub use Rattle.snapshot_core.specs.SnapCalls.SnapCall.{Stepped, Began, Updated, Scanned}
 pub use Rattle.snapshot_core.specs.Snapshot.{SnapObject, new_object, observed, Allows, IsMoment, Task}
 pub use Rattle.snapshot_core.specs.Snapshot.Task.{Absent, Idle, Placing, Scanning, Updating}
-pub use Rattle.snapshot_core.specs.SnapWorld.{SnapState, told, clients_over, snap_answer, after_snap_step, way_now, ways_of, beginner_at, after_scan, after_update, scan_refusal, update_refusal, scan_refusal_by, update_refusal_by, may_lack_memory, told_of_way}
+pub use Rattle.snapshot_core.specs.SnapWorld.{SnapState, told, clients_over, snap_answer, after_snap_step, way_now, ways_of, beginner_at, after_scan, after_update, scan_refusal, update_refusal, scan_refusal_by, update_refusal_by, may_lack_memory}
 pub use Rattle.snapshot_core.specs.declared.sightings.Sighting.{Sighting}
 pub use Rattle.snapshot_core.specs.Sightings.{met_in, number_met, sighting_of, noted, with_sighting, carried_over, shown_by, unknown, index_of}

@@ -1,7 +1,6 @@
 mod Common
 mod SightingLemmas
-mod SnapWorldLemmas
-mod AskedLemmas
+pub mod SnapWorldLemmas
 mod WayLemmas
 mod FewValues
 mod Shown
@@ -18,4 +17,3 @@ pub mod Following
 mod ScanAlone
 pub mod Alone
 pub mod Clients
-pub mod FixedLaw

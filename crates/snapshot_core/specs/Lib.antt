@@ -3,9 +3,6 @@ pub mod Walks
 pub mod Places
 pub mod Scan
 pub mod Client
-pub mod Fixed
-pub mod FixedTies
-pub mod FixedProofs
 pub mod SnapWorld
 pub mod SnapCalls
 pub mod Standing

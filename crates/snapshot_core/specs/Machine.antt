@@ -1,13 +1,15 @@
 -- a snapshot object as a machine, and what is said of it after its calls
-use Rattle.std.specs.Prelude.{◌≡◌, ℕ, List, length, Some, Ok, Contains}
+use Rattle.std.specs.Prelude.{◌≡◌, ℕ, List, length, Some, Result, Ok, Contains}
 use Rattle.step_memory.specs.Distinct.{AreDistinct}
-use Rattle.step_memory.specs.Machine.{Machine, After, Always}
+use Rattle.step_memory.specs.Machine.{Machine, After, Always, LeadsOn}
 use Rattle.step_memory.specs.Participant.{program_of}
 use Rattle.step_memory.specs.Runs.{AnswersAsDue}
 use Rattle.snapshot_core.specs.declared.client.Client.{Client}
+use Rattle.step_memory.specs.declared.refusal.Refusal.{Refusal}
+use Rattle.snapshot_core.specs.declared.client.SnapReply.{SnapReply}
 use Rattle.snapshot_core.specs.declared.client.SnapReply.TheVariants.{Placed}
 use Rattle.snapshot_core.specs.Places.{KnownPlaces, BoundsScans}
-use Rattle.snapshot_core.specs.SnapWorld.{SnapState, place_in, ways_of, beginner_at, clients_over, IsAccessFor}
+use Rattle.snapshot_core.specs.SnapWorld.{SnapState, place_in, ways_of, beginner_at, clients_over, snap_answer, after_snap_step, IsAccessFor}
 use Rattle.snapshot_core.specs.SnapCalls.{SnapCall, fresh_over, next, IsReply}
 use Rattle.snapshot_core.specs.SnapCalls.SnapCall.{Stepped}
 use Rattle.snapshot_core.specs.Snapshot.{SnapBounds, KeepsSnapshotLaw, bounds_over, observed, Allows, new_object}
@@ -56,3 +58,7 @@ module _ {S R V U K : Type 0} (t : KnownPlaces S R V U K) where
   -- who was told its place has it
   abbrev pub KeepsTold : SnapState S U K → ℕ → Type 0
   KeepsTold w p = AlwaysFromNew (λ first r. (place : ℕ) → Contains r (Stepped p (Ok (Placed place))) → place_in t w p ≡ Some place) w
+
+  -- a step of p that is answered as it is due, and leaves what it is to leave, leads on
+  abbrev pub StepLeadsOn : SnapState S U K → ℕ → Type 0
+  StepLeadsOn w p = (new : SnapState S U K) (reply : Result SnapReply Refusal) → new ≡ after_snap_step t w p → reply ≡ snap_answer t w p → LeadsOn snapshot w new (Stepped p reply)

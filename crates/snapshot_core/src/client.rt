@@ -46,7 +46,7 @@ impl SnapReply {
 
     /// What a step tells, of which the participant says this.
     #[inline(always)]
-    pub(crate) fn of_step(note: Note<SnapReply>) -> Self
+    pub fn of_step(note: Note<SnapReply>) -> Self
         ensures { result ≡ told note }
     {
         match note {

@@ -1,46 +1,35 @@
-//! Laws of the snapshot object, which run nothing.
+//! Laws of the snapshot object over any places, which run nothing.
 
-ghost use Rattle.std.specs.Prelude.{◌≡◌, ◌≤◌, ℕ, false};
+ghost use Rattle.std.specs.Prelude.{ℕ};
 ghost use Rattle.snapshot_core.specs.Alone.{EndsSoonAlone, EndsAlike};
-ghost use Rattle.snapshot_core.specs.FixedTies.{fixed_places, fresh_row, fixed_bounds};
-ghost use Rattle.snapshot_core.specs.Places.{BeginsAlike, BoundsScans};
-ghost use Rattle.snapshot_core.specs.Machine.{snapshot, IsLawfulFrom, MakesOwnAccess, BeginsTheSame, HasDistinctPlaces, IsConsistentAfter};
+ghost use Rattle.snapshot_core.specs.Places.{BeginsAlike};
+ghost use Rattle.snapshot_core.specs.Machine.{snapshot, MakesOwnAccess, BeginsTheSame, HasDistinctPlaces, IsConsistentAfter, KeepsTold, StepLeadsOn};
 ghost use Rattle.snapshot_core.specs.Snapshot.{SnapBounds, HoldsOfPrefixes};
 ghost use Rattle.step_memory.specs.Machine.{IsProved};
-ghost use Rattle.snapshot_core.specs.SnapWorld.{SnapState, may_lack_memory, LacksOnWay};
+ghost use Rattle.snapshot_core.specs.SnapWorld.{SnapState, snap_answer, after_snap_step, LacksOnWay, AnswersAlike, StaysAlike};
 ghost use Rattle.snapshot_core.specs.Standing.{BeginsSo, GoesSoIdle, GoesSoBusy};
 
-use crate::fixed::Fixed;
 use crate::places::{Known, PlaceWalker, Places};
 use crate::walk::SegmentWalk;
-use crate::world::SnapWorld;
-use std::alloc::Allocator;
-
-/// A law, which runs nothing. Over at most 16 segments in a row, which were empty at first, the calls of a snapshot object
-/// with their replies are those of the object of the law, after every list of calls: a view shows a moment from the last
-/// one at the scan's first read on, and over m segments a scan takes at most m(m + 1) steps and an update one more.
-/// Nobody takes a step to its place, and no step wants memory. A fresh row is one in which nothing was written.
-pub fn snapshot_law<A: Allocator>(world: &SnapWorld<Fixed<A>, A>)
-    ensures law { world.now.most ≤ 16 → IsLawfulFrom fixed_places (fresh_row world.now.most) (fixed_bounds world.now.most) world.now }
-    ensures fits { BoundsScans fixed_places world.now.most (fixed_bounds world.now.most).scanning }
-    ensures ample { (id : ℕ) → may_lack_memory fixed_places world.now id ≡ false }
-    ensures new { (most : ℕ) → most ≤ 16 → fixed_places.ties.IsNew (fresh_row most) }
-{
-    let _world = world;
-}
 
 /// What structures over a snapshot object stand on, over any places: it is a machine whose calls lead on, and whose lists of
 /// calls keep the law, where nothing was written at first and the bound on scans leaves room for as many collects as have
-/// begun and one more. Every prefix of a list that keeps the law keeps it. No two have one place, the memory agrees with the
-/// ways of those who have begun, only a step on a way to a place may want memory, and each access is one for what its
-/// participant has to do. Over places that do not go by the order of beginning, all who begin under one identity are alike.
+/// begun and one more. Every prefix of a list that keeps the law keeps it. No two have one place, who was told its place has
+/// it, the memory agrees with the ways of those who have begun, only a step on a way to a place may want memory, and each
+/// access is one for what its participant has to do. A step that is answered leads on, and what it answers, and where the
+/// participant then stands, depends on what this one sees. Over places that do not go by the order of beginning, all who
+/// begin under one identity are alike.
 pub fn law_of_snapshot_calls<W: Places>()
     ensures machine { IsProved (snapshot ⟦<W as Known>⟧.places) }
     ensures prefix { (bounds : SnapBounds) → HoldsOfPrefixes bounds }
     ensures distinct { (w : SnapState W W.Walker W.Walk) → HasDistinctPlaces ⟦<W as Known>⟧.places w }
+    ensures told { (w : SnapState W W.Walker W.Walk) (p : ℕ) → KeepsTold ⟦<W as Known>⟧.places w p }
     ensures consistent { (w : SnapState W W.Walker W.Walk) → IsConsistentAfter ⟦<W as Known>⟧.places w }
     ensures sure { (w : SnapState W W.Walker W.Walk) (p : ℕ) → LacksOnWay ⟦<W as Known>⟧.places w p }
     ensures own { (w : SnapState W W.Walker W.Walk) (p : ℕ) → MakesOwnAccess ⟦<W as Known>⟧.places w p }
+    ensures leads { (w : SnapState W W.Walker W.Walk) (p : ℕ) → StepLeadsOn ⟦<W as Known>⟧.places w p }
+    ensures answered { (w : SnapState W W.Walker W.Walk) (p : ℕ) → AnswersAlike ⟦<W as Known>⟧.places w p (snap_answer ⟦<W as Known>⟧.places w p) }
+    ensures stays { (w : SnapState W W.Walker W.Walk) (p : ℕ) → StaysAlike ⟦<W as Known>⟧.places w (after_snap_step ⟦<W as Known>⟧.places w p) p }
     ensures alike { BeginsAlike ⟦<W as Known>⟧.places → (p : ℕ) → BeginsTheSame ⟦<W as Known>⟧.places p }
 {}
 

@@ -15,42 +15,23 @@
 //! for want of memory only on the way to a place. A step makes one access, which the participant's own state names.
 //! (Counting steps, the sequence numbers' beginning at 1 and the limit of updates are this project's profile.)
 //!
-//! What places promise stands in `specs/Places.antt`, and each implementor of `Places` proves it. Contracts name it by one
-//! record, `⟦<W as Known>⟧.places`: what the ways to places, the walks and the memory do. `Fixed` is one of them, segments
-//! in a row; the crate `snapshot_places` has the grid and the tree. What structures above stand on is stated by
-//! `law_of_snapshot_calls` and `law_of_clients`.
-//!
-//! A caller, over three segments in a row:
-//!
-//! ```text
-//! let mut world = SnapWorld::new(alloc, Fixed::new(alloc, 3)?)?;
-//! world.begin(10)?;
-//! world.begin(20)?;
-//! world.update(10, 5)?;
-//! while !matches!(world.step(10)?, SnapReply::Written) {}
-//! world.scan(20)?;
-//! let view = loop {
-//!     if let Some(view) = world.step(20)?.view() {
-//!         break view;                // 10:5
-//!     }
-//! };
-//! ```
+//! Here are the participants, each a program of one access a step (`Client`), and the laws of the machine that their calls
+//! are; `snapshot_world` has the object itself, `SnapWorld`. What places promise stands in `specs/Places.antt`, and each
+//! implementor of `Places` proves it. Contracts name it by one record, `⟦<W as Known>⟧.places`: what the ways to places, the
+//! walks and the memory do. `snapshot_world` has segments in a row, `snapshot_places` a grid and a tree. What structures above
+//! stand on is stated by `law_of_snapshot_calls`, `law_of_clients` and `law_of_steps_alone`.
 #![tactic(auto)]
 
 pub mod client;
-pub mod fixed;
 pub mod laws;
 pub mod places;
 pub mod scan;
 pub mod sightings;
 pub mod walk;
-pub mod world;
 
-pub use client::{Client, MOST_UPDATES, Pending, SnapReply, ToScan, ToUpdate};
-pub use fixed::{Fixed, FixedWalk, FixedWalker};
-pub use laws::{law_of_clients, law_of_snapshot_calls, law_of_steps_alone, snapshot_law};
+pub use client::{Client, MOST_UPDATES, OnWay, Pending, SnapReply, ToScan, ToUpdate};
+pub use laws::{law_of_clients, law_of_snapshot_calls, law_of_steps_alone};
 pub use places::{Known, PlaceWalker, Places};
 pub use scan::Scan;
 pub use sightings::{Met, Sighting, Sightings};
 pub use walk::SegmentWalk;
-pub use world::SnapWorld;

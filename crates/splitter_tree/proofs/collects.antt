@@ -5,6 +5,3 @@ pub mod OpenLemmas
 pub mod WalkLemmas
 pub mod ReadCount
 pub mod PlacesAhead
-pub mod UnderWay
-pub mod CollectTied
-pub mod CollectSteps

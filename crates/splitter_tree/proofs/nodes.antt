@@ -10,5 +10,3 @@ pub mod DepthBound
 pub mod ConsistentKept
 pub mod TreeLaw
 pub mod WalkerLemmas
-pub mod PlacesTied
-pub mod NodesMade

@@ -16,7 +16,7 @@ use Rattle.splitter_tree.specs.Walk.{place_by}
 use Rattle.step_memory.specs.Count.{count_to}
 use Rattle.splitter_tree.specs.Depth.{depth_of, IsNodeWithin}
 use Rattle.splitter_tree.specs.NodeOrder.{IsUnder}
-use Rattle.splitter_tree.specs.Law.{AreDistinct}
+use Rattle.step_memory.specs.Distinct.{AreDistinct}
 
 -- the walk of p agrees with the visits: it stands at a node that it came to, has written its mark before it visits it, has
 -- not left it, and has entered no node of a larger number

@@ -1,20 +1,16 @@
-//! Laws of the tree, which run nothing: of its registers and the walks alone, of collects, and of the calls of its world.
+//! Laws of the tree, which run nothing: of its registers, of the walks down it and of those over its segments.
 
-ghost use Rattle.std.specs.Prelude.{◌≡◌, ℕ, ◌+◌, ◌*◌, ◌≤◌, Some, Bool, []};
-ghost use Rattle.splitter_tree.specs.Laws.{IsUpcomingWhenRead, LetsTheFirstIn, AgreesWhenEmpty, AgreesWithBeginner, AgreesAfterAccess, AgreesElsewhere, WalksKeepTreeLaw, ComesNearer, HasAccessesLeft, EndsAtPlace, WalkKeepsSegments, WalkMarksItsNode, RefusedAtNewNode, ReadsWhatIsAhead, KeepsReads, CountsOneRead, FindsFewNodes, PlacesAreAhead, ReadsFew, WalkAddsMarks, WriteAddsMarks, TreesAreProved, CollectHasRead, NodesAgreeWithWalks, NodesAreTree, PlacesAreTold, IsOnTheWay, NeverEnds, MarksWhatWasMade, MakesNodesWithin, TellsOnePlace, WritesOwnSegment, StandsAtItsNode};
+ghost use Rattle.std.specs.Prelude.{◌≡◌, ℕ, ◌+◌, ◌*◌, ◌≤◌, Some, Bool};
+ghost use Rattle.splitter_tree.specs.Laws.{TellsItsPlace, StandsWhereItReads, PathsAreMarked, MarksFew, IsUpcomingWhenRead, AgreesWhenEmpty, AgreesWithBeginner, AgreesAfterAccess, AgreesElsewhere, WalksKeepTreeLaw, ComesNearer, HasAccessesLeft, EndsAtPlace, WalkKeepsSegments, WalkMarksItsNode, RefusedAtNewNode, ReadsWhatIsAhead, KeepsReads, CountsOneRead, FindsFewNodes, PlacesAreAhead, ReadsFew, WalkAddsMarks, WriteAddsMarks};
 ghost use Rattle.splitter_tree.specs.Ahead.{HasGrown, HasRead, marked_in, found_by, IsAhead, IsPathMarked, IsUpcoming, Sees};
-ghost use Rattle.splitter_tree.specs.Client.{client_access};
 ghost use Rattle.splitter_tree.specs.CollectWalk.{first_walk, register_read, place_read, walk_resumed};
-ghost use Rattle.splitter_tree.specs.Machine.{fresh_over, tree};
-ghost use Rattle.step_memory.specs.Machine.{After, IsProved};
 ghost use Rattle.splitter_tree.specs.TreeMemory.{IsTreeMemory, IsEmptyTree};
 ghost use Rattle.splitter_tree.specs.TreeSteps.{empty_tree, tree_steps};
-ghost use Rattle.splitter_tree.specs.declared.client.Client.{Client};
 ghost use Rattle.splitter_tree.specs.declared.collect_walk.CollectWalk.{CollectWalk};
 ghost use Rattle.splitter_tree.specs.declared.register.TreeRegister.{TreeRegister};
 ghost use Rattle.splitter_tree.specs.declared.register.TreeRegister.TheVariants.{Contents};
 ghost use Rattle.splitter_tree.specs.declared.register.TreeValue.{TreeValue};
-ghost use Rattle.step_memory.specs.Steps.{MemorySteps, ReadsOrWrites};
+ghost use Rattle.step_memory.specs.Steps.{MemorySteps};
 
 /// A law, which runs nothing: a tree is a memory in which a node is within reach once its parent is marked, a node that is
 /// marked keeps what is written to it, and only what marks a node may be refused; and a new tree has no node. Walks and
@@ -29,7 +25,7 @@ pub fn law_of_tree_memory()
 /// consistent; and where they are, they keep the law of the tree. Where b have begun, a walk that has no place yet has made
 /// fewer than 5b accesses; each brings it nearer to a place, and says that it has ended just where it reaches it. It leaves
 /// all segments as they are, and all marks but that of a node which it marks; and it is refused only where that node was not
-/// marked.
+/// marked. What it says of an answer tells its place, where it then has one.
 /// Structures over the places of a tree stand on this.
 pub fn law_of_nodes_and_walks<S>()
     ensures fresh { AgreesWhenEmpty S }
@@ -39,6 +35,7 @@ pub fn law_of_nodes_and_walks<S>()
     ensures law { WalksKeepTreeLaw S }
     ensures nearer { ComesNearer S }
     ensures unplaced { HasAccessesLeft S }
+    ensures told { TellsItsPlace }
     ensures ended { EndsAtPlace }
     ensures segments { WalkKeepsSegments S }
     ensures marks { WalkMarksItsNode S }
@@ -54,6 +51,7 @@ pub fn law_of_collects()
     ensures kept { (marked later : ℕ → Bool) (w : CollectWalk) (q : ℕ) → HasGrown marked later → IsAhead marked w q → IsAhead later w q }
     ensures read { ReadsWhatIsAhead }
     ensures segment { (w : CollectWalk) (q : ℕ) → place_read w ≡ Some q → register_read w ≡ Contents q }
+    ensures stands { StandsWhereItReads }
     ensures upcoming { (w : CollectWalk) (got : TreeValue) (q : ℕ) → IsUpcoming (walk_resumed w got) q → IsUpcoming w q }
     ensures once { (w : CollectWalk) (got : TreeValue) (q : ℕ) → place_read w ≡ Some q → IsUpcoming (walk_resumed w got) q → ⊥ }
 
@@ -68,56 +66,14 @@ pub fn law_of_collects()
 {}
 
 /// A law, which runs nothing: where the nodes of a tree and the walks to places in it are consistent, each place is ahead
-/// of a collect's walk that begins, and where b have begun such a walk makes at most 6b - 2 reads. Walks to places and
-/// writes of segments take no mark back.
+/// of a collect's walk that begins, as all nodes from the root down to it are marked; and where b have begun such a walk
+/// makes at most 6b - 2 reads, as at most 2b - 1 nodes are marked. Walks to places and writes of segments take no mark back.
 pub fn law_of_collects_at_places<S>()
+    ensures paths { PathsAreMarked S }
     ensures ahead { PlacesAreAhead S }
     ensures sees { (memory : MemorySteps S TreeRegister TreeValue) (s : S) (w : CollectWalk) → Sees (marked_in memory s) w (found_by memory s w) }
+    ensures marked { MarksFew S }
     ensures few { ReadsFew S }
     ensures gone_on { WalkAddsMarks S }
     ensures written { WriteAddsMarks S }
-{}
-
-/// A law, which runs nothing, of a collect that is under way over any memory that is a tree: where it has found `nodes`
-/// nodes marked, it comes with its next step to at most `3 nodes + 1` of them.
-pub fn law_of_collect_calls<S>()
-    ensures { CollectHasRead S }
-{}
-
-/// A law, which runs nothing: the world over any memory that is a tree is a machine whose calls lead on, whose lists of
-/// calls, with every prefix of them, keep the law of the places and that of collects, and each of whose calls is refused
-/// exactly where those before it make it due. A view shows what each had stored last at some moment of the collect, and
-/// whoever had stored before it began; and where b have begun, a collect takes at most 6b - 2 steps. After every list of
-/// calls nodes and walks are consistent, so the law of the tree holds of them; the places that were answered are those at
-/// which walks have ended; a participant is on its way just while it has no place, and never ends; and just the nodes are
-/// marked that were made, all of depths below the number of those who have begun.
-pub fn law_of_places<S>()
-    ensures machine { TreesAreProved S }
-    ensures consistent { NodesAgreeWithWalks S }
-    ensures tree { NodesAreTree S }
-    ensures places { PlacesAreTold S }
-    ensures on_the_way { IsOnTheWay S }
-    ensures never_ends { NeverEnds S }
-    ensures made { MarksWhatWasMade S }
-    ensures made_within { MakesNodesWithin S }
-{}
-
-/// A law, which runs nothing: a tree is a machine whose calls lead on, whose lists of calls, with every prefix of them, keep
-/// the law, and each of whose calls is refused exactly where those before it make it due; it may start with no node and with
-/// room for at most 64. A list that tells somebody a second place keeps no law of the places, and one that refuses whoever
-/// comes first is refused where nothing is due.
-pub fn law_of_tree_calls()
-    ensures fresh { (most : ℕ) → most ≤ 64 → After tree (empty_tree, most) (fresh_over tree_steps (empty_tree, most)) [] }
-    ensures machine { IsProved tree }
-    ensures one_place { TellsOnePlace }
-    ensures not_refused { LetsTheFirstIn }
-{}
-
-/// A law, which runs nothing: an access of a participant reads or writes a register, or reaches none; and the one who
-/// writes a segment has its place at the segment's node, where its visit is to the registers of the node before which it
-/// stands, as everyone's is after any calls.
-pub fn law_of_own_accesses()
-    ensures own { (c : Client) → ReadsOrWrites (client_access c) }
-    ensures segment { WritesOwnSegment }
-    ensures stands { StandsAtItsNode }
 {}

@@ -4,7 +4,7 @@
 use crate::common::{holds, lent, same};
 use commands::{Config, WorldKind};
 use rename_core::{RenameWorld, Reply, fixed_rename_law, next_proposal};
-use snapshot_core::Fixed;
+use snapshot_world::Fixed;
 use std::alloc::Global;
 use step_memory::{Refusal, View};
 

@@ -1,9 +1,8 @@
 //! Updates and scans over segments in a row, and what plays calls of a snapshot object.
 
 use crate::common::{holds, same};
-use snapshot_core::{
-    Fixed, Places, SnapReply, SnapWorld, law_of_clients, law_of_snapshot_calls, snapshot_law,
-};
+use snapshot_core::{Places, SnapReply, law_of_clients, law_of_snapshot_calls};
+use snapshot_world::{Fixed, SnapWorld, snapshot_law};
 use std::alloc::{Allocator, Global};
 use std::process::Abort;
 use step_memory::{Place, Refusal};

@@ -1,14 +1,16 @@
-//! Worked examples of `splitter_tree`: walks, stores and collects of one to three participants, and refusals.
+//! Worked examples of `tree_world`: walks, stores and collects of one to three participants, and refusals.
 
 use crate::common::{holds, lent, same, take};
 use splitter_tree::{
-    Client, TreeRegister, TreeValue, TreeWorld, Walker, law_of_collect_calls, law_of_collects,
-    law_of_collects_at_places, law_of_nodes_and_walks, law_of_own_accesses, law_of_places,
-    law_of_tree_calls, law_of_tree_memory,
+    TreeRegister, TreeValue, Walker, law_of_collects, law_of_collects_at_places,
+    law_of_nodes_and_walks, law_of_tree_memory,
 };
 use std::alloc::Global;
 use std::process::Abort;
 use step_memory::{Access, Answer, Note, Place, Refusal, StepProgram, View};
+use tree_world::{
+    Client, TreeWorld, law_of_collect_calls, law_of_own_accesses, law_of_places, law_of_tree_calls,
+};
 
 /// A call.
 #[derive(Clone, Copy, Drop)]

@@ -123,10 +123,6 @@ module _ {S : Type 0} (memory : MemorySteps S TreeRegister TreeValue) (tree : Is
     visit_reaches v own x_of y_of WroteY e = rw (e, tree.xs s k, own) refl
     visit_reaches v own x_of y_of stage e = rw e refl
 
--- another memory has the same in every register but segments
-abbrev pub SparesNodes : {S : Type 0} → MemorySteps S TreeRegister TreeValue → S → S → Type 0
-SparesNodes memory s other = (r : TreeRegister) → ((k : ℕ) → r ≢ Contents k) → memory.register other r ≡ memory.register s r
-
 module _ {S : Type 0} (memory : MemorySteps S TreeRegister TreeValue) (most b : ℕ) (s : S) (walker : ℕ → Option Walker) (c : IsConsistent memory most b s walker) where
   -- one who begins
   pub begun : (p : ℕ) → p ≢ 0 → walker p ≡ None → b < most → IsConsistent memory most (suc b) s (set_at walker p (Some (walk_of p)))
@@ -135,12 +131,6 @@ module _ {S : Type 0} (memory : MemorySteps S TreeRegister TreeValue) (most b : 
   -- what leaves marks, X and Y as they are
   pub elsewhere : (other : S) → mark_at memory other ≡ mark_at memory s → x_at memory other ≡ x_at memory s → y_at memory other ≡ y_at memory s → IsConsistent memory most b other walker
   elsewhere other marks xs ys = record { few = c.few; room = c.room; agree = rw (marks, xs, ys) c.agree }
-
-  pub aside : (other : S) → SparesNodes memory s other → IsConsistent memory most b other walker
-  aside other spares =
-      let same : (kind : ℕ → TreeRegister) → ((k j : ℕ) → kind k ≢ Contents j) → words_in memory other kind ≡ words_in memory s kind =
-      λ kind apart. fun_ext (λ k. ap (λ (x : TreeValue × Bool). word_in x.0) (spares (kind k) (apart k))) in
-      elsewhere other (same Mark (λ k j h. absurd (cc))) (same X (λ k j h. absurd (cc))) (same Y (λ k j h. absurd (cc)))
 
   -- a walk stands within reach
   reaches : (p : ℕ) (u : Walker) → walker p ≡ Some u → IsWithinReach memory s u.place

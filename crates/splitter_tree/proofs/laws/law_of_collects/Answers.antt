@@ -1,4 +1,4 @@
-use Rattle.splitter_tree.proofs.collects.WalkLemmas.{ahead_at_first, ahead_kept, ahead_resumed, register_is, upcoming_before, read_once}
+use Rattle.splitter_tree.proofs.collects.WalkLemmas.{ahead_at_first, ahead_kept, ahead_resumed, register_is, place_from, upcoming_before, read_once}
 use Rattle.splitter_tree.proofs.collects.ReadCount.{read_at_first, read_here, read_kept, read_resumed, reads_few, nodes_few}
 use Rattle.splitter_tree.proofs.laws.law_of_collects.Goals as goal
 
@@ -8,6 +8,7 @@ returns c = record {
   kept = ahead_kept;
   read = ahead_resumed;
   segment = register_is;
+  stands = place_from;
   upcoming = upcoming_before;
   once = read_once;
   here = read_here;

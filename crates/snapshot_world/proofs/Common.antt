@@ -1,0 +1,20 @@
+-- The names that several proofs of this crate cite, passed on from one place. Declares nothing.
+pub use Rattle.std.proofs.Math.Nat.{mul-le-mul_right}
+pub use Rattle.step_memory.specs.declared.access.Access.TheVariants.{Read}
+pub use Rattle.step_memory.specs.Calls.{reply_of, lacked_memory}
+pub use Rattle.step_memory.specs.declared.participant.Participant.{Participant}
+pub use Rattle.step_memory.specs.Participant.{participant_of, program_of}
+pub use Rattle.step_memory.specs.declared.note.Note.{Note}
+pub use Rattle.step_memory.specs.declared.note.Note.TheVariants.{Quiet}
+pub use Rattle.step_memory.specs.declared.refusal.Refusal.TheVariants.{Spent, NotBegun, Finished, NoMemory}
+pub use Rattle.step_memory.specs.declared.record.Record.{Record}
+pub use Rattle.step_memory.specs.declared.refusal.Refusal.{Refusal}
+pub use Rattle.snapshot_core.specs.declared.client.Client.{Client}
+pub use Rattle.snapshot_core.specs.declared.client.Pending.{Pending}
+pub use Rattle.snapshot_core.specs.declared.client.SnapReply.{SnapReply}
+pub use Rattle.snapshot_core.specs.Client.{is_idle, access_for, placed_note, updating, scanning}
+pub use Rattle.snapshot_core.specs.Places.{KnownPlaces, BoundsScans, places_by}
+pub use Rattle.snapshot_core.specs.SnapCalls.{SnapCall, next}
+pub use Rattle.snapshot_core.specs.Machine.{snapshot}
+pub use Rattle.snapshot_core.specs.SnapCalls.SnapCall.{Stepped, Began, Updated, Scanned}
+pub use Rattle.snapshot_core.specs.SnapWorld.{SnapState, told, clients_over, snap_answer, after_snap_step, after_scan, after_update, scan_refusal, update_refusal, scan_refusal_by, update_refusal_by, told_of_way}

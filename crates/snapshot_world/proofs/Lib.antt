@@ -1,0 +1,4 @@
+mod Common
+mod CallLemmas
+mod AskedLemmas
+pub mod FixedLaw

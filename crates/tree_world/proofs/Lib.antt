@@ -1,0 +1,12 @@
+mod Common
+mod CallCases
+mod PlacesTied
+mod NodesMade
+mod StoreLemmas
+mod DueTied
+mod UnderWay
+mod CollectTied
+mod CollectSteps
+mod TreeProved
+mod CallsAsked
+mod OwnAccesses

@@ -1,0 +1,11 @@
+pub mod Law
+pub mod Collect
+pub mod Client
+pub mod TreeWorld
+pub mod TreeCalls
+pub mod PlacesLaw
+pub mod TreeDue
+pub mod CollectLaw
+pub mod Machine
+pub mod Made
+pub mod Laws
