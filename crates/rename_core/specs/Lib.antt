@@ -7,6 +7,7 @@ pub mod Round
 pub mod Reply
 pub mod RenameState
 pub mod RenameWorld
+pub mod Taken
 pub mod NamedPlaces
 pub mod Machine
 pub mod Locality

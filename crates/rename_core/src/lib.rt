@@ -49,6 +49,7 @@ pub mod places;
 pub mod proposal;
 pub mod reply;
 pub mod round;
+pub mod step;
 pub mod world;
 
 pub use commands::{Config, WorldKind};

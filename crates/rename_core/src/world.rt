@@ -1,22 +1,23 @@
 //! A renaming world, taken step by step.
 
 ghost use Rattle.std.specs.Prelude.{◌≡◌, ◌≢◌, ◌<◌, ◌≤◌, ◌⊎◌, ◌↔◌, [], length, IfOk, IfErr, OnErr, Some, None, Err, false};
-ghost use Rattle.step_memory.specs.Participant.{index_of, program_of, beginner};
+ghost use Rattle.step_memory.specs.Participant.{index_of, program_of};
 ghost use Rattle.step_memory.specs.World.{begin_refusal, done_unless};
 ghost use Rattle.step_memory.specs.Calls.Call.{Began, Stepped};
 ghost use Rattle.commands.specs.Config.{is_played_over, most_in};
 ghost use Rattle.rename_core.specs.Locality.{IsLocal};
 ghost use Rattle.rename_core.specs.Machine.{renaming, IsFresh, MakesOwnAccess, IsName, IsOwnerOf, IsLastMoment};
 ghost use Rattle.step_memory.specs.Machine.{After, IsLawful, LeadsOn};
-ghost use Rattle.rename_core.specs.Round.{standing_by, followed};
-ghost use Rattle.rename_core.specs.Reply.{outcome_with, with_view};
-ghost use Rattle.rename_core.specs.RenameWorld.{fresh_world, step_refusal, after_wish, name_in, owner_by, shown_with, shown_by, after_rename_begin, rename_answer, after_rename_step, LacksMemory};
+ghost use Rattle.rename_core.specs.Round.{standing_by};
+ghost use Rattle.rename_core.specs.Reply.{outcome_with};
+ghost use Rattle.rename_core.specs.RenameWorld.{fresh_world, step_refusal, name_in, owner_by, shown_with, shown_by, after_rename_begin, rename_answer, after_rename_step, LacksMemory};
 
 use crate::places::RenamePlaces;
 use crate::reply::Reply;
 use crate::round::{Round, Wish};
+use crate::step::{ask, take};
 use commands::Config;
-use snapshot_core::{Known, SnapReply};
+use snapshot_core::Known;
 use snapshot_world::SnapWorld;
 use std::alloc::Allocator;
 use std::marker::Model;
@@ -52,49 +53,6 @@ fn show(view: &mut View, participant: &Participant<Round>)
     }
 }
 
-/// Asks the snapshot object for what a round wants, with no access. It is never refused, since nothing of the identity is
-/// pending then.
-fn ask<W: RenamePlaces<A> + Drop, A: Allocator>(snap: &mut SnapWorld<W, A>, id: u64, wish: Wish)
-where
-    W::Walker: Copy,
-    W::Walk: Copy,
-    W::Value: Drop,
-    ensures state { snap.new ≡ after_wish snap.old id wish }
-    ensures no_access { snap.new.memory ≡ snap.old.memory }
-{
-    let _asked = match wish {
-        Wish::Nothing => Ok(()),
-        Wish::Update(number) => snap.update(id, number),
-        Wish::Scan => snap.scan(id),
-    };
-}
-
-/// What follows a step in which the snapshot object told this: what the round then asks for, where it then stands, and
-/// what it answers. A function of its own, so that a step of which nothing follows has no room of a view to clear.
-#[inline(never)]
-fn follow<W: RenamePlaces<A> + Drop, A: Allocator>(
-    snap: &mut SnapWorld<W, A>,
-    participant: &mut Participant<Round>,
-    told: SnapReply,
-    limit: u64,
-    view: &mut View,
-) -> Reply<()>
-where
-    W::Walker: Copy,
-    W::Walk: Copy,
-    W::Value: Drop,
-    ensures reply { with_view result view.new ≡ (followed participant.old.program participant.old.identity told limit).reply }
-    ensures asked { snap.new ≡ after_wish snap.old participant.old.identity (followed participant.old.program participant.old.identity told limit).wish }
-    ensures round { participant.new ≡ beginner participant.old.identity (followed participant.old.program participant.old.identity told limit).round }
-{
-    let id = participant.identity;
-    let follow = participant.program.followed(id, told, limit);
-    ask(snap, id, follow.wish);
-    participant.program = follow.round;
-    participant.ended = false;
-    follow.reply.shorten(view)
-}
-
 impl<W: RenamePlaces<A> + Drop, A: Allocator> RenameWorld<W, A>
 where
     W::Walker: Copy,
@@ -116,45 +74,6 @@ where
         }
     }
 
-    /// A step that is none on the way to a place, and what follows it. A function of its own, so that other steps have no
-    /// room of a segment to clear.
-    #[inline(never)]
-    fn take_other(&mut self, at: usize, id: u64, view: &mut View) -> Result<Reply<()>, Refusal>
-        requires there { Some at ≡ index_of id self.old.rounds }
-        requires ready { step_refusal self.old id ≡ None }
-        ensures answer { result ≢ Err Refusal.NoMemory → outcome_with result view.new ≡ rename_answer ⟦<W as Known>⟧.places self.old id }
-        ensures state { result ≢ Err Refusal.NoMemory → self.new ≡ after_rename_step ⟦<W as Known>⟧.places self.old id }
-        ensures refused { OnErr result (self.new ≡ self.old) }
-        ensures no_memory { result ≡ Err Refusal.NoMemory → LacksMemory ⟦<W as Known>⟧.places self.old id }
-    {
-        let told = match self.snap.step(id) {
-            Ok(told) => told,
-            Err(refusal) => return Err(refusal),
-        };
-        Ok(follow(&mut self.snap, &mut self.rounds[at], told, self.limit, view))
-    }
-
-    /// A step that is no read of a scan that goes on, and what follows it. A function of its own, as `take_other` is.
-    #[inline(never)]
-    fn take_slow(&mut self, at: usize, id: u64, view: &mut View) -> Result<Reply<()>, Refusal>
-        requires there { Some at ≡ index_of id self.old.rounds }
-        requires ready { step_refusal self.old id ≡ None }
-        ensures answer { result ≢ Err Refusal.NoMemory → outcome_with result view.new ≡ rename_answer ⟦<W as Known>⟧.places self.old id }
-        ensures state { result ≢ Err Refusal.NoMemory → self.new ≡ after_rename_step ⟦<W as Known>⟧.places self.old id }
-        ensures refused { OnErr result (self.new ≡ self.old) }
-        ensures no_memory { result ≡ Err Refusal.NoMemory → LacksMemory ⟦<W as Known>⟧.places self.old id }
-    {
-        let Some(note) = self.snap.walk_on(id)? else {
-            return self.take_other(at, id, view);
-        };
-        if note.is_quiet() {
-            self.rounds[at].ended = false;
-            return Ok(Reply::Quiet);
-        }
-        let told = SnapReply::of_way(note);
-        Ok(follow(&mut self.snap, &mut self.rounds[at], told, self.limit, view))
-    }
-
     /// A step, and what follows it.
     #[inline(always)]
     fn take_step(&mut self, id: u64, view: &mut View) -> Result<Reply<()>, Refusal>
@@ -164,11 +83,7 @@ where
         ensures no_memory { result ≡ Err Refusal.NoMemory → LacksMemory ⟦<W as Known>⟧.places self.old id }
     {
         let at = self.open_round(id)?;
-        if !self.snap.read_on(id) {
-            return self.take_slow(at, id, view);
-        }
-        self.rounds[at].ended = false;
-        Ok(Reply::Quiet)
+        take(&mut self.snap, &mut self.rounds[at], self.limit, view)
     }
 
     /// One step of a participant: one access, and what follows it. Refused where the identity has not begun, then where it

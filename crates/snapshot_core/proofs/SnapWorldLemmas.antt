@@ -1,14 +1,13 @@
 -- the calls of a snapshot object
-use Rattle.std.proofs.Common.{◌≡◌, ◌≢◌, ℕ, true, false, cond, Option, Some, None, Result, Ok, Err, OnErr, inl, inr, refl, sym, ap, ◌∙◌, option_map}
-use Rattle.snapshot_core.proofs.Common.{Pending, Note, Quiet, Read, Refusal, NotBegun, Finished, NoMemory, program_of, lacked_memory, reply_of, snapshot, Participant, Client, SnapReply, KnownPlaces, is_idle, scanning, updating, access_for, SnapCall, next, Began, Updated, Scanned, Stepped}
-use Rattle.snapshot_core.specs.declared.client.Pending.TheVariants.{Nothing, Placing}
-use Rattle.step_memory.specs.World.{begin_refusal, begun_unless, done_unless, step_answer, after_step}
-use Rattle.step_memory.proofs.StepLemmas.{most_stepped, lacks_none, lacks_or_not}
+use Rattle.std.proofs.Common.{◌≡◌, ℕ, true, false, cond, Option, Some, None, Result, Err, inl, refl, sym, ap, ◌∙◌, option_map}
+use Rattle.snapshot_core.proofs.Common.{Refusal, Finished, program_of, lacked_memory, reply_of, snapshot, Participant, Client, SnapReply, KnownPlaces, is_idle, scanning, updating, SnapCall, next, Began, Updated, Scanned, Stepped}
+use Rattle.step_memory.specs.World.{begin_refusal, begun_unless, step_answer, after_step}
+use Rattle.step_memory.proofs.StepLemmas.{most_stepped, lacks_none}
 use Rattle.step_memory.specs.Machine.{LeadsOn}
 use Rattle.step_memory.proofs.MachineLemmas.{call_leads_on}
-use Rattle.step_memory.specs.Locality.{LookAlike, StandAlike, ReadsNext, IsTaken}
+use Rattle.step_memory.specs.Locality.{LookAlike, StandAlike}
 use Rattle.step_memory.proofs.LocalityLemmas.{answers_alike, stand_alike}
-use Rattle.snapshot_core.specs.SnapWorld.{SnapState, beginner_at, after_snap_begin, scan_refusal, update_refusal, asked, after_scan, after_update, told, clients_over, snap_answer, snap_answer_by, after_snap_step, after_snap_by, may_lack_memory, StaysAlike}
+use Rattle.snapshot_core.specs.SnapWorld.{SnapState, beginner_at, scan_refusal, update_refusal, asked, told, clients_over, snap_answer, snap_answer_by, after_snap_step, after_snap_by, StaysAlike}
 
 module _ {S R V U K : Type 0} (t : KnownPlaces S R V U K) where
   most_asked : (w : SnapState S U K) (id : ℕ) (asking : Client U K → Client U K) (c : Option (Client U K)) (why : Option Refusal) → (asked w id asking c why).most ≡ w.most

@@ -1,15 +1,14 @@
 -- the calls of a snapshot object, each with what it answers and leaves
-use Rattle.std.proofs.Common.{◌≡◌, ◌≢◌, ℕ, true, false, cond, Option, Some, None, Result, Ok, Err, OnErr, inl, inr, refl, sym, ap, ◌∙◌, option_map}
-use Rattle.snapshot_world.proofs.Common.{Pending, Note, Quiet, Read, Refusal, NotBegun, Finished, NoMemory, program_of, lacked_memory, reply_of, snapshot, Participant, Client, SnapReply, KnownPlaces, is_idle, scanning, updating, access_for, SnapCall, next, Began, Updated, Scanned, Stepped}
+use Rattle.std.proofs.Common.{◌≡◌, ◌≢◌, ℕ, true, false, Some, None, Result, Ok, Err, OnErr, inl, inr, refl, sym, ap, ◌∙◌, option_map}
+use Rattle.snapshot_world.proofs.Common.{Pending, Note, Quiet, Read, Refusal, NotBegun, Finished, NoMemory, program_of, lacked_memory, reply_of, snapshot, Participant, Client, SnapReply, KnownPlaces, is_idle, access_for, Began, Updated, Scanned, Stepped}
 use Rattle.snapshot_core.specs.declared.client.Pending.TheVariants.{Nothing, Placing}
-use Rattle.step_memory.specs.World.{begin_refusal, begun_unless, done_unless, step_answer, after_step}
-use Rattle.step_memory.proofs.StepLemmas.{most_stepped, lacks_none, lacks_or_not}
+use Rattle.step_memory.specs.World.{begin_refusal, done_unless, step_answer, after_step}
+use Rattle.step_memory.proofs.StepLemmas.{lacks_or_not}
 use Rattle.snapshot_core.proofs.SnapWorldLemmas.{after_stepped}
 use Rattle.step_memory.specs.Machine.{LeadsOn}
 use Rattle.step_memory.proofs.MachineLemmas.{call_leads_on}
-use Rattle.step_memory.specs.Locality.{LookAlike, StandAlike, ReadsNext, IsTaken}
-use Rattle.step_memory.proofs.LocalityLemmas.{answers_alike, stand_alike}
-use Rattle.snapshot_core.specs.SnapWorld.{SnapState, beginner_at, after_snap_begin, scan_refusal, update_refusal, asked, after_scan, after_update, told, clients_over, snap_answer, snap_answer_by, after_snap_step, after_snap_by, may_lack_memory, StaysAlike}
+use Rattle.step_memory.specs.Locality.{ReadsNext, IsTaken}
+use Rattle.snapshot_core.specs.SnapWorld.{SnapState, after_snap_begin, scan_refusal, update_refusal, after_scan, after_update, told, clients_over, snap_answer, after_snap_step, may_lack_memory}
 
 -- what was accepted was not refused for want of memory, and what a refusal keeps is kept
 pub no_lack : {X : Type 0} (x : X) → ◌≡◌ {A = Result X Refusal} (Ok x) (Err NoMemory) → ⊥
@@ -35,7 +34,7 @@ module _ {S R V U K : Type 0} (t : KnownPlaces S R V U K) where
       (reply ≢ Err NoMemory → new ≡ after_snap_step t w id) → (reply ≢ Err NoMemory → reply ≡ snap_answer t w id) →
       (reply ≡ Err NoMemory → (new ≡ w) × (may_lack_memory t w id ≡ true)) → LeadsOn (snapshot t) w new (Stepped id reply)
   after_step_call w new id reply e is lack = elim (lacks_or_not reply) [
-    | inr goes ↦ after_stepped w new id reply (e goes) (is goes)
+    | inr goes ↦ after_stepped t w new id reply (e goes) (is goes)
     | inl h ↦
         let refused = lack h in
         let lacked : lacked_memory reply ≡ true = rw h refl in

@@ -77,7 +77,7 @@ SparesNodes memory s other = (r : TreeRegister) → ((k : ℕ) → r ≢ Content
 -- so nodes and walks are consistent in it too
 aside : {S : Type 0} (memory : MemorySteps S TreeRegister TreeValue) (most b : ℕ) (s : S) (walker : ℕ → Option Walker) → IsConsistent memory most b s walker →
     (other : S) → SparesNodes memory s other → IsConsistent memory most b other walker
-aside memory most b s walker c other spares =
+aside {S = S} memory most b s walker c other spares =
     let words : (ℕ → TreeRegister) → S → ℕ → ℕ = λ kind m k. word_in (memory.register m (kind k)).0 in
     let same : (kind : ℕ → TreeRegister) → ((k j : ℕ) → kind k ≢ Contents j) → words kind other ≡ words kind s =
     λ kind apart. fun_ext (λ k. ap (λ (x : TreeValue × Bool). word_in x.0) (spares (kind k) (apart k))) in

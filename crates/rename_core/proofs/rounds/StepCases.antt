@@ -1,9 +1,11 @@
 -- a step of a renaming world by cases on who takes it
-use Rattle.std.proofs.Common.{◌≡◌, ◌≢◌, ◌<◌, Bool, List, arith, Result, true, false, ℕ, ◌+◌, [], ◌∷◌, ◌++◌, length, get_or, set, Option, Some, None, Ok, Err, refl, sym, ap, ◌∙◌, option_map, option_and_then, is_some}
-use Rattle.rename_core.proofs.Common.{Participant, Refusal, NotBegun, NoMemory, index_of, participant_of, program_of, identities, beginner, begin_refusal, done_unless, participant_of-push, set_at-same, let_in, Client, SnapReply, SnapState, beginner_at, Round, stage_refusal, followed, KnownPlaces, Wish, Nothing, Update, Scan}
+use Rattle.std.proofs.Common.{◌≡◌, ◌≢◌, ◌<◌, Bool, List, arith, Result, true, false, ℕ, ◌+◌, [], ◌∷◌, ◌++◌, length, get_or, set, Option, Some, None, Ok, Err, OnErr, inl, inr, refl, sym, ap, subst, ◌∙◌, option_map, option_and_then, is_some}
+use Rattle.rename_core.proofs.Common.{Participant, Refusal, NotBegun, NoMemory, index_of, participant_of, program_of, identities, beginner, begin_refusal, done_unless, participant_of-push, set_at-same, let_in, Client, SnapReply, SnapState, beginner_at, Round, stage_refusal, followed, KnownPlaces, Wish, Nothing, Update, Scan, outcome_with}
+use Rattle.rename_core.specs.declared.reply.Reply.{Reply}
+use Rattle.rename_core.specs.Taken.{snap_err, IsTaken}
 use Rattle.step_memory.proofs.DistinctParticipants.{distinct_set, identities-push, identities-set}
 use Rattle.step_memory.proofs.Found.{Found, found, none-index_of, index_of-below}
-use Rattle.std.proofs.lemmas.List.{length-map, length-append, length-set, get_or_default}
+use Rattle.std.proofs.lemmas.List.{length-map, length-append, length-set, get_or_default, set-get_or}
 use Rattle.rename_core.specs.Round.{first_wish, first_round}
 use Rattle.rename_core.specs.RenameState.{RenameState, HasRoom}
 use Rattle.rename_core.specs.RenameWorld.{after_wish, snap_step, snap_told, after_follow, begun_snap, has_place, after_rename_begin, refusal_by, step_refusal, answer_told, answer_open, answer_by, after_told, after_open, after_by, rename_answer, after_rename_step, may_lack, LacksMemory}
@@ -79,9 +81,6 @@ same_err why other e = cc
 
 pub no_err : {X : Type 0} (x : X) (why : Refusal) → ◌≡◌ {A = Result X Refusal} (Ok x) (Err why) → ⊥
 no_err x why e = cc
-
-abbrev snap_err : Refusal → Result SnapReply Refusal
-snap_err why = Err why
 
 -- a step that is refused changes nothing
 module _ {S R V U K : Type 0} (W : KnownPlaces S R V U K) (w : RenameState S U K) (p : ℕ) (why : Refusal) where
@@ -171,3 +170,48 @@ module _ {S R V U K : Type 0} (W : KnownPlaces S R V U K) (w : RenameState S U K
         let distinct = distinct_set p w.rounds i v new stands own old.4 in
         let is = asked ∙ ap (λ id. after_wish (snap_step W w p) id wish) stands.identity in
         rw is (rw most old.0, rw most old.1, same ∙ old.2 ∙ sym l.same, rw (most, size) old.3, distinct)
+
+    -- the same of a step on the snapshot object and on the round at its place
+    module _ (result : Result (Reply (Unit {0})) Refusal) (view : List (ℕ × ℕ)) (snap : SnapState S U K) (u : Participant Round) (taken : IsTaken W w.snap snap v u w.limit result view) where
+      abbrev left : RenameState S U K
+      left = record { snap = snap; rounds = set w.rounds i u; limit = w.limit }
+
+      -- nothing has changed where it was refused
+      untouched : snap ≡ w.snap → u ≡ v → left ≡ w
+      untouched kept same =
+          let back : set w.rounds i u ≡ w.rounds = ap (λ (x : Participant Round). set w.rounds i x) (same ∙ is) ∙ set-get_or w.rounds i other in
+          rw (kept, back) refl
+
+      pub taken_room : (capacity : ℕ) → HasRoom capacity w.snap w.rounds → HasRoom capacity snap (set w.rounds i u)
+      taken_room capacity old = elim taken [
+        | inl f ↦ followed_room capacity (followed v.program v.identity f.0 w.limit).wish snap u (f.1.asked ∙ ap (λ x. after_wish (snap_step W w x) v.identity (followed v.program v.identity f.0 w.limit).wish) stands.identity) (ap (λ (x : Participant Round). x.identity) f.1.round) old
+        | inr f ↦ let same = untouched f.1.kept f.1.same in subst (λ (x : RenameState S U K). HasRoom capacity x.snap x.rounds) (sym same) old
+      ]
+
+      pub record TakenStep : Type 0 where
+        pub answer : result ≢ Err NoMemory → outcome_with result view ≡ rename_answer W w p
+        pub state : result ≢ Err NoMemory → left ≡ after_rename_step W w p
+        pub refused : OnErr result (left ≡ w)
+        pub no_memory : result ≡ Err NoMemory → LacksMemory W w p
+
+      pub taken_step : step_refusal w p ≡ None → TakenStep
+      taken_step ready = elim taken [
+        | inl f ↦
+            let k : Ok f.0 ≡ snap_told W w p = subst (λ (x : ℕ). Ok f.0 ≡ snap_told W w x) stands.identity f.1.is_told in
+            let asked = f.1.asked ∙ ap (λ (x : ℕ). after_wish (snap_step W w x) v.identity (followed v.program v.identity f.0 w.limit).wish) stands.identity in
+            record {
+              answer = λ _. rw f.1.result_is (ap Ok f.1.reply_is ∙ followed_answer f.0 ready k);
+              state = λ _. followed_state f.0 snap u ready k asked f.1.round;
+              refused = rw f.1.result_is tt;
+              no_memory = λ e. absurd (no_err f.1.reply NoMemory (sym f.1.result_is ∙ e));
+            }
+        | inr f ↦
+            let same = untouched f.1.kept f.1.same in
+            let h = snap_refuses f.0 ready (subst (λ (x : ℕ). snap_err f.0 ≢ snap_err NoMemory → snap_err f.0 ≡ snap_told W w x) stands.identity f.1.is_told) (subst (λ (x : ℕ). snap_err f.0 ≡ snap_err NoMemory → may_lack W w x ≡ true) stands.identity f.1.lacks) in
+            record {
+              answer = λ goes. rw f.1.result_is (h.answer (λ e. goes (f.1.result_is ∙ ap Err e)));
+              state = λ goes. same ∙ h.state (λ e. goes (f.1.result_is ∙ ap Err e));
+              refused = rw f.1.result_is same;
+              no_memory = λ e. h.no_memory (same_err f.0 NoMemory (sym f.1.result_is ∙ e));
+            }
+      ]

@@ -4,7 +4,12 @@ use Rattle.snapshot_core.proofs.Following.{snapshot_proved, all_distinct, told_h
 use Rattle.snapshot_core.proofs.SureSteps.{lacks_on_way}
 use Rattle.snapshot_core.proofs.SnapWorldLemmas.{after_stepped, snap_alike, stays_alike}
 use Rattle.std.proofs.Common.{refl}
+use Rattle.snapshot_core.specs.Places.{KnownPlaces, places_by}
+use Rattle.snapshot_core.proofs.laws.law_of_snapshot_calls.Given.{Over}
 use Rattle.snapshot_core.proofs.laws.law_of_snapshot_calls.Goals as goal
+
+abbrev known : (g : Over) → KnownPlaces g.row.W.Denot g.row.W-Reg.Denot g.row.W-Value.Denot g.row.W-Walker.Denot g.row.W-Walk.Denot
+known g = places_by g.W.Walker.StepProgram.steps g.W.Walker.PlaceWalker.place_of g.W.Walk.SegmentWalk.walks g.W.StepMemory.steps g.W.Places.most_of g.W.Places.walker_from g.W.Places.walk_from g.W.Places.ties
 
 pub returns : goal.returns
 returns g c = record {
@@ -15,8 +20,8 @@ returns g c = record {
   consistent = consistent_holds _ g.met.W.Places.laws;
   sure = lacks_on_way _ g.met.W.Places.laws;
   own = own_access_holds _ g.met.W.Places.laws;
-  leads = λ w p new reply. after_stepped _ w new p reply;
-  answered = λ w p other. snap_alike _ w other p;
-  stays = λ w p. stays_alike _ w _ p refl;
+  leads = λ w p new reply. after_stepped (known g) w new p reply;
+  answered = λ w p other. snap_alike (known g) w other p;
+  stays = λ w p. stays_alike (known g) w _ p refl;
   alike = begins_the_same _ g.met.W.Places.laws;
 }

@@ -1,0 +1,131 @@
+//! A step of a participant whose round may go on: what it does to the snapshot object and to the round.
+
+ghost use Rattle.std.specs.Prelude.{◌≡◌};
+ghost use Rattle.step_memory.specs.Participant.{beginner};
+ghost use Rattle.rename_core.specs.Round.{followed};
+ghost use Rattle.rename_core.specs.Reply.{with_view};
+ghost use Rattle.rename_core.specs.RenameWorld.{after_wish};
+ghost use Rattle.rename_core.specs.Taken.{IsTaken};
+
+use crate::places::RenamePlaces;
+use crate::reply::Reply;
+use crate::round::{Round, Wish};
+use snapshot_core::{Known, SnapReply};
+use snapshot_world::SnapWorld;
+use std::alloc::Allocator;
+use step_memory::{Participant, Refusal, View};
+
+/// Asks the snapshot object for what a round wants, with no access. It is never refused, since nothing of the identity is
+/// pending then.
+pub(crate) fn ask<W: RenamePlaces<A> + Drop, A: Allocator>(
+    snap: &mut SnapWorld<W, A>,
+    id: u64,
+    wish: Wish,
+)
+where
+    W::Walker: Copy,
+    W::Walk: Copy,
+    W::Value: Drop,
+    ensures state { snap.new ≡ after_wish snap.old id wish }
+    ensures no_access { snap.new.memory ≡ snap.old.memory }
+{
+    let _asked = match wish {
+        Wish::Nothing => Ok(()),
+        Wish::Update(number) => snap.update(id, number),
+        Wish::Scan => snap.scan(id),
+    };
+}
+
+/// What follows a step in which the snapshot object told this: what the round then asks for, where it then stands, and
+/// what it answers. A function of its own, so that a step of which nothing follows has no room of a view to clear.
+#[inline(never)]
+fn follow<W: RenamePlaces<A> + Drop, A: Allocator>(
+    snap: &mut SnapWorld<W, A>,
+    participant: &mut Participant<Round>,
+    told: SnapReply,
+    limit: u64,
+    view: &mut View,
+) -> Reply<()>
+where
+    W::Walker: Copy,
+    W::Walk: Copy,
+    W::Value: Drop,
+    ensures reply { with_view result view.new ≡ (followed participant.old.program participant.old.identity told limit).reply }
+    ensures asked { snap.new ≡ after_wish snap.old participant.old.identity (followed participant.old.program participant.old.identity told limit).wish }
+    ensures round { participant.new ≡ beginner participant.old.identity (followed participant.old.program participant.old.identity told limit).round }
+{
+    let id = participant.identity;
+    let follow = participant.program.followed(id, told, limit);
+    ask(snap, id, follow.wish);
+    participant.program = follow.round;
+    participant.ended = false;
+    follow.reply.shorten(view)
+}
+
+/// A step that is none on the way to a place, and what follows it. A function of its own, so that other steps have no
+/// room of a segment to clear.
+#[inline(never)]
+fn take_other<W: RenamePlaces<A> + Drop, A: Allocator>(
+    snap: &mut SnapWorld<W, A>,
+    participant: &mut Participant<Round>,
+    limit: u64,
+    view: &mut View,
+) -> Result<Reply<()>, Refusal>
+where
+    W::Walker: Copy,
+    W::Walk: Copy,
+    W::Value: Drop,
+    ensures { IsTaken ⟦<W as Known>⟧.places snap.old snap.new participant.old participant.new limit result view.new }
+{
+    let told = match snap.step(participant.identity) {
+        Ok(told) => told,
+        Err(refusal) => return Err(refusal),
+    };
+    Ok(follow(snap, participant, told, limit, view))
+}
+
+/// A step that is no read of a scan that goes on, and what follows it. A function of its own, as `take_other` is.
+#[inline(never)]
+fn take_slow<W: RenamePlaces<A> + Drop, A: Allocator>(
+    snap: &mut SnapWorld<W, A>,
+    participant: &mut Participant<Round>,
+    limit: u64,
+    view: &mut View,
+) -> Result<Reply<()>, Refusal>
+where
+    W::Walker: Copy,
+    W::Walk: Copy,
+    W::Value: Drop,
+    ensures { IsTaken ⟦<W as Known>⟧.places snap.old snap.new participant.old participant.new limit result view.new }
+{
+    let Some(note) = snap.walk_on(participant.identity)? else {
+        return take_other(snap, participant, limit, view);
+    };
+    if note.is_quiet() {
+        participant.ended = false;
+        return Ok(Reply::Quiet);
+    }
+    let told = SnapReply::of_way(note);
+    Ok(follow(snap, participant, told, limit, view))
+}
+
+/// A step, and what follows it.
+#[inline(always)]
+pub(crate) fn take<W: RenamePlaces<A> + Drop, A: Allocator>(
+    snap: &mut SnapWorld<W, A>,
+    participant: &mut Participant<Round>,
+    limit: u64,
+    view: &mut View,
+) -> Result<Reply<()>, Refusal>
+where
+    W::Walker: Copy,
+    W::Walk: Copy,
+    W::Value: Drop,
+    ensures { IsTaken ⟦<W as Known>⟧.places snap.old snap.new participant.old participant.new limit result view.new }
+{
+    if !snap.read_on(participant.identity) {
+        return take_slow(snap, participant, limit, view);
+    }
+    participant.ended = false;
+    Ok(Reply::Quiet)
+}
