@@ -6,17 +6,12 @@ use Rattle.commands.specs.declared.reply.Reply.{Reply}
 use Rattle.commands.specs.declared.reply.Reply.TheVariants.{Named, Spent, Refused}
 use Rattle.locked_world.specs.Renamed.{goes_on, IsStepped, IsPlainStep}
 use Rattle.history_book.proofs.Fronts.{prefix_self, prefix_trans}
-use Rattle.locked_world.proofs.Standing.{sound_after, seen_after}
+use Rattle.hall_callers.proofs.Standing.{sound_after, seen_after}
 
 pub stepped_not : (c : Config) (id : ℕ) (s : CallerState) → IsStepped c id 0 s s
 stepped_not c id s = record { added = []; longer = sym (append-nil s.kept); counted = refl; plain = All-nil _; seen = prefix_self s.seen; sound = λ sound. sound }
 
--- a short reply that is none of the refusals is accepted
-pub taken_by : (r : Reply (Unit {0})) (view : List (ℕ × ℕ)) → ((why : Refusal) → r ≡ Refused why → ⊥) → is_refusal (with_view r view) ≡ false
-taken_by (Refused why) view refused = absurd (refused why refl)
-taken_by r view refused = refl
-
--- and who is not named, spent or refused goes on
+-- who is not named, spent or refused goes on
 pub plain_by : (r : Reply (Unit {0})) (view : List (ℕ × ℕ)) → ((name : ℕ) (nothing : Unit {0}) → r ≡ Named name nothing → ⊥) → (r ≡ Spent → ⊥) → ((why : Refusal) → r ≡ Refused why → ⊥) → goes_on (with_view r view) ≡ true
 plain_by (Named name nothing) view named spent refused = absurd (named name nothing refl)
 plain_by Spent view named spent refused = absurd (spent refl)

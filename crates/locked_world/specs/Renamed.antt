@@ -7,9 +7,9 @@ use Rattle.commands.specs.declared.config.Config.{Config}
 use Rattle.commands.specs.declared.event.Event.TheVariants.{Step}
 use Rattle.commands.specs.Replies.{ShownReply}
 use Rattle.commands.specs.declared.reply.Reply.TheVariants as reply
-use Rattle.locked_world.specs.declared.kept.Kept.{Kept}
-use Rattle.locked_world.specs.CallerState.{CallerState}
-use Rattle.locked_world.specs.Kepts.{IsTaken, IsSound}
+use Rattle.hall_callers.specs.declared.kept.Kept.{Kept}
+use Rattle.hall_callers.specs.CallerState.{CallerState}
+use Rattle.hall_callers.specs.Kepts.{IsTaken, IsSound}
 
 -- whether a participant goes on after this reply to its step
 abbrev pub goes_on : ShownReply → Bool

@@ -28,24 +28,16 @@
 //! ```
 #![tactic(auto)]
 
-pub mod act;
-pub mod callers;
 pub mod closing;
-pub mod kept;
-pub mod kept_log;
 pub mod laws;
 pub mod lock;
 pub mod names;
-pub mod parts;
 pub mod rename;
 pub mod serving_clerk;
-mod telling;
 
-pub use act::Act;
-pub use closing::{Closed, Missing};
-pub use kept::Kept;
-pub use kept_log::KeptLog;
+pub use closing::Missing;
+pub use hall_callers::{Act, Clerk, Closed, Kept, KeptLog, LockName, Session};
 pub use laws::law_of_clerks;
+pub use lock::HallLock;
 pub use names::{agrees, post_name};
-pub use parts::{Clerk, HallLock, LockName, Session};
 pub use serving_clerk::ServingClerk;

@@ -3,13 +3,12 @@
 ghost use Rattle.std.specs.Prelude.{◌≡◌, ◌⊎◌, ◌↔◌, ℕ, Some, IfSome, true, slice_get};
 ghost use Rattle.desk.specs.Desk.{owner_reply};
 ghost use Rattle.hall.specs.Halls.{desk_of};
-ghost use Rattle.locked_world.specs.KeptNames.{name_kept};
+ghost use Rattle.hall_callers.specs.KeptNames.{name_kept};
 ghost use Rattle.locked_world.specs.Words.{IsOwnerOrNone, Agree};
 
-use crate::closing::Closed;
-use crate::parts::{LockName, Session};
 use commands::Reply;
 use hall::Hall;
+use hall_callers::{Closed, LockName, Session};
 use raw_parts::{Board, Grant, ReaderSeat};
 use std::alloc::Allocator;
 
@@ -26,8 +25,8 @@ pub fn post_name<L: LockName, A: Allocator>(
     ensures name { IfSome result (λ g. name_kept session.now.clerk.kept ≡ Some g.name) }
     ensures identity { IfSome result (λ g. g.identity ≡ session.now.id) }
 {
-    let name = session.clerk.kept.name()?;
-    board.post(seat, name, session.id)
+    let name = session.name()?;
+    board.post(seat, name, session.id())
 }
 
 /// Whether a word is 0, or who has the name of this number.

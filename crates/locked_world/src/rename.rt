@@ -3,9 +3,9 @@
 ghost use Rattle.std.specs.Prelude.{◌≡◌};
 ghost use Rattle.locked_world.specs.Renamed.{IsRenamed};
 
-use crate::act::Act;
-use crate::parts::{HallLock, LockName, Session};
+use crate::lock::HallLock;
 use commands::Reply;
+use hall_callers::{Act, LockName, Session};
 use std::sync::Wait;
 use step_memory::{Refusal, View};
 

@@ -4,8 +4,9 @@ ghost use Rattle.std.specs.Prelude.{◌≡◌, true};
 ghost use Rattle.locked_world.specs.Serving.{ClerkServes};
 ghost use Rattle.locked_world.specs.ServingProofs.{clerk_answers};
 
-use crate::parts::{Clerk, HallLock, LockName};
+use crate::lock::HallLock;
 use commands::{Event, Reply};
+use hall_callers::{Clerk, LockName};
 use player::Service;
 use std::marker::Model;
 use std::sync::Wait;
@@ -19,7 +20,7 @@ pub struct ServingClerk<'a, L: LockName> {
 }
 
 impl<'a, L: LockName> Model for ServingClerk<'a, L> {
-    ghost use Rattle.locked_world.specs.CallerState.{CallerState};
+    ghost use Rattle.hall_callers.specs.CallerState.{CallerState};
 
     ghost Value = { CallerState };
 

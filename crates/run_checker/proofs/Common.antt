@@ -1,24 +1,17 @@
 -- The names that several proofs of this crate cite, passed on from one place. Declares nothing.
 pub use Rattle.std.proofs.lemmas.Bool.Decides.{eqb_tells, leb_tells}
-pub use Rattle.std.proofs.lemmas.Bool.{false≢true, eq-eqb, cases_Bool, ne_eqb, ltb-true, ltb-false, lt-ltb}
-pub use Rattle.std.specs.List.{Contains, list_any}
-pub use Rattle.std.proofs.lemmas.List.{length-map, append-nil, get_or-set_same, get_or-set_other, length-set}
+pub use Rattle.std.specs.List.{Contains}
+pub use Rattle.std.proofs.lemmas.List.{length-map, append-nil}
 pub use Rattle.std.specs.Option.{option_copied}
 pub use Rattle.std.proofs.lemmas.Result.{on_ok_weaker}
 pub use Rattle.std.specs.Io.KnownBytes.{Appends}
-pub use Rattle.std.specs.Cmp.Lexicographic.{pointwise}
-pub use Rattle.std.specs.HashMap.{get}
-pub use Rattle.std.proofs.Math.Path.{fun_ext}
 pub use Rattle.step_memory.specs.declared.participant.Participant.{Participant}
-pub use Rattle.step_memory.specs.Participant.{participant_of, program_of, AreDistinct, beginner, with_participant}
-pub use Rattle.step_memory.specs.View.{IsRising, value_of, inserted}
-pub use Rattle.step_memory.proofs.ViewLemmas.{IsRising-inserted, value_of-inserted}
+pub use Rattle.step_memory.specs.Participant.{participant_of, program_of}
 pub use Rattle.step_memory.specs.Calls.Call.{Began, Stepped}
 pub use Rattle.step_memory.specs.Runs.{Run}
 pub use Rattle.step_memory.specs.declared.refusal.Refusal.{Refusal}
 pub use Rattle.step_memory.specs.World.{done_unless}
 pub use Rattle.step_memory.specs.SetAt.{set_at}
-pub use Rattle.step_memory.proofs.SetAtLemmas.{set_at-same, set_at-other, set_at-cases, set_at-is, set_at-map}
 pub use Rattle.step_memory.proofs.RunLemmas.{run_more, run_one, run_splits}
 pub use Rattle.commands.specs.declared.exchange.Exchange.{Exchange}
 pub use Rattle.commands.specs.declared.event.Event.{Event}
@@ -29,7 +22,7 @@ pub use Rattle.command_lines.specs.Lines.{left_length}
 pub use Rattle.player.specs.Records.{header_line, exchange_line, record_of}
 pub use Rattle.player.specs.Turns.Turn.{Answered, Told, Ended, Misread}
 pub use Rattle.snapshot_core.specs.Snapshot.{IsMoment}
-pub use Rattle.rename_core.specs.RenameObject.{RenameTerms, RenameObject, IsRecent, IsConflict, IsSole, IsFreeName, no_begin, no_step, ShowsConflict, ShowsSole}
+pub use Rattle.rename_core.specs.RenameObject.{RenameTerms, RenameObject, IsRecent, ShowsSole}
 pub use Rattle.rename_core.specs.Reply.{StepReply}
 pub use Rattle.commands.specs.ConfigProofs.{few_take_part}
 pub use Rattle.bit_allocator.specs.Calls.Call.{Entered, Probed, Widened, Left}
@@ -47,26 +40,18 @@ pub use Rattle.record_lines.specs.declared.header.Header.{Header}
 pub use Rattle.record_lines.specs.RecordLine.{FindsLine, IsEventLine, IsHeaderLine}
 pub use Rattle.record_lines.specs.declared.header.Version.{Version}
 pub use Rattle.record_lines.proofs.written.Lines.{record_is}
-pub use Rattle.run_checker.specs.declared.names.Names.{Names}
-pub use Rattle.run_checker.specs.declared.standing.Standing.{Standing}
-pub use Rattle.run_checker.specs.declared.standing.Turn.{Turn}
-pub use Rattle.run_checker.specs.Moments.{crowded, SomeSince, turned_at, HoldsMoments, IsPast}
-pub use Rattle.run_checker.specs.Standing.{turn_of, count_of, since_of, told_in, Stands, HoldsNames, turns_in, is_held, place_of, number_told, HoldsTurns}
-pub use Rattle.run_checker.specs.Reasons.{MayBeNamed, Keeps}
-pub use Rattle.run_checker.specs.ObjectRun.{AllowsCall, after_call, IsObjectRun, DeskObject, fresh_desk_object}
-pub use Rattle.run_checker.specs.Lines.{CanFollow, after_line, AreLinesOfRun}
-pub use Rattle.run_checker.specs.declared.reason.Reason.{Reason}
-pub use Rattle.run_checker.specs.Config.{terms_of}
-pub use Rattle.run_checker.specs.declared.firsts.Firsts.{Firsts}
+pub use Rattle.line_checker.specs.ObjectRun.{AllowsCall, after_call, IsObjectRun, DeskObject, fresh_desk_object}
+pub use Rattle.line_checker.specs.Lines.{CanFollow, after_line, AreLinesOfRun}
+pub use Rattle.line_checker.specs.declared.reason.Reason.{Reason}
+pub use Rattle.line_checker.specs.Config.{terms_of}
+pub use Rattle.run_judges.specs.declared.firsts.Firsts.{Firsts}
 pub use Rattle.run_checker.specs.Stages.{StandsAfter, HasTakenBut, bytes_left, HasTakenAll, JudgesRow}
 pub use Rattle.run_checker.specs.declared.judge.Judge.{Judge}
 pub use Rattle.run_checker.specs.Verdict.{IsSaid, HasHeader, IsSaidOfRows, LacksHeader, SpellRun, IsFaultyRow, IsBadRow, IsSaidAfter}
 pub use Rattle.run_checker.specs.declared.verdict.Verdict.{Verdict}
-pub use Rattle.run_checker.specs.Judged.{HasTaken, IsFaultAfter, TakesOn, TakesMore}
+pub use Rattle.line_checker.specs.Judged.{HasTaken, TakesOn, TakesMore}
 pub use Rattle.run_checker.specs.Migrated.{IsMigratedTo, Telling, IsTelling, after_telling, exchanges_in, HasMigrated}
-pub use Rattle.run_checker.specs.declared.moments.Moments.{Moments}
-pub use Rattle.run_checker.specs.Rows.{HasPair, LacksPair, IsRowOf, TellsMoments, TellsSince}
-pub use Rattle.run_checker.specs.declared.checker.Checker.{Checker}
+pub use Rattle.line_checker.specs.declared.checker.Checker.{Checker}
 pub use Rattle.run_checker.specs.Gathered.{Gathers, AreGathered}
 pub use Rattle.run_checker.specs.SoFar.{RowsSoFar, TakesRow}
 pub use Rattle.run_checker.specs.declared.migration.Migration.{Migration}

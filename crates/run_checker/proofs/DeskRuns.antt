@@ -7,7 +7,7 @@ use Rattle.rename_core.specs.RenameObject.{RenameTerms, RenameObject, Allows, af
 use Rattle.slot_array.specs.SlotsObject.{SlotsObject, SlotAnswers, slots_after}
 use Rattle.desk.specs.DeskCalls.{DeskCall, rename_calls, slot_calls, BeginSlots}
 use Rattle.desk.specs.DeskRun.{IsDeskRun}
-use Rattle.run_checker.specs.ObjectRun.{AllowsRenaming, AllowsCall, after_call, IsObjectRun}
+use Rattle.line_checker.specs.ObjectRun.{AllowsRenaming, AllowsCall, after_call, IsObjectRun}
 
 -- where a desk lacks memory, the objects may
 allowed : (terms : RenameTerms) (o : RenameObject) (h : Call StepReply) → Allows terms o h → AllowsRenaming terms o h
@@ -29,3 +29,8 @@ desk_run terms bounds size r d = record {
   object = record { names = d.names.object; slots = d.slots.object };
   run = joined terms d.calls _ d.names.object _ d.slots.object d.names.run d.slots.run d.new_slots;
 }
+
+-- exchanges have their lines, told in full or not
+pub lines_of_all : (shows : Bool) (r : List Exchange) → AreLinesOf r (map (line_of shows) r)
+lines_of_all shows [] = tt
+lines_of_all shows (x ∷ xs) = (record { shows = shows; spelled = refl }, lines_of_all shows xs)

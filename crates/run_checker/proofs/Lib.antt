@@ -1,11 +1,5 @@
 mod Common
-mod Views
-mod seats
-mod Deciding
 mod records
-mod StayLemmas
-mod Judging
-mod Following
 mod DeskRuns
 mod NarrowRuns
 mod LowPlaces

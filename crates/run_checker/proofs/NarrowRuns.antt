@@ -11,9 +11,13 @@ use Rattle.rename_core.specs.RenameObject.{RenameTerms, RenameObject, no_begin, 
 use Rattle.bit_allocator.specs.declared.probe.Probe.TheVariants as probe
 use Rattle.commands.specs.declared.reply.Reply.TheVariants as reply
 use Rattle.step_memory.proofs.ViewLemmas.{among_identities}
-use Rattle.run_checker.proofs.Following.{none_by}
-use Rattle.run_checker.proofs.Views.{here, said_further}
+use Rattle.run_judges.proofs.Views.{here, said_further}
 use Rattle.record_lines.specs.Narrow.{IsNarrowEvent, AreNarrow, IsShort, IsNarrowReply, AreNarrowExchanges}
+
+-- a call that is done was refused nothing
+none_by : (due : Option Refusal) → Ok tt ≡ done_unless due → due ≡ None
+none_by None h = refl
+none_by (Some w) h = absurd (cc)
 
 -- a place has at most 128 bits
 abbrev pub FitsPlace : ShownReply → Type 0

@@ -1,6 +1,5 @@
 -- records as a whole
 pub mod Migration
-pub mod Runs
 pub mod Rows
 pub mod Gathered
 pub mod Stages

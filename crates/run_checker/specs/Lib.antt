@@ -1,15 +1,4 @@
-pub mod Moments
-pub mod Standing
-pub mod Rows
-pub mod Stays
 pub mod Verdict
-pub mod Config
-pub mod ObjectRun
-pub mod Reasons
-pub mod Fault
-pub mod Lines
-pub mod Judged
-pub mod Firsts
 pub mod Gathered
 pub mod Recorded
 pub mod Migrated

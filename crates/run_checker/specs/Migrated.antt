@@ -15,7 +15,7 @@ use Rattle.command_lines.specs.declared.fault.Fault.{Fault}
 use Rattle.command_lines.specs.declared.fault.Fault.TheVariants.{Write}
 use Rattle.player.specs.Records.{header_line, exchange_line}
 use Rattle.player.specs.Played.{Writing}
-use Rattle.run_checker.specs.declared.firsts.Firsts.{Firsts}
+use Rattle.run_judges.specs.declared.firsts.Firsts.{Firsts}
 use Rattle.record_lines.specs.declared.header.Header.{Header}
 use Rattle.record_lines.specs.declared.line.Line.{Line}
 use Rattle.run_checker.specs.declared.migration.Migration.{Migration}
@@ -23,13 +23,13 @@ use Rattle.record_lines.specs.declared.told.Told.{Told}
 use Rattle.record_lines.specs.declared.told.Told.TheVariants as told
 use Rattle.run_checker.specs.declared.verdict.Verdict.{Verdict}
 use Rattle.run_checker.specs.declared.verdict.Verdict.TheVariants.{Yes}
-use Rattle.run_checker.specs.Config.{terms_of}
-use Rattle.run_checker.specs.Firsts.{IsFirstSole, view_at, HoldsFirsts}
+use Rattle.line_checker.specs.Config.{terms_of}
+use Rattle.run_judges.specs.Firsts.{IsFirstSole, view_at, HoldsFirsts}
 use Rattle.record_lines.specs.Lines.{IsLineOf}
-use Rattle.run_checker.specs.ObjectRun.{DeskObject, fresh_desk_object, AllowsCall, after_call}
+use Rattle.line_checker.specs.ObjectRun.{DeskObject, fresh_desk_object, AllowsCall, after_call}
 use Rattle.record_lines.specs.RecordLine.{IsHeaderLine}
 use Rattle.run_checker.specs.Recorded.{IsYes}
-use Rattle.run_checker.specs.Standing.{proposed_by}
+use Rattle.run_judges.specs.Standing.{proposed_by}
 use Rattle.record_lines.specs.Records.{record_lines, AreRead}
 use Rattle.run_checker.specs.Verdict.{IsVerdict}
 

@@ -1,6 +1,6 @@
 //! What the verdicts stand on.
 
-ghost use Rattle.std.specs.Prelude.{◌≡◌, ◌↔◌, ◌∷◌, ◌++◌, ℕ, Bool, List, map};
+ghost use Rattle.std.specs.Prelude.{◌≡◌, ◌∷◌, ◌++◌, ℕ, Bool, List, map};
 ghost use Rattle.snapshot_core.specs.Snapshot.{SnapBounds};
 ghost use Rattle.rename_core.specs.RenameObject.{RenameTerms};
 ghost use Rattle.commands.specs.declared.config.Config.{Config};
@@ -10,12 +10,11 @@ ghost use Rattle.player.specs.Played.{reading, writing};
 ghost use Rattle.player.specs.Records.{record_of};
 ghost use Rattle.player.specs.Turns.{Turn, exchanges};
 ghost use Rattle.record_lines.specs.declared.line.Line.{Line};
-ghost use Rattle.run_checker.specs.ObjectRun.{DeskObject, IsObjectRun};
-ghost use Rattle.run_checker.specs.Judged.{IsFaultAfter};
-ghost use Rattle.run_checker.specs.Lines.{AreLinesOfRun, CanFollow, Follow};
+ghost use Rattle.line_checker.specs.ObjectRun.{DeskObject, IsObjectRun};
+ghost use Rattle.line_checker.specs.Judged.{IsFaultAfter};
+ghost use Rattle.line_checker.specs.Lines.{AreLinesOfRun, Follow};
 ghost use Rattle.record_lines.specs.Lines.{line_of};
-ghost use Rattle.run_checker.specs.declared.reason.Reason.{Reason};
-ghost use Rattle.run_checker.specs.Reasons.{KeepsAll};
+ghost use Rattle.line_checker.specs.declared.reason.Reason.{Reason};
 ghost use Rattle.run_checker.specs.Recorded.{HasRecorded, IsShortTalk, IsYes, RecordsTalk};
 ghost use Rattle.record_lines.specs.Records.{IsRecordOf, record_lines};
 ghost use Rattle.run_checker.specs.declared.verdict.Verdict.{Verdict};
@@ -23,11 +22,6 @@ ghost use Rattle.run_checker.specs.declared.verdict.Verdict.TheVariants.{Yes};
 ghost use Rattle.run_checker.specs.Verdict.{IsSaid, IsSaidAfter};
 
 use player::{Sink, Source};
-
-/// A law, which runs nothing: a line can follow those before it exactly where none of the seven reasons fits.
-pub fn law_of_reasons()
-    ensures { (terms : RenameTerms) (o : DeskObject) (l : Line) → CanFollow terms o l ↔ KeepsAll terms o l.event l.told }
-{}
 
 /// A law, which runs nothing: lines are those of a run, for some choice of the views that are not written, exactly where each
 /// can follow those before it; and where one after these is at fault, they and it are not, whatever comes after. Of a record of

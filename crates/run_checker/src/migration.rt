@@ -3,10 +3,10 @@
 ghost use Rattle.std.specs.Prelude.{◌≡◌, [], IfOk, OnOk};
 ghost use Rattle.run_checker.specs.Migrated.{first_of, proposal_of, shown_in, GoesOn, HasMigrated};
 
-use crate::firsts::Firsts;
 use crate::gather::Gather;
 use commands::{Config, Event};
 use record_lines::{Line, Text, Told, put_header, put_line};
+use run_judges::Firsts;
 use std::alloc::{AllocError, Global};
 
 /// What is gathered of the lines of a record: their text in version 2, and the first moments by which names may have been

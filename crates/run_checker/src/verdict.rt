@@ -1,6 +1,6 @@
 //! What is said of a record.
 
-use crate::reason::Reason;
+use line_checker::Reason;
 
 /// What is said of a record. Lines are numbered from 1, the header's.
 #[derive(Clone, Copy, Debug, Drop, PartialEq, Eq)]

@@ -11,9 +11,8 @@ use Rattle.player.specs.Played.{Reading, Writing, IsInput, PlayedToEnd}
 use Rattle.schedule_player.specs.Recorded.{IsRecorded}
 use Rattle.player.specs.Turns.{Turn, asked, exchanges}
 use Rattle.run_checker.proofs.records.Rows.{read_length}
-use Rattle.run_checker.proofs.records.Runs.{lines_of_all}
 use Rattle.run_checker.specs.Recorded.{IsShortTalk, HasRecorded, RecordsTalk, events_among, events_in, IsYes}
-use Rattle.run_checker.proofs.DeskRuns.{desk_run}
+use Rattle.run_checker.proofs.DeskRuns.{desk_run, lines_of_all}
 use Rattle.run_checker.proofs.NarrowRuns.{AreWritable, run_narrow}
 use Rattle.run_checker.proofs.records.OneVerdict.{one_verdict}
 use Rattle.run_checker.proofs.records.Talking.{asked_narrow, turns_fit}

@@ -1,5 +1,4 @@
-use Rattle.run_checker.proofs.DeskRuns.{desk_run}
-use Rattle.run_checker.proofs.records.Runs.{lines_of_all}
+use Rattle.run_checker.proofs.DeskRuns.{desk_run, lines_of_all}
 use Rattle.run_checker.proofs.laws.law_of_desk_runs.Goals as goal
 
 pub returns-clause-object : goal.returns-clause-object

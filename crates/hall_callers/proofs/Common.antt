@@ -1,0 +1,21 @@
+-- The names that several proofs of this crate cite, passed on from one place. Declares nothing.
+pub use Rattle.std.proofs.lemmas.Bool.Decides.{nat_tests}
+pub use Rattle.std.proofs.lemmas.Option.{slice_get_within}
+pub use Rattle.std.specs.Option.{option_or}
+pub use Rattle.commands.specs.declared.config.Config.{Config}
+pub use Rattle.commands.specs.declared.event.Event.{Event}
+pub use Rattle.commands.specs.declared.event.Event.TheVariants.{Begin}
+pub use Rattle.commands.specs.declared.exchange.Exchange.{Exchange}
+pub use Rattle.commands.specs.declared.reply.Reply.TheVariants.{Ok, Refused}
+pub use Rattle.commands.specs.Replies.{ShownReply, is_refusal, with_view}
+pub use Rattle.desk.specs.Desk.{owner_reply}
+pub use Rattle.desk.specs.DeskCalls.{exchange}
+pub use Rattle.hall.specs.HallState.{HallState}
+pub use Rattle.hall.specs.Halls.{desk_of, IsLawful, HallMay, hall_of}
+pub use Rattle.hall_callers.specs.declared.kept.Kept.{Kept}
+pub use Rattle.hall_callers.specs.CallerState.{CallerState}
+pub use Rattle.hall_callers.specs.Kepts.{IsTaken, IsSound, Fits, KeepsUnless}
+pub use Rattle.hall_callers.specs.KeptLogs.{kept_of, side_by_side}
+pub use Rattle.hall_callers.specs.Marks.{IsMarked}
+pub use Rattle.hall_callers.specs.KeptNames.{name_given, name_kept}
+pub use Rattle.hall_callers.specs.KeptState.{KeptState}

@@ -1,0 +1,7 @@
+mod Common
+mod Keeping
+mod Places
+mod Marking
+mod Naming
+pub mod Sent
+pub mod Standing

@@ -1,0 +1,9 @@
+pub mod KeptState
+pub mod KeptLogs
+pub mod Acts
+pub mod CallerState
+pub mod Configs
+pub mod Kepts
+pub mod Answers
+pub mod Marks
+pub mod KeptNames

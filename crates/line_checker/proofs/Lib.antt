@@ -1,0 +1,4 @@
+mod Common
+mod Judging
+pub mod Following
+pub mod Runs

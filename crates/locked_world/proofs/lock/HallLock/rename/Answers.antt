@@ -1,0 +1,22 @@
+use Rattle.std.proofs.Common.{rules, subst, ◌∙◌, ℕ}
+use Rattle.locked_world.proofs.Common.{Step, with_view, IsTaken}
+use Rattle.hall_callers.proofs.Standing.{taken_by}
+use Rattle.locked_world.proofs.Renames.{stepped_not, stepped_more, plain_by}
+use Rattle.locked_world.proofs.lock.HallLock.rename.Goals as goal
+
+pub loop-turn-init : goal.loop-turn-init
+loop-turn-init g c = record { same = search rules; stepped = stepped_not _ _ _ }
+
+pub loop-turn-preserved : goal.loop-turn-preserved
+loop-turn-preserved g c =
+    let s = c.loop-turn.session in
+    let r = with_view c.act_short-reply.result c.act_short-reply.new.view in
+    let new = c.act_short-reply.new.session in
+    let plain = plain_by c.act_short-reply.result c.act_short-reply.new.view c.in_default.not-Named c.in_default-reply.not-Spent c.in_default-reply-2.not-Refused in
+    let accepted = taken_by c.act_short-reply.result c.act_short-reply.new.view c.in_default-reply-2.not-Refused in
+    let taken : IsTaken g.L.LockName.config s.clerk (Step c.args.session.now.id) r new.clerk =
+    subst (λ (id : ℕ). IsTaken g.L.LockName.config s.clerk (Step id) r new.clerk) c.loop-turn.invariant.same c.act_short-reply.ensures.taken in
+    record {
+      same = c.act_short-reply.ensures.same ∙ c.loop-turn.invariant.same;
+      stepped = stepped_more g.L.LockName.config c.args.session.now.id c.loop-turn.turn c.args.session.now.clerk s.clerk new.clerk r c.loop-turn.invariant.stepped taken plain accepted;
+    }

@@ -1,0 +1,30 @@
+-- The names that several proofs of this crate cite, passed on from one place. Declares nothing.
+pub use Rattle.std.proofs.lemmas.Bool.Decides.{eqb_tells, leb_tells}
+pub use Rattle.std.proofs.lemmas.Bool.{false≢true, eq-eqb, cases_Bool, ne_eqb, ltb-true, ltb-false, lt-ltb}
+pub use Rattle.std.specs.List.{list_any}
+pub use Rattle.std.proofs.lemmas.List.{get_or-set_same, get_or-set_other, length-set}
+pub use Rattle.std.specs.Option.{option_copied}
+pub use Rattle.std.specs.Cmp.Lexicographic.{pointwise}
+pub use Rattle.std.specs.HashMap.{get}
+pub use Rattle.std.proofs.Math.Path.{fun_ext}
+pub use Rattle.step_memory.specs.declared.participant.Participant.{Participant}
+pub use Rattle.step_memory.specs.Participant.{participant_of, program_of, AreDistinct, beginner, with_participant}
+pub use Rattle.step_memory.specs.View.{IsRising, value_of, inserted}
+pub use Rattle.step_memory.proofs.ViewLemmas.{IsRising-inserted, value_of-inserted}
+pub use Rattle.step_memory.specs.Calls.Call.{Began}
+pub use Rattle.step_memory.specs.SetAt.{set_at}
+pub use Rattle.step_memory.proofs.SetAtLemmas.{set_at-same, set_at-other, set_at-cases, set_at-is, set_at-map}
+pub use Rattle.snapshot_core.specs.Snapshot.{IsMoment}
+pub use Rattle.rename_core.specs.RenameObject.{RenameTerms, RenameObject, IsRecent, IsConflict, IsSole, IsFreeName, ShowsConflict, ShowsSole}
+pub use Rattle.bit_allocator.specs.Calls.Call.{Entered, Probed, Left}
+pub use Rattle.bit_allocator.proofs.PoolKeeps.{may_widen}
+pub use Rattle.slot_array.specs.SlotCalls.SlotCall.{Pooled}
+pub use Rattle.run_judges.specs.declared.names.Names.{Names}
+pub use Rattle.run_judges.specs.declared.standing.Standing.{Standing}
+pub use Rattle.run_judges.specs.declared.standing.Turn.{Turn}
+pub use Rattle.run_judges.specs.Moments.{crowded, SomeSince, turned_at, HoldsMoments, IsPast}
+pub use Rattle.run_judges.specs.Standing.{turn_of, count_of, since_of, told_in, Stands, HoldsNames, turns_in, is_held, place_of, number_told, HoldsTurns}
+pub use Rattle.run_judges.specs.Named.{MayBeNamed}
+pub use Rattle.run_judges.specs.declared.firsts.Firsts.{Firsts}
+pub use Rattle.run_judges.specs.declared.moments.Moments.{Moments}
+pub use Rattle.run_judges.specs.Rows.{HasPair, LacksPair, IsRowOf, TellsMoments, TellsSince}

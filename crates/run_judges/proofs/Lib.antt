@@ -1,0 +1,5 @@
+mod Common
+pub mod Views
+mod seats
+mod Deciding
+mod StayLemmas

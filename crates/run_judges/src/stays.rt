@@ -1,0 +1,213 @@
+//! What is kept of the pool and the slots.
+
+ghost use Rattle.std.specs.Prelude.{◌≡◌, ◌≢◌, ℕ, ◌+◌, ◌-◌, ◌≤◌, ◌↔◌, max, replicate, IfOk, OnOk, IsTrue, None, Ok};
+ghost use Rattle.std.specs.List.{list_any};
+ghost use Rattle.bit_allocator.specs.Calls.Call.{Entered};
+ghost use Rattle.bit_allocator.specs.PoolObject.{no_entry, no_probe, number_in, IsFree};
+ghost use Rattle.bit_allocator.specs.Widening.{widen_refusal};
+ghost use Rattle.slot_array.specs.SlotCalls.SlotCall.{Pooled};
+ghost use Rattle.slot_array.specs.Slots.{IsFetched};
+ghost use Rattle.slot_array.specs.SlotsObject.{fresh_slots, slots_after};
+ghost use Rattle.run_judges.specs.Standing.{is_held};
+ghost use Rattle.run_judges.specs.Stays.{HoldsSlots, OfSlots, missed_by, got_by, left_by, stored_by, widened_to};
+
+use crate::names::is_number;
+use crate::people::{find, put};
+use std::alloc::{AllocError, Global};
+use step_memory::{Participant, Refusal};
+
+/// A competitor's present stay.
+#[derive(Clone, Copy, Drop)]
+pub struct Stay {
+    /// How many probes it has made.
+    pub probes: u64,
+    /// The number that it holds, once it holds one.
+    pub held: Option<u64>,
+}
+
+/// Who competes, with what they hold, and what stands in the slots.
+#[derive(Drop)]
+pub struct Stays {
+    size: u64,
+    competitors: Vec<Participant<Stay>>,
+    values: Vec<u64>,
+}
+
+/// Whether someone holds this number.
+fn is_taken(competitors: &[Participant<Stay>], number: u64) -> bool
+    ensures { result ≡ list_any (λ v. is_held number v.program.held) competitors.now }
+{
+    competitors
+        .iter()
+        .any(|competitor| is_number(competitor.program.held, number))
+}
+
+impl Stays {
+    /// Nobody competes, and each slot holds 0. An error where a growth was refused.
+    pub fn new(alloc: Global, size: u64) -> Result<Stays, AllocError>
+        ensures { IfOk result (λ s. 1 ≤ size → size ≤ 64 → HoldsSlots s (fresh_slots size (replicate size 0))) }
+    {
+        let values = Vec::from_elem(alloc, 0u64, size as usize)?;
+        Ok(Stays {
+            size,
+            competitors: Vec::new(alloc),
+            values,
+        })
+    }
+
+    /// Why `enter` of an identity is to be refused.
+    pub fn enter_refusal(&self, id: u64) -> Option<Refusal>
+        ensures { OfSlots self.now (λ o. result ≡ no_entry o.pool id) }
+    {
+        if id == 0 {
+            Some(Refusal::ZeroIdentity)
+        } else if find(&self.competitors, id).is_some() {
+            Some(Refusal::AlreadyCompeting)
+        } else if self.size <= self.competitors.len() as u64 {
+            Some(Refusal::Crowded)
+        } else {
+            None
+        }
+    }
+
+    /// Why `probe` of an identity is to be refused.
+    pub fn probe_refusal(&self, id: u64) -> Option<Refusal>
+        ensures { OfSlots self.now (λ o. result ≡ no_probe o.pool id) }
+    {
+        match find(&self.competitors, id) {
+            None => Some(Refusal::NotCompeting),
+            Some(stay) => match stay.held {
+                None => None,
+                Some(_) => Some(Refusal::Holding),
+            },
+        }
+    }
+
+    /// The number that an identity holds, or why `leave`, `put` and `get` of it are to be refused.
+    pub fn number_of(&self, id: u64) -> Result<u64, Refusal>
+        ensures { OfSlots self.now (λ o. result ≡ number_in o.pool id) }
+    {
+        match find(&self.competitors, id) {
+            None => Err(Refusal::NotCompeting),
+            Some(stay) => match stay.held {
+                None => Err(Refusal::NotHolding),
+                Some(number) => Ok(number),
+            },
+        }
+    }
+
+    /// Why a widening to so many numbers is to be refused.
+    pub fn widen_refusal(&self, more: u64) -> Option<Refusal>
+        ensures { OfSlots self.now (λ o. result ≡ widen_refusal o.pool.size more) }
+    {
+        if more <= self.size || 64 < more {
+            Some(Refusal::OutOfRange)
+        } else {
+            None
+        }
+    }
+
+    /// An identity enters that may. An error where a growth was refused; then what is kept is of no more use.
+    pub fn enter(&mut self, id: u64) -> Result<(), AllocError>
+        ensures { OnOk result (OfSlots self.old (λ o. no_entry o.pool id ≡ None → HoldsSlots self.new (slots_after o (Pooled (Entered id (Ok tt)))))) }
+    {
+        let program = Stay {
+            probes: 0,
+            held: None,
+        };
+        self.competitors.push(Participant {
+            identity: id,
+            program,
+            ended: false,
+        })?;
+        Ok(())
+    }
+
+    /// Whether the next probe of an identity that may probe may be missed.
+    pub fn may_miss(&self, id: u64) -> bool
+        ensures { OfSlots self.now (λ o. no_probe o.pool id ≡ None → IsTrue result ↔ (o.pool.probes id + 1 ≢ max 1 (o.pool.size - 1))) }
+    {
+        match find(&self.competitors, id) {
+            Some(stay) => stay.probes.saturating_add(1) != self.size.saturating_sub(1).max(1),
+            None => false,
+        }
+    }
+
+    /// An identity that may misses a probe.
+    pub fn miss(&mut self, id: u64)
+        ensures { OfSlots self.old (λ o. no_probe o.pool id ≡ None → o.pool.probes id + 1 ≢ max 1 (o.pool.size - 1) →
+            HoldsSlots self.new (missed_by id o)) }
+    {
+        let Some(stay) = find(&self.competitors, id) else {
+            return;
+        };
+        let missed = Stay {
+            probes: stay.probes.saturating_add(1),
+            held: None,
+        };
+        put(&mut self.competitors, id, missed);
+    }
+
+    /// Whether a number is one of the pool that nobody holds.
+    pub fn is_free(&self, number: u64) -> bool
+        ensures { OfSlots self.now (λ o. IsTrue result ↔ IsFree o.pool number) }
+    {
+        if number < 1 {
+            return false;
+        }
+        if self.size < number {
+            return false;
+        }
+        !is_taken(&self.competitors, number)
+    }
+
+    /// An identity that may probe gets a free number.
+    pub fn get(&mut self, id: u64, number: u64)
+        ensures { OfSlots self.old (λ o. no_probe o.pool id ≡ None → IsFree o.pool number → HoldsSlots self.new (got_by id number o)) }
+    {
+        let Some(stay) = find(&self.competitors, id) else {
+            return;
+        };
+        let got = Stay {
+            probes: stay.probes.saturating_add(1),
+            held: Some(number),
+        };
+        put(&mut self.competitors, id, got);
+    }
+
+    /// An identity gives back the number that it holds.
+    pub fn leave(&mut self, id: u64)
+        ensures { OfSlots self.old (λ o. (n : ℕ) → number_in o.pool id ≡ Ok n → HoldsSlots self.new (left_by id n o)) }
+    {
+        self.competitors
+            .retain(|competitor| competitor.identity != id);
+    }
+
+    /// The holder of a number puts a value into its slot.
+    pub fn store(&mut self, number: u64, value: u64)
+        ensures { OfSlots self.old (λ o. (id : ℕ) → number_in o.pool id ≡ Ok number → HoldsSlots self.new (stored_by id value o)) }
+    {
+        let place = number.saturating_sub(1) as usize;
+        if place < self.values.len() {
+            self.values[place] = value;
+        }
+    }
+
+    /// Whether the slot of a number has a value.
+    pub fn has_value(&self, number: u64, value: u64) -> bool
+        ensures { OfSlots self.now (λ o. IsTrue result ↔ IsFetched o.values (Ok number) (Ok value)) }
+    {
+        let place = number.saturating_sub(1) as usize;
+        place < self.values.len() && self.values[place] == value
+    }
+
+    /// The pool gets more numbers, up to this one, and each new slot holds 0. An error where a growth was refused; then what is
+    /// kept is of no more use.
+    pub fn widen(&mut self, more: u64) -> Result<(), AllocError>
+        ensures { OnOk result (OfSlots self.old (λ o. widen_refusal o.pool.size more ≡ None → HoldsSlots self.new (widened_to more o))) }
+    {
+        self.values.resize(more as usize, 0)?;
+        self.size = more;
+        Ok(())
+    }
+}
