@@ -1,8 +1,5 @@
 mod Common
 pub mod ProgressLemmas
-mod SaysLemmas
-mod StandsLemmas
+pub mod SaysLemmas
+pub mod StandsLemmas
 mod FirstLineLemmas
-mod GoesOnLemmas
-mod PlayedLemmas
-mod RecordedLemmas

@@ -1,6 +1,18 @@
-//! A law of talks, which runs nothing.
+//! Laws of talks, which run nothing.
 
+ghost use Rattle.std.specs.Prelude.{◌≡◌, ◌++◌, ◌∷◌, [], ℕ, List, Option, Result, true, if◌then◌else◌};
+ghost use Rattle.commands.specs.declared.bad.Bad.{Bad};
+ghost use Rattle.commands.specs.declared.command.Command.{Command};
+ghost use Rattle.commands.specs.declared.kind.WorldKind.{WorldKind};
+ghost use Rattle.commands.specs.Replies.{ShownReply};
+ghost use Rattle.commands.specs.Requests.{Request};
+ghost use Rattle.command_lines.specs.Lines.{lines, whole_lines};
+ghost use Rattle.player.specs.Asked.{asked_by, asks_quit, until_quit};
+ghost use Rattle.player.specs.PlayerState.{PlayerState};
+ghost use Rattle.player.specs.Progress.{Progress, after_bytes, after_end, at_start, ends};
 ghost use Rattle.player.specs.Shared.{SharedGoesOn};
+ghost use Rattle.player.specs.Stands.{IsFresh, Stands};
+ghost use Rattle.player.specs.Turns.{Turn};
 
 use crate::form::Form;
 use crate::service::Service;
@@ -9,4 +21,25 @@ use crate::service::Service;
 /// each talk has just its own turns.
 pub fn law_of_sharing<R, D: Service<R>, F: Form>()
     ensures { SharedGoesOn D.may F.text }
+{}
+
+/// A law, which runs nothing, of what bytes ask for: bytes after bytes are one list; what a whole input asks for, and what its whole lines
+/// do, up to `quit`; and what is asked for by the first bytes begins what the input asks for, and is all of it after `quit`.
+pub fn law_of_progress()
+    ensures joined { (kind : WorldKind) (p : Progress) (xs ys : List ℕ) → after_bytes kind p (xs ++ ys) ≡ after_bytes kind (after_bytes kind p xs) ys }
+    ensures whole { (kind : WorldKind) (bytes : List ℕ) → (after_bytes kind at_start bytes).asked ≡ asked_by kind (whole_lines bytes) }
+    ensures quits { (kind : WorldKind) (bytes : List ℕ) → (after_bytes kind at_start bytes).over ≡ asks_quit (asked_by kind (whole_lines bytes)) }
+    ensures all { (kind : WorldKind) (bytes : List ℕ) → (after_end kind (after_bytes kind at_start bytes)).asked ≡ asked_by kind (lines bytes) }
+    ensures begins { (kind : WorldKind) (bytes xs ys : List ℕ) → bytes ≡ xs ++ ys →
+        (more : List (Result Command Bad)) × (asked_by kind (lines bytes) ≡ (after_bytes kind at_start xs).asked ++ more) }
+    ensures ended { (kind : WorldKind) (bytes xs ys : List ℕ) → bytes ≡ xs ++ ys → (after_bytes kind at_start xs).over ≡ true →
+        asked_by kind (lines bytes) ≡ (after_end kind (after_bytes kind at_start xs)).asked }
+    ensures over { (kind : WorldKind) (p : Progress) → p.over ≡ true → after_end kind p ≡ p }
+    ensures first { (m : Result Command Bad) (ms : List (Result Command Bad)) → until_quit (m ∷ ms) ≡ m ∷ (if ends m then [] else until_quit ms) }
+{}
+
+/// A law, which runs nothing: a player that has read nothing stands where nothing was asked for or written.
+pub fn law_of_fresh_players<R, D: Service<R>, F: Form>()
+    ensures { (start : D) (kind : WorldKind) (s : PlayerState) (before : Option (List ℕ)) →
+        IsFresh kind s → Stands D.may F.text start start s at_start before before }
 {}

@@ -1,26 +1,20 @@
 //! One side of a talk in the command language, which is the crate `command_lines`: lines of text in, replies out, whatever service answers.
 //!
-//! A service answers events and tells owners by rules (`Service`), and which one it is is not known here. `play_on` reads the commands that a
-//! reader gives, a line each, has a service answer them, and writes the replies, a line each. Its theorem (`IsPlayed`): there are turns to the
-//! lines of the input in order, by which the service has come from what it was to what it is; the writer has gained the text of its answers,
-//! however the bytes were cut; and the summary counts them. `quit` ends the reading, and no call failed. What a read fault, a write fault
-//! and want of memory leave is said too.
+//! A service answers events and tells owners by rules (`Service`), and which one it is is not known here. One side of a talk stands
+//! by itself (`Talker`): it takes lines, has a service answer them, and adds the replies to room that is lent to it, so that many
+//! can share one service (`law_of_sharing`). `Player` is a talker with its replies: it is fed with bytes and writes what was
+//! answered, however they were cut (`AdvancesWriting`). How a turn is written is a type parameter (`Form`): as a reply
+//! (`AsReplies`), or, in a record, as a line of JSON of the event with its reply (`AsRecord`, `record_of`).
 //!
-//! `record_on` plays so too and writes the record of the run in place of the replies: a header, and each event with its reply as a line
-//! of JSON (`record_of`). It has the same theorem with that text (`IsRecordedOn`). How a turn is written is a type parameter of the player
-//! (`Form`: `AsReplies`, `AsRecord`).
-//!
-//! One side of a talk stands by itself (`Talker`): it takes lines, has a service answer them, and adds the replies to room that is lent
-//! to it, so that many can share one service (`law_of_sharing`). `Player` is a talker with its replies.
+//! Whole inputs, from a reader to a writer, are played by `play_on` and `record_on` of `input_player`; the definitions of their
+//! theorem stand here (`Played.antt`, `Recorded.antt`).
 //!
 //! A caller, of a service that is there:
 //!
 //! ```text
-//! let mut reader = Tried::new(b"begin 10\nstep 10\n".as_slice());
-//! let mut writer = Tried::new(Vec::new(alloc));
-//! let summary = play_on(alloc, rt, &mut service, WorldKind::Rename, &mut reader, &mut writer)?;
-//! summary.accepted;                       // 2
-//! writer.into_inner();                    // ok, quiet
+//! let mut player = Player::<_, AsReplies>::new(alloc, WorldKind::Rename)?;
+//! player.feed(rt, &mut service, b"begin 10\nstep 10\n", &mut writer)?;
+//! player.summary().accepted;              // 2
 //! ```
 #![tactic(auto)]
 
@@ -30,7 +24,6 @@ pub mod form;
 pub mod laws;
 pub mod player;
 pub mod playing;
-pub mod recording;
 pub mod service;
 pub mod source;
 pub mod summary;
@@ -46,9 +39,8 @@ pub use command_lines::{
 };
 pub use commands::{Bad, Command, Config, Event, Exchange, Reply, WorldKind};
 pub use form::{Form, TURN_ROOM};
-pub use laws::law_of_sharing;
-pub use playing::{MOST_READS, READ_BYTES, play_on};
-pub use recording::record_on;
+pub use laws::{law_of_fresh_players, law_of_progress, law_of_sharing};
+pub use playing::{MOST_READS, READ_BYTES};
 pub use service::Service;
 pub use source::Source;
 pub use summary::Summary;

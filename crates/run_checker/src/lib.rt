@@ -15,9 +15,9 @@
 //!
 //! So the first fault decides, of whichever kind. That a line can follow exactly where no reason fits is `law_of_reasons`; that a
 //! list is one of a run exactly where each of its lines can follow, `law_of_records`; that what a desk answers is always one,
-//! `law_of_desk_runs`. Lines are judged by `line_checker`, whose `Checker`, `Reason`, `first_fault` and `law_of_reasons` can be named here too: `first_fault`
-//! judges lines that were read already, and `Checker::judge` one line after the other. What a line says is read by `record_lines`, whose `Line`, `Told`, `Pairs`,
-//! `Header`, `Version` and `read_reply` can be named here as well.
+//! `law_of_desk_runs`. Lines are judged by `line_checker`, whose `Checker`, `Reason`, `first_fault` and `law_of_reasons` can be
+//! named here too: `first_fault` judges lines that were read already, and `Checker::judge` one line after the other. What a line
+//! says is read by `record_lines`, whose `Line`, `Told`, `Pairs`, `Header`, `Version` and `read_reply` can be named here as well.
 //!
 //! What `record` of `schedule_player` writes of an input with at most 1,000,000 events is the record of a talk to its lines, and `check`
 //! answers `Yes` to it, or `NoMemory`: `law_of_recording`, and over talks alone `law_of_recorded_talks`.

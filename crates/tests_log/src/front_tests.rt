@@ -7,8 +7,9 @@ use crate::front_doubles::Lossy;
 use commands::{Config, WorldKind};
 use hall::Hall;
 use hall_log::{HallMachine, Tape};
+use input_player::play_on;
 use one_log::{Cause, MemoryStore, Replica, Step, StoreFault};
-use player::{Service, Tried, play_on};
+use player::{Service, Tried};
 use std::alloc::{AllocError, Global};
 use tests_doubles::{FaultyReader, FaultyWriter};
 

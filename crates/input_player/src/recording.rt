@@ -7,13 +7,10 @@ ghost use Rattle.player.specs.Recorded.{IsRecordedOn};
 ghost use Rattle.player.specs.Runs.{IsRunTo, CanRun};
 ghost use Rattle.player.specs.Stands.{IsFresh};
 
-use crate::as_record::AsRecord;
-use crate::player::Player;
-use crate::playing::{READ_BYTES, fresh_player, room_for_a_read, run};
-use crate::service::Service;
-use crate::source::Source;
-use command_lines::{Fault, Sink};
+use crate::playing::{fresh_player, room_for_a_read, run};
 use commands::Config;
+use player::player::Player;
+use player::{AsRecord, Fault, READ_BYTES, Service, Sink, Source};
 use std::alloc::Allocator;
 
 /// Plays on what answers events, as `play_on`, and writes the record of the run in place of the replies: the header of the config

@@ -1,0 +1,4 @@
+mod Common
+mod GoesOnLemmas
+mod PlayedLemmas
+mod RecordedLemmas
