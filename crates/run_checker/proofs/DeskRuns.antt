@@ -1,5 +1,5 @@
 -- what a desk may answer, with its counts of steps, the objects can answer
-use Rattle.std.proofs.Common.{ℕ, inl, inr, List, [], ◌∷◌, Ok, Err}
+use Rattle.std.proofs.Common.{ℕ, Bool, inl, inr, List, [], ◌∷◌, map, refl, Ok, Err}
 use Rattle.run_checker.proofs.Common.{Began, Stepped, Run, StepReply, Exchange, Renamed, Slotted}
 use Rattle.step_memory.specs.Calls.{Call}
 use Rattle.snapshot_core.specs.Snapshot.{SnapBounds}
@@ -7,6 +7,7 @@ use Rattle.rename_core.specs.RenameObject.{RenameTerms, RenameObject, Allows, af
 use Rattle.slot_array.specs.SlotsObject.{SlotsObject, SlotAnswers, slots_after}
 use Rattle.desk.specs.DeskCalls.{DeskCall, rename_calls, slot_calls, BeginSlots}
 use Rattle.desk.specs.DeskRun.{IsDeskRun}
+use Rattle.record_lines.specs.Lines.{line_of, AreLinesOf}
 use Rattle.line_checker.specs.ObjectRun.{AllowsRenaming, AllowsCall, after_call, IsObjectRun}
 
 -- where a desk lacks memory, the objects may
