@@ -1,5 +1,6 @@
-//! Trials of `locked_world` and `slot_server` through their public calls: halls, locks round them with sessions, clerks and
-//! threads, names on a board, and connections that are served at once.
+//! Trials of `locked_world`, `slot_server`, `journal_disk`, `journal` and `hall_compaction` through their public calls: halls, locks round them
+//! with sessions, clerks and threads, names on a board, and connections that are served at once; journals that are torn at each byte, whose disk
+//! fails at each call, of other runs, and compacted; a file as a disk; and drawn halls of every size, built anew.
 //!
 //! They stand in a crate of their own, as a package's integration tests do, so that proving them does not prove the hall and
 //! the server again. A trial that is proved returns and breaks no caller's condition; that it passes is seen by running it.
@@ -7,6 +8,18 @@
 
 #[cfg(test)]
 mod board_tests;
+#[cfg(test)]
+mod compaction_tests;
+#[cfg(test)]
+mod disk_tests;
+#[cfg(test)]
+mod drawn;
+#[cfg(test)]
+mod drawn_tests;
+#[cfg(test)]
+mod journal_tests;
+#[cfg(test)]
+mod journals;
 #[cfg(test)]
 mod lock_tests;
 #[cfg(test)]

@@ -34,57 +34,10 @@ const SILENT: &[u8] = b"";
 
 const AWAY: &[u8] = b"HTTP/1.1 503 No\r\nContent-Length: 0\r\n\r\n";
 
-/// A call of a store: at the place 42 a put of these bytes, which answers this; a get that finds these bytes; one that does not.
-#[derive(Clone, Copy, Drop)]
-enum Call {
-    Put(&'static [u8], Result<Put, StoreFault>),
-    Finds(u64, &'static [u8]),
-    Lacks(u64, Result<bool, StoreFault>),
-}
-
-/// Calls of a store over texts, of which each exchange takes the next.
-#[derive(Drop)]
-struct Trial {
-    title: &'static str,
-    texts: &'static [&'static [u8]],
-    calls: &'static [Call],
-}
-
-const TRIALS: [Trial; 4] = [
-    Trial {
-        title: "what is put and what is found",
-        texts: &[WRITTEN, TAKEN, FOUND, TAKEN],
-        calls: &[
-            Call::Put(b"hi", Ok(Put::Written)),
-            Call::Put(b"ho", Ok(Put::Taken)),
-            Call::Finds(42, b"hi"),
-            Call::Lacks(43, Ok(false)),
-        ],
-    },
-    Trial {
-        title: "what stands behind is read at once",
-        texts: &[FOUND_TWO, TAKEN, FOUND_TWO],
-        calls: &[
-            Call::Finds(42, b"hi"),
-            Call::Finds(43, b"ho"),
-            Call::Lacks(44, Ok(false)),
-            Call::Finds(42, b"hi"),
-        ],
-    },
-    Trial {
-        title: "the next member is asked",
-        texts: &[SILENT, AWAY, WRITTEN],
-        calls: &[Call::Put(b"hi", Ok(Put::Written))],
-    },
-    Trial {
-        title: "wrong answers are none",
-        texts: &[OTHER, FOUND, SHORT, NO_LETTER],
-        calls: &[
-            Call::Put(b"hi", Err(StoreFault::Wrong)),
-            Call::Lacks(41, Err(StoreFault::Wrong)),
-            Call::Put(b"hi", Err(StoreFault::Lost)),
-        ],
-    },
+/// Texts, of which each exchange takes the next: for what is put and found; for what stands behind and is read at once; a member that says
+/// nothing and one that does not serve, behind which the next is asked; and wrong answers.
+const TEXTS: [&[u8]; 14] = [
+    WRITTEN, TAKEN, FOUND, TAKEN, FOUND_TWO, TAKEN, FOUND_TWO, SILENT, AWAY, WRITTEN, OTHER, FOUND, SHORT, NO_LETTER,
 ];
 
 /// A store over the texts.
@@ -93,59 +46,55 @@ fn store<'a>(alloc: Global, texts: &'a [&'a [u8]]) -> Result<EtcdStore<Script<'a
     Ok(EtcdStore::new(alloc, Script { texts, dialed: 0 }, prefix))
 }
 
-/// Whether a call answers as it should.
-fn answers(etcd: &mut EtcdStore<Script<'_>>, entry: &mut Vec<u8>, call: &Call) -> bool {
-    match *call {
-        Call::Put(bytes, want) => etcd.put(42, bytes) == want,
-        Call::Finds(place, bytes) => etcd.get(place, entry) == Ok(true)
-            && entry.as_slice() == bytes,
-        Call::Lacks(place, want) => etcd.get(place, entry) == want,
-    }
+/// What a get of a place answers, and whether it finds these bytes.
+fn found(
+    etcd: &mut EtcdStore<Script<'_>>,
+    entry: &mut Vec<u8>,
+    place: u64,
+    bytes: &[u8],
+) -> (Result<bool, StoreFault>, bool) {
+    (etcd.get(place, entry), entry.as_slice() == bytes)
 }
 
-/// How many calls of a store answer as they should, up to the first that does not.
-fn answered(alloc: Global, etcd: &mut EtcdStore<Script<'_>>, calls: &[Call]) -> usize {
-    let mut entry = Vec::new(alloc);
-    for (i, call) in calls.iter().enumerate() {
-        if !answers(etcd, &mut entry, call) {
-            return i;
-        }
-    }
-    calls.len()
-}
-
-/// Whether all calls of a trial do.
-fn goes(alloc: Global, trial: &Trial) -> bool {
-    match store(alloc, trial.texts) {
-        Ok(mut etcd) => answered(alloc, &mut etcd, trial.calls) == trial.calls.len(),
-        Err(AllocError) => false,
-    }
+/// Whether puts and gets over those texts answer as they should.
+fn answers(etcd: &mut EtcdStore<Script<'_>>, entry: &mut Vec<u8>) -> bool {
+    let put = [etcd.put(42, b"hi"), etcd.put(42, b"ho")];
+    let got = [
+        found(etcd, entry, 42, b"hi"),
+        found(etcd, entry, 43, b""),
+        found(etcd, entry, 42, b"hi"),
+        found(etcd, entry, 43, b"ho"),
+        found(etcd, entry, 44, b""),
+        found(etcd, entry, 42, b"hi"),
+    ];
+    let asked = [etcd.put(42, b"hi"), etcd.put(42, b"hi")];
+    let wrong = (found(etcd, entry, 41, b""), etcd.put(42, b"hi"));
+    put == [Ok(Put::Written), Ok(Put::Taken)]
+        && got == [(Ok(true), true), (Ok(false), true), (Ok(true), true), (Ok(true), true), (Ok(false), true), (Ok(true), true)]
+        && asked == [Ok(Put::Written), Err(StoreFault::Wrong)]
+        && wrong == ((Err(StoreFault::Wrong), true), Err(StoreFault::Lost))
 }
 
 #[test]
-fn answers_are_read(rt: HostRuntime) {
-    for trial in &TRIALS {
-        assert!(rt; goes(rt.alloc(), trial), "{}", trial.title);
-    }
+fn answers_are_read(rt: HostRuntime) -> Result<(), AllocError> {
+    let mut etcd = store(rt.alloc(), &TEXTS)?;
+    let mut entry = Vec::new(rt.alloc());
+    assert!(rt; answers(&mut etcd, &mut entry));
+    Ok(())
 }
 
-/// Whether a get tells that the answer is lost, with nothing found.
-fn tells_a_loss(alloc: Global, etcd: &mut EtcdStore<Script<'_>>) -> bool {
+/// What a get answers where each text is this, and whether nothing is found.
+fn got(alloc: Global, text: &[u8]) -> Result<(Result<bool, StoreFault>, bool), AllocError> {
+    let texts = [text; 4];
+    let mut etcd = store(alloc, &texts)?;
     let mut entry = Vec::new(alloc);
-    etcd.get(42, &mut entry) == Err(StoreFault::Lost) && entry.is_empty()
-}
-
-/// Whether it does where each text is this.
-fn is_lost(alloc: Global, text: &[u8]) -> bool {
-    match store(alloc, &[text; 4]) {
-        Ok(mut etcd) => tells_a_loss(alloc, &mut etcd),
-        Err(AllocError) => false,
-    }
+    Ok(found(&mut etcd, &mut entry, 42, b""))
 }
 
 #[test]
 fn an_answer_that_is_cut_is_none(rt: HostRuntime) {
     for end in 0..FOUND.len() {
-        assert!(rt; is_lost(rt.alloc(), &FOUND[..end]), "cut at {end}");
+        let got = got(rt.alloc(), &FOUND[..end]);
+        assert!(rt; got == Ok((Err(StoreFault::Lost), true)), "cut at {end}");
     }
 }

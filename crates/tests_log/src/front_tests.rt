@@ -3,7 +3,7 @@
 ghost use Rattle.std.specs.Prelude.{◌<◌};
 ghost use Rattle.player.specs.Knows.{Knows};
 
-use crate::front_doubles::Lossy;
+use crate::log_doubles::Lossy;
 use commands::{Config, WorldKind};
 use hall::Hall;
 use hall_log::{HallMachine, Tape};
@@ -50,26 +50,20 @@ fn drawn(state: &mut u64) -> u8
     ((*state >> 33) % 64) as u8
 }
 
-// Adds the drawn first line of a batch, which has this length.
-fn draw_head(state: &mut u64, batch: &mut Vec<u8>) -> Result<(), AllocError> {
-    let mut head = [b'\n'; HEAD];
-    for byte in &mut head[..HEAD - 1] {
-        *byte = b'0' + drawn(state);
-    }
-    batch.extend_from_slice(&head)
-}
-
-// Adds a drawn line.
-fn draw_line(state: &mut u64, batch: &mut Vec<u8>) -> Result<(), AllocError> {
-    batch.extend_from_slice(WORDS[(drawn(state) % 10) as usize])?;
-    batch.extend_from_slice(&[b'1' + drawn(state) % 6, b'\n'])
-}
-
 // Adds a drawn batch: a first line, and eight lines of commands.
 fn draw_batch(state: &mut u64, batch: &mut Vec<u8>) -> Result<(), AllocError> {
-    draw_head(state, batch)?;
+    for _ in 1..HEAD {
+        batch.push(b'0' + drawn(state))?;
+    }
+    batch.push(b'\n')?;
+    draw_lines(state, batch)
+}
+
+// Adds eight drawn lines.
+fn draw_lines(state: &mut u64, batch: &mut Vec<u8>) -> Result<(), AllocError> {
     for _ in 0..8 {
-        draw_line(state, batch)?;
+        batch.extend_from_slice(WORDS[(drawn(state) % 10) as usize])?;
+        batch.extend_from_slice(&[b'1' + drawn(state) % 6, b'\n'])?;
     }
     Ok(())
 }
@@ -103,12 +97,6 @@ pub(crate) fn answers<D: Service<()>>(
     Some(writer.into_inner().taken)
 }
 
-// What a tape answers to a batch; it says no more.
-fn answer_by(alloc: Global, tape: &mut Tape, batch: &[u8]) -> Option<Vec<u8>> {
-    let answer = answers(alloc, tape, batch.get(HEAD..).unwrap_or(&[]))?;
-    tape.is_used_up().then_some(answer)
-}
-
 // Tells what was answered at a place, and tells whether anything was.
 fn tell(told: &mut Vec<Told>, place: u64, answer: Option<Vec<u8>>) -> bool {
     match answer {
@@ -118,11 +106,12 @@ fn tell(told: &mut Vec<Told>, place: u64, answer: Option<Vec<u8>>) -> bool {
 }
 
 impl Front {
-    // What it answers to what it was asked, by its tape.
+    // What it answers to what it was asked, by its tape, which says no more then.
     fn answer(&mut self, alloc: Global) -> Option<Vec<u8>> {
-        let answer = answer_by(alloc, &mut self.tape, &self.batch);
+        let lines = self.batch.get(HEAD..).unwrap_or(&[]);
+        let answer = answers(alloc, &mut self.tape, lines);
         self.batch.clear();
-        answer
+        if self.tape.is_used_up() { answer } else { None }
     }
 
     // One step for what it was asked. Where all was answered it is asked for more. Whether it went right, an answer that is lost included.
@@ -158,23 +147,13 @@ fn count_at(told: &[Told], place: u64, due: &[u8]) -> usize {
     count
 }
 
-// How many of the answers that were told at a place are what a hall says there.
-fn count_said(
-    alloc: Global,
-    hall: &mut Hall,
-    (log, told): (&MemoryStore, &[Told]),
-    place: usize,
-) -> Option<usize> {
-    let lines = log.entry(place).unwrap_or(&[]).get(HEAD..).unwrap_or(&[]);
-    let due = answers(alloc, hall, lines)?;
-    Some(count_at(told, place as u64, &due))
-}
-
 // How many of the answers that were told at places of a log are what one hall says there.
 fn count_due(alloc: Global, hall: &mut Hall, log: &MemoryStore, told: &[Told]) -> Option<usize> {
     let mut count = 0usize;
     for place in 0..log.len() {
-        count = count.saturating_add(count_said(alloc, hall, (log, told), place)?);
+        let lines = log.entry(place).unwrap_or(&[]).get(HEAD..).unwrap_or(&[]);
+        let due = answers(alloc, hall, lines)?;
+        count = count.saturating_add(count_at(told, place as u64, &due));
     }
     Some(count)
 }
@@ -200,16 +179,11 @@ fn new_front(alloc: Global) -> Option<Front> {
     })
 }
 
-// Puts one more beside the others; none where there is no memory.
-fn add_front(alloc: Global, fronts: &mut Vec<Front>) -> Option<()> {
-    fronts.push(new_front(alloc)?).ok()
-}
-
 // So many of them.
 fn fronts_of(alloc: Global, halls: u8) -> Option<Vec<Front>> {
     let mut fronts = Vec::new(alloc);
     for _ in 0..halls {
-        add_front(alloc, &mut fronts)?;
+        fronts.push(new_front(alloc)?).ok()?;
     }
     Some(fronts)
 }
@@ -259,23 +233,19 @@ fn tell_one_history(alloc: Global, fronts: &mut [Front], late: usize, store: &mu
 
 // Whether so many halls do, over one store that loses each so many answers, and of which all but the first begin late.
 fn is_one_history(alloc: Global, halls: u8, late: usize, every: u64) -> bool {
-    let mut store = Lossy {
-        store: MemoryStore::new(alloc),
-        puts: 0,
-        every,
-    };
+    let mut store = Lossy::new(MemoryStore::new(alloc), every);
     match fronts_of(alloc, halls) {
         Some(mut fronts) => tell_one_history(alloc, &mut fronts, late, &mut store),
         None => false,
     }
 }
 
+/// Two halls; and three of which two start late, over a store that loses answers.
 #[test]
-fn two_halls_tell_what_one_tells(rt: HostRuntime) {
-    assert!(rt; is_one_history(rt.alloc(), 2, 0, 0));
-}
-
-#[test]
-fn three_halls_go_on_where_answers_are_lost_and_two_start_late(rt: HostRuntime) {
-    assert!(rt; is_one_history(rt.alloc(), 3, STEPS / 9, 3));
+fn halls_tell_what_one_tells(rt: HostRuntime) {
+    let told = [
+        is_one_history(rt.alloc(), 2, 0, 0),
+        is_one_history(rt.alloc(), 3, STEPS / 9, 3),
+    ];
+    assert!(rt; told == [true, true], "{told:?}");
 }

@@ -1,7 +1,7 @@
 //! Front ends over a log in which others have written.
 
-use crate::front_doubles::{Lossy, Tries};
 use crate::front_tests::{answers, config};
+use crate::log_doubles::{Lossy, Tries};
 use event_server::{Ahead, Keep};
 use hall_log::{LogFault, LogKeeper, Tape};
 use one_log::{MemoryStore, Store, StoreFault};
@@ -38,11 +38,7 @@ fn opened(
     let Ok(store) = written(alloc, entries) else {
         return Err(LogFault::Memory);
     };
-    let lossy = Lossy {
-        store,
-        puts: 0,
-        every,
-    };
+    let lossy = Lossy::new(store, every);
     let tries = Tries { most, left: 0 };
     LogKeeper::open(alloc, lossy, tries, config, [b'a'; 32])
 }
@@ -64,18 +60,6 @@ fn told(
     Ok(Some(answer))
 }
 
-// Whether a front end answers so to lines, or loses them where nothing is wanted.
-fn says(
-    alloc: Global,
-    keeper: &mut LogKeeper<Lossy, Tries>,
-    (lines, want): (&[u8], Option<&[u8]>),
-) -> bool {
-    match told(alloc, keeper, lines) {
-        Ok(answer) => answer.as_deref() == want,
-        Err(_) => false,
-    }
-}
-
 /// A front end as `opened` opens it; what it answers to lines, one after the other; and how many entries and events it has then.
 #[derive(Drop)]
 struct Talk {
@@ -89,9 +73,10 @@ struct Talk {
 
 // Whether a front end goes so.
 fn goes_so(alloc: Global, keeper: &mut LogKeeper<Lossy, Tries>, talk: &Talk) -> bool {
-    for row in talk.told {
-        if !says(alloc, keeper, *row) {
-            return false;
+    for (lines, want) in talk.told {
+        match told(alloc, keeper, lines) {
+            Ok(answer) if answer.as_deref() == *want => {}
+            _ => return false,
         }
     }
     keeper.len() == talk.then.0 && keeper.hall().len() == talk.then.1
@@ -142,12 +127,8 @@ fn front_ends_over_a_log_of_others(rt: HostRuntime) {
     }
 }
 
-// Why a front end does not start; none where it does.
-fn refusal(alloc: Global, entries: &[&[u8]]) -> Option<LogFault> {
-    opened(alloc, entries, 0, 0).err()
-}
-
 #[test]
 fn a_front_end_of_another_config_does_not_start(rt: HostRuntime) {
-    assert!(rt; refusal(rt.alloc(), &[OF_THREE, OTHERS]) == Some(LogFault::OtherConfig));
+    let told = opened(rt.alloc(), &[OF_THREE, OTHERS], 0, 0).err();
+    assert!(rt; told == Some(LogFault::OtherConfig));
 }

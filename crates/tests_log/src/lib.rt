@@ -6,8 +6,6 @@
 #[cfg(test)]
 mod etcd_tests;
 #[cfg(test)]
-mod front_doubles;
-#[cfg(test)]
 mod front_tests;
 #[cfg(test)]
 mod keeper_tests;

@@ -1,8 +1,9 @@
-//! A small machine, and a store and streams that fail.
+//! A small machine, a store that loses answers, patience that ends, and streams that end.
 
 ghost use Rattle.std.specs.Prelude.{◌≡◌, ◌%◌, ◌∷◌, length, OnOk};
 
 use etcd_log::Dial;
+use hall_log::Pause;
 use one_log::{Machine, MemoryStore, Put, Store, StoreFault};
 use std::alloc::{AllocError, Global};
 use std::io;
@@ -53,11 +54,23 @@ impl Machine for Notebook {
     }
 }
 
-/// A store that writes, and then loses so many answers.
+/// A store that writes each time, and then loses the answer each so many times; never where that is 0.
 #[derive(Drop)]
 pub(crate) struct Lossy {
     pub(crate) store: MemoryStore,
-    pub(crate) losses: u64,
+    puts: u64,
+    pub(crate) every: u64,
+}
+
+impl Lossy {
+    /// Over a store, as it stands.
+    pub(crate) fn new(store: MemoryStore, every: u64) -> Lossy {
+        Lossy {
+            store,
+            puts: 0,
+            every,
+        }
+    }
 }
 
 impl Store for Lossy {
@@ -70,8 +83,8 @@ impl Store for Lossy {
 
     fn put(&mut self, place: u64, entry: &[u8]) -> Result<Put, StoreFault> {
         let answer = self.store.put(place, entry);
-        if self.losses > 0 {
-            self.losses -= 1;
+        self.puts = self.puts.wrapping_add(1);
+        if self.every != 0 && self.puts % self.every == 0 {
             return Err(StoreFault::Lost);
         }
         answer
@@ -79,6 +92,27 @@ impl Store for Lossy {
 
     fn get(&mut self, place: u64, entry: &mut Vec<u8>) -> Result<bool, StoreFault> {
         self.store.get(place, entry)
+    }
+}
+
+/// Patience for so many tries.
+#[derive(Drop)]
+pub(crate) struct Tries {
+    pub(crate) most: u64,
+    pub(crate) left: u64,
+}
+
+impl Pause for Tries {
+    fn begin(&mut self) {
+        self.left = self.most;
+    }
+
+    fn again(&mut self) -> bool {
+        if self.left == 0 {
+            return false;
+        }
+        self.left -= 1;
+        true
     }
 }
 

@@ -3,7 +3,7 @@
 use crate::turn_doubles::{Piped, Teller, Told};
 use commands::WorldKind;
 use event_server::{Batch, Called, Connection, Room, Stage, Wire, turn_ahead};
-use std::alloc::Global;
+use std::alloc::{AllocError, Global};
 use std::process::Abort;
 
 /// How many turns a trial has at most.
@@ -46,28 +46,22 @@ impl Draws {
     }
 }
 
-// Appends a line.
-fn put(rt: &impl Abort, bytes: &mut Vec<u8>, line: &[u8]) {
-    bytes.extend_from_slice(line).expect(rt, "room for a line");
-}
-
 // So many drawn lines, and then a last one without an LF.
 fn drawn_lines(
-    rt: &impl Abort,
     alloc: Global,
     draws: &mut Draws,
     count: usize,
     quits: bool,
-) -> Vec<u8> {
+) -> Result<Vec<u8>, AllocError> {
     let mut bytes = Vec::new(alloc);
     for at in 0..count {
-        put(rt, &mut bytes, LINES[(draws.below(12) % 12) as usize]);
+        bytes.extend_from_slice(LINES[(draws.below(12) % 12) as usize])?;
         if quits && at == count / 2 {
-            put(rt, &mut bytes, b"quit\n");
+            bytes.extend_from_slice(b"quit\n")?;
         }
     }
-    put(rt, &mut bytes, b"get 5");
-    bytes
+    bytes.extend_from_slice(b"get 5")?;
+    Ok(bytes)
 }
 
 // How many lines a text has.
@@ -155,7 +149,7 @@ fn connection(
     draws: &mut Draws,
     sent: &Sent,
 ) -> Connection<Piped, Global> {
-    let bytes = drawn_lines(rt, alloc, draws, sent.lines, sent.quits);
+    let bytes = drawn_lines(alloc, draws, sent.lines, sent.quits).expect(rt, "room for lines");
     let mut piped = Piped::new(alloc, bytes, sent.piece);
     piped.fails = sent.fails;
     let wire = Wire::new(alloc, WorldKind::Rename).ok();
@@ -173,8 +167,24 @@ fn seats_of(rt: &impl Abort, alloc: Global, sent: &Sent) -> Seats {
     seats
 }
 
-// Connections at their end, where a batch has so many bytes, and the batch of this number is lost.
-fn seats_at_end(rt: &impl Abort, alloc: Global, sent: &Sent, most: usize, loses: u64) -> Seats {
+// How many lines a connection is answered at least and at most, and whether one is at fault.
+type Answered = (usize, usize, bool);
+
+// What connections are answered that are at their end.
+fn answered(seats: &Seats) -> Answered {
+    let mut told = (usize::MAX, 0, false);
+    for seat in seats {
+        if let Some(connection) = seat {
+            let lines = count_lines(&connection.stream.taken);
+            let is_broken = told.2 || connection.wire.is_broken();
+            told = (told.0.min(lines), told.1.max(lines), is_broken);
+        }
+    }
+    told
+}
+
+// What connections that send so are answered, where a batch has so many bytes, and the batch of this number is lost.
+fn told_of(rt: &impl Abort, alloc: Global, sent: &Sent, most: usize, loses: u64) -> Answered {
     let mut seats = seats_of(rt, alloc, sent);
     let mut teller = Teller {
         most,
@@ -183,96 +193,52 @@ fn seats_at_end(rt: &impl Abort, alloc: Global, sent: &Sent, most: usize, loses:
     };
     let fault = run(alloc, &mut teller, &mut seats).err();
     assert!(rt; fault.is_none(), "{fault:?}");
-    seats
+    answered(&seats)
 }
 
-// How many lines the connection of a seat is answered, and whether it is at fault; none where it has left.
-fn answered(seat: &Option<Connection<Piped, Global>>) -> Option<(usize, bool)> {
-    match seat {
-        Some(connection) => Some((
-            count_lines(&connection.stream.taken),
-            connection.wire.is_broken(),
-        )),
-        None => None,
-    }
-}
-
-// Whether all that three connections sent is answered, line by line, where bytes come in pieces and a batch has so many bytes.
-fn all_answered(rt: &impl Abort, alloc: Global, piece: usize, most: usize, lines: usize) -> bool {
-    let sent = Sent {
+/// What three connections send whose bytes come in such pieces.
+fn of_three(piece: usize, lines: usize) -> Sent {
+    Sent {
         state: piece as u64,
         connections: 3,
         lines,
         piece,
         ..OF_ONE
-    };
-    for seat in &seats_at_end(rt, alloc, &sent, most, 0) {
-        match answered(seat) {
-            Some((count, _)) if count != lines.saturating_add(1) => return false,
-            _ => {}
-        }
     }
-    true
 }
 
+/// All that was sent is answered, line by line, where bytes come in pieces and a batch has so many bytes.
 #[test]
 fn what_is_told_is_what_is_asked(rt: HostRuntime) {
     for piece in [1, 2, 7, 50, 1000, 70_000] {
         for most in [101, 300, 60_000] {
-            assert!(rt; all_answered(&rt, rt.alloc(), piece, most, 40));
+            let told = told_of(&rt, rt.alloc(), &of_three(piece, 40), most, 0);
+            assert!(rt; told == (41, 41, false), "{piece} {most}: {told:?}");
         }
     }
+    let told = told_of(&rt, rt.alloc(), &of_three(70_000, 6_000), 65_000, 0);
+    assert!(rt; told == (6_001, 6_001, false), "many lines: {told:?}");
 }
 
+/// Nothing is answered behind `quit`, nor where the batch is lost; and some where a later one is, or where a stream ends in a fault while
+/// lines of it wait.
 #[test]
-fn many_lines_wait_for_room(rt: HostRuntime) {
-    assert!(rt; all_answered(&rt, rt.alloc(), 70_000, 65_000, 6_000));
-}
-
-// What one connection is answered, as `answered` says it.
-fn one_answered(
-    rt: &impl Abort,
-    alloc: Global,
-    sent: &Sent,
-    most: usize,
-    loses: u64,
-) -> (usize, bool) {
-    let seats = seats_at_end(rt, alloc, sent, most, loses);
-    let seat = seats.first().expect(rt, "a seat");
-    answered(seat).expect(rt, "it has not left")
-}
-
-#[test]
-fn nothing_is_answered_behind_quit(rt: HostRuntime) {
-    let sent = Sent {
+fn what_is_lost_is_not_answered(rt: HostRuntime) {
+    let quits = Sent {
         quits: true,
         ..OF_ONE
     };
-    assert_eq!(rt;
-        one_answered(&rt, rt.alloc(), &sent, 60_000, 0),
-        (22, false)
-    );
-}
-
-#[test]
-fn lost_lines_are_not_answered(rt: HostRuntime) {
-    assert_eq!(rt;
-        one_answered(&rt, rt.alloc(), &OF_ONE, 60_000, 1),
-        (0, true)
-    );
-    let (count, is_broken) = one_answered(&rt, rt.alloc(), &OF_ONE, 60_000, 3);
-    assert!(rt; is_broken && 0 < count && count < 41);
-}
-
-/// A stream ends in a fault while lines of it wait.
-#[test]
-fn a_fault_leaves_nothing_in_the_batch(rt: HostRuntime) {
-    let sent = Sent {
+    let fails = Sent {
         state: 7,
         piece: 1_000,
         fails: true,
         ..OF_ONE
     };
-    let (count, _) = one_answered(&rt, rt.alloc(), &sent, 101, 0);
-    assert!(rt; 0 < count && count < 41);
+    let behind = told_of(&rt, rt.alloc(), &quits, 60_000, 0);
+    let lost = told_of(&rt, rt.alloc(), &OF_ONE, 60_000, 1);
+    assert!(rt; [behind, lost] == [(22, 22, false), (0, 0, true)], "{behind:?} {lost:?}");
+    let later = told_of(&rt, rt.alloc(), &OF_ONE, 60_000, 3);
+    let cut = told_of(&rt, rt.alloc(), &fails, 101, 0);
+    let are_part = 0 < later.0 && later.1 < 41 && 0 < cut.0 && cut.1 < 41;
+    assert!(rt; later.2 && are_part, "{later:?} {cut:?}");
 }

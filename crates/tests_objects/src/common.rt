@@ -1,7 +1,7 @@
 //! What the trials share.
 
 use std::process::Abort;
-use step_memory::{Answer, Note, Refusal, StepProgram};
+use step_memory::{Refusal, View};
 
 /// What a trial tells of what was made: whether it goes so; or why it was not made.
 pub type Told = Result<bool, Refusal>;
@@ -25,7 +25,22 @@ pub fn holds(rt: &impl Abort, case: usize, is_so: bool) {
     assert!(rt; is_so, "case {case}");
 }
 
-/// Takes a step of any program.
-pub fn take<P: StepProgram>(program: &mut P, got: Answer<P::Value>) -> Note<P::Output> {
-    program.resume(got)
+/// The view of these pairs, put in one after the other, as far as there is room.
+pub fn view_of(pairs: &[(u64, u64)]) -> View {
+    let mut view = View::new();
+    for (identity, value) in pairs {
+        if !view.is_full() {
+            view.insert(*identity, *value);
+        }
+    }
+    view
+}
+
+/// How many of some words are set.
+pub fn count_set(words: &[u64]) -> usize {
+    let mut set = 0usize;
+    for word in words {
+        set = set.saturating_add(usize::from(*word != 0));
+    }
+    set
 }

@@ -1,6 +1,6 @@
 //! Trials of the objects through their public calls, from a memory taken step by step to a desk, and of the pools and the grid over raw
 //! words: what no line of the program reaches, as rows worked by hand, the ends of each range, threads at once, and heaps that have no
-//! room left.
+//! room left. What a clause says of each call is not tried once more.
 //!
 //! They stand in a crate of their own, as a package's integration tests do, so that proving them does not prove the objects
 //! again. A trial that is proved returns and breaks no caller's condition; that it passes is seen by running it.
@@ -21,8 +21,6 @@ mod line_pool_tests;
 #[cfg(test)]
 mod memory_tests;
 #[cfg(test)]
-mod places_tests;
-#[cfg(test)]
 mod pool_tests;
 #[cfg(test)]
 mod raw_splitter_tests;
@@ -31,14 +29,10 @@ mod renaming_tests;
 #[cfg(test)]
 mod snapshot_tests;
 #[cfg(test)]
-mod splitter_tests;
-#[cfg(test)]
 mod tree_memory_tests;
 #[cfg(test)]
 mod tree_tests;
 #[cfg(test)]
 mod word_grid_tests;
-#[cfg(test)]
-mod word_grid_threads;
 #[cfg(test)]
 mod word_pool_tests;

@@ -2,13 +2,12 @@
 
 ghost use Rattle.std.specs.Prelude.{◌≡◌};
 
-use crate::common::{holds, same};
+use crate::common::holds;
 use raw_parts::{EnteredSeat, FreshSeat, RawSplitter};
 use splitter::Way;
 use std::alloc::Global;
 use std::test::Fail;
 use std::thread::{Threads, join};
-use step_memory::Refusal;
 
 /// Whether of three seats that enter one after another, the second first, the first to enter stops and the others go right, by
 /// the numbers that they were made with.
@@ -22,11 +21,9 @@ fn go_so(
     requires second { second.splitter ≡ splitter.now }
     requires third { third.splitter ≡ splitter.now }
 {
-    let (mut second, second_way) = splitter.enter(second);
-    let (mut first, first_way) = splitter.enter(first);
-    let (mut third, third_way) = splitter.enter(third);
-    splitter.meet(&mut first, &mut third);
-    splitter.meet(&mut second, &mut third);
+    let (second, second_way) = splitter.enter(second);
+    let (first, first_way) = splitter.enter(first);
+    let (third, third_way) = splitter.enter(third);
     let are_numbered = (first.number(), second.number(), third.number()) == (0, 1, 2);
     are_numbered && (first_way, second_way, third_way) == (Way::Right, Way::Stop, Way::Right)
 }
@@ -66,15 +63,11 @@ fn are_split<R: Threads + Sync>(
     first_way != second_way
 }
 
-/// The same of a new pair.
-fn race<R: Threads + Sync>(rt: &R, alloc: Global) -> Result<bool, Refusal> {
-    let (splitter, first, second) = RawSplitter::pair(alloc)?;
-    Ok(are_split(rt, &splitter, first, second))
-}
-
 #[test]
-fn two_threads_are_split(rt: HostRuntime) {
+fn two_threads_are_split(rt: HostRuntime) -> Result<(), Fail> {
     for turn in 0..1000 {
-        same(&rt, turn, race(&rt, rt.alloc()), Ok(true));
+        let (splitter, first, second) = RawSplitter::pair(rt.alloc())?;
+        holds(&rt, turn, are_split(&rt, &splitter, first, second));
     }
+    Ok(())
 }

@@ -1,238 +1,108 @@
-//! Updates and scans over segments in a row, and what plays calls of a snapshot object.
+//! One who scans while another comes and writes, over segments in a row, over a grid and over a tree.
 
-use crate::common::{holds, same};
-use snapshot_core::{Places, SnapReply, law_of_clients, law_of_snapshot_calls};
-use snapshot_world::{Fixed, SnapWorld, snapshot_law};
+use crate::common::{lent, same, view_of};
+use snapshot_core::{Places, SnapReply};
+use snapshot_places::{Grid, TreePlaces};
+use snapshot_world::{Fixed, SnapWorld};
 use std::alloc::{Allocator, Global};
-use std::process::Abort;
 use step_memory::{Place, Refusal};
 
-/// A call: of steps so many, of which those before the last are quiet; or the question where one is.
-#[derive(Clone, Copy, Drop)]
-pub enum Call {
-    Begin,
-    Update(u64),
-    Scan,
-    Steps(usize),
-    Place,
-}
-
-/// What a call answers, of steps the last: of a view its pairs.
-#[derive(Clone, Copy, Drop)]
-pub enum Told {
-    Done,
-    Quiet,
-    Placed(Place),
-    Written,
-    Shown(&'static [(u64, u64)]),
-    Refused(Refusal),
-}
-
-/// Whether a call that only asks is told so.
-fn is_asked(answer: Result<(), Refusal>, told: Told) -> bool {
-    match told {
-        Told::Done => answer == Ok(()),
-        Told::Refused(refusal) => answer == Err(refusal),
-        _ => false,
-    }
-}
-
-/// Whether one is at the place that is told.
-fn is_placed(place: Option<Place>, told: Told) -> bool {
-    matches!(told, Told::Placed(want) if place == Some(want))
-}
-
-/// Whether a step is told so.
-fn is_stepped(answer: &Result<SnapReply, Refusal>, told: Told) -> bool {
-    match (answer, told) {
-        (Ok(SnapReply::Quiet), Told::Quiet) => true,
-        (Ok(SnapReply::Placed(place)), Told::Placed(want)) => *place == want,
-        (Ok(SnapReply::Written), Told::Written) => true,
-        (Ok(SnapReply::View(view)), Told::Shown(pairs)) => view.pairs() == pairs,
-        (Err(refusal), Told::Refused(want)) => *refusal == want,
-        _ => false,
-    }
-}
-
-/// Who makes a call, and what it answers.
-pub type Row = (u64, Call, Told);
-
-/// Whether the last of so many steps is told so, and those before it are quiet.
-fn are_stepped<W: Places + Drop, A: Allocator>(
+/// Takes so many steps: what the last tells, or nothing where it is refused.
+fn last_of<W: Places + Drop, A: Allocator>(
     world: &mut SnapWorld<W, A>,
     id: u64,
-    count: usize,
-    told: Told,
-) -> bool
+    steps: usize,
+) -> SnapReply
 where
     W::Walker: Copy,
     W::Walk: Copy,
     W::Value: Drop,
 {
-    for _ in 1..count {
-        if !is_stepped(&world.step(id), Told::Quiet) {
-            return false;
-        }
+    let mut told = SnapReply::Quiet;
+    for _ in 0..steps {
+        told = world.step(id).unwrap_or(SnapReply::Quiet);
     }
-    is_stepped(&world.step(id), told)
+    told
 }
 
-/// Whether a call of a participant is told so, over any places.
-fn answers<W: Places + Drop, A: Allocator>(world: &mut SnapWorld<W, A>, row: &Row) -> bool
-where
-    W::Walker: Copy,
-    W::Walk: Copy,
-    W::Value: Drop,
-{
-    let (id, call, told) = *row;
-    match call {
-        Call::Begin => is_asked(world.begin(id), told),
-        Call::Update(value) => is_asked(world.update(id, value), told),
-        Call::Scan => is_asked(world.scan(id), told),
-        Call::Place => is_placed(world.place_of(id), told),
-        Call::Steps(count) => are_stepped(world, id, count, told),
-    }
-}
-
-/// Makes these calls, each of which answers what stands beside it.
-pub fn plays<W: Places + Drop, A: Allocator>(
-    rt: &impl Abort,
-    world: &mut SnapWorld<W, A>,
-    rows: &[Row],
-)
-where
-    W::Walker: Copy,
-    W::Walk: Copy,
-    W::Value: Drop,
-{
-    for (i, row) in rows.iter().enumerate() {
-        holds(rt, i, answers(world, row));
-    }
-}
-
-/// The identity, the value and the number of a record, and how many pairs its view has.
-type Written = (u64, u64, u32, usize);
-
-/// Calls over so many segments, and the record that is then in the first.
+/// What is tried over some places: in how many steps 10 and 20 come to theirs, which that of 20 is, how many steps 10 scans before 20
+/// writes 5, in how many steps that is written, and how many more end the scan.
 #[derive(Drop)]
-struct Schedule {
-    most: usize,
-    rows: &'static [Row],
-    record: Option<Written>,
+struct Trial {
+    ways: (usize, usize),
+    place: Place,
+    before: usize,
+    write: usize,
+    after: usize,
 }
 
-const SCHEDULES: &[Schedule] = &[
-    // A scan shows what was written.
-    Schedule {
-        most: 2,
-        rows: &[
-            (10, Call::Begin, Told::Done),
-            (20, Call::Begin, Told::Done),
-            (10, Call::Update(5), Told::Done),
-            (10, Call::Steps(5), Told::Written),
-            (20, Call::Scan, Told::Done),
-            (20, Call::Steps(4), Told::Shown(&[(10, 5)])),
-            (20, Call::Steps(1), Told::Refused(Refusal::Finished)),
-            (20, Call::Scan, Told::Done),
-            (20, Call::Update(1), Told::Refused(Refusal::AlreadyBegun)),
-        ],
-        record: Some((10, 5, 1, 0)),
-    },
-    // A stale view is refused.
-    Schedule {
-        most: 2,
-        rows: &[
-            (10, Call::Begin, Told::Done),
-            (20, Call::Begin, Told::Done),
-            (10, Call::Update(5), Told::Done),
-            (10, Call::Steps(4), Told::Quiet),
-            (20, Call::Update(9), Told::Done),
-            (20, Call::Steps(5), Told::Written),
-            (20, Call::Scan, Told::Done),
-            (20, Call::Steps(2), Told::Quiet),
-            (10, Call::Steps(1), Told::Written),
-            (20, Call::Steps(4), Told::Shown(&[(10, 5), (20, 9)])),
-        ],
-        record: Some((10, 5, 1, 0)),
-    },
-    // A view is borrowed.
-    Schedule {
-        most: 2,
-        rows: &[
-            (10, Call::Begin, Told::Done),
-            (20, Call::Begin, Told::Done),
-            (10, Call::Update(5), Told::Done),
-            (10, Call::Steps(5), Told::Written),
-            (20, Call::Scan, Told::Done),
-            (20, Call::Steps(2), Told::Quiet),
-            (10, Call::Update(6), Told::Done),
-            (10, Call::Steps(5), Told::Written),
-            (20, Call::Steps(2), Told::Quiet),
-            (10, Call::Update(7), Told::Done),
-            (10, Call::Steps(5), Told::Written),
-            (20, Call::Steps(1), Told::Shown(&[(10, 6)])),
-        ],
-        record: Some((10, 7, 3, 1)),
-    },
-    // Refusals.
-    Schedule {
-        most: 2,
-        rows: &[
-            (10, Call::Begin, Told::Done),
-            (20, Call::Begin, Told::Done),
-            (0, Call::Begin, Told::Refused(Refusal::ZeroIdentity)),
-            (10, Call::Begin, Told::Refused(Refusal::AlreadyBegun)),
-            (30, Call::Begin, Told::Refused(Refusal::Full)),
-            (30, Call::Scan, Told::Refused(Refusal::NotBegun)),
-            (30, Call::Update(1), Told::Refused(Refusal::NotBegun)),
-            (30, Call::Steps(1), Told::Refused(Refusal::NotBegun)),
-            (10, Call::Steps(1), Told::Refused(Refusal::Finished)),
-            (20, Call::Place, Told::Placed(1)),
-        ],
-        record: None,
-    },
-    // One alone over as many as there may be.
-    Schedule {
-        most: 16,
-        rows: &[
-            (7, Call::Begin, Told::Done),
-            (7, Call::Update(3), Told::Done),
-            (7, Call::Steps(33), Told::Written),
-            (7, Call::Scan, Told::Done),
-            (7, Call::Steps(32), Told::Shown(&[(7, 3)])),
-            (7, Call::Scan, Told::Done),
-            (7, Call::Steps(32), Told::Shown(&[(7, 3)])),
-        ],
-        record: Some((7, 3, 1, 0)),
-    },
-];
-
-/// The first record.
-fn first_record(places: &Fixed<Global>) -> Option<Written> {
-    let record = places.segment_at(0)?;
-    let pairs = record.view.len();
-    Some((record.identity, record.value, record.number, pairs))
+/// Whether the scan shows what was written meanwhile.
+fn shows<W: Places + Drop, A: Allocator>(world: &mut SnapWorld<W, A>, trial: &Trial) -> bool
+where
+    W::Walker: Copy,
+    W::Walk: Copy,
+    W::Value: Drop,
+{
+    let begun = [world.begin(10), world.begin(20)];
+    last_of(world, 10, trial.ways.0);
+    last_of(world, 20, trial.ways.1);
+    let place = world.place_of(20);
+    let asked = [world.scan(10), world.update(20, 5)];
+    last_of(world, 10, trial.before);
+    let written = last_of(world, 20, trial.write);
+    let seen = last_of(world, 10, trial.after).view();
+    begun == [Ok(()), Ok(())]
+        && asked == [Ok(()), Ok(())]
+        && place == Some(trial.place)
+        && matches!(written, SnapReply::Written)
+        && seen == Some(view_of(&[(20, 5)]))
 }
 
-/// A new world for so many.
-fn world_for(alloc: Global, most: usize) -> Result<SnapWorld<Fixed<Global>, Global>, Refusal> {
-    SnapWorld::new(alloc, Fixed::new(alloc, most)?)
+const IN_A_ROW: Trial = Trial {
+    ways: (0, 0),
+    place: 1,
+    before: 2,
+    write: 5,
+    after: 4,
+};
+
+const IN_A_GRID: Trial = Trial {
+    ways: (4, 6),
+    place: 1,
+    before: 3,
+    write: 7,
+    after: 6,
+};
+
+const IN_A_TREE: Trial = Trial {
+    ways: (5, 8),
+    place: 3,
+    before: 4,
+    write: 15,
+    after: 14,
+};
+
+/// A new world for two over segments in a row.
+fn in_a_row(alloc: Global) -> Result<SnapWorld<Fixed<Global>, Global>, Refusal> {
+    SnapWorld::new(alloc, Fixed::new(alloc, 2)?)
 }
 
-/// Makes the calls of a schedule: whether there are as many places, and the first record is the one that is due.
-fn records(rt: &impl Abort, alloc: Global, schedule: &Schedule) -> Result<bool, Refusal> {
-    let mut world = world_for(alloc, schedule.most)?;
-    plays(rt, &mut world, schedule.rows);
-    snapshot_law(&world);
-    let places = world.places();
-    Ok(places.most() == schedule.most && first_record(places) == schedule.record)
+/// The same over a grid.
+fn in_a_grid(alloc: Global) -> Result<SnapWorld<Grid<Global>, Global>, Refusal> {
+    SnapWorld::new(alloc, Grid::new(alloc, 2)?)
+}
+
+/// The same over a tree.
+fn in_a_tree(alloc: Global) -> Result<SnapWorld<TreePlaces<Global>, Global>, Refusal> {
+    SnapWorld::new(alloc, TreePlaces::new(alloc, 2)?)
 }
 
 #[test]
-fn schedules_over_a_row(rt: HostRuntime) {
-    for (i, schedule) in SCHEDULES.iter().enumerate() {
-        same(&rt, i, records(&rt, rt.alloc(), schedule), Ok(true));
-    }
-    law_of_snapshot_calls::<Fixed<Global>>();
-    law_of_clients::<Fixed<Global>>();
+fn a_scan_shows_what_was_written_meanwhile(rt: HostRuntime) {
+    let row = lent(in_a_row(rt.alloc()), |world| shows(world, &IN_A_ROW));
+    same(&rt, 0, row, Ok(true));
+    let grid = lent(in_a_grid(rt.alloc()), |world| shows(world, &IN_A_GRID));
+    same(&rt, 1, grid, Ok(true));
+    let tree = lent(in_a_tree(rt.alloc()), |world| shows(world, &IN_A_TREE));
+    same(&rt, 2, tree, Ok(true));
 }

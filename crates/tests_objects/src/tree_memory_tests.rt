@@ -1,97 +1,57 @@
-//! Examples of accesses to a tree: how deep it goes, and want of memory.
+//! Accesses to a tree: how deep it goes, and want of memory.
 
 use crate::common::holds;
 use linked_list_allocator::LocalHeap;
 use splitter_tree::{Tree, TreeRegister, TreeValue};
 use std::alloc::{AllocError, Allocator};
-use std::process::Abort;
 use std::test::Fail;
-use step_memory::{Access, NoMemory, Place, StepMemory};
+use step_memory::{Access, Place, StepMemory};
 
-/// Writes a word, and tells whether it was refused.
-fn refuses<M: StepMemory<Reg = TreeRegister, Value = TreeValue>>(
-    memory: &mut M,
-    register: TreeRegister,
-    word: u64,
-) -> bool {
-    match memory.access(Access::Write(register, TreeValue::Word(word))) {
-        Ok(_) => false,
-        Err(NoMemory) => true,
-    }
-}
-
-/// An access or a look: a word is written or refused; a node is there or not.
-#[derive(Clone, Copy, Drop)]
-enum Row {
-    Written(TreeRegister, u64),
-    Refused(TreeRegister, u64),
-    There(Place),
-    Lacking(Place),
-}
-
-/// Whether a row is so.
-fn is_so<A: Allocator + Clone>(tree: &mut Tree<A>, row: Row) -> bool {
-    match row {
-        Row::Written(register, it) => !refuses(tree, register, it),
-        Row::Refused(register, it) => refuses(tree, register, it),
-        Row::There(place) => tree.registers_at(place).is_some(),
-        Row::Lacking(place) => tree.registers_at(place).is_none(),
-    }
-}
-
-/// Takes rows in turn, each of which is so.
-fn takes<A: Allocator + Clone>(rt: &impl Abort, tree: &mut Tree<A>, rows: &[Row]) {
-    for (i, row) in rows.iter().enumerate() {
-        holds(rt, i, is_so(tree, *row));
-    }
+/// Whether a node's mark is written, and not refused.
+fn is_marked<A: Allocator + Clone>(tree: &mut Tree<A>, node: Place) -> bool {
+    let access = Access::Write(TreeRegister::Mark(node), TreeValue::Word(1));
+    tree.access(access).is_ok()
 }
 
 #[test]
 fn as_deep_as_numbers_go(rt: HostRuntime) {
     let mut tree = Tree::new(rt.alloc());
+    let mut are_marked = true;
     for depth in 0..128u32 {
-        let refused = refuses(&mut tree, TreeRegister::Mark(1 << depth), 1);
-        holds(&rt, depth as usize, !refused);
+        are_marked = is_marked(&mut tree, 1 << depth) && are_marked;
     }
     let deepest = 1u128 << 127;
-    takes(
+    let is_there = tree.registers_at(deepest).is_some();
+    holds(
         &rt,
-        &mut tree,
-        &[Row::There(deepest), Row::Lacking(deepest + 1)],
+        128,
+        are_marked && is_there && tree.registers_at(deepest + 1).is_none(),
     );
 }
 
-/// In a full heap no node is made below the root; what needs none is written.
-const FULL: [Row; 5] = [
-    Row::Refused(TreeRegister::Mark(3), 1),
-    Row::Refused(TreeRegister::Mark(3), 1),
-    Row::Written(TreeRegister::Mark(1), 1),
-    Row::Written(TreeRegister::Mark(6), 1),
-    Row::Lacking(3),
-];
-
-/// Takes rows in turn, of which others have what the heap has left, and then again nothing.
-fn takes_beside(
-    rt: &impl Abort,
+/// Which of four nodes' marks are written while others have what the heap has left, and whether one that was refused is written then:
+/// below the root a new node is made, which a full heap refuses, again and again.
+fn marked_in_full_heap(
     heap: &LocalHeap,
     tree: &mut Tree<&LocalHeap>,
-) -> Result<(), AllocError> {
-    takes(rt, tree, &[Row::Written(TreeRegister::Mark(1), 1)]);
+) -> Result<([bool; 4], bool), AllocError> {
+    let _ = is_marked(tree, 1);
     let others = Vec::<u8, &LocalHeap>::with_capacity(heap, heap.free())?;
-    takes(rt, tree, &FULL);
+    let marked = [
+        is_marked(tree, 3),
+        is_marked(tree, 3),
+        is_marked(tree, 1),
+        tree.registers_at(3).is_some(),
+    ];
     drop(others);
-    takes(
-        rt,
-        tree,
-        &[Row::Written(TreeRegister::Mark(3), 1), Row::There(3)],
-    );
-    Ok(())
+    Ok((marked, is_marked(tree, 3) && tree.registers_at(3).is_some()))
 }
 
 #[test]
 fn a_growth_that_was_refused(rt: HostRuntime) -> Result<(), Fail> {
     let heap = LocalHeap::new(rt.alloc(), 8_192)?;
     let mut tree = Tree::new(&heap);
-    takes_beside(&rt, &heap, &mut tree)?;
+    let told = marked_in_full_heap(&heap, &mut tree)?;
+    holds(&rt, 3, told == ([false, false, true, false], true));
     Ok(())
 }

@@ -1,113 +1,165 @@
-//! Walks that are made one after another.
+//! Walks that are made one after another, and by threads at once.
 
-ghost use Rattle.std.specs.Prelude.{◌≡◌, ◌<◌, ◌≤◌, IfSome};
-ghost use Rattle.word_grid.specs.Seats.{dealer_of, place_of};
+ghost use Rattle.std.specs.Prelude.{◌≡◌, IfSome};
 
 use crate::common::{holds, same};
-use std::alloc::Global;
+use std::alloc::{AllocError, Global};
 use std::test::Fail;
+use std::thread::{self, Threads, join};
 use step_memory::{Place, Refusal};
-use word_grid::{Dealer, EnteredSeat, WordGrid};
+use word_grid::{Dealer, EnteredSeat, FreshSeat, WordGrid};
 
-/// Enters with the next seat, where there is one.
-fn enter_next(grid: &WordGrid<Global>, dealer: &mut Dealer) -> Option<EnteredSeat>
-    requires ours { dealer.old.grid ≡ grid.now }
-    ensures ours { dealer.new.grid ≡ grid.now }
-    ensures entered { IfSome result (λ e. e.grid ≡ grid.now) }
-{
-    let fresh = grid.deal(dealer)?;
-    Some(grid.enter(fresh))
+/// How many places the rows of a triangle have, so many rows.
+fn places_of_rows(rows: u64) -> Place {
+    let rows = Place::from(rows);
+    rows.saturating_mul(rows.saturating_add(1)) / 2
 }
 
-/// Enters with the first seat while there is no other: its place, of which it is proved that four accesses led there.
-fn enter_alone(grid: &WordGrid<Global>, dealer: &mut Dealer) -> Option<EnteredSeat>
-    requires first { dealer.old ≡ dealer_of grid.now 0 }
+/// Enters with the next seat: the depth and the column of its door, its place, and its number.
+fn walk_next(grid: &WordGrid<Global>, dealer: &mut Dealer) -> Option<(u64, u8, Place, u64)>
+    requires ours { dealer.old.grid ≡ grid.now }
     ensures ours { dealer.new.grid ≡ grid.now }
-    ensures alone { IfSome result (λ e. (place_of e ≡ 0) × (e.accesses ≡ 4)) }
 {
     let fresh = grid.deal(dealer)?;
     let mut entered = grid.enter(fresh);
     grid.tally(dealer, &mut entered);
-    Some(entered)
-}
-
-/// Whether one who enters alone has the place in the corner.
-fn has_corner(grid: &WordGrid<Global>, dealer: &mut Dealer) -> bool
-    requires first { dealer.old ≡ dealer_of grid.now 0 }
-    ensures ours { dealer.new.grid ≡ grid.now }
-{
-    match enter_alone(grid, dealer) {
-        Some(entered) => entered.place() == 0,
-        None => false,
-    }
-}
-
-/// Enters with the next seat: the depth and the column of its door, its place, and its number.
-fn walk_next(grid: &WordGrid<Global>, dealer: &mut Dealer) -> Option<(u8, u8, Place, u64)>
-    requires ours { dealer.old.grid ≡ grid.now }
-    ensures ours { dealer.new.grid ≡ grid.now }
-{
-    let mut entered = enter_next(grid, dealer)?;
-    grid.tally(dealer, &mut entered);
     let door = entered.door();
-    Some((door.depth, door.column, entered.place(), entered.number()))
+    let depth = u64::from(door.depth);
+    Some((depth, door.column, entered.place(), entered.number()))
 }
 
-/// Whether each after the first has the place at the right end of its row, and nobody comes after the last.
-fn go_right(grid: &WordGrid<Global>, dealer: &mut Dealer) -> bool
-    requires ours { dealer.old.grid ≡ grid.now }
-    ensures ours { dealer.new.grid ≡ grid.now }
+/// Whether each seat in turn has the place at the right end of its row, and there are as many as the grid says.
+fn go_right(grid: &WordGrid<Global>, mut dealer: Dealer) -> bool
+    requires ours { dealer.grid ≡ grid.now }
 {
-    for before in 1u8..64 {
-        let place = Place::from(u16::from(before) * (u16::from(before) + 1) / 2);
-        if walk_next(grid, dealer) != Some((before, 0, place, u64::from(before))) {
+    for before in 0..grid.most() {
+        let due = (before, 0, places_of_rows(before), before);
+        if walk_next(grid, &mut dealer) != Some(due) {
             return false;
         }
     }
-    walk_next(grid, dealer).is_none() && dealer.dealt() == 64
+    walk_next(grid, &mut dealer).is_none() && dealer.dealt() == grid.most()
 }
 
-#[test]
-fn each_that_comes_later_goes_right(rt: HostRuntime) -> Result<(), Fail> {
-    let (grid, mut dealer) = WordGrid::new(rt.alloc(), 64)?;
-    holds(&rt, 0, has_corner(&grid, &mut dealer));
-    holds(&rt, 64, go_right(&grid, &mut dealer));
-    Ok(())
-}
-
-/// How many seats of a grid are dealt by rising number, and how many its dealer then says were.
-fn dealt(grid: &WordGrid<Global>, mut dealer: Dealer) -> (u64, u64)
-    requires ours { dealer.grid ≡ grid.now }
-{
-    for number in 0..=grid.most() {
-        match grid.deal(&mut dealer) {
-            Some(fresh) if fresh.number() == number => {}
-            _ => return (number, dealer.dealt()),
-        }
-    }
-    (u64::MAX, dealer.dealt())
-}
-
-/// Whether a grid for so many has as many seats: as it says, as they are dealt, and as its dealer then says.
-fn has_seats(alloc: Global, most: u64) -> Result<bool, Refusal> {
+/// Whether all go right in a grid for so many.
+fn are_seated(alloc: Global, most: u64) -> Result<bool, Refusal> {
     let (grid, dealer) = WordGrid::new(alloc, most)?;
-    Ok(grid.most() == most && dealt(&grid, dealer) == (most, most))
+    Ok(grid.most() == most && go_right(&grid, dealer))
 }
 
-/// For how many a grid is asked, and whether it has as many seats, or why it is not made.
-const SIZES: [(u64, Result<bool, Refusal>); 7] = [
+/// For how many a grid is asked, and whether all go right in it, or why it is not made.
+const SIZES: [(u64, Result<bool, Refusal>); 6] = [
     (0, Err(Refusal::OutOfRange)),
     (1, Ok(true)),
     (2, Ok(true)),
-    (63, Ok(true)),
     (64, Ok(true)),
     (65, Err(Refusal::OutOfRange)),
     (u64::MAX, Err(Refusal::OutOfRange)),
 ];
 
 #[test]
-fn one_to_sixty_four_seats(rt: HostRuntime) {
+fn each_that_comes_later_goes_right(rt: HostRuntime) {
     for (i, (most, due)) in SIZES.iter().enumerate() {
-        same(&rt, i, has_seats(rt.alloc(), *most), *due);
+        same(&rt, i, are_seated(rt.alloc(), *most), *due);
     }
+}
+
+/// A thread's part: the grid, and a seat of it.
+#[derive(Drop)]
+struct Visitor<'a> {
+    grid: &'a WordGrid<Global>,
+    seat: FreshSeat,
+    ghost ours: { seat.grid ≡ grid.now },
+}
+
+/// The place at which a walk ends.
+fn place_of(visitor: Visitor<'_>) -> Place {
+    let Visitor { grid, seat } = visitor;
+    grid.enter(seat).place()
+}
+
+/// So many visitors of a grid, each with a seat of its own, as far as there are seats.
+fn visitors_of<'a>(
+    alloc: Global,
+    grid: &'a WordGrid<Global>,
+    mut dealer: Dealer,
+    count: u64,
+) -> Result<Vec<Visitor<'a>, Global>, AllocError>
+    requires ours { dealer.grid ≡ grid.now }
+{
+    let mut visitors = Vec::new(alloc);
+    for _ in 0..count {
+        if let Some(seat) = grid.deal(&mut dealer) {
+            visitors.push(Visitor { grid, seat })?;
+        }
+    }
+    Ok(visitors)
+}
+
+/// Whether there are so many places, each among the first of as many rows and no two alike.
+fn are_places_of(places: &[Place], count: u64) -> bool {
+    for (i, place) in places.iter().enumerate() {
+        if places_of_rows(count) <= *place || places[..i].contains(place) {
+            return false;
+        }
+    }
+    places.len() as u64 == count
+}
+
+/// Whether so many threads that enter a new grid at once have places of their own among the first.
+fn have_places<R: Threads + Sync>(rt: &R, alloc: Global, count: u64) -> Result<bool, Refusal> {
+    let (grid, dealer) = WordGrid::new(alloc, 64)?;
+    let visitors = visitors_of(alloc, &grid, dealer, count)?;
+    let places = thread::map_vec(rt, visitors, &|visitor| place_of(visitor))?;
+    Ok(are_places_of(&places, count))
+}
+
+/// In each tenth round as many as a grid has seats for.
+#[test]
+fn threads_have_places_of_their_own(rt: HostRuntime) {
+    for round in 0..1000usize {
+        let count = if round % 10 == 0 {
+            64
+        } else {
+            2 + round as u64 % 6
+        };
+        same(&rt, round, have_places(&rt, rt.alloc(), count), Ok(true));
+    }
+}
+
+/// Whether two threads that enter at once, and then meet, have two places of the first three.
+fn enter_at_once<R: Threads + Sync>(
+    rt: &R,
+    grid: &WordGrid<Global>,
+    first: FreshSeat,
+    second: FreshSeat,
+) -> bool
+    requires first { first.grid ≡ grid.now }
+    requires second { second.grid ≡ grid.now }
+{
+    let (mut one, mut other) = join(
+        rt,
+        move || -> EnteredSeat
+            requires { first.grid ≡ grid.now }
+            ensures { result.grid ≡ grid.entry.now }
+        { grid.enter(first) },
+        move || -> EnteredSeat
+            requires { second.grid ≡ grid.now }
+            ensures { result.grid ≡ grid.entry.now }
+        { grid.enter(second) },
+    );
+    grid.meet(&mut one, &mut other);
+    one.place() != other.place() && one.place() < 3 && other.place() < 3
+}
+
+#[test]
+fn two_threads_that_meet_have_two_places(rt: HostRuntime) -> Result<(), Fail> {
+    for round in 0..1000 {
+        let (grid, mut dealer) = WordGrid::new(rt.alloc(), 2)?;
+        let (Some(first), Some(second)) = (grid.deal(&mut dealer), grid.deal(&mut dealer)) else {
+            panic!(rt; "too few seats");
+        };
+        holds(&rt, round, enter_at_once(&rt, &grid, first, second));
+    }
+    Ok(())
 }

@@ -2,7 +2,7 @@
 
 ghost use Rattle.std.specs.Prelude.{◌≡◌, IfOk};
 
-use crate::common::{holds, same};
+use crate::common::{count_set, holds, same};
 use std::alloc::{AllocError, Global};
 use std::sync::atomic::AtomicU64;
 use std::sync::atomic::Ordering::SeqCst;
@@ -11,12 +11,10 @@ use std::thread::{self, Threads, join};
 use step_memory::Refusal;
 use word_pool::{AllHeld, Held, WordPool};
 
-/// For how many numbers a pool or a line is asked, and whether it has as many, or why it is not made.
-pub(crate) const SIZES: [(u64, Result<bool, Refusal>); 9] = [
+/// For how many numbers a pool is asked, and whether it has as many, or why it is not made.
+const SIZES: [(u64, Result<bool, Refusal>); 7] = [
     (0, Err(Refusal::OutOfRange)),
     (1, Ok(true)),
-    (2, Ok(true)),
-    (63, Ok(true)),
     (64, Ok(true)),
     (65, Ok(true)),
     (4096, Ok(true)),
@@ -24,11 +22,18 @@ pub(crate) const SIZES: [(u64, Result<bool, Refusal>); 9] = [
     (u64::MAX, Err(Refusal::OutOfRange)),
 ];
 
+/// The number that a call got.
+fn number_in(got: Result<Held, AllHeld>) -> Option<u64> {
+    match got {
+        Ok(held) => Some(held.number()),
+        Err(_) => None,
+    }
+}
+
 /// How many calls of a pool, one after another, have numbers that rise from 1.
 fn given_in_turn(pool: &WordPool<Global>) -> u64 {
     for before in 0..=pool.numbers() {
-        let got = pool.acquire().map(|held| held.number()).ok();
-        if got != Some(before.saturating_add(1)) {
+        if number_in(pool.acquire()) != Some(before.saturating_add(1)) {
             return before;
         }
     }
@@ -38,16 +43,15 @@ fn given_in_turn(pool: &WordPool<Global>) -> u64 {
 /// How many words a pool ends with, and how many of them are then set.
 fn words_at_end(alloc: Global, pool: WordPool<Global>) -> Result<(usize, usize), AllocError> {
     let (words, _) = pool.close(alloc, Vec::new(alloc))?;
-    let set = words.iter().filter(|word| **word != 0).count();
-    Ok((words.len(), set))
+    Ok((words.len(), count_set(&words)))
 }
 
 /// Whether a pool for so many has as many numbers: as it says, as it gives them, and as its words are set then.
 fn has_numbers(alloc: Global, numbers: u64) -> Result<bool, Refusal> {
     let pool = WordPool::new(alloc, numbers)?;
     let are_given = pool.numbers() == numbers && given_in_turn(&pool) == numbers;
-    let (words, set) = words_at_end(alloc, pool)?;
-    Ok(are_given && words == numbers as usize && set == words)
+    let ended = words_at_end(alloc, pool)?;
+    Ok(are_given && ended == (numbers as usize, numbers as usize))
 }
 
 #[test]
@@ -57,26 +61,22 @@ fn each_number_is_given_in_turn(rt: HostRuntime) {
     }
 }
 
-/// Whether a pool of four tries each hint first, and gives the least that is free where it was in vain.
-fn takes_hints(pool: &WordPool<Global>) -> bool {
-    for (hint, due) in [
-        (3, Some(3)),
-        (3, Some(1)),
-        (0, Some(2)),
-        (5, Some(4)),
-        (2, None),
-    ] {
-        if pool.acquire_near(hint).map(|held| held.number()).ok() != due {
-            return false;
-        }
-    }
-    true
-}
-
+/// A pool of four tries each hint first, and gives the least that is free where it was in vain.
 #[test]
 fn a_hint_is_tried_first(rt: HostRuntime) -> Result<(), Fail> {
     let pool = WordPool::new(rt.alloc(), 4)?;
-    holds(&rt, 4, takes_hints(&pool));
+    let told = [
+        number_in(pool.acquire_near(3)),
+        number_in(pool.acquire_near(3)),
+        number_in(pool.acquire_near(0)),
+        number_in(pool.acquire_near(5)),
+        number_in(pool.acquire_near(2)),
+    ];
+    holds(
+        &rt,
+        4,
+        told == [Some(3), Some(1), Some(2), Some(4), None],
+    );
     Ok(())
 }
 
@@ -100,17 +100,14 @@ fn are_given_back<R: Threads + Sync>(rt: &R, pool: &WordPool<Global>) -> bool {
     true
 }
 
-/// Whether threads of their own take both numbers of a pool, which are given back here, and no word is set then.
-fn goes_back<R: Threads + Sync>(rt: &R, alloc: Global) -> Result<bool, Refusal> {
-    let pool = WordPool::new(alloc, 2)?;
-    let are_given_back = are_given_back(rt, &pool);
-    let ended = words_at_end(alloc, pool)?;
-    Ok(are_given_back && ended == (2, 0))
-}
-
+/// Threads of their own take both numbers of a pool, which are given back here, and no word is set then.
 #[test]
-fn a_number_is_given_back_by_another_thread(rt: HostRuntime) {
-    same(&rt, 2, goes_back(&rt, rt.alloc()), Ok(true));
+fn a_number_is_given_back_by_another_thread(rt: HostRuntime) -> Result<(), Fail> {
+    let pool = WordPool::new(rt.alloc(), 2)?;
+    let are_given_back = are_given_back(&rt, &pool);
+    let ended = words_at_end(rt.alloc(), pool)?;
+    holds(&rt, 2, are_given_back && ended == (2, 0));
+    Ok(())
 }
 
 /// How often a stay of many found its number in another's hands, or none at a walk from 1, which finds one wherever no more
@@ -124,15 +121,20 @@ fn clashes(pool: &WordPool<Global>, marks: &[AtomicU64], near: bool) -> u64 {
             continue;
         };
         hint = held.number();
-        if let Some(mark) = marks.get(hint as usize) {
-            if mark.swap(1, SeqCst) != 0 {
-                clashes = clashes.saturating_add(1);
-            }
-            mark.store(0, SeqCst);
-        }
+        clashes = clashes.saturating_add(u64::from(is_clash(marks, hint)));
         pool.release(held);
     }
     clashes
+}
+
+/// Marks a number and takes the mark back: whether another had it marked.
+pub fn is_clash(marks: &[AtomicU64], number: u64) -> bool {
+    let Some(mark) = marks.get(number as usize) else {
+        return true;
+    };
+    let was_marked = mark.swap(1, SeqCst) != 0;
+    mark.store(0, SeqCst);
+    was_marked
 }
 
 /// A mark for each number up to this one.
@@ -144,30 +146,17 @@ pub fn marks_of(alloc: Global, numbers: u64) -> Result<Vec<AtomicU64, Global>, A
     Ok(marks)
 }
 
-/// Whether eight threads that stay at once in a pool never find their numbers in another's hands.
-fn are_apart<R: Threads + Sync>(
+/// How often eight threads that stay at once in a pool find their numbers in another's hands.
+fn clashes_of_eight<R: Threads + Sync>(
     rt: &R,
     alloc: Global,
     pool: &WordPool<Global>,
     near: bool,
-) -> Result<bool, AllocError> {
+) -> Result<usize, AllocError> {
     let marks = marks_of(alloc, pool.numbers())?;
     let seen = marks.as_slice();
-    let clashes = thread::map_indices(rt, alloc, 8, &|_| clashes(pool, seen, near))?;
-    Ok(clashes.as_slice() == [0; 8].as_slice())
-}
-
-/// Whether eight threads that stay at once in a pool of so many numbers never find their own in another's hands, and no word is set then.
-fn eight_are_apart<R: Threads + Sync>(
-    rt: &R,
-    alloc: Global,
-    numbers: u64,
-    near: bool,
-) -> Result<bool, Refusal> {
-    let pool = WordPool::new(alloc, numbers)?;
-    let are_apart = are_apart(rt, alloc, &pool, near)?;
-    let ended = words_at_end(alloc, pool)?;
-    Ok(are_apart && ended == (numbers as usize, 0))
+    let found = thread::map_indices(rt, alloc, 8, &|_| clashes(pool, seen, near))?;
+    Ok(count_set(&found))
 }
 
 /// How many numbers a pool has, and whether its threads walk or try the number first that they had last.
@@ -181,9 +170,12 @@ const STAYS: [(u64, bool); 6] = [
 ];
 
 #[test]
-fn eight_threads_have_distinct_numbers_and_give_them_back(rt: HostRuntime) {
+fn eight_threads_have_distinct_numbers_and_give_them_back(rt: HostRuntime) -> Result<(), Fail> {
     for (i, (numbers, near)) in STAYS.iter().enumerate() {
-        let told = eight_are_apart(&rt, rt.alloc(), *numbers, *near);
-        same(&rt, i, told, Ok(true));
+        let pool = WordPool::new(rt.alloc(), *numbers)?;
+        let clashes = clashes_of_eight(&rt, rt.alloc(), &pool, *near)?;
+        let ended = words_at_end(rt.alloc(), pool)?;
+        holds(&rt, i, clashes == 0 && ended == (*numbers as usize, 0));
     }
+    Ok(())
 }

@@ -1,5 +1,5 @@
--- the tests' services keep their rules
-use Rattle.std.proofs.Common.{◌≡◌, ◌≢◌, ℕ, ◌+◌, true, ◌⊎◌, inl, inr, List, [], ◌∷◌, None, refl, sym, ◌∙◌, subst}
+-- the tests' world keeps its rules
+use Rattle.std.proofs.Common.{◌≡◌, ◌≢◌, ℕ, ◌+◌, true, ◌⊎◌, inl, inr, List, [], ◌∷◌, refl, sym, ◌∙◌, subst}
 use Rattle.step_memory.specs.declared.refusal.Refusal.TheVariants as refusal
 use Rattle.commands.specs.declared.event.Event.{Event}
 use Rattle.commands.specs.Replies.{ShownReply}
@@ -9,7 +9,7 @@ use Rattle.commands.specs.Requests.{Request}
 use Rattle.commands.specs.Requests.Request.{Take, OwnerOf}
 use Rattle.player.specs.Runs.{Runs}
 use Rattle.player.specs.RunProofs.{runs-cut}
-use Rattle.tests_player.specs.Toys.{ShelfMay, IsShelfRun, IsSide}
+use Rattle.tests_player.specs.Toys.{ShelfMay, IsShelfRun}
 use Rattle.player.specs.Turns.{Turn, exchanges}
 use Rattle.player.specs.Turns.Turn.{Answered, Told, Ended, Misread}
 use Rattle.schedule_player.specs.Visits.{knows_visits}
@@ -43,7 +43,3 @@ one_shelf_reply w u v (Take e) a b (inl x) (inl y) na nb = (x.0 ∙ sym y.0, x.1
 one_shelf_reply w u v (Take e) a b (inl x) (inr y) na nb = absurd (nb y.0)
 one_shelf_reply w u v (Take e) a b (inr x) y na nb = absurd (na x.0)
 one_shelf_reply w u v (OwnerOf n) a b x y na nb = one_no_name w u v n a b x y
-
-pub coin_answers : {T : Type 0} (w : T) (q : Request) → (r : ShownReply) × (u : T) × IsSide q r
-coin_answers w (Take e) = (reply.Stop, w, inl refl)
-coin_answers w (OwnerOf n) = (reply.Owner None, w, refl)

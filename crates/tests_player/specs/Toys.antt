@@ -1,5 +1,5 @@
--- the rules of the tests' services
-use Rattle.std.specs.Prelude.{◌≡◌, ℕ, ◌+◌, ◌⊎◌, List, [], ◌∷◌, None}
+-- the rules of the tests' world
+use Rattle.std.specs.Prelude.{◌≡◌, ℕ, ◌+◌, ◌⊎◌, List, [], ◌∷◌}
 use Rattle.step_memory.specs.declared.refusal.Refusal.TheVariants as refusal
 use Rattle.commands.specs.declared.exchange.Exchange.{Exchange}
 use Rattle.commands.specs.Replies.{ShownReply}
@@ -17,8 +17,3 @@ ShelfMay w (OwnerOf n) r u = NoName w n r u
 abbrev pub IsShelfRun : List Exchange → Type 0
 IsShelfRun [] = Unit {0}
 IsShelfRun (x ∷ r) = ((x.reply ≡ reply.Ok) ⊎ (x.reply ≡ reply.Refused refusal.NoMemory)) × IsShelfRun r
-
--- a coin says either side, and that nobody has a name
-abbrev pub IsSide : Request → ShownReply → Type 0
-IsSide (Take e) r = (r ≡ reply.Stop) ⊎ (r ≡ reply.Right)
-IsSide (OwnerOf n) r = r ≡ reply.Owner None

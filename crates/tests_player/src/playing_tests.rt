@@ -2,11 +2,9 @@
 
 ghost use Rattle.std.specs.Prelude.{◌≡◌, ◌<◌, ◌^◌, true};
 
-use crate::toys::{Coin, Shelf};
-use crate::worlds_tests::{LARGEST, spelled};
+use crate::toys::Shelf;
 use schedule_player::{
-    Config, Fault, MOST_READS, READ_BYTES, Sink, Source, Tried, World, WorldKind, law_of_growths,
-    law_of_lines, law_of_play, law_of_world, play, play_in, play_on, record,
+    Config, Fault, MOST_READS, READ_BYTES, Sink, Source, Tried, World, WorldKind, play, play_in, record,
 };
 use std::alloc::{Allocator, Global};
 use std::process::Abort;
@@ -82,34 +80,11 @@ const LINES: &[u8] =
 const LINES_TEXT: &[u8] =
     b"bad 3\nbad 3\nbad 1\nbad 4\nbad 5\nbad 3\nbad 4\nbad 5\nbad 2\nrefused 4\n";
 
-/// An input, and the text that it is answered by.
-type Input = (&'static [u8], &'static [u8]);
-
-/// Inputs that are answered so in every world for two participants.
-const INPUTS: [Input; 3] = [
+/// Inputs that are answered so in every world for two participants. Those of each world are rows of `worlds_tests`.
+const INPUTS: [(&[u8], &[u8]); 3] = [
     (b"", b""),
     (b"begin 7\nquit\nbegin 8", b"ok\nok\n"),
     (LINES, LINES_TEXT),
-];
-
-/// Inputs of a splitter for two participants: one after another, both at once, and refusals.
-const VISITS: [Input; 4] = [
-    (
-        b"begin 10\nstep 10\nstep 10\nstep 10\nstep 10\nbegin 20\nstep 20\nstep 20\nstep 20\n",
-        b"ok\nquiet\nquiet\nquiet\nstop\nok\nquiet\nright\nrefused 5\n",
-    ),
-    (
-        b"begin 10\nbegin 20\nstep 10\nstep 20\nstep 10\nstep 20\nstep 10\nstep 20\nstep 10\nstep 20\n",
-        b"ok\nok\nquiet\nquiet\nquiet\nquiet\nquiet\nquiet\ndown\nstop\n",
-    ),
-    (
-        b"enter 5\nstep 9\nbegin 0\nbegin 9\nquit\nbegin 8\n",
-        b"bad 3\nrefused 4\nrefused 1\nok\nok\n",
-    ),
-    (
-        b"begin 10\nbegin 20\nbegin 0\nbegin 20\nbegin 30\nstep 30\n",
-        b"ok\nok\nrefused 1\nrefused 2\nrefused 3\nrefused 4\n",
-    ),
 ];
 
 /// The same is written however the bytes are cut.
@@ -195,11 +170,11 @@ pub(crate) fn calls_fail_in_turn(rt: &impl Abort, alloc: Global, case: &Case<'_>
     }
 }
 
-/// Plays rows of a world for two participants however the bytes are cut, and then with each call failing in turn.
-fn are_played(rt: &impl Abort, alloc: Global, world: WorldKind, rows: &[Input]) {
-    for (input, text) in rows {
+/// Plays the inputs in a world however the bytes are cut, and then with each call failing in turn.
+fn are_played(rt: &impl Abort, alloc: Global, config: Config) {
+    for (input, text) in &INPUTS {
         let case = Case {
-            config: config(rt, world, 2),
+            config,
             is_kept: false,
             input,
             text,
@@ -207,33 +182,6 @@ fn are_played(rt: &impl Abort, alloc: Global, world: WorldKind, rows: &[Input]) 
         is_run(rt, alloc, &case);
         calls_fail_in_turn(rt, alloc, &case);
     }
-}
-
-#[test]
-fn inputs_are_answered_so_in_every_world(rt: HostRuntime) {
-    for world in WorldKind::all() {
-        are_played(&rt, rt.alloc(), world, &INPUTS);
-    }
-}
-
-#[test]
-fn visits_of_a_splitter_end_by_a_way(rt: HostRuntime) {
-    are_played(&rt, rt.alloc(), WorldKind::Splitter, &VISITS);
-}
-
-/// The calls of the row in which the name 2b - 1 is reached fail in turn.
-#[test]
-fn each_read_and_each_write_to_the_largest_name_fails_once(rt: HostRuntime) {
-    let row = LARGEST;
-    let asked = spelled(&rt, rt.alloc(), row.asked);
-    let said = spelled(&rt, rt.alloc(), row.said);
-    let case = Case {
-        config: row.config(&rt),
-        is_kept: false,
-        input: &asked,
-        text: &said,
-    };
-    calls_fail_in_turn(&rt, rt.alloc(), &case);
 }
 
 /// Inputs, how many bytes of them a read gives, and how often their run reads and writes.
@@ -250,59 +198,28 @@ const CALLS: [(&[u8], usize, (u64, u64)); 7] = [
 /// One that visits, and leaves one more unheard.
 const SEVEN: &[u8] = b"begin 7\nstep 7\nstep 7\nstep 7\nstep 7\nquit\nbegin 8\n";
 
-/// Compares how often a run in this world reads and writes.
-fn calls_are_few(rt: &impl Abort, alloc: Global, world: WorldKind) {
+/// Compares how often a run in a world reads and writes: nothing is read after the end or after `quit`.
+fn calls_are_few(rt: &impl Abort, alloc: Global, config: Config) {
     for (input, given, calls) in &CALLS {
         let case = Case {
-            config: config(rt, world, 2),
+            config,
             is_kept: false,
             input,
             text: b"",
         };
         let found = calls_of(rt, alloc, &case, *given, READ_BYTES);
-        assert!(rt; found == *calls, "{input:?} in {world:?}: {found:?}");
+        assert!(rt; found == *calls, "{input:?}: {found:?}");
     }
 }
 
-/// Nothing is read after the end or after `quit`.
 #[test]
-fn reads_and_writes_are_few(rt: HostRuntime) {
+fn inputs_are_answered_so_in_every_world(rt: HostRuntime) {
     for world in WorldKind::all() {
-        calls_are_few(&rt, rt.alloc(), world);
+        let config = config(&rt, world, 2);
+        are_played(&rt, rt.alloc(), config);
+        calls_are_few(&rt, rt.alloc(), config);
     }
     assert!(rt; (READ_BYTES, MOST_READS) == (65_536, 1 << 40));
-}
-
-/// Inputs in a grid for so many participants, and the texts that they are answered by.
-const GRID_INPUTS: [(u64, &[u8], &[u8]); 3] = [
-    (
-        3,
-        b"begin 10\nbegin 20\nbegin 30\nstep 10\nstep 10\nstep 10\nstep 10\nstep 20\nstep 20\nstep 20\nstep 20\nstep 20\nstep 20\nstep 30\nstep 30\nstep 30\nstep 30\nstep 30\nstep 30\nstep 30\nstep 30\nstep 30\n",
-        b"ok\nok\nok\nquiet\nquiet\nquiet\nplace 0\nquiet\nquiet\nquiet\nquiet\nquiet\nplace 1\nquiet\nquiet\nquiet\nquiet\nquiet\nquiet\nquiet\nplace 3\nrefused 5\n",
-    ),
-    (
-        2,
-        b"begin 10\nbegin 20\nstep 10\nstep 10\nstep 10\nstep 20\nstep 20\nstep 20\nstep 20\nstep 20\nstep 20\nstep 10\nstep 10\nstep 10\nstep 10\nstep 10\n",
-        b"ok\nok\nquiet\nquiet\nquiet\nquiet\nquiet\nquiet\nquiet\nquiet\nplace 1\nquiet\nquiet\nquiet\nquiet\nplace 2\n",
-    ),
-    (
-        1,
-        b"step 7\nbegin 0\nbegin 7\nbegin 0\nbegin 7\nbegin 8\nstep 8\nstep 7\nstep 7\nstep 7\nstep 7\nstep 7\n",
-        b"refused 4\nrefused 1\nok\nrefused 1\nrefused 2\nrefused 3\nrefused 4\nquiet\nquiet\nquiet\nplace 0\nrefused 5\n",
-    ),
-];
-
-#[test]
-fn walks_in_a_grid_end_at_places(rt: HostRuntime) {
-    for (m, input, text) in &GRID_INPUTS {
-        let case = Case {
-            config: config(&rt, WorldKind::Grid, *m),
-            is_kept: false,
-            input,
-            text,
-        };
-        is_run(&rt, rt.alloc(), &case);
-    }
 }
 
 /// Plays a shelf over any reader and any writer: how many events it accepts and how many it refuses.
@@ -339,33 +256,4 @@ fn shelf_is_played(alloc: Global, config: Config) -> bool
 fn a_world_that_refuses_growths_takes_the_event_when_asked_again(rt: HostRuntime) {
     let config = config(&rt, WorldKind::Splitter, 4);
     assert!(rt; shelf_is_played(rt.alloc(), config));
-    law_of_world::<Shelf, Global, ()>();
-}
-
-/// Plays a coin over a reader that fails at this read: whether there is no fault and `stop` is next, or neither, as is due, and
-/// this is written.
-fn coin_is_played(alloc: Global, fails_at: u64, is_left: bool, text: &[u8]) -> bool {
-    let mut coin = Coin { stops: false };
-    let lines = b"begin 1\nstep 1\nowner 1\nenter 1\n";
-    let mut reader = Tried::new(FaultyReader::new(lines, 8, fails_at));
-    let mut writer = Tried::new(Vec::new(alloc));
-    let outcome = play_on(
-        alloc,
-        &(),
-        &mut coin,
-        WorldKind::Rename,
-        &mut reader,
-        &mut writer,
-    );
-    let is_so = outcome.is_ok() == is_left && coin.stops == is_left;
-    writer.into_inner().as_slice() == text && is_so
-}
-
-#[test]
-fn a_world_whose_replies_vary_is_played_and_left_where_the_replies_went_out(rt: HostRuntime) {
-    let all = b"right\nstop\nowner none\nright\n".as_slice();
-    let part = b"right\nstop\nowner none\n".as_slice();
-    let whole = coin_is_played(rt.alloc(), 0, true, all);
-    let cut = coin_is_played(rt.alloc(), 4, false, part);
-    assert!(rt; whole && cut);
 }

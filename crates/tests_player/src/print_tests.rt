@@ -1,11 +1,11 @@
-//! The texts of replies and of bad lines, and the numbers of faults.
+//! The texts of replies, and the numbers of faults. Those of bad lines are in `playing_tests`.
 
 use commands::Reply;
-use schedule_player::{Bad, Fault, REPLY_ROOM, Replies, print_bad, print_reply};
+use schedule_player::{Fault, REPLY_ROOM, Replies, print_reply};
 use std::alloc::Global;
 use step_memory::{Refusal, View};
 
-/// Replies, with the view of `two_pairs` where they have one, and their texts.
+/// Replies, with a view of two pairs where they have one, and their texts.
 const REPLIES: [(Reply<()>, &[u8]); 20] = [
     (Reply::Ok, b"ok\n"),
     (Reply::Quiet, b"quiet\n"),
@@ -35,56 +35,11 @@ const REPLIES: [(Reply<()>, &[u8]); 20] = [
     (Reply::Refused(Refusal::OutOfRange), b"refused 14\n"),
 ];
 
-/// Bad lines, and their texts.
-const BADS: [(Bad, &[u8]); 5] = [
-    (Bad::TooLong, b"bad 1\n"),
-    (Bad::NotPrintable, b"bad 2\n"),
-    (Bad::UnknownWord, b"bad 3\n"),
-    (Bad::WrongCount, b"bad 4\n"),
-    (Bad::BadNumber, b"bad 5\n"),
-];
-
-/// A view of two pairs.
-fn two_pairs() -> View {
-    let mut view = View::new();
-    view.insert(u64::MAX, 3);
-    view.insert(1, 1);
-    view
-}
-
-/// Whether a reply, whose view is put beside it, has this text.
-fn is_printed(out: &mut Replies<Global>, reply: Reply<View>, want: &[u8]) -> bool {
-    let mut beside = View::new();
+/// Whether a reply with this view beside it has this text.
+fn is_printed(out: &mut Replies<Global>, reply: Reply<()>, view: &View, want: &[u8]) -> bool {
     out.clear();
-    print_reply(reply.shorten(&mut beside), &beside, out);
+    print_reply(reply, view, out);
     out.as_slice() == want
-}
-
-/// How many replies have their texts, up to the first that does not.
-fn printed(out: &mut Replies<Global>, view: &View) -> usize {
-    for (i, (reply, want)) in REPLIES.iter().enumerate() {
-        if !is_printed(out, reply.with(view), want) {
-            return i;
-        }
-    }
-    REPLIES.len()
-}
-
-/// Whether a bad line has this text.
-fn is_told(out: &mut Replies<Global>, bad: Bad, want: &[u8]) -> bool {
-    out.clear();
-    print_bad(bad, out);
-    out.as_slice() == want
-}
-
-/// Whether each has its own.
-fn are_told(out: &mut Replies<Global>) -> bool {
-    for (bad, want) in &BADS {
-        if !is_told(out, *bad, want) {
-            return false;
-        }
-    }
-    true
 }
 
 /// A view of as many pairs as there may be, each with numbers of the most digits.
@@ -98,19 +53,19 @@ fn longest_view() -> View {
     view
 }
 
-/// Replies and bad lines have their texts, and the longest reply has its room.
+/// Replies have their texts, and the longest has its room; faults have numbers, and their texts are shown by the built program
+/// (`tests/program`).
 #[test]
 fn replies_have_their_texts(rt: HostRuntime) {
     let mut out = Replies::new(rt.alloc()).expect(&rt, "room for a reply");
-    let printed = printed(&mut out, &two_pairs());
-    assert!(rt; printed == 20 && are_told(&mut out), "reply {printed}");
+    let mut view = View::new();
+    view.insert(u64::MAX, 3);
+    view.insert(1, 1);
+    for (reply, want) in &REPLIES {
+        assert!(rt; is_printed(&mut out, *reply, &view, want), "{want:?}");
+    }
     out.clear();
     print_reply(Reply::Saw(()), &longest_view(), &mut out);
-    assert!(rt; out.len() == REPLY_ROOM);
-}
-
-/// Faults have numbers; their texts are shown by the built program (`tests/program`).
-#[test]
-fn faults_have_numbers(rt: HostRuntime) {
-    assert!(rt; (Fault::Read as u8, Fault::Write as u8, Fault::Memory as u8) == (1, 2, 3));
+    let faults = (Fault::Read as u8, Fault::Write as u8, Fault::Memory as u8);
+    assert!(rt; out.len() == REPLY_ROOM && faults == (1, 2, 3));
 }

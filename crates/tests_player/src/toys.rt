@@ -1,12 +1,12 @@
-//! Two small services for tests: a world that refuses a growth now and then, and a service whose replies vary.
+//! A small world for tests, which refuses a growth now and then.
 
-ghost use Rattle.std.specs.Prelude.{ℕ, true, ◌≡◌};
+ghost use Rattle.std.specs.Prelude.{ℕ, ◌≡◌};
 ghost use Rattle.std.proofs.Common.{refl};
 ghost use Rattle.commands.specs.Config.{is_kind};
 ghost use Rattle.commands.specs.declared.kind.WorldKind.TheVariants.{Splitter};
 ghost use Rattle.schedule_player.specs.VisitProofs.{kind_meant};
-ghost use Rattle.tests_player.specs.Toys.{ShelfMay, IsShelfRun, IsSide};
-ghost use Rattle.tests_player.specs.ToyProofs.{shelf_answers, shelf_lawful, shelf_tells, one_shelf_fresh, one_shelf_reply, coin_answers};
+ghost use Rattle.tests_player.specs.Toys.{ShelfMay, IsShelfRun};
+ghost use Rattle.tests_player.specs.ToyProofs.{shelf_answers, shelf_lawful, shelf_tells, one_shelf_fresh, one_shelf_reply};
 ghost use Rattle.schedule_player.specs.Visits.{knows_visits};
 
 use commands::{Config, Event, Reply};
@@ -69,32 +69,4 @@ impl<A: Drop, R> World<A, R> for Shelf {
     ghost one_fresh = { λ c. one_shelf_fresh };
 
     ghost one_reply = { one_shelf_reply };
-}
-
-/// Says `stop` and `right` in turn, which its rules leave open, and that nobody has a name.
-#[derive(Drop)]
-pub struct Coin {
-    /// Whether `stop` is next.
-    pub stops: bool,
-}
-
-impl<R> Service<R> for Coin {
-    ghost knows = { λ q. true };
-
-    ghost may = { λ w q r u. IsSide q r };
-
-    ghost answers = { λ w q known. coin_answers w q };
-
-    fn apply(&mut self, _rt: &R, _event: Event, _view: &mut View) -> Reply<()> {
-        self.stops = !self.stops;
-        if self.stops {
-            Reply::Right
-        } else {
-            Reply::Stop
-        }
-    }
-
-    fn owner(&mut self, _rt: &R, _n: u64) -> Reply<View> {
-        Reply::Owner(None)
-    }
 }

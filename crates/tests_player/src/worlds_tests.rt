@@ -1,7 +1,7 @@
-//! Runs of renaming, over a grid's places and a tree's, with a pool and slots.
+//! Visits of a splitter, walks in a grid, and runs of renaming, over a grid's places and a tree's, with a pool and slots.
 
-use crate::growth_tests::growths_refused_in_turn;
-use crate::playing_tests::{Case, is_run};
+use crate::growths::growths_refused_in_turn;
+use crate::playing_tests::{Case, calls_fail_in_turn, is_run};
 use crate::record_tests::record_text;
 use schedule_player::{Config, WorldKind};
 use std::alloc::{AllocError, Global};
@@ -29,22 +29,72 @@ const WIDENED_SAID: &str =
     "ok, got 1, ok, got 2, refused 7, refused 14, ok*2, missed*2, left 2, got 3, ok, missed, got 2, ok, \
     missed*2, got 4, refused 7, ok, value 5, refused 14";
 
-/// The name 2b - 1 is reached.
-pub(crate) const LARGEST: Row = Row {
-    world: WorldKind::Rename,
-    m: 2,
-    k: 4,
-    limit: 1000,
-    asked: "begin 10, begin 20, step 10, step 20, step 10, step 20, step 10, step 20, step 10, step 20, \
-        step 10*10, step 20*6, step 10, step 20, step 10*6, step 20*6, step 10*7, step 20*7, step 10*6, \
-        step 20*6",
-    said: "ok*2, quiet*7, place 0, quiet*3, place 2, quiet*12, proposed 1*2, quiet*5, saw 10:1 20:1, \
-        quiet*5, saw 10:1 20:1, quiet*6, proposed 2, quiet*6, proposed 3, quiet*5, named 2, quiet*5, \
-        named 3",
-    views: "10:2 20:3, 10:2 20:3",
-};
-
-const ROWS: [Row; 17] = [
+const ROWS: [Row; 24] = [
+    // Visits of a splitter: one after another, both at once, and refusals.
+    Row {
+        world: WorldKind::Splitter,
+        m: 2,
+        k: 4,
+        limit: 1000,
+        asked: "begin 10, step 10*4, begin 20, step 20*3",
+        said: "ok, quiet*3, stop, ok, quiet, right, refused 5",
+        views: "",
+    },
+    Row {
+        world: WorldKind::Splitter,
+        m: 2,
+        k: 4,
+        limit: 1000,
+        asked: "begin 10, begin 20, step 10, step 20, step 10, step 20, step 10, step 20, step 10, step 20",
+        said: "ok*2, quiet*6, down, stop",
+        views: "",
+    },
+    Row {
+        world: WorldKind::Splitter,
+        m: 2,
+        k: 4,
+        limit: 1000,
+        asked: "enter 5, step 9, begin 0, begin 9, quit, begin 8",
+        said: "bad 3, refused 4, refused 1, ok*2",
+        views: "",
+    },
+    Row {
+        world: WorldKind::Splitter,
+        m: 2,
+        k: 4,
+        limit: 1000,
+        asked: "begin 10, begin 20, begin 0, begin 20, begin 30, step 30",
+        said: "ok*2, refused 1, refused 2, refused 3, refused 4",
+        views: "",
+    },
+    // Walks in a grid: of three, of two, and refusals.
+    Row {
+        world: WorldKind::Grid,
+        m: 3,
+        k: 4,
+        limit: 1000,
+        asked: "begin 10, begin 20, begin 30, step 10*4, step 20*6, step 30*9",
+        said: "ok*3, quiet*3, place 0, quiet*5, place 1, quiet*7, place 3, refused 5",
+        views: "",
+    },
+    Row {
+        world: WorldKind::Grid,
+        m: 2,
+        k: 4,
+        limit: 1000,
+        asked: "begin 10, begin 20, step 10*3, step 20*6, step 10*5",
+        said: "ok*2, quiet*8, place 1, quiet*4, place 2",
+        views: "",
+    },
+    Row {
+        world: WorldKind::Grid,
+        m: 1,
+        k: 4,
+        limit: 1000,
+        asked: "step 7, begin 0, begin 7, begin 0, begin 7, begin 8, step 8, step 7*5",
+        said: "refused 4, refused 1, ok, refused 1, refused 2, refused 3, refused 4, quiet*3, place 0, refused 5",
+        views: "",
+    },
     // One alone in a world for one.
     Row {
         world: WorldKind::Rename,
@@ -65,7 +115,20 @@ const ROWS: [Row; 17] = [
         said: "ok, quiet*3, place 0, quiet*6, proposed 1, quiet*5, named 1",
         views: "7:1",
     },
-    LARGEST,
+    // The name 2b - 1 is reached.
+    Row {
+        world: WorldKind::Rename,
+        m: 2,
+        k: 4,
+        limit: 1000,
+        asked: "begin 10, begin 20, step 10, step 20, step 10, step 20, step 10, step 20, step 10, step 20, \
+            step 10*10, step 20*6, step 10, step 20, step 10*6, step 20*6, step 10*7, step 20*7, step 10*6, \
+            step 20*6",
+        said: "ok*2, quiet*7, place 0, quiet*3, place 2, quiet*12, proposed 1*2, quiet*5, saw 10:1 20:1, \
+            quiet*5, saw 10:1 20:1, quiet*6, proposed 2, quiet*6, proposed 3, quiet*5, named 2, quiet*5, \
+            named 3",
+        views: "10:2 20:3, 10:2 20:3",
+    },
     // A view is borrowed.
     Row {
         world: WorldKind::Rename,
@@ -218,11 +281,6 @@ const ROWS: [Row; 17] = [
     },
 ];
 
-/// The rows, which stand once in the code that is proved.
-fn rows() -> &'static [Row] {
-    &ROWS
-}
-
 impl Row {
     /// What the row is a run of.
     pub(crate) fn config(&self, rt: &impl Abort) -> Config {
@@ -268,7 +326,7 @@ pub(crate) fn text_of(rt: &impl Abort, alloc: Global, row: &Row, is_kept: bool) 
 }
 
 /// Plays a row, or records it, however the bytes are cut, and with each growth refused in turn: where walks are in a tree some
-/// line is refused then.
+/// line is refused then. A row that is played is played with each call failing in turn, too.
 fn row_is_run(rt: &impl Abort, alloc: Global, row: &Row, is_kept: bool) {
     let input = spelled(rt, alloc, row.asked);
     let text = text_of(rt, alloc, row, is_kept);
@@ -279,21 +337,21 @@ fn row_is_run(rt: &impl Abort, alloc: Global, row: &Row, is_kept: bool) {
         text: &text,
     };
     is_run(rt, alloc, &case);
+    if !is_kept {
+        calls_fail_in_turn(rt, alloc, &case);
+    }
     let refused = growths_refused_in_turn(rt, alloc, &case);
-    let grows = row.world == WorldKind::Tree && row.asked.starts_with("begin");
+    let grows = row.world.is_tree() && row.asked.starts_with("begin");
     assert!(rt; (refused > 0) == grows, "{refused} at {}", row.asked);
 }
 
+/// Each row is played, and where it gives names recorded: the record of a row is its events with their replies.
 #[test]
-fn names_places_numbers_and_values_are_told(rt: HostRuntime) {
-    for row in rows() {
+fn ways_places_names_numbers_and_values_are_told(rt: HostRuntime) {
+    for row in &ROWS {
         row_is_run(&rt, rt.alloc(), row, false);
-    }
-}
-
-#[test]
-fn the_record_of_a_row_is_its_events_with_their_replies(rt: HostRuntime) {
-    for row in rows() {
-        row_is_run(&rt, rt.alloc(), row, true);
+        if row.world.gives_names() {
+            row_is_run(&rt, rt.alloc(), row, true);
+        }
     }
 }

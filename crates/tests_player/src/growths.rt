@@ -1,8 +1,8 @@
 //! Runs in which one growth is refused, each in turn.
 
-use crate::playing_tests::{Case, Played, config, first_lines, run};
+use crate::playing_tests::{Case, Played, first_lines, run};
 use crate::record_tests::{put_line, put_pieces};
-use schedule_player::{Fault, WorldKind};
+use schedule_player::Fault;
 use std::alloc::Global;
 use std::process::Abort;
 use tests_doubles::FailingAllocator;
@@ -120,26 +120,4 @@ pub(crate) fn growths_refused_in_turn(rt: &impl Abort, alloc: Global, case: &Cas
         }
     }
     panic!(rt; "there are more growths");
-}
-
-/// In this world, for so many participants, no line is refused memory.
-fn no_line_is_refused(rt: &impl Abort, alloc: Global, world: WorldKind, m: u64) {
-    let case = Case {
-        config: config(rt, world, m),
-        is_kept: false,
-        input: b"begin 7\nstep 7\nquit\n",
-        text: b"ok\nquiet\nok\n",
-    };
-    let refused = growths_refused_in_turn(rt, alloc, &case);
-    assert!(rt; refused == 0, "{refused} in {world:?}");
-}
-
-#[test]
-fn no_growth_is_refused_where_no_places_are_in_a_tree(rt: HostRuntime) {
-    for world in WorldKind::all() {
-        if !world.is_tree() {
-            no_line_is_refused(&rt, rt.alloc(), world, 2);
-            no_line_is_refused(&rt, rt.alloc(), world, world.most());
-        }
-    }
 }

@@ -19,7 +19,7 @@ pub(crate) const HEADER: &[u8] =
     b"{\"format\":\"slot-record\",\"k\":4,\"limit\":1000,\"m\":2,\"version\":2,\"world\":\"rename\"}\n";
 
 /// The lines of its record.
-pub(crate) const LINES: [&[u8]; 6] = [
+const LINES: [&[u8]; 6] = [
     b"{\"command\":\"begin 7\",\"reply\":\"ok\"}\n",
     b"{\"command\":\"enter 8\",\"reply\":\"ok\"}\n",
     b"{\"command\":\"probe 8\",\"reply\":\"got 1\"}\n",

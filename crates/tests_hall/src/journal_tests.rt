@@ -1,8 +1,7 @@
 //! Journals in memory: torn, failing, and of other runs.
 
 use crate::journals::{
-    ALL_CALLS, Act, HEADER, LINES, OPENING_CALLS, are_so, disk_after, empty_disk, opened, record,
-    tried,
+    ALL_CALLS, Act, HEADER, OPENING_CALLS, are_so, disk_after, empty_disk, opened, record, tried,
 };
 use commands::Event;
 use journal::OpenFault;
@@ -40,76 +39,48 @@ fn commits_write_the_lines_of_a_record(rt: HostRuntime) -> Result<(), Fail> {
     Ok(())
 }
 
-/// Whether the first so many bytes of the header are made whole.
-fn is_made_whole(alloc: Global, end: usize) -> Result<bool, AllocError> {
-    let torn = HEADER.get(..end).unwrap_or(&[]).to_vec(alloc)?;
-    let disk = MemoryDisk::new(torn, ALL_CALLS);
-    Ok(has(alloc, disk, &[Act::Has(0)], HEADER))
+/// Whether a record of which these bytes are there is mended: a torn header is made whole, and behind it a torn line is cut off.
+fn is_mended(alloc: Global, torn: &[u8]) -> Result<bool, AllocError> {
+    let lines = torn.iter().filter(|byte| **byte == b'\n').count();
+    let events = lines.saturating_sub(1);
+    let whole = record(alloc, events, b"")?;
+    let disk = MemoryDisk::new(torn.to_vec(alloc)?, ALL_CALLS);
+    Ok(has(alloc, disk, &[Act::Has(events)], &whole))
 }
 
 #[test]
-fn a_torn_header_is_made_whole(rt: HostRuntime) {
-    for end in 0..HEADER.len() {
-        assert!(rt; is_made_whole(rt.alloc(), end) == Ok(true), "at {end}");
+fn a_record_is_torn_at_each_byte(rt: HostRuntime) -> Result<(), Fail> {
+    let whole = record(rt.alloc(), 6, b"")?;
+    for end in 0..whole.len() {
+        assert!(rt; is_mended(rt.alloc(), &whole[..end]) == Ok(true), "at {end}");
     }
-}
-
-/// Whether the first so many bytes of the fifth line are cut off behind the other four.
-fn is_cut(alloc: Global, end: usize) -> Result<bool, AllocError> {
-    let torn = record(alloc, 4, LINES[4].get(..end).unwrap_or(&[]))?;
-    let whole = record(alloc, 4, b"")?;
-    let disk = MemoryDisk::new(torn, ALL_CALLS);
-    Ok(has(alloc, disk, &[Act::Has(4)], &whole))
-}
-
-#[test]
-fn a_torn_line_is_cut_at_each_byte(rt: HostRuntime) {
-    for end in 0..LINES[4].len() {
-        assert!(rt; is_cut(rt.alloc(), end) == Ok(true), "at {end}");
-    }
-}
-
-/// How many events of the run are committed on a disk with a header, of which the call after so many fails, and the disk then; none where
-/// it is not opened.
-fn committed(alloc: Global, calls: usize) -> Option<(usize, MemoryDisk)> {
-    let bytes = HEADER.to_vec(alloc).ok()?;
-    let (count, disk) = tried(alloc, MemoryDisk::new(bytes, calls), &COMMITS)?;
-    Some((count / 3 * 2, disk))
+    Ok(())
 }
 
 /// Whether a crash that keeps so many bytes leaves a beginning of the record, with at least the events that were committed before the call
-/// that failed.
+/// that failed: the disk has a header, the call after so many fails, and two events are committed at a time.
 fn keeps_what_was_committed(
     alloc: Global,
     whole: &[u8],
     calls: usize,
     keep: usize,
 ) -> Option<bool> {
-    let (committed, disk) = committed(alloc, calls)?;
+    let disk = MemoryDisk::new(HEADER.to_vec(alloc).ok()?, calls);
+    let (done, disk) = tried(alloc, disk, &COMMITS)?;
     let left = disk.crashed(keep, ALL_CALLS);
     let begins = whole.starts_with(left.as_slice());
     let opened = opened(alloc, left).ok()?;
-    Some(begins && committed <= opened.chronicle.hall().len())
+    Some(begins && done / 3 * 2 <= opened.chronicle.hall().len())
 }
 
-/// Whether so it is of crashes that keep nothing, a part, or all of what is not surely there.
-fn keeps_at_each_length(alloc: Global, whole: &[u8], calls: usize) -> bool {
-    for keep in [0, whole.len() / 4, whole.len() / 2, whole.len()] {
-        if keeps_what_was_committed(alloc, whole, calls, keep) != Some(true) {
-            return false;
-        }
-    }
-    true
-}
-
+/// Crashes that keep nothing, a part, or all of what is not surely there.
 #[test]
 fn a_crash_after_each_fault_keeps_what_was_committed(rt: HostRuntime) -> Result<(), Fail> {
     let whole = record(rt.alloc(), 6, b"")?;
-    for calls in OPENING_CALLS..10 {
-        assert!(rt;
-            keeps_at_each_length(rt.alloc(), &whole, calls),
-            "calls {calls}"
-        );
+    for at in OPENING_CALLS * 4..40 {
+        let keep = [0, whole.len() / 4, whole.len() / 2, whole.len()][at % 4];
+        let kept = keeps_what_was_committed(rt.alloc(), &whole, at / 4, keep);
+        assert!(rt; kept == Some(true), "calls {}, keep {keep}", at / 4);
     }
     Ok(())
 }
@@ -119,22 +90,14 @@ fn fault(alloc: Global, bytes: Vec<u8>, calls: usize) -> Option<OpenFault> {
     opened(alloc, MemoryDisk::new(bytes, calls)).err()
 }
 
-/// Whether a header is not opened for a fault of the disk, of which the call after so many fails.
-fn is_told_of_the_disk(alloc: Global, calls: usize) -> bool {
-    match HEADER.to_vec(alloc) {
-        Ok(bytes) => matches!(
-            fault(alloc, bytes, calls),
-            Some(OpenFault::Disk(DiskFault::Failed(_)))
-        ),
-        Err(_) => false,
-    }
-}
-
 #[test]
-fn a_fault_while_it_is_opened_is_told(rt: HostRuntime) {
+fn a_fault_while_it_is_opened_is_told(rt: HostRuntime) -> Result<(), Fail> {
     for calls in 0..OPENING_CALLS {
-        assert!(rt; is_told_of_the_disk(rt.alloc(), calls), "calls {calls}");
+        let told = fault(rt.alloc(), HEADER.to_vec(rt.alloc())?, calls);
+        let is_failed = matches!(told, Some(OpenFault::Disk(DiskFault::Failed(_))));
+        assert!(rt; is_failed, "calls {calls}");
     }
+    Ok(())
 }
 
 /// What is no record of a hall of the config, and why not.
@@ -154,20 +117,13 @@ const OTHERS: [(&[u8], OpenFault); 4] = [
     ),
 ];
 
-/// Whether the journal of these bytes is not opened for this reason.
-fn is_refused(alloc: Global, bytes: Result<Vec<u8>, AllocError>, due: OpenFault) -> bool {
-    match bytes {
-        Ok(bytes) => fault(alloc, bytes, ALL_CALLS) == Some(due),
-        Err(AllocError) => false,
-    }
-}
-
 #[test]
-fn other_files_are_refused(rt: HostRuntime) {
-    for (i, (bytes, due)) in OTHERS.iter().enumerate() {
-        let bytes = bytes.to_vec(rt.alloc());
-        assert!(rt; is_refused(rt.alloc(), bytes, *due), "row {i}");
+fn other_files_are_refused(rt: HostRuntime) -> Result<(), Fail> {
+    for (row, (bytes, due)) in OTHERS.iter().enumerate() {
+        let told = fault(rt.alloc(), bytes.to_vec(rt.alloc())?, ALL_CALLS);
+        assert!(rt; told == Some(*due), "row {row}");
     }
+    Ok(())
 }
 
 /// What no hall writes behind the first two events, and why that is not opened: what another object answers, a refusal that is not due, one
@@ -193,11 +149,12 @@ const BEHIND: [(&[u8], OpenFault); 5] = [
 ];
 
 #[test]
-fn lines_that_no_hall_writes_are_refused(rt: HostRuntime) {
-    for (i, (bytes, due)) in BEHIND.iter().enumerate() {
-        let bytes = record(rt.alloc(), 2, bytes);
-        assert!(rt; is_refused(rt.alloc(), bytes, *due), "row {i}");
+fn lines_that_no_hall_writes_are_refused(rt: HostRuntime) -> Result<(), Fail> {
+    for (row, (bytes, due)) in BEHIND.iter().enumerate() {
+        let told = fault(rt.alloc(), record(rt.alloc(), 2, bytes)?, ALL_CALLS);
+        assert!(rt; told == Some(*due), "row {row}");
     }
+    Ok(())
 }
 
 /// A chronicle that is full takes an event only once its lines were committed.

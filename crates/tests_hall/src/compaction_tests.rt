@@ -12,8 +12,8 @@ const PROBES: Act = Act::Accepts(Event::Probe(8));
 
 const LEAVES: Act = Act::Accepts(Event::Leave(8));
 
-/// One begins, and another stays five times: 16 events, that are committed.
-const RUNS: [Act; 17] = [
+/// One begins, and another stays five times: 16 events, that are committed, and not compacted, which is not due.
+const RUNS: [Act; 19] = [
     Act::Accepts(Event::Begin(7)),
     ENTERS,
     PROBES,
@@ -31,6 +31,8 @@ const RUNS: [Act; 17] = [
     PROBES,
     LEAVES,
     Act::Commits,
+    Act::CompactsWhenDue,
+    Act::Has(16),
 ];
 
 /// There are two events, and a third is committed.
@@ -92,20 +94,4 @@ fn a_crash_in_its_midst_leaves_old_or_new(rt: HostRuntime) {
         let all = are_left(rt.alloc(), *calls, *reverts, usize::MAX, *events);
         assert!(rt; none && all, "{calls} {reverts}");
     }
-}
-
-/// How many events a journal of 16 has once it was compacted where that is due.
-const WAITS: [Act; 2] = [Act::CompactsWhenDue, Act::Has(16)];
-
-/// Whether it waits until it is due.
-fn waits(alloc: Global) -> bool {
-    match disk_after(alloc, empty_disk(alloc), &RUNS) {
-        Some(disk) => are_so(alloc, disk, &WAITS),
-        None => false,
-    }
-}
-
-#[test]
-fn it_waits_until_it_is_due(rt: HostRuntime) {
-    assert!(rt; waits(rt.alloc()));
 }
