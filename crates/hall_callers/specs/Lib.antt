@@ -7,3 +7,4 @@ pub mod Kepts
 pub mod Answers
 pub mod Marks
 pub mod KeptNames
+pub mod Words

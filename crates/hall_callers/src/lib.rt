@@ -17,6 +17,7 @@ pub mod kept;
 pub mod kept_log;
 pub mod laws;
 pub mod locked;
+pub mod names;
 pub mod parts;
 mod telling;
 
@@ -25,4 +26,5 @@ pub use closing::Closed;
 pub use kept::Kept;
 pub use kept_log::KeptLog;
 pub use laws::law_of_answered_callers;
+pub use names::{agrees, post_name};
 pub use parts::{Clerk, LockName, Locked, Session};

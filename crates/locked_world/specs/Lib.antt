@@ -1,4 +1,3 @@
 pub mod Renamed
 pub mod Serving
 pub mod ServingProofs
-pub mod Words

@@ -31,13 +31,11 @@
 pub mod closing;
 pub mod laws;
 pub mod lock;
-pub mod names;
 pub mod rename;
 pub mod serving_clerk;
 
 pub use closing::Missing;
-pub use hall_callers::{Act, Clerk, Closed, Kept, KeptLog, LockName, Session};
+pub use hall_callers::{Act, Clerk, Closed, Kept, KeptLog, LockName, Session, agrees, post_name};
 pub use laws::law_of_clerks;
 pub use lock::HallLock;
-pub use names::{agrees, post_name};
 pub use serving_clerk::ServingClerk;

@@ -1,7 +1,7 @@
 use Rattle.std.proofs.Common.{◌≡◌, ℕ, ◌+◌, ◌<◌, Some, slice_get}
 use Rattle.hall.specs.Halls.{desk_of}
-use Rattle.locked_world.specs.Words.{IsOwnerOrNone}
-use Rattle.locked_world.proofs.names.agrees.Given as goal
+use Rattle.hall_callers.specs.Words.{IsOwnerOrNone}
+use Rattle.hall_callers.proofs.names.agrees.Given as goal
 
 abbrev pub invariant-loop-place : goal.invariant-loop-place
 invariant-loop-place g l =

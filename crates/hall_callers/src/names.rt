@@ -4,11 +4,12 @@ ghost use Rattle.std.specs.Prelude.{◌≡◌, ◌⊎◌, ◌↔◌, ℕ, Some, 
 ghost use Rattle.desk.specs.Desk.{owner_reply};
 ghost use Rattle.hall.specs.Halls.{desk_of};
 ghost use Rattle.hall_callers.specs.KeptNames.{name_kept};
-ghost use Rattle.locked_world.specs.Words.{IsOwnerOrNone, Agree};
+ghost use Rattle.hall_callers.specs.Words.{IsOwnerOrNone, Agree};
 
+use crate::closing::Closed;
+use crate::parts::{LockName, Session};
 use commands::Reply;
 use hall::Hall;
-use hall_callers::{Closed, LockName, Session};
 use raw_parts::{Board, Grant, ReaderSeat};
 use std::alloc::Allocator;
 

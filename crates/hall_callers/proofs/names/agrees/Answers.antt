@@ -2,8 +2,8 @@ use Rattle.std.proofs.Common.{◌≡◌, ◌≤◌, inl, inr, refl, ◌+◌, Som
 use Rattle.std.proofs.Math.Nat.{eq-or-lt_of_le}
 use Rattle.std.proofs.lemmas.Option.{slice_get_within, slice_get-get_or, get_or_from_slice_get}
 use Rattle.hall.specs.Halls.{desk_of}
-use Rattle.locked_world.specs.Words.{IsOwnerOrNone}
-use Rattle.locked_world.proofs.names.agrees.Goals as goal
+use Rattle.hall_callers.specs.Words.{IsOwnerOrNone}
+use Rattle.hall_callers.proofs.names.agrees.Goals as goal
 
 pub returns-then-not-is_owner_or_none : goal.returns-then-not-is_owner_or_none
 returns-then-not-is_owner_or_none g c =
