@@ -1,11 +1,18 @@
 -- how the check of a record ends
-use Rattle.std.proofs.Common.{◌≡◌, ◌∙◌, ◌⊎◌, ◌+◌, ◌<◌, ◌≤◌, inl, inr, sym, subst, ℕ, List, Result, Err}
-use Rattle.program_work.proofs.Common.{Verdict, Reading, Writing, HasPartOf, Fault, Read, Write, Memory, MOST_READS}
-use Rattle.program_work.specs.Checked.{HasFailedRead, IsJudged, IsToldOf}
+use Rattle.std.proofs.Common.{◌≡◌, ◌∙◌, ◌⊎◌, ◌+◌, ◌<◌, ◌≤◌, inl, inr, sym, subst, ℕ, List, Result, Ok, Err}
+use Rattle.program_work.proofs.Common.{Verdict, Reading, Writing, Appends, HasPartOf, Fault, Read, Write, Memory, MOST_READS}
+use Rattle.program_work.specs.Checked.{HasFailedRead, IsJudged, IsToldOf, verdict_status}
 
 not_of_write : (fault : Fault) → (fault ≡ Read) ⊎ (fault ≡ Memory) → (let o : Result ℕ Fault = Err fault in o ≡ Err Write) → ⊥
 not_of_write fault (inl is) at = cc
 not_of_write fault (inr is) at = cc
+
+-- a call that came to its end had no fault
+no_fault : {X : Type 0} {x : X} {fault : Fault} → (let o : Result X Fault = Ok x in o ≡ Err fault) → ⊥
+no_fault at = cc
+
+pub memory_is_no_read : {X : Type 0} → Memory ≡ Read → X
+memory_is_no_read at = absurd (cc)
 
 of_read : (fault : Fault) → (let o : Result ℕ Fault = Err fault in o ≡ Err Read) → fault ≡ Read
 of_read fault at = cc
@@ -28,6 +35,18 @@ module _ {R W : Type 0} (Tells : List ℕ → Verdict → List ℕ → Type 0) (
     memory = λ at. (unwritten, unfailed (of_memory fault at));
     reads = reads;
   })
+
+  -- the verdict is told whole
+  pub all_told : (status : ℕ) (v : Verdict) → status ≡ verdict_status v → IsToldOf Tells reading (Appends (writing.contents writing.old) (writing.contents writing.new)) v → writing.failed writing.new ≡ writing.failed writing.old
+      → IsJudged Tells reading writing (Ok status)
+  all_told status v is told unfailed = record {
+    ok = (v, is, told);
+    no_write_failed = unfailed;
+    write_fault = λ at. absurd (no_fault at);
+    read_fault = λ at. absurd (no_fault at);
+    memory = λ at. absurd (no_fault at);
+    reads = reads;
+  }
 
   -- the verdict is not written to its end
   pub half_told : (result : Result ℕ Fault) (fault : Fault) → result ≡ Err fault → fault ≡ Write → writing.failed writing.old < writing.failed writing.new → (v : Verdict)

@@ -1,8 +1,12 @@
 -- how the migration of a record ends
 use Rattle.std.proofs.Common.{◌≡◌, ◌≢◌, refl, ℕ, List, Ok}
-use Rattle.program_work.proofs.Common.{IsMigrated, Verdict, Yes, Writing}
+use Rattle.program_work.proofs.Common.{IsMigrated, NoMemory, Verdict, Yes, Writing}
 use Rattle.run_checker.specs.Verdict.{IsVerdict}
 use Rattle.program_work.specs.Checked.{verdict_text, verdict_status, IsRecordText}
+
+-- yes says something
+pub yes_says : Yes ≢ NoMemory
+yes_says e = cc
 
 module _ {W : Type 0} (writing : Writing W) (bytes : List ℕ) where
   -- with another verdict than yes nothing is written

@@ -1,29 +1,30 @@
-use Rattle.std.proofs.Common.{rules, ◌≡◌, ◌≢◌, ◌+◌, ◌^◌, ◌<◌, ◌≤◌, inr, refl, sym, subst, length, List, ℕ, Ok, Err}
+use Rattle.std.proofs.lemmas.Result.{err_from_is_err_and}
+use Rattle.std.proofs.Common.{rules, ap, ◌∙◌, ◌≡◌, ◌≢◌, ◌+◌, ◌^◌, ◌<◌, ◌≤◌, inr, refl, sym, subst, length, List, ℕ, Ok, Err}
 use Rattle.program_work.proofs.Common.{Appends, IsMigrated, Verdict, Yes, NoMemory, reading, writing, HasPartOf, Memory}
 use Rattle.program_work.specs.Checked.{verdict_text, IsRecordText}
-use Rattle.program_work.proofs.CheckLemmas.{half_told, unread}
-use Rattle.program_work.proofs.MigrateLemmas.{unwritten, line_tells, status_one}
+use Rattle.program_work.proofs.CheckLemmas.{all_told, half_told, memory_is_no_read, unread}
+use Rattle.program_work.proofs.MigrateLemmas.{unwritten, line_tells, status_one, yes_says}
 use Rattle.program_work.proofs.migrating.migrate_for.Goals as goal
 
 pub returns-in_err-bytes : goal.returns-in_err-bytes
 returns-in_err-bytes g c =
-    let fault : c.from_residual.result ≡ Err c.in_err-bytes.field-0.0 = search rules in
+    let fault = err_from_is_err_and c.from_residual.result c.from_residual.ensures.1 in
     unread IsRecordText (reading g.R.Read.remaining g.R.Source.calls g.R.Source.failed c.args.reader.now c.read_whole.new.reader) (writing g.W.Write.contents g.W.Sink.failed c.args.writer.now c.args.writer.now) c.read_whole.ensures.reads
-    refl c.from_residual.result c.in_err-bytes.field-0.0 fault c.in_err-bytes.ensures.only (λ is. c.in_err-bytes.ensures.read_fault (let same : c.in_err-bytes.field-0.0 ≡ _ = is in cc))
-    (λ is. c.in_err-bytes.ensures.memory (let same : c.in_err-bytes.field-0.0 ≡ _ = is in cc))
+    refl c.from_residual.result c.in_err-bytes.field-0.0 (fault.1 ∙ ap Err fault.2) c.in_err-bytes.ensures.only (λ is. c.in_err-bytes.ensures.read_fault (ap Err is))
+    (λ is. c.in_err-bytes.ensures.memory (ap Err is))
 
 pub returns-in_err-verdict : goal.returns-in_err-verdict
 returns-in_err-verdict g c =
     let writes = writing g.W.Write.contents g.W.Sink.failed c.args.writer.now c.migrate.new.writer in
-    let fault : c.from_residual-in_err-verdict.result ≡ Err c.in_err-verdict.field-0.0 = search rules in
+    let fault = err_from_is_err_and c.from_residual-in_err-verdict.result c.from_residual-in_err-verdict.ensures.1 in
     let k = subst (λ (b : List ℕ). IsMigrated writes b (Err c.in_err-verdict.field-0.0)) c.as_slice.ensures.value c.in_err-verdict.ensures in
     half_told IsRecordText (reading g.R.Read.remaining g.R.Source.calls g.R.Source.failed c.args.reader.now c.read_whole.new.reader) writes c.read_whole.ensures.reads
-    c.from_residual-in_err-verdict.result c.in_err-verdict.field-0.0 fault k.0 k.1 Yes
+    c.from_residual-in_err-verdict.result c.in_err-verdict.field-0.0 (fault.1 ∙ ap Err fault.2) k.0 k.1 Yes
     (record {
       input = c.in_ok-bytes.bytes.items;
       whole = c.in_ok-bytes.ensures.whole;
       verdict = k.2.1.said;
-      some = λ e. cc;
+      some = yes_says;
       text = k.2.0;
       tells = k.2.1;
       wrote = k.2.2;
@@ -35,26 +36,16 @@ returns-then-eq g c =
     let yes : c.in_ok-verdict.verdict ≡ Yes = search rules in
     let k = subst (λ (v : Verdict). IsMigrated writes c.in_ok-bytes.bytes.items (Ok v)) yes
     (subst (λ (b : List ℕ). IsMigrated writes b (Ok c.in_ok-verdict.verdict)) c.as_slice.ensures.value c.in_ok-verdict.ensures) in
-    record {
-      ok = (
-        Yes,
-        refl,
-        record {
-          input = c.in_ok-bytes.bytes.items;
-          whole = c.in_ok-bytes.ensures.whole;
-          verdict = k.1.1.said;
-          some = λ e. cc;
-          text = k.1.0;
-          tells = k.1.1;
-          wrote = k.1.2;
-        },
-      );
-      no_write_failed = k.0;
-      write_fault = λ at. absurd cc;
-      read_fault = λ at. absurd cc;
-      memory = λ at. absurd cc;
-      reads = c.read_whole.ensures.reads;
-    }
+    let reads = reading g.R.Read.remaining g.R.Source.calls g.R.Source.failed c.args.reader.now c.read_whole.new.reader in
+    all_told IsRecordText reads writes c.read_whole.ensures.reads 0 Yes refl (record {
+      input = c.in_ok-bytes.bytes.items;
+      whole = c.in_ok-bytes.ensures.whole;
+      verdict = k.1.1.said;
+      some = yes_says;
+      text = k.1.0;
+      tells = k.1.1;
+      wrote = k.1.2;
+    }) k.0
 
 pub returns-then-eq-2 : goal.returns-then-eq-2
 returns-then-eq-2 g c =
@@ -62,7 +53,7 @@ returns-then-eq-2 g c =
     let reads = reading g.R.Read.remaining g.R.Source.calls g.R.Source.failed c.args.reader.now c.read_whole.new.reader in
     let other : c.in_ok-verdict.verdict ≢ Yes = search rules in
     let k = unwritten writes c.as_slice.result.now c.in_ok-verdict.verdict other c.in_ok-verdict.ensures in
-    unread IsRecordText reads writes c.read_whole.ensures.reads k.1 (Err Memory) Memory refl (inr refl) (λ e. absurd cc) (λ e. c.in_ok-bytes.ensures.whole.no_read_failed)
+    unread IsRecordText reads writes c.read_whole.ensures.reads k.1 (Err Memory) Memory refl (inr refl) memory_is_no_read (λ e. c.in_ok-bytes.ensures.whole.no_read_failed)
 
 pub put_all-requires : goal.put_all-requires
 put_all-requires g c =
@@ -75,14 +66,14 @@ put_all-requires g c =
 pub returns-in_err-put_all : goal.returns-in_err-put_all
 returns-in_err-put_all g c =
     let writes = writing g.W.Write.contents g.W.Sink.failed c.args.writer.now c.migrate.new.writer in
-    let fault : c.from_residual-in_err-put_all.result ≡ Err c.in_err-put_all.field-0.0 = search rules in
+    let fault = err_from_is_err_and c.from_residual-in_err-put_all.result c.from_residual-in_err-put_all.ensures.1 in
     let other : c.in_ok-verdict.verdict ≢ Yes = search rules in
     let some : c.in_ok-verdict.verdict ≢ NoMemory = search rules in
-    let text : c.as_slice-2.result.now ≡ verdict_text c.in_ok-verdict.verdict = search rules in
+    let text = c.as_slice-2.ensures ∙ c.put_verdict.ensures in
     let k = unwritten writes c.in_ok-bytes.bytes.items c.in_ok-verdict.verdict other
     (subst (λ (b : List ℕ). IsMigrated writes b (Ok c.in_ok-verdict.verdict)) c.as_slice.ensures.value c.in_ok-verdict.ensures) in
     half_told IsRecordText (reading g.R.Read.remaining g.R.Source.calls g.R.Source.failed c.args.reader.now c.read_whole.new.reader) (writing g.W.Write.contents g.W.Sink.failed c.args.writer.now c.put_all.new.writer) c.read_whole.ensures.reads
-    c.from_residual-in_err-put_all.result c.in_err-put_all.field-0.0 fault c.in_err-put_all.ensures.only
+    c.from_residual-in_err-put_all.result c.in_err-put_all.field-0.0 (fault.1 ∙ ap Err fault.2) c.in_err-put_all.ensures.only
     (subst (λ w. g.W.Sink.failed w < g.W.Sink.failed c.put_all.new.writer) k.1 c.in_err-put_all.ensures.failed) c.in_ok-verdict.verdict
     (record {
       input = c.in_ok-bytes.bytes.items;
@@ -97,30 +88,21 @@ returns-in_err-put_all g c =
 
 pub returns : goal.returns
 returns g c =
+    let reads = reading g.R.Read.remaining g.R.Source.calls g.R.Source.failed c.args.reader.now c.read_whole.new.reader in
     let writes = writing g.W.Write.contents g.W.Sink.failed c.args.writer.now c.migrate.new.writer in
+    let writes' = writing g.W.Write.contents g.W.Sink.failed c.args.writer.now c.put_all.new.writer in
     let other : c.in_ok-verdict.verdict ≢ Yes = search rules in
     let some : c.in_ok-verdict.verdict ≢ NoMemory = search rules in
-    let text : c.as_slice-2.result.now ≡ verdict_text c.in_ok-verdict.verdict = search rules in
+    let text = c.as_slice-2.ensures ∙ c.put_verdict.ensures in
     let k = unwritten writes c.in_ok-bytes.bytes.items c.in_ok-verdict.verdict other
     (subst (λ (b : List ℕ). IsMigrated writes b (Ok c.in_ok-verdict.verdict)) c.as_slice.ensures.value c.in_ok-verdict.ensures) in
-    record {
-      ok = (
-        c.in_ok-verdict.verdict,
-        status_one c.in_ok-verdict.verdict other,
-        record {
-          input = c.in_ok-bytes.bytes.items;
-          whole = c.in_ok-bytes.ensures.whole;
-          verdict = k.0;
-          some = some;
-          text = verdict_text c.in_ok-verdict.verdict;
-          tells = line_tells c.in_ok-bytes.bytes.items c.in_ok-verdict.verdict other;
-          wrote = subst (λ w. Appends (g.W.Write.contents w) (g.W.Write.contents c.put_all.new.writer) (verdict_text c.in_ok-verdict.verdict)) k.1
-              (subst (λ (t : List ℕ). Appends (g.W.Write.contents c.migrate.new.writer) (g.W.Write.contents c.put_all.new.writer) t) text c.in_ok-put_all.ensures.ok);
-        },
-      );
-      no_write_failed = subst (λ w. g.W.Sink.failed c.put_all.new.writer ≡ g.W.Sink.failed w) k.1 c.in_ok-put_all.ensures.unfailed;
-      write_fault = λ at. absurd cc;
-      read_fault = λ at. absurd cc;
-      memory = λ at. absurd cc;
-      reads = c.read_whole.ensures.reads;
-    }
+    all_told IsRecordText reads writes' c.read_whole.ensures.reads 1 c.in_ok-verdict.verdict (status_one c.in_ok-verdict.verdict other) (record {
+      input = c.in_ok-bytes.bytes.items;
+      whole = c.in_ok-bytes.ensures.whole;
+      verdict = k.0;
+      some = some;
+      text = verdict_text c.in_ok-verdict.verdict;
+      tells = line_tells c.in_ok-bytes.bytes.items c.in_ok-verdict.verdict other;
+      wrote = subst (λ w. Appends (g.W.Write.contents w) (g.W.Write.contents c.put_all.new.writer) (verdict_text c.in_ok-verdict.verdict)) k.1
+          (subst (λ (t : List ℕ). Appends (g.W.Write.contents c.migrate.new.writer) (g.W.Write.contents c.put_all.new.writer) t) text c.in_ok-put_all.ensures.ok);
+    }) (subst (λ w. g.W.Sink.failed c.put_all.new.writer ≡ g.W.Sink.failed w) k.1 c.in_ok-put_all.ensures.unfailed)

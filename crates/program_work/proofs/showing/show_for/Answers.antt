@@ -1,4 +1,5 @@
-use Rattle.std.proofs.Common.{rules, ◌≡◌, refl, subst, List, ℕ, Ok, Err}
+use Rattle.std.proofs.lemmas.Result.{err_from_is_err_and}
+use Rattle.std.proofs.Common.{ap, ◌∙◌, refl, subst, List, ℕ, Ok, Err}
 use Rattle.program_work.proofs.Common.{IsShown, reading, writing}
 use Rattle.program_work.specs.Shown.{stretch_asked}
 use Rattle.program_work.proofs.ShowLemmas.{all_shown, half_shown, unread_shown}
@@ -6,19 +7,19 @@ use Rattle.program_work.proofs.showing.show_for.Goals as goal
 
 pub returns-in_err-bytes : goal.returns-in_err-bytes
 returns-in_err-bytes g c =
-    let fault : c.from_residual.result ≡ Err c.in_err-bytes.field-0.0 = search rules in
+    let fault = err_from_is_err_and c.from_residual.result c.from_residual.ensures.1 in
     unread_shown (stretch_asked c.args.showing) (reading g.R.Read.remaining g.R.Source.calls g.R.Source.failed c.args.reader.now c.read_whole.new.reader) (writing g.W.Write.contents g.W.Sink.failed c.args.writer.now c.args.writer.now) c.read_whole.ensures.reads
-    refl c.from_residual.result c.in_err-bytes.field-0.0 fault c.in_err-bytes.ensures.only (λ is. c.in_err-bytes.ensures.read_fault (let same : c.in_err-bytes.field-0.0 ≡ _ = is in cc))
-    (λ is. c.in_err-bytes.ensures.memory (let same : c.in_err-bytes.field-0.0 ≡ _ = is in cc))
+    refl c.from_residual.result c.in_err-bytes.field-0.0 (fault.1 ∙ ap Err fault.2) c.in_err-bytes.ensures.only (λ is. c.in_err-bytes.ensures.read_fault (ap Err is))
+    (λ is. c.in_err-bytes.ensures.memory (ap Err is))
 
 pub returns-in_err-verdict : goal.returns-in_err-verdict
 returns-in_err-verdict g c =
     let writes = writing g.W.Write.contents g.W.Sink.failed c.args.writer.now c.show.new.writer in
     let stretch = stretch_asked c.args.showing in
-    let fault : c.from_residual-in_err-verdict.result ≡ Err c.in_err-verdict.field-0.0 = search rules in
+    let fault = err_from_is_err_and c.from_residual-in_err-verdict.result c.from_residual-in_err-verdict.ensures.1 in
     let shown = subst (λ (b : List ℕ). IsShown writes b c.stretch_asked.result (Err c.in_err-verdict.field-0.0)) c.as_slice.ensures.value c.in_err-verdict.ensures in
     half_shown stretch (reading g.R.Read.remaining g.R.Source.calls g.R.Source.failed c.args.reader.now c.read_whole.new.reader) writes c.read_whole.ensures.reads
-    c.from_residual-in_err-verdict.result c.in_err-verdict.field-0.0 fault c.in_ok-bytes.bytes.items c.in_ok-bytes.ensures.whole
+    c.from_residual-in_err-verdict.result c.in_err-verdict.field-0.0 (fault.1 ∙ ap Err fault.2) c.in_ok-bytes.bytes.items c.in_ok-bytes.ensures.whole
     (subst (λ s. IsShown writes c.in_ok-bytes.bytes.items s (Err c.in_err-verdict.field-0.0)) c.stretch_asked.ensures shown)
 
 pub returns : goal.returns
