@@ -5,6 +5,7 @@ use Rattle.event_server.specs.Seats.{seats_of}
 use Rattle.event_server.proofs.GatherLemmas.{gathered_unsent, gathered_more, unsent_after}
 use Rattle.event_server.proofs.SeatLemmas.{err_not_ok, so_on_err, taken_unsent}
 use Rattle.event_server.proofs.ToldLemmas.{told_broken, taken_told}
+use Rattle.event_server.proofs.GatherLemmas.{no_answer, not_served, not_unserved}
 use Rattle.event_server.proofs.gathering.turn_ahead.Goals as goal
 
 pub returns-clause-served : goal.returns-clause-served
@@ -53,3 +54,33 @@ returns-in_err-keep-clause-served g c = λ called same. absurd (err_not_ok c.fro
 
 pub returns-in_err-keep-clause-unserved : goal.returns-in_err-keep-clause-unserved
 returns-in_err-keep-clause-unserved g c = λ called same. absurd (err_not_ok c.from_residual.result _ c.from_residual.ensures.0 same)
+
+pub returns-clause-unserved : goal.returns-clause-unserved
+returns-clause-unserved g c = λ called at. absurd (not_unserved at)
+
+pub returns-clause-unsent : goal.returns-clause-unsent
+returns-clause-unsent g c = tt
+
+pub returns-clause-room : goal.returns-clause-room
+returns-clause-room g c = c.take_looked.ensures.room
+
+pub returns-in-Err-clause-room : goal.returns-in-Err-clause-room
+returns-in-Err-clause-room g c = c.gather-looked.ensures.room
+
+pub returns-in-Ok-Lost-clause-room : goal.returns-in-Ok-Lost-clause-room
+returns-in-Ok-Lost-clause-room g c = c.gather-looked.ensures.room
+
+pub returns-in_err-keep-clause-room : goal.returns-in_err-keep-clause-room
+returns-in_err-keep-clause-room g c = c.take_looked.ensures.room
+
+pub returns-in-Err-clause-served : goal.returns-in-Err-clause-served
+returns-in-Err-clause-served g c = λ called at. absurd (no_answer at)
+
+pub returns-in-Err-clause-unserved : goal.returns-in-Err-clause-unserved
+returns-in-Err-clause-unserved g c = λ called at. absurd (no_answer at)
+
+pub returns-in-Ok-Lost-clause-served : goal.returns-in-Ok-Lost-clause-served
+returns-in-Ok-Lost-clause-served g c = λ called at. absurd (not_served at)
+
+pub returns-in-Ok-Lost-clause-unsent : goal.returns-in-Ok-Lost-clause-unsent
+returns-in-Ok-Lost-clause-unsent g c = tt

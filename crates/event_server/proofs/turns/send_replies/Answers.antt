@@ -9,3 +9,6 @@ loop-key-preserved g c = elim c.send_at.ensures.sent as (λ _. Sending (seats_of
   | inl same ↦ rw same c.loop-key.invariant
   | inr turn ↦ sending_on (seats_of g.S.Stream.left g.S.Stream.gone) (λ x. x.stage ≡ stage.Taken) c.args.seats.now c.loop-key.seats c.send_at.new.seats _ c.loop-key.invariant turn
 ]
+
+pub returns : goal.returns
+returns g c = c.loop-key.invariant.sent

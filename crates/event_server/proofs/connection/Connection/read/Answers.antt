@@ -51,3 +51,12 @@ returns-in-Ok-eq0-clause-unsent g c = c.read_into.ensures.same
 
 pub returns-in-Err-clause-unsent : goal.returns-in-Err-clause-unsent
 returns-in-Err-clause-unsent g c = ap (λ s. g.S.Stream.gone s) c.note_fault.ensures.stream ∙ c.read_into.ensures.same
+
+pub returns-in-Ok-eq0-clause-stage : goal.returns-in-Ok-eq0-clause-stage
+returns-in-Ok-eq0-clause-stage g c = refl
+
+pub returns-after-self-clause-stage : goal.returns-after-self-clause-stage
+returns-after-self-clause-stage g c = refl
+
+pub returns-in-Err-clause-stage : goal.returns-in-Err-clause-stage
+returns-in-Err-clause-stage g c = c.note_fault.ensures.stage

@@ -2,6 +2,7 @@ use Rattle.std.proofs.Common.{◌≡◌, ◌∙◌, ◌+◌, ◌≤◌, List, �
 use Rattle.event_server.proofs.Common.{take-add, Appends, WireState}
 use Rattle.command_lines.specs.WrittenProofs.{appends_more}
 use Rattle.event_server.proofs.connection.Connection.send.Goals as goal
+use Rattle.event_server.proofs.connection.Connection.send.Goals.{then-loop-self-test+then-not-is_broken+else-at-unsent, then-loop-self-test+else-not-is_broken, else-loop-self-test, then-loop-self-test+then-not-is_broken+then-at-unsent+then-count-eq0}
 
 pub loop-self-preserved : goal.loop-self-preserved
 loop-self-preserved g c =
@@ -19,3 +20,19 @@ loop-self-preserved g c =
       whole = λ h. i.whole (e.whole h);
       stage = e.stage ∙ i.stage;
     }
+
+pub returns-clause-stage : goal.returns-clause-stage
+returns-clause-stage g c = elim c.loop-self-test.branch [
+  | then-loop-self-test+then-not-is_broken+else-at-unsent w ↦ ap (λ s. s.stage) w.self-is ∙ c.loop-self.invariant.stage
+  | then-loop-self-test+else-not-is_broken w ↦ ap (λ s. s.stage) w.self-is ∙ c.loop-self.invariant.stage
+  | else-loop-self-test w ↦ ap (λ s. s.stage) w.self-is ∙ c.loop-self.invariant.stage
+  | then-loop-self-test+then-not-is_broken+then-at-unsent+then-count-eq0 w ↦ ap (λ s. s.stage) w.self-is ∙ w.write-count.ensures.stage ∙ c.loop-self.invariant.stage
+]
+
+pub returns-clause-unread : goal.returns-clause-unread
+returns-clause-unread g c = elim c.loop-self-test.branch [
+  | then-loop-self-test+then-not-is_broken+else-at-unsent w ↦ ap (λ s. g.S.Stream.left s.stream) w.self-is ∙ c.loop-self.invariant.unread
+  | then-loop-self-test+else-not-is_broken w ↦ ap (λ s. g.S.Stream.left s.stream) w.self-is ∙ c.loop-self.invariant.unread
+  | else-loop-self-test w ↦ ap (λ s. g.S.Stream.left s.stream) w.self-is ∙ c.loop-self.invariant.unread
+  | then-loop-self-test+then-not-is_broken+then-at-unsent+then-count-eq0 w ↦ ap (λ s. g.S.Stream.left s.stream) w.self-is ∙ w.write-count.ensures.unread ∙ c.loop-self.invariant.unread
+]

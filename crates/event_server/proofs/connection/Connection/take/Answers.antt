@@ -1,10 +1,34 @@
-use Rattle.std.proofs.Common.{[], refl}
+use Rattle.std.proofs.Common.{[], arith, refl}
 use Rattle.std.proofs.KnownBytes.{Consumes-nil}
-use Rattle.event_server.proofs.WireLemmas.{takes_idle}
+use Rattle.event_server.proofs.WireLemmas.{takes_idle, takes_some}
 use Rattle.event_server.proofs.connection.Connection.take.Goals as goal
 
-pub returns-then-is_broken-clause-takes : goal.returns-then-is_broken-clause-takes
-returns-then-is_broken-clause-takes g c = ([], refl, takes_idle _ _ c.args.self.now.wire (Consumes-nil (g.S.Stream.left c.args.self.now.stream)))
+pub returns-then-is_broken : goal.returns-then-is_broken
+returns-then-is_broken g c = record {
+  takes = ([], refl, takes_idle _ _ c.args.self.now.wire (Consumes-nil (g.S.Stream.left c.args.self.now.stream)));
+  unsent = refl;
+  stage = refl;
+  room = c.requires.room;
+}
 
-pub returns-else-self-clause-takes : goal.returns-else-self-clause-takes
-returns-else-self-clause-takes g c = ([], refl, takes_idle _ _ c.args.self.now.wire (Consumes-nil (g.S.Stream.left c.args.self.now.stream)))
+pub returns-then-has_input : goal.returns-then-has_input
+returns-then-has_input g c =
+    let left = g.S.Stream.left c.args.self.now.stream in
+    let t = c.take.ensures.takes in
+    record {
+      takes = (t.0, t.1, takes_some t.0 left left [] c.args.self.now.wire c.take.new.self (omega arith) (Consumes-nil left) t.2);
+      unsent = refl;
+      stage = refl;
+      room = (c.requires.room.0, c.take.ensures.empty);
+    }
+
+pub returns-then-self : goal.returns-then-self
+returns-then-self g c = record { takes = c.read.ensures.takes; unsent = c.read.ensures.unsent; stage = c.read.ensures.stage; room = c.read.ensures.room }
+
+pub returns-else-self : goal.returns-else-self
+returns-else-self g c = record {
+  takes = ([], refl, takes_idle _ _ c.args.self.now.wire (Consumes-nil (g.S.Stream.left c.args.self.now.stream)));
+  unsent = refl;
+  stage = refl;
+  room = c.requires.room;
+}

@@ -32,3 +32,39 @@ returns-else-look-clause-takes g c =
       a.1,
       subst (λ (l : Option Look). TakesLooked a.0 l left s left c.take_first.new.self) (sym c.in-Some.is) (looked_first a.0 c.in-Some.look left s c.take_first.new.self a.2),
     )
+
+pub returns-in_default-clause-unsent : goal.returns-in_default-clause-unsent
+returns-in_default-clause-unsent g c = refl
+
+pub returns-in_default-clause-stage : goal.returns-in_default-clause-stage
+returns-in_default-clause-stage g c = refl
+
+pub returns-in_default-clause-room : goal.returns-in_default-clause-room
+returns-in_default-clause-room g c = c.requires.room
+
+pub returns-then-is_broken-clause-unsent : goal.returns-then-is_broken-clause-unsent
+returns-then-is_broken-clause-unsent g c = refl
+
+pub returns-then-is_broken-clause-stage : goal.returns-then-is_broken-clause-stage
+returns-then-is_broken-clause-stage g c = refl
+
+pub returns-then-is_broken-clause-room : goal.returns-then-is_broken-clause-room
+returns-then-is_broken-clause-room g c = c.requires.room
+
+pub returns-then-may_read-clause-unsent : goal.returns-then-may_read-clause-unsent
+returns-then-may_read-clause-unsent g c = c.take_end.ensures.unsent
+
+pub returns-then-may_read-clause-stage : goal.returns-then-may_read-clause-stage
+returns-then-may_read-clause-stage g c = c.take_end.ensures.stage
+
+pub returns-then-may_read-clause-room : goal.returns-then-may_read-clause-room
+returns-then-may_read-clause-room g c = c.take_end.ensures.room
+
+pub returns-else-look-clause-unsent : goal.returns-else-look-clause-unsent
+returns-else-look-clause-unsent g c = refl
+
+pub returns-else-look-clause-stage : goal.returns-else-look-clause-stage
+returns-else-look-clause-stage g c = refl
+
+pub returns-else-look-clause-room : goal.returns-else-look-clause-room
+returns-else-look-clause-room g c = (c.requires.room.0, c.take_first.ensures.empty)

@@ -30,3 +30,6 @@ returns-clause-takes g c =
     (λ h.
     let held = c.hold.ensures.held (sym (ap (λ (q : WireState). q.broken) is) ∙ h) in
     (ap (λ (q : WireState). q.outbox) is ∙ held.0 ∙ ap (λ l. l ++ c.take_some-used.new.out) (ap (λ (q : WireState). q.outbox) was), sym (ap (λ (q : WireState). q.broken) was) ∙ held.1))
+
+pub returns-clause-empty : goal.returns-clause-empty
+returns-clause-empty g c = c.hold.ensures.empty
