@@ -93,7 +93,10 @@ fn drawn_halls_are_built_anew(rt: HostRuntime) {
 /// Whether a hall behind so many stays that leave nothing is compacted, and whether that is due.
 fn told_behind(alloc: Global, stays: usize) -> Option<(bool, bool)> {
     let old = padded(alloc, WorldKind::Rename, 4, stays)?;
-    Some((compacted(alloc, &old).is_some(), Compactor::new().is_due(&old)))
+    Some((
+        compacted(alloc, &old).is_some(),
+        Compactor::new().is_due(&old),
+    ))
 }
 
 /// What would be no shorter stays, and it is due where the history is long.

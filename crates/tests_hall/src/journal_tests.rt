@@ -52,7 +52,10 @@ fn is_mended(alloc: Global, torn: &[u8]) -> Result<bool, AllocError> {
 fn a_record_is_torn_at_each_byte(rt: HostRuntime) -> Result<(), Fail> {
     let whole = record(rt.alloc(), 6, b"")?;
     for end in 0..whole.len() {
-        assert!(rt; is_mended(rt.alloc(), &whole[..end]) == Ok(true), "at {end}");
+        assert!(rt;
+            is_mended(rt.alloc(), &whole[..end]) == Ok(true),
+            "at {end}"
+        );
     }
     Ok(())
 }
@@ -101,7 +104,7 @@ fn a_fault_while_it_is_opened_is_told(rt: HostRuntime) -> Result<(), Fail> {
 }
 
 /// What is no record of a hall of the config, and why not.
-const OTHERS: [(&[u8], OpenFault); 4] = [
+const OTHERS: [(&[u8], OpenFault); 3] = [
     (
         b"{\"format\":\"slot-record\",\"k\":5,\"limit\":1000,\"m\":2,\"version\":2,\"world\":\"rename\"}\n",
         OpenFault::OtherConfig,
@@ -111,10 +114,6 @@ const OTHERS: [(&[u8], OpenFault); 4] = [
         OpenFault::OtherConfig,
     ),
     (b"some other file", OpenFault::Judged(Verdict::BadRecord(1))),
-    (
-        b"some other file\n",
-        OpenFault::Judged(Verdict::BadRecord(1)),
-    ),
 ];
 
 #[test]
@@ -126,13 +125,9 @@ fn other_files_are_refused(rt: HostRuntime) -> Result<(), Fail> {
     Ok(())
 }
 
-/// What no hall writes behind the first two events, and why that is not opened: what another object answers, a refusal that is not due, one
-/// that is, another spelling, and zeros, which are no torn line.
-const BEHIND: [(&[u8], OpenFault); 5] = [
-    (
-        b"{\"command\":\"leave 9\",\"reply\":\"left 1\"}\n",
-        OpenFault::Judged(Verdict::No(4, Reason::Refusal)),
-    ),
+/// What no hall writes behind the first two events, and why that is not opened: a refusal that is not due, one that is, another spelling, and
+/// zeros, which are no torn line.
+const BEHIND: [(&[u8], OpenFault); 4] = [
     (
         b"{\"command\":\"leave 9\",\"reply\":\"refused 6\"}\n",
         OpenFault::Judged(Verdict::No(4, Reason::Refusal)),

@@ -12,9 +12,9 @@ use std::process::Abort;
 use std::sync::Wait;
 use step_memory::{Refusal, View};
 
-/// A hall of this world, for one participant and so many numbers.
-pub(crate) fn hall(rt: &impl Abort, alloc: Global, world: WorldKind, k: u64) -> Hall {
-    let config = Config::new(world, 1, k, 1000).expect(rt, "a config in range");
+/// A hall for one participant and one number.
+fn hall(rt: &impl Abort, alloc: Global) -> Hall {
+    let config = Config::new(WorldKind::Rename, 1, 1, 1000).expect(rt, "a config in range");
     Hall::new(alloc, config).expect(rt, "room for a hall")
 }
 
@@ -52,7 +52,7 @@ fn refused(hall: &mut Hall) -> usize {
 /// A history of a million events is full, which is said where nothing else is due.
 #[test]
 fn a_full_history(rt: HostRuntime) {
-    let mut hall = hall(&rt, rt.alloc(), WorldKind::Rename, 1);
+    let mut hall = hall(&rt, rt.alloc());
     let told = (fill(&mut hall), refused(&mut hall), hall.len());
     assert!(rt; told == (true, 7, 1_000_000), "{told:?}");
 }

@@ -1,13 +1,13 @@
-//! Halls that are served over readers and writers, and connections over sockets.
+//! Connections over sockets, of which one is held. What is served over readers and writers that fail is tried where it is played, in
+//! `tests_player`; clients that are slow, silent or broken, by `tests/serve`.
 
-ghost use Rattle.std.specs.Prelude.{◌≡◌, ◌<◌, ◌^◌};
+ghost use Rattle.std.specs.Prelude.{◌≡◌};
 
-use crate::lock_tests::hall;
 use crate::opening::{Opening, opened};
 use hall::Hall;
 use locked_world::{Clerk, HallLock, LockName};
-use player::{Event, Fault, Sink, Source, Tried, WorldKind};
-use slot_server::{Gate, Served, Watched, serve_many, serve_one};
+use player::{Event, WorldKind};
+use slot_server::{Gate, Served, serve_many};
 use std::alloc::Global;
 use std::io::{Read, Write};
 use std::marker::Brand;
@@ -17,7 +17,6 @@ use std::sync::Wait;
 use std::sync::atomic::{AtomicU64, Ordering};
 use std::thread;
 use std::thread::Threads;
-use tests_doubles::{FaultyReader, FaultyWriter};
 
 /// Whether the history of a hall has just these events.
 fn has_just(hall: &Hall, events: &[Event]) -> bool {
@@ -33,111 +32,18 @@ fn has_just(hall: &Hall, events: &[Event]) -> bool {
     true
 }
 
-/// A run over a hall for one participant: how many bytes a read gives at most and which read fails, the same of the writes; and its
-/// fault, what went out, and the events of the history.
+/// Counts what it is told, and keeps connection 0 until a reply was told of, for so many looks at most.
 #[derive(Drop)]
-struct Ending {
-    reads: (usize, u64),
-    writes: (usize, u64),
-    fault: Option<Fault>,
-    text: &'static [u8],
-    events: &'static [Event],
-}
-
-/// Serves a hall over any reader and any writer that were not called too often: the fault, where there is one.
-fn fault_of<R, I: Source, O: Sink>(
-    rt: &R,
-    alloc: Global,
-    reader: &mut I,
-    writer: &mut O,
-    hall: &mut Hall,
-) -> Option<Fault>
-    requires reads { I.calls reader.old < 2 ^ 64 }
-    requires writes { O.calls writer.old < 2 ^ 64 }
-{
-    serve_one(rt, alloc, reader, writer, hall).err()
-}
-
-/// Whether a run over a hall ends so.
-fn ends_so(rt: &impl Abort, alloc: Global, hall: &mut Hall, ending: &Ending) -> bool {
-    let (piece, at) = ending.reads;
-    let mut reader = Tried::new(FaultyReader::new(b"begin 7\nstep 7", piece, at));
-    let (piece, at) = ending.writes;
-    let mut writer = Tried::new(FaultyWriter::new(alloc, piece, at, false));
-    let fault = fault_of(rt, alloc, &mut reader, &mut writer, hall);
-    let is_written = writer.into_inner().taken.as_slice() == ending.text;
-    fault == ending.fault && is_written && has_just(hall, ending.events)
-}
-
-/// A read that fails before the last line ends, one that ends in its place, and a write that fails.
-const ENDINGS: [Ending; 3] = [
-    Ending {
-        reads: (1, 15),
-        writes: (1000, 0),
-        fault: Some(Fault::Read),
-        text: b"ok\n",
-        events: &[Event::Begin(7)],
-    },
-    Ending {
-        reads: (2, 0),
-        writes: (1000, 0),
-        fault: None,
-        text: b"ok\nquiet\n",
-        events: &[Event::Begin(7), Event::Step(7)],
-    },
-    Ending {
-        reads: (100, 0),
-        writes: (3, 2),
-        fault: Some(Fault::Write),
-        text: b"ok\n",
-        events: &[Event::Begin(7), Event::Step(7)],
-    },
-];
-
-/// A read fault: the whole lines before it are answered, and stand in the history. An end in its place is the end of a line.
-/// A write fault: what went out is a beginning of the text, and what was answered stands in the history.
-#[test]
-fn a_fault_over_a_hall(rt: HostRuntime) {
-    for (row, ending) in ENDINGS.iter().enumerate() {
-        let mut hall = hall(&rt, rt.alloc(), WorldKind::Rename, 4);
-        assert!(rt; ends_so(&rt, rt.alloc(), &mut hall, ending), "row {row}");
-    }
-}
-
-/// Counts what it is told, and where it holds, keeps connection 0 until a reply was told of, for so many looks at most.
-#[derive(Drop)]
-struct Watching {
-    holds: bool,
+struct Holding {
     read: AtomicU64,
     answered: AtomicU64,
     gave_up: AtomicU64,
 }
 
-impl Watching {
-    /// It was told nothing.
-    fn new(holds: bool) -> Watching {
-        Watching {
-            holds,
-            read: AtomicU64::new(0),
-            answered: AtomicU64::new(0),
-            gave_up: AtomicU64::new(0),
-        }
-    }
-
-    /// How many lines and replies it was told of, and how often it gave up.
-    fn told(&self) -> (u64, u64, u64) {
-        (
-            self.read.load(Ordering::SeqCst),
-            self.answered.load(Ordering::SeqCst),
-            self.gave_up.load(Ordering::SeqCst),
-        )
-    }
-}
-
-impl<R> Gate<R> for Watching {
+impl<R> Gate<R> for Holding {
     fn read(&self, _rt: &R, connection: u64) {
         self.read.fetch_add(1, Ordering::SeqCst);
-        if !self.holds || connection != 0 {
+        if connection != 0 {
             return;
         }
         for _ in 0..10_000_000 {
@@ -154,42 +60,14 @@ impl<R> Gate<R> for Watching {
     }
 }
 
-/// What a gate is told of a text that is cut into such pieces and served by a hall.
-fn told_of(
-    rt: &impl Abort,
-    alloc: Global,
-    hall: &mut Hall,
-    (input, piece): (&[u8], usize),
-) -> (u64, u64, u64) {
-    let gate = Watching::new(false);
-    let mut reader = Watched::new(
-        rt,
-        &gate,
-        3,
-        Tried::new(FaultyReader::new(input, piece, 0)),
-    );
-    let mut writer = Watched::new(rt, &gate, 3, Tried::new(Vec::new(alloc)));
-    let fault = fault_of(rt, alloc, &mut reader, &mut writer, hall);
-    assert!(rt; fault.is_none());
-    gate.told()
-}
-
-/// Texts, and how many lines they have.
-const TEXTS: [(&[u8], u64); 3] = [
-    (b"begin 7\n\nstep 7\nowner 1", 4),
-    (b"begin 7\n", 1),
-    (b"", 0),
-];
-
-/// However the bytes are cut, a gate is told of each line once, the last with no LF too, and of each reply once.
-#[test]
-fn a_gate_is_told_of_lines_and_replies(rt: HostRuntime) {
-    for piece in [1, 3, 8, 100] {
-        for (input, lines) in &TEXTS {
-            let mut hall = hall(&rt, rt.alloc(), WorldKind::Tree, 4);
-            let told = told_of(&rt, rt.alloc(), &mut hall, (input, piece));
-            assert!(rt; told == (*lines, *lines, 0), "{piece} {input:?}");
-        }
+impl Holding {
+    /// How many lines and replies it was told of, and how often it gave up.
+    fn told(&self) -> (u64, u64, u64) {
+        (
+            self.read.load(Ordering::SeqCst),
+            self.answered.load(Ordering::SeqCst),
+            self.gave_up.load(Ordering::SeqCst),
+        )
     }
 }
 
@@ -234,7 +112,7 @@ fn held<L, R>(
     rt: &R,
     alloc: Global,
     opening: Opening,
-    gate: &Watching,
+    gate: &Holding,
     listener: &TcpListener,
     port: u16,
 ) -> bool
@@ -268,7 +146,11 @@ where
 /// A connection that is held does not hold another: the second is answered first.
 #[test]
 fn a_held_connection_holds_no_other(rt: HostRuntime) {
-    let gate = Watching::new(true);
+    let gate = Holding {
+        read: AtomicU64::new(0),
+        answered: AtomicU64::new(0),
+        gave_up: AtomicU64::new(0),
+    };
     let listener = TcpListener::bind(&rt, ("127.0.0.1", 0u16)).expect(&rt, "a port");
     let address = listener.local_addr().expect(&rt, "a bound listener");
     let is_so = held::<Brand, _>(

@@ -37,7 +37,8 @@ const AWAY: &[u8] = b"HTTP/1.1 503 No\r\nContent-Length: 0\r\n\r\n";
 /// Texts, of which each exchange takes the next: for what is put and found; for what stands behind and is read at once; a member that says
 /// nothing and one that does not serve, behind which the next is asked; and wrong answers.
 const TEXTS: [&[u8]; 14] = [
-    WRITTEN, TAKEN, FOUND, TAKEN, FOUND_TWO, TAKEN, FOUND_TWO, SILENT, AWAY, WRITTEN, OTHER, FOUND, SHORT, NO_LETTER,
+    WRITTEN, TAKEN, FOUND, TAKEN, FOUND_TWO, TAKEN, FOUND_TWO, SILENT, AWAY, WRITTEN, OTHER, FOUND,
+    SHORT, NO_LETTER,
 ];
 
 /// A store over the texts.
@@ -70,7 +71,15 @@ fn answers(etcd: &mut EtcdStore<Script<'_>>, entry: &mut Vec<u8>) -> bool {
     let asked = [etcd.put(42, b"hi"), etcd.put(42, b"hi")];
     let wrong = (found(etcd, entry, 41, b""), etcd.put(42, b"hi"));
     put == [Ok(Put::Written), Ok(Put::Taken)]
-        && got == [(Ok(true), true), (Ok(false), true), (Ok(true), true), (Ok(true), true), (Ok(false), true), (Ok(true), true)]
+        && got
+            == [
+                (Ok(true), true),
+                (Ok(false), true),
+                (Ok(true), true),
+                (Ok(true), true),
+                (Ok(false), true),
+                (Ok(true), true),
+            ]
         && asked == [Ok(Put::Written), Err(StoreFault::Wrong)]
         && wrong == ((Err(StoreFault::Wrong), true), Err(StoreFault::Lost))
 }

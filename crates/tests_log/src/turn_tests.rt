@@ -236,7 +236,10 @@ fn what_is_lost_is_not_answered(rt: HostRuntime) {
     };
     let behind = told_of(&rt, rt.alloc(), &quits, 60_000, 0);
     let lost = told_of(&rt, rt.alloc(), &OF_ONE, 60_000, 1);
-    assert!(rt; [behind, lost] == [(22, 22, false), (0, 0, true)], "{behind:?} {lost:?}");
+    assert!(rt;
+        [behind, lost] == [(22, 22, false), (0, 0, true)],
+        "{behind:?} {lost:?}"
+    );
     let later = told_of(&rt, rt.alloc(), &OF_ONE, 60_000, 3);
     let cut = told_of(&rt, rt.alloc(), &fails, 101, 0);
     let are_part = 0 < later.0 && later.1 < 41 && 0 < cut.0 && cut.1 < 41;

@@ -1,4 +1,4 @@
-//! Trials of the objects through their public calls, from a memory taken step by step to a desk, and of the pools and the grid over raw
+//! Trials of the objects through their public calls, from a memory taken step by step to renaming, and of the pools and the grid over raw
 //! words: what no line of the program reaches, as rows worked by hand, the ends of each range, threads at once, and heaps that have no
 //! room left. What a clause says of each call is not tried once more.
 //!
@@ -10,8 +10,6 @@
 mod board_tests;
 #[cfg(test)]
 mod common;
-#[cfg(test)]
-mod desk_tests;
 #[cfg(test)]
 mod grid_tests;
 #[cfg(test)]
@@ -28,8 +26,6 @@ mod raw_splitter_tests;
 mod renaming_tests;
 #[cfg(test)]
 mod snapshot_tests;
-#[cfg(test)]
-mod tree_memory_tests;
 #[cfg(test)]
 mod tree_tests;
 #[cfg(test)]

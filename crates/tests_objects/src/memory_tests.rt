@@ -60,9 +60,17 @@ fn two_step(world: &mut Worked) -> bool {
     let set = [world.set(10, test), world.begin(10, test)];
     let tested = [world.step(10), world.step(10)];
     asked == [Ok(()), Ok(())]
-        && told == [Ok(Note::Ended(Answer::Done)), Ok(Note::Ended(Answer::Value(7)))]
+        && told
+            == [
+                Ok(Note::Ended(Answer::Done)),
+                Ok(Note::Ended(Answer::Value(7))),
+            ]
         && set == [Ok(()), Err(Refusal::AlreadyBegun)]
-        && tested == [Ok(Note::Ended(Answer::WasSet(false))), Err(Refusal::Finished)]
+        && tested
+            == [
+                Ok(Note::Ended(Answer::WasSet(false))),
+                Err(Refusal::Finished),
+            ]
         && (world.memory().value(0), world.memory().bit(1)) == (7, true)
 }
 

@@ -1,12 +1,12 @@
-//! Worlds of every size over segments in a row, and two participants there. Those over a grid and over a tree are tried at
-//! desks, in `desk_tests`, and schedules over these where they are played as lines, in `tests_player`.
+//! Worlds of every size over segments in a row, and two participants there. Those over a grid and over a tree are tried where they are
+//! played as lines, in `tests_player` and by `tests/program`.
 
 use crate::common::{holds, lent, same, view_of};
 use commands::{Config, WorldKind};
-use rename_core::{RenameWorld, Reply, next_proposal};
+use rename_core::{RenameWorld, next_proposal};
 use snapshot_world::Fixed;
 use std::alloc::Global;
-use step_memory::{Refusal, View};
+use step_memory::Refusal;
 
 /// A world over segments in a row.
 type Row = RenameWorld<Fixed<Global>, Global>;
@@ -17,37 +17,36 @@ fn world_for(alloc: Global, most: u64) -> Result<Row, Refusal> {
     RenameWorld::new(alloc, config)
 }
 
-/// Takes so many steps: what the last answers.
-fn last_of(world: &mut Row, id: u64, steps: u64) -> Result<Reply<View>, Refusal> {
-    for _ in 1..steps {
+/// Takes so many steps.
+fn take_steps(world: &mut Row, id: u64, steps: u64) {
+    for _ in 0..steps {
         let _ = world.step(id);
     }
-    world.step(id)
 }
 
-/// Who makes so many steps, and what the last of them answers, with these pairs where it shows a view.
-const TURNS: [(u64, u64, Reply<()>, &[(u64, u64)]); 10] = [
-    (10, 4, Reply::Quiet, &[]),
-    (20, 4, Reply::Quiet, &[]),
-    (10, 1, Reply::Proposed(1), &[]),
-    (20, 1, Reply::Proposed(1), &[]),
-    (10, 4, Reply::Saw(()), &[(10, 1), (20, 1)]),
-    (20, 4, Reply::Saw(()), &[(10, 1), (20, 1)]),
-    (10, 5, Reply::Proposed(2), &[]),
-    (20, 5, Reply::Proposed(3), &[]),
-    (10, 4, Reply::Named(2, ()), &[(10, 2), (20, 3)]),
-    (20, 4, Reply::Named(3, ()), &[(10, 2), (20, 3)]),
+/// Who makes so many steps: each proposes 1, sees that the other does, proposes another number, and is named.
+const TURNS: [(u64, u64); 10] = [
+    (10, 4),
+    (20, 4),
+    (10, 1),
+    (20, 1),
+    (10, 4),
+    (20, 4),
+    (10, 5),
+    (20, 5),
+    (10, 4),
+    (20, 4),
 ];
 
-/// Whether two, of whom the second to begin steps first, go as the turns say, and have the names that they were told.
+/// Whether two, of whom the second to begin steps first, have names by what they proposed last.
 fn two_go(world: &mut Row) -> bool {
     let begun = [world.begin(20), world.begin(10)];
-    for (id, steps, reply, pairs) in &TURNS {
-        if last_of(world, *id, *steps) != Ok(reply.with(&view_of(pairs))) {
-            return false;
-        }
+    for (id, steps) in &TURNS {
+        take_steps(world, *id, *steps);
     }
-    begun == [Ok(()), Ok(())] && [world.name_of(10), world.name_of(20)] == [Some(2), Some(3)]
+    let names = [world.name_of(10), world.name_of(20)];
+    let is_proposed = world.proposals() == view_of(&[(10, 2), (20, 3)]);
+    begun == [Ok(()), Ok(())] && names == [Some(2), Some(3)] && is_proposed
 }
 
 #[test]

@@ -1,8 +1,9 @@
-//! Walks down a tree, and collects of what was stored there.
+//! Walks down a tree, collects of what was stored there, and how deep it goes.
 
-use crate::common::{lent, same, view_of};
+use crate::common::{holds, lent, same, view_of};
+use splitter_tree::{Tree, TreeRegister, TreeValue};
 use std::alloc::Global;
-use step_memory::{Place, Refusal, View};
+use step_memory::{Access, Place, Refusal, StepMemory, View};
 use tree_world::TreeWorld;
 
 /// Takes so many steps of a walk: what the last answers.
@@ -14,11 +15,7 @@ fn walked(world: &mut TreeWorld<Global>, id: u64, steps: u64) -> Result<Option<P
 }
 
 /// Begins a collect and takes so many steps of it: what the last answers.
-fn collected(
-    world: &mut TreeWorld<Global>,
-    id: u64,
-    steps: u64,
-) -> Result<Option<View>, Refusal> {
+fn collected(world: &mut TreeWorld<Global>, id: u64, steps: u64) -> Result<Option<View>, Refusal> {
     world.collect_begin(id)?;
     for _ in 1..steps {
         let _ = world.collect_step(id);
@@ -62,4 +59,21 @@ fn go_right(world: &mut TreeWorld<Global>) -> bool {
 fn sixty_four_down_the_deepest_walk(rt: HostRuntime) {
     let world = TreeWorld::new(rt.alloc(), 64);
     same(&rt, 64, lent(world, go_right), Ok(true));
+}
+
+#[test]
+fn as_deep_as_numbers_go(rt: HostRuntime) {
+    let mut tree = Tree::new(rt.alloc());
+    let mut are_marked = true;
+    for depth in 0..128u32 {
+        let access = Access::Write(TreeRegister::Mark(1 << depth), TreeValue::Word(1));
+        are_marked = tree.access(access).is_ok() && are_marked;
+    }
+    let deepest = 1u128 << 127;
+    let is_there = tree.registers_at(deepest).is_some();
+    holds(
+        &rt,
+        128,
+        are_marked && is_there && tree.registers_at(deepest + 1).is_none(),
+    );
 }

@@ -1,13 +1,12 @@
 //! Walks that are made one after another, and by threads at once.
 
-ghost use Rattle.std.specs.Prelude.{◌≡◌, IfSome};
+ghost use Rattle.std.specs.Prelude.{◌≡◌};
 
-use crate::common::{holds, same};
+use crate::common::same;
 use std::alloc::{AllocError, Global};
-use std::test::Fail;
-use std::thread::{self, Threads, join};
+use std::thread::{self, Threads};
 use step_memory::{Place, Refusal};
-use word_grid::{Dealer, EnteredSeat, FreshSeat, WordGrid};
+use word_grid::{Dealer, FreshSeat, WordGrid};
 
 /// How many places the rows of a triangle have, so many rows.
 fn places_of_rows(rows: u64) -> Place {
@@ -125,41 +124,4 @@ fn threads_have_places_of_their_own(rt: HostRuntime) {
         };
         same(&rt, round, have_places(&rt, rt.alloc(), count), Ok(true));
     }
-}
-
-/// Whether two threads that enter at once, and then meet, have two places of the first three.
-fn enter_at_once<R: Threads + Sync>(
-    rt: &R,
-    grid: &WordGrid<Global>,
-    first: FreshSeat,
-    second: FreshSeat,
-) -> bool
-    requires first { first.grid ≡ grid.now }
-    requires second { second.grid ≡ grid.now }
-{
-    let (mut one, mut other) = join(
-        rt,
-        move || -> EnteredSeat
-            requires { first.grid ≡ grid.now }
-            ensures { result.grid ≡ grid.entry.now }
-        { grid.enter(first) },
-        move || -> EnteredSeat
-            requires { second.grid ≡ grid.now }
-            ensures { result.grid ≡ grid.entry.now }
-        { grid.enter(second) },
-    );
-    grid.meet(&mut one, &mut other);
-    one.place() != other.place() && one.place() < 3 && other.place() < 3
-}
-
-#[test]
-fn two_threads_that_meet_have_two_places(rt: HostRuntime) -> Result<(), Fail> {
-    for round in 0..1000 {
-        let (grid, mut dealer) = WordGrid::new(rt.alloc(), 2)?;
-        let (Some(first), Some(second)) = (grid.deal(&mut dealer), grid.deal(&mut dealer)) else {
-            panic!(rt; "too few seats");
-        };
-        holds(&rt, round, enter_at_once(&rt, &grid, first, second));
-    }
-    Ok(())
 }

@@ -1,13 +1,11 @@
 //! Stays in a pool of words, one after another and by threads at once.
 
-ghost use Rattle.std.specs.Prelude.{◌≡◌, IfOk};
-
 use crate::common::{count_set, holds, same};
 use std::alloc::{AllocError, Global};
 use std::sync::atomic::AtomicU64;
 use std::sync::atomic::Ordering::SeqCst;
 use std::test::Fail;
-use std::thread::{self, Threads, join};
+use std::thread::{self, Threads};
 use step_memory::Refusal;
 use word_pool::{AllHeld, Held, WordPool};
 
@@ -72,41 +70,7 @@ fn a_hint_is_tried_first(rt: HostRuntime) -> Result<(), Fail> {
         number_in(pool.acquire_near(5)),
         number_in(pool.acquire_near(2)),
     ];
-    holds(
-        &rt,
-        4,
-        told == [Some(3), Some(1), Some(2), Some(4), None],
-    );
-    Ok(())
-}
-
-/// Whether two threads each took a number at once, which are then given back here.
-fn are_given_back<R: Threads + Sync>(rt: &R, pool: &WordPool<Global>) -> bool {
-    let (one, other) = join(
-        rt,
-        move || -> Result<Held, AllHeld>
-            ensures { IfOk result (λ h. h.pool ≡ pool.entry.now.table) }
-        { pool.acquire() },
-        move || -> Result<Held, AllHeld>
-            ensures { IfOk result (λ h. h.pool ≡ pool.entry.now.table) }
-        { pool.acquire() },
-    );
-    let (Ok(mut one), Ok(mut other)) = (one, other) else {
-        return false;
-    };
-    pool.meet(&mut one, &mut other);
-    pool.release(one);
-    pool.release(other);
-    true
-}
-
-/// Threads of their own take both numbers of a pool, which are given back here, and no word is set then.
-#[test]
-fn a_number_is_given_back_by_another_thread(rt: HostRuntime) -> Result<(), Fail> {
-    let pool = WordPool::new(rt.alloc(), 2)?;
-    let are_given_back = are_given_back(&rt, &pool);
-    let ended = words_at_end(rt.alloc(), pool)?;
-    holds(&rt, 2, are_given_back && ended == (2, 0));
+    holds(&rt, 4, told == [Some(3), Some(1), Some(2), Some(4), None]);
     Ok(())
 }
 

@@ -1,7 +1,7 @@
-//! Trials of `player`, of what plays with it, and of `run_checker` through their public calls: what lines mean and how replies are
-//! spelled; runs over readers and writers that give little at a time and fail in turn; each growth refused in turn; a small world of
-//! their own; drawn runs; records of runs, checked and migrated. What is said of records that differ in one place is tried on the
-//! built program, by `tests/records`.
+//! Trials of `player`, of what plays with it, of `run_checker`, `program_args` and `program_work` through their public calls: what lines mean and
+//! how replies are spelled; runs over readers and writers that give little at a time and fail in turn; each growth refused in turn; a small world
+//! of their own; drawn runs; records of runs, checked and migrated; what the words of a command line are read as, and which statuses and texts the
+//! program ends with. What is said of records that differ in one place is tried on the built program, by `tests/records`.
 //!
 //! They stand in a crate of their own, as a package's integration tests do, so that proving them does not prove the player and the checker
 //! again. A trial that is proved returns and breaks no caller's condition; that it passes is seen by running it.
@@ -25,6 +25,10 @@ mod record_tests;
 mod recording_tests;
 #[cfg(test)]
 mod toys;
+#[cfg(test)]
+mod words_tests;
+#[cfg(test)]
+mod work_tests;
 #[cfg(test)]
 mod worlds_tests;
 #[cfg(test)]

@@ -4,7 +4,8 @@ ghost use Rattle.std.specs.Prelude.{◌≡◌, ◌<◌, ◌^◌, true};
 
 use crate::toys::Shelf;
 use schedule_player::{
-    Config, Fault, MOST_READS, READ_BYTES, Sink, Source, Tried, World, WorldKind, play, play_in, record,
+    Config, Fault, MOST_READS, READ_BYTES, Sink, Source, Tried, World, WorldKind, play, play_in,
+    record,
 };
 use std::alloc::{Allocator, Global};
 use std::process::Abort;

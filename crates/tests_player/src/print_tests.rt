@@ -5,14 +5,8 @@ use schedule_player::{Fault, REPLY_ROOM, Replies, print_reply};
 use std::alloc::Global;
 use step_memory::{Refusal, View};
 
-/// Replies, with a view of two pairs where they have one, and their texts.
-const REPLIES: [(Reply<()>, &[u8]); 20] = [
-    (Reply::Ok, b"ok\n"),
-    (Reply::Quiet, b"quiet\n"),
-    (Reply::Stop, b"stop\n"),
-    (Reply::Right, b"right\n"),
-    (Reply::Down, b"down\n"),
-    (Reply::Place(0), b"place 0\n"),
+/// Replies, most of which no run of the other trials has, with a view of two pairs where they have one, and their texts.
+const REPLIES: [(Reply<()>, &[u8]); 6] = [
     (
         Reply::Place(u128::MAX),
         b"place 340282366920938463463374607431768211455\n",
@@ -22,17 +16,9 @@ const REPLIES: [(Reply<()>, &[u8]); 20] = [
         b"proposed 18446744073709551615\n",
     ),
     (Reply::Saw(()), b"saw 1:1 18446744073709551615:3\n"),
-    (Reply::Named(3, ()), b"named 3\n"),
-    (Reply::Spent, b"spent\n"),
-    (Reply::Missed, b"missed\n"),
     (Reply::Got(64), b"got 64\n"),
-    (Reply::Left(1), b"left 1\n"),
     (Reply::Value(0), b"value 0\n"),
-    (Reply::Owner(None), b"owner none\n"),
-    (Reply::Owner(Some(7)), b"owner 7\n"),
-    (Reply::Refused(Refusal::ZeroIdentity), b"refused 1\n"),
-    (Reply::Refused(Refusal::NoMemory), b"refused 12\n"),
-    (Reply::Refused(Refusal::OutOfRange), b"refused 14\n"),
+    (Reply::Refused(Refusal::HistoryFull), b"refused 13\n"),
 ];
 
 /// Whether a reply with this view beside it has this text.

@@ -86,13 +86,15 @@ fn each_write_of_a_schedule_and_of_drawn_runs_fails_once(rt: HostRuntime) {
 }
 
 /// A record of version 1, and the same in version 2.
-const OLD: &[u8] = b"{\"format\":\"slot-record\",\"k\":4,\"limit\":1000,\"m\":2,\"version\":1,\"world\":\"rename\"}
+const OLD: &[u8] =
+    b"{\"format\":\"slot-record\",\"k\":4,\"limit\":1000,\"m\":2,\"version\":1,\"world\":\"rename\"}
 {\"command\":\"begin 10\",\"reply\":\"ok\"}
 {\"command\":\"step 10\",\"reply\":\"proposed 1\"}
 {\"command\":\"step 10\",\"reply\":\"named 1\"}
 ";
 
-const NEW: &[u8] = b"{\"format\":\"slot-record\",\"k\":4,\"limit\":1000,\"m\":2,\"version\":2,\"world\":\"rename\"}
+const NEW: &[u8] =
+    b"{\"format\":\"slot-record\",\"k\":4,\"limit\":1000,\"m\":2,\"version\":2,\"world\":\"rename\"}
 {\"command\":\"begin 10\",\"reply\":\"ok\"}
 {\"command\":\"step 10\",\"reply\":\"proposed 1\"}
 {\"command\":\"step 10\",\"reply\":\"named 1\",\"view\":\"10:1\"}

@@ -105,7 +105,10 @@ fn drawings_and_servings_are_read(rt: HostRuntime) {
     let drawn = drawing(rt.alloc(), line);
     assert!(rt; drawn == Some((u64::MAX, 64, 1_000_000, 1_000, 64, WorldKind::Tree)));
     let line = "slotctl serve --count 1000000 --workers 16 --port 65535 --world tree";
-    let told = [serving(rt.alloc(), "slotctl serve"), serving(rt.alloc(), line)];
+    let told = [
+        serving(rt.alloc(), "slotctl serve"),
+        serving(rt.alloc(), line),
+    ];
     let due = [
         Some((WorldKind::Rename, 0, 2, 1)),
         Some((WorldKind::Tree, 65_535, 16, 1_000_000)),
