@@ -49,7 +49,7 @@ pub mod places;
 pub mod proposal;
 pub mod reply;
 pub mod round;
-pub mod step;
+mod step;
 pub mod world;
 
 pub use commands::{Config, WorldKind};

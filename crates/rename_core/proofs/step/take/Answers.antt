@@ -1,6 +1,10 @@
-use Rattle.std.proofs.Common.{inl, refl, sym}
-use Rattle.rename_core.proofs.Common.{Quiet, Silent}
+use Rattle.std.proofs.Common.{◌≡◌, inl, Ok, refl, sym}
+use Rattle.rename_core.proofs.Common.{KnownPlaces, places_by, Quiet, Silent, snap_answer}
+use Rattle.rename_core.proofs.step.take.Given.{Over}
 use Rattle.rename_core.proofs.step.take.Goals as goal
+
+abbrev known : (g : Over) → KnownPlaces g.row.W.Denot g.row.W-Reg.Denot g.row.W-Value.Denot g.row.W-Walker.Denot g.row.W-Walk.Denot
+known g = places_by g.W.Walker.StepProgram.steps g.W.Walker.PlaceWalker.place_of g.W.Walk.SegmentWalk.walks g.W.StepMemory.steps g.W.Places.most_of g.W.Places.walker_from g.W.Places.walk_from g.W.Places.ties
 
 pub returns-then-not-read_on : goal.returns-then-not-read_on
 returns-then-not-read_on g c =
@@ -10,4 +14,5 @@ returns-then-not-read_on g c =
 pub returns : goal.returns
 returns g c =
     let read = c.if-not-read_on.false in
-    inl (Silent, record { is_told = sym (c.read_on.ensures.answer read); reply = Quiet; result_is = refl; reply_is = refl; asked = c.read_on.ensures.state read; round = refl })
+    let is : snap_answer (known g) c.args.snap.now c.args.participant.now.identity ≡ Ok Silent = c.read_on.ensures.answer read in
+    inl (Silent, record { is_told = sym is; reply = Quiet; result_is = refl; reply_is = refl; asked = c.read_on.ensures.state read; round = refl })

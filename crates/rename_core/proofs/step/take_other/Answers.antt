@@ -1,4 +1,4 @@
-use Rattle.std.proofs.Common.{◌≡◌, inl, inr, Ok, refl, ap, ◌∙◌}
+use Rattle.std.proofs.Common.{◌≡◌, inl, inr, refl}
 use Rattle.rename_core.proofs.Common.{NoMemory, KnownPlaces, places_by, after_snap_step}
 use Rattle.rename_core.proofs.rounds.StepCases.{no_err}
 use Rattle.rename_core.proofs.step.take_other.Given.{Over}

@@ -1,8 +1,7 @@
-use Rattle.std.proofs.Common.{rules, ◌≡◌, true, inl, inr, Ok, Err, refl, sym, ap, ◌∙◌}
+use Rattle.std.proofs.Common.{rules, ◌≡◌, inl, inr, Ok, refl, sym, ap, ◌∙◌}
 use Rattle.rename_core.proofs.Common.{NoMemory, KnownPlaces, places_by, Quiet, Silent, snap_answer, after_snap_step}
 use Rattle.step_memory.specs.declared.note.Note.TheVariants as note
 use Rattle.snapshot_core.specs.SnapWorld.{told_of_way}
-use Rattle.rename_core.specs.Taken.{IsTaken}
 use Rattle.rename_core.proofs.step.take_slow.Given.{Over}
 use Rattle.rename_core.proofs.step.take_slow.Goals as goal
 use Rattle.rename_core.proofs.step.take_slow.Goals.{After-is_quiet}
