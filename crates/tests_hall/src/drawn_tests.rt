@@ -5,6 +5,7 @@ use commands::{Config, Event, WorldKind};
 use hall::Hall;
 use hall_compaction::{Compactor, compacted};
 use std::alloc::Global;
+use std::process::Abort;
 
 /// A hall of this world, for so many numbers, in which one enters, takes a number and leaves, so many times; none where memory was refused.
 fn padded(alloc: Global, world: WorldKind, k: u64, stays: usize) -> Option<Hall> {
@@ -64,30 +65,31 @@ fn is_built_anew(alloc: Global, seed: u64, k: u64, stays: usize) -> bool {
     }
 }
 
-/// How many halls are drawn, of how many numbers: from so many on so many sizes, and behind how many stays.
-const DRAWN: [(u64, u64, u64, usize); 3] = [
-    (9_600, 1, 6, 60),
-    (380, 7, 14, 1_500),
-    (20, 61, 4, 10_000),
-];
-
-/// How many halls of a row are built anew, up to the first that is not.
-fn built_anew(alloc: Global, (halls, least, sizes, stays): (u64, u64, u64, usize)) -> u64 {
+/// So many halls are built anew, of numbers from so many on of so many sizes, and behind so many stays.
+fn are_built_anew(
+    rt: &impl Abort,
+    alloc: Global,
+    (halls, least, sizes, stays): (u64, u64, u64, usize),
+) {
     for seed in 0..halls {
         let k = seed.checked_rem(sizes).unwrap_or(0).saturating_add(least);
-        if !is_built_anew(alloc, seed, k, stays) {
-            return seed;
-        }
+        assert!(rt; is_built_anew(alloc, seed, k, stays), "seed {seed}");
     }
-    halls
 }
 
 #[test]
-fn drawn_halls_are_built_anew(rt: HostRuntime) {
-    for row in &DRAWN {
-        let built = built_anew(rt.alloc(), *row);
-        assert!(rt; built == row.0, "seed {built} of {row:?}");
-    }
+fn drawn_halls_of_few_numbers(rt: HostRuntime) {
+    are_built_anew(&rt, rt.alloc(), (9_600, 1, 6, 60));
+}
+
+#[test]
+fn drawn_halls_of_more_numbers(rt: HostRuntime) {
+    are_built_anew(&rt, rt.alloc(), (380, 7, 14, 1_500));
+}
+
+#[test]
+fn drawn_halls_of_all_numbers(rt: HostRuntime) {
+    are_built_anew(&rt, rt.alloc(), (20, 61, 4, 10_000));
 }
 
 /// Whether a hall behind so many stays that leave nothing is compacted, and whether that is due.

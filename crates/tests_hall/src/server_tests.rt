@@ -4,6 +4,7 @@
 ghost use Rattle.std.specs.Prelude.{◌≡◌};
 
 use crate::opening::{Opening, opened};
+use commands::Reply;
 use hall::Hall;
 use locked_world::{Clerk, HallLock, LockName};
 use player::{Event, WorldKind};
@@ -17,6 +18,7 @@ use std::sync::Wait;
 use std::sync::atomic::{AtomicU64, Ordering};
 use std::thread;
 use std::thread::Threads;
+use step_memory::Refusal;
 
 /// Whether the history of a hall has just these events.
 fn has_just(hall: &Hall, events: &[Event]) -> bool {
@@ -95,12 +97,14 @@ fn two_clients<R: Net<Stream = TcpStream>>(rt: &R, alloc: Global, port: u16) -> 
     }
 }
 
-/// Two clerks of a lock, fewer where memory is refused.
+/// Two clerks of a lock, of which nobody competes yet; fewer where memory is refused.
 fn two_clerks<L: LockName, R: Wait>(rt: &R, alloc: Global, lock: &HallLock<L>) -> Vec<Clerk<L>> {
     let mut clerks = Vec::new(alloc);
     for _ in 0..2 {
-        if let Ok(clerk) = lock.clerk(rt, alloc) {
-            let _ = clerks.push(clerk);
+        if let Ok(mut clerk) = lock.clerk(rt, alloc) {
+            if lock.apply(rt, &mut clerk, Event::Get(5)) == Reply::Refused(Refusal::NotCompeting) {
+                let _ = clerks.push(clerk);
+            }
         }
     }
     clerks

@@ -47,7 +47,7 @@ fn store<'a>(alloc: Global, texts: &'a [&'a [u8]]) -> Result<EtcdStore<Script<'a
     Ok(EtcdStore::new(alloc, Script { texts, dialed: 0 }, prefix))
 }
 
-/// What a get of a place answers, and whether it finds these bytes.
+/// What a get of a place answers, and whether the entry has these bytes then: those of before, where nothing is found.
 fn found(
     etcd: &mut EtcdStore<Script<'_>>,
     entry: &mut Vec<u8>,
@@ -62,14 +62,14 @@ fn answers(etcd: &mut EtcdStore<Script<'_>>, entry: &mut Vec<u8>) -> bool {
     let put = [etcd.put(42, b"hi"), etcd.put(42, b"ho")];
     let got = [
         found(etcd, entry, 42, b"hi"),
-        found(etcd, entry, 43, b""),
+        found(etcd, entry, 43, b"hi"),
         found(etcd, entry, 42, b"hi"),
         found(etcd, entry, 43, b"ho"),
-        found(etcd, entry, 44, b""),
+        found(etcd, entry, 44, b"ho"),
         found(etcd, entry, 42, b"hi"),
     ];
     let asked = [etcd.put(42, b"hi"), etcd.put(42, b"hi")];
-    let wrong = (found(etcd, entry, 41, b""), etcd.put(42, b"hi"));
+    let wrong = (found(etcd, entry, 41, b"hi"), etcd.put(42, b"hi"));
     put == [Ok(Put::Written), Ok(Put::Taken)]
         && got
             == [

@@ -326,7 +326,7 @@ pub(crate) fn text_of(rt: &impl Abort, alloc: Global, row: &Row, is_kept: bool) 
 }
 
 /// Plays a row, or records it, however the bytes are cut, and with each growth refused in turn: where walks are in a tree some
-/// line is refused then. A row that is played is played with each call failing in turn, too.
+/// line is refused then. A short row is played with each call failing in turn, too.
 fn row_is_run(rt: &impl Abort, alloc: Global, row: &Row, is_kept: bool) {
     let input = spelled(rt, alloc, row.asked);
     let text = text_of(rt, alloc, row, is_kept);
@@ -337,7 +337,7 @@ fn row_is_run(rt: &impl Abort, alloc: Global, row: &Row, is_kept: bool) {
         text: &text,
     };
     is_run(rt, alloc, &case);
-    if !is_kept {
+    if !is_kept && input.len() < 200 {
         calls_fail_in_turn(rt, alloc, &case);
     }
     let refused = growths_refused_in_turn(rt, alloc, &case);
@@ -345,11 +345,21 @@ fn row_is_run(rt: &impl Abort, alloc: Global, row: &Row, is_kept: bool) {
     assert!(rt; (refused > 0) == grows, "{refused} at {}", row.asked);
 }
 
-/// Each row is played, and where it gives names recorded: the record of a row is its events with their replies.
+/// The rows, which stand once in the code that is proved.
+fn rows() -> &'static [Row] {
+    &ROWS
+}
+
 #[test]
 fn ways_places_names_numbers_and_values_are_told(rt: HostRuntime) {
-    for row in &ROWS {
+    for row in rows() {
         row_is_run(&rt, rt.alloc(), row, false);
+    }
+}
+
+#[test]
+fn the_record_of_a_row_is_its_events_with_their_replies(rt: HostRuntime) {
+    for row in rows() {
         if row.world.gives_names() {
             row_is_run(&rt, rt.alloc(), row, true);
         }
