@@ -1,5 +1,5 @@
 -- lines that follow one another
-use Rattle.std.proofs.Common.{◌≡◌, ℕ, suc, ◌+◌, ◌<◌, ◌≤◌, ◌^◌, Bool, List, [], ◌∷◌, ◌++◌, length, map, take, Err, refl, sym, ap, ◌∙◌, subst, arith, length-append, get_or, drop, drop-cons}
+use Rattle.std.proofs.Common.{◌≡◌, ℕ, suc, ◌+◌, ◌<◌, ◌≤◌, ◌^◌, List, [], ◌∷◌, ◌++◌, length, map, take, Err, refl, sym, ap, ◌∙◌, subst, arith, length-append, get_or, drop, drop-cons}
 use Rattle.line_checker.proofs.Common.{Run, run_more, run_one, run_splits, RenameTerms, Event, Exchange, DeskCall, exchange_of, Checker, Line, Reason, DeskObject, fresh_desk_object, AllowsCall, after_call}
 use Rattle.std.proofs.lemmas.List.{take-append-drop}
 use Rattle.std.proofs.lemmas.Option.{slice_get_read}
@@ -11,7 +11,7 @@ use Rattle.line_checker.specs.Fault.{told_by}
 use Rattle.record_lines.specs.declared.told.Told.{Told}
 use Rattle.record_lines.specs.declared.told.Told.TheVariants.{Ok as Accepted, Proposed, Missed, Left}
 use Rattle.line_checker.specs.Reasons.{KeepsAll, IsLeastReason}
-use Rattle.record_lines.specs.Lines.{line_of, IsLineOf, AreLinesOf}
+use Rattle.record_lines.specs.Lines.{IsLineOf, AreLinesOf}
 use Rattle.line_checker.specs.Lines.{AreLinesOfRun, CanFollow, after_told, after_line, Follow}
 use Rattle.line_checker.specs.Judged.{HoldsDesk, IsTaken, IsJudged, HasTaken, IsFaultAfter, TakesOn, IsFirstFault}
 use Rattle.line_checker.proofs.Following.{can_follow, follows_keeps, same_after}

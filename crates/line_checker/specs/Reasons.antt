@@ -1,8 +1,8 @@
 -- The reasons for which a line can't follow, by what each is the breach of (the table: this project's profile)
-use Rattle.std.specs.Prelude.{◌≡◌, ◌≢◌, ℕ, ◌+◌, ◌-◌, ◌<◌, ◌≤◌, ◌==◌, ◌&&◌, max, Bool, true, List, Option, Some, None, Result, Ok, Err, is_none}
+use Rattle.std.specs.Prelude.{◌≡◌, ◌≢◌, ℕ, ◌+◌, ◌-◌, ◌<◌, ◌≤◌, ◌==◌, ◌&&◌, max, Bool, true, Option, Some, None, Result, Ok, Err, is_none}
 use Rattle.step_memory.specs.declared.refusal.Refusal.{Refusal}
 use Rattle.step_memory.specs.Refusal.{refusal_number}
-use Rattle.rename_core.specs.RenameObject.{RenameTerms, RenameObject, no_begin, no_step, IsFreePlace, MayPropose, ShowsConflict, HasConflict, ShowsSole, IsFreeName}
+use Rattle.rename_core.specs.RenameObject.{RenameTerms, RenameObject, no_begin, no_step, IsFreePlace, MayPropose, ShowsConflict, HasConflict}
 use Rattle.bit_allocator.specs.PoolObject.{no_entry, no_probe, number_in, IsFree}
 use Rattle.bit_allocator.specs.Widening.{widen_refusal}
 use Rattle.slot_array.specs.Slots.{IsFetched}
