@@ -30,9 +30,17 @@ fn begin(id: u64) -> Line {
     }
 }
 
-/// The first fault of lines in which 10 and 20 propose 1, and then 10 sees a view of these pairs; none where there is no memory.
-fn fault_of_view(alloc: Global, pairs: &[(u64, u64)]) -> Option<Option<(usize, Reason)>> {
+/// The first fault of lines; none where they are too many, and where there is no memory.
+fn fault_of(alloc: Global, lines: &[Line]) -> Option<Option<(usize, Reason)>> {
+    if 1_000_000 < lines.len() {
+        return None;
+    }
     let config = Config::new(WorldKind::Tree, 3, 3, 3).ok()?;
+    first_fault(alloc, config, lines).ok()
+}
+
+/// The same of lines in which 10 and 20 propose 1, and then 10 sees a view of these pairs.
+fn fault_of_view(alloc: Global, pairs: &[(u64, u64)]) -> Option<Option<(usize, Reason)>> {
     let last = seen(alloc, pairs)?;
     let lines = [
         begin(10),
@@ -41,7 +49,7 @@ fn fault_of_view(alloc: Global, pairs: &[(u64, u64)]) -> Option<Option<(usize, R
         step(10, Told::Proposed(1)),
         step(10, last),
     ];
-    first_fault(alloc, config, &lines).ok()
+    fault_of(alloc, &lines)
 }
 
 /// Views of others than were seen since the last proposal, or not by rising identity.
