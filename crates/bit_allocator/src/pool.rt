@@ -1,13 +1,12 @@
 //! The pool.
 
-ghost use Rattle.std.specs.Prelude.{◌≡◌, ◌≤◌, ◌<◌, ◌⊎◌, ℕ, List, [], IfOk, IfErr, IfSome, IfNone, IsOk, OnErr, Err, length};
+ghost use Rattle.std.specs.Prelude.{◌≡◌, ◌≤◌, ◌<◌, ◌⊎◌, [], IfOk, IfErr, IfSome, IfNone, IsOk, OnErr, Err};
 ghost use Rattle.bit_allocator.specs.Competitors.{stay_of, holder_in, identities};
 ghost use Rattle.bit_allocator.specs.Stay.{IsWithin};
 ghost use Rattle.bit_allocator.specs.PoolState.{PoolState};
 ghost use Rattle.bit_allocator.specs.Pool.{fresh_pool, enter_refusal, enter_answer, after_enter, probe_refusal, probe_answer, after_probe, number_answer, after_leave, widen_answer, after_widen};
 ghost use Rattle.bit_allocator.specs.Widening.{widen_refusal};
 ghost use Rattle.bit_allocator.specs.Locality.{IsLocal, IsWidened, LookAlike, StandAlike, probe_steps, leave_steps};
-ghost use Rattle.bit_allocator.specs.Calls.{Call};
 ghost use Rattle.bit_allocator.specs.Calls.Call.{Entered, Probed, Left, Widened};
 ghost use Rattle.bit_allocator.specs.PoolObject.{PoolObject, IsRun, number_in, IsHolderIn};
 ghost use Rattle.bit_allocator.specs.Machine.{pool};

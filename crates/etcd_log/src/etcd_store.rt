@@ -1,6 +1,6 @@
 //! Places in etcd.
 
-ghost use Rattle.std.specs.Prelude.{◌≡◌, ◌<◌, ℕ, List, ⊤, IfErr};
+ghost use Rattle.std.specs.Prelude.{◌<◌, ⊤, IfErr};
 ghost use Rattle.one_log.specs.declared.store.TheConstants.{MOST_PLACES};
 ghost use Rattle.etcd_log.specs.Faults.{IsOverNetwork};
 

@@ -1,6 +1,6 @@
 //! One request and its response, over any stream.
 
-ghost use Rattle.std.specs.Prelude.{◌≡◌, ◌≤◌, length, IfOk, IfErr, OnOk, vec_len};
+ghost use Rattle.std.specs.Prelude.{◌≤◌, length, IfOk, IfErr, vec_len};
 ghost use Rattle.etcd_log.specs.Faults.{IsOverNetwork};
 
 use http1::{BodySize, Client, Event, Header};

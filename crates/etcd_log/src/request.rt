@@ -1,6 +1,6 @@
 //! What etcd is asked.
 
-ghost use Rattle.std.specs.Prelude.{◌≡◌, ◌<◌, ◌^◌, ◌∷◌, [], codes, map, IfOk, string_bytes};
+ghost use Rattle.std.specs.Prelude.{◌≡◌, ◌<◌, codes, IfOk};
 ghost use Rattle.json.specs.Json.{object};
 ghost use Rattle.json.specs.Value.{members_view, value_view};
 ghost use Rattle.etcd_log.specs.Requests.{SaysGet, SaysPut, alone, get_request, never_created, only, pair, put_request};

@@ -1,6 +1,6 @@
 //! What the connections of a loop share.
 
-ghost use Rattle.std.specs.Prelude.{◌≡◌, length, IfOk};
+ghost use Rattle.std.specs.Prelude.{IfOk};
 ghost use Rattle.event_server.specs.Rooms.{IsRoom};
 
 use player::Replies;

@@ -1,7 +1,7 @@
 //! The end of a history: it against what its callers kept.
 
-ghost use Rattle.std.specs.Prelude.{◌≡◌, All, replicate, ℕ, ◌+◌, ◌++◌, length, map, true, false, slice_get, slice_set, slice_index_or, vec_len, IfSome, IfOk, IfErr};
-ghost use Rattle.hall_callers.specs.Kepts.{IsJust, Fits};
+ghost use Rattle.std.specs.Prelude.{◌≡◌, All, replicate, ◌+◌, ◌++◌, length, map, true, false, slice_get, slice_set, slice_index_or, vec_len, IfSome};
+ghost use Rattle.hall_callers.specs.Kepts.{IsJust};
 ghost use Rattle.hall_callers.specs.Marks.{IsMarked, AreMarked};
 ghost use Rattle.hall.specs.Halls.{IsLawful};
 

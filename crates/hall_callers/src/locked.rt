@@ -1,6 +1,6 @@
 //! What is done under the lock: a hall with its callers.
 
-ghost use Rattle.std.specs.Prelude.{◌≡◌, ◌+◌, ◌-◌, ◌<◌, ◌≤◌, ◌⊎◌, ◌↔◌, [], IfOk, IfErr, IfNone, IfSome, length, vec_len, vec_capacity, Err, None, true, false};
+ghost use Rattle.std.specs.Prelude.{◌≡◌, ◌+◌, ◌-◌, ◌<◌, ◌≤◌, ◌⊎◌, ◌↔◌, [], IfOk, IfErr, IfNone, IfSome, vec_len, vec_capacity, Err, None, true, false};
 ghost use Rattle.commands.specs.Config.{gives_names};
 ghost use Rattle.hall_callers.specs.Acts.{event_of};
 ghost use Rattle.commands.specs.Replies.{is_refusal, with_view};

@@ -1,6 +1,6 @@
 //! Names on a board.
 
-ghost use Rattle.std.specs.Prelude.{◌≡◌, ◌⊎◌, ◌↔◌, ℕ, Some, IfSome, true, slice_get};
+ghost use Rattle.std.specs.Prelude.{◌≡◌, ◌↔◌, Some, IfSome, true};
 ghost use Rattle.desk.specs.Desk.{owner_reply};
 ghost use Rattle.hall.specs.Halls.{desk_of};
 ghost use Rattle.hall_callers.specs.KeptNames.{name_kept};

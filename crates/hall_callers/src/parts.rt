@@ -1,6 +1,6 @@
 //! What lies under a lock, and what a caller has of its own.
 
-ghost use Rattle.std.specs.Prelude.{◌≡◌, ◌+◌, ◌≤◌, length, true, false, replicate};
+ghost use Rattle.std.specs.Prelude.{◌≡◌, ◌+◌, ◌≤◌, length, false, replicate};
 
 use crate::kept_log::KeptLog;
 use commands::Exchange;

@@ -1,9 +1,7 @@
 //! A hall is built anew with fewer events.
 
-ghost use Rattle.std.specs.Prelude.{◌≡◌, ◌+◌, ℕ, length, slice_get, true, false, Some, IfOk, IfSome, OnOk};
-ghost use Rattle.commands.specs.declared.exchange.Exchange.{Exchange};
-ghost use Rattle.hall.specs.HallState.{HallState};
-ghost use Rattle.hall.specs.Halls.{desk_of, IsLawful};
+ghost use Rattle.std.specs.Prelude.{◌≡◌, ◌+◌, length, true, false, Some, IfOk, IfSome, OnOk};
+ghost use Rattle.hall.specs.Halls.{desk_of};
 ghost use Rattle.hall_compaction.specs.Compactions.{IsCompacted};
 ghost use Rattle.hall_compaction.specs.DeskParts.{is_renaming};
 ghost use Rattle.hall_compaction.specs.Rebuilt.{HasRenaming, IsSorted};

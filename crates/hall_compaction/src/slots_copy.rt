@@ -3,12 +3,11 @@
 ghost use Rattle.std.specs.Prelude.{◌≡◌, ◌≤◌, ◌<◌, true, false, length, replicate, is_some, if◌then◌else◌, ◌++◌, ◌-◌, vec_len, IfOk, IfSome, OnOk, slice_index_or, slice_set};
 ghost use Rattle.step_memory.specs.Registers.{answer_of, after_access};
 ghost use Rattle.bit_allocator.specs.Competitors.{index_of, stay_of, with_stay, without, holder_in, holds_at};
-ghost use Rattle.bit_allocator.specs.Pool.{fresh_pool, after_probe, after_leave};
+ghost use Rattle.bit_allocator.specs.Pool.{fresh_pool};
 ghost use Rattle.bit_allocator.specs.Stay.{probe_access, stay_probed, leave_access, held_at};
 ghost use Rattle.bit_allocator.specs.declared.stay.Stay.TheVariants.{Seeking, Settled};
 ghost use Rattle.step_memory.specs.declared.access.Access.TheVariants.{TestAndSet, Nothing};
 ghost use Rattle.bit_allocator.specs.Widening.{widen_refusal};
-ghost use Rattle.slot_array.specs.Slots.{after_put, after_extend};
 ghost use Rattle.commands.specs.declared.event.Event.TheVariants.{Probe, Leave, Put, Widen};
 ghost use Rattle.hall_compaction.specs.Copies.{bits_in, slots_in};
 ghost use Rattle.hall_compaction.specs.Slots.{LetsIn, slots_after};

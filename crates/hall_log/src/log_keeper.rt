@@ -1,6 +1,6 @@
 //! Serves the clients of one front end over a log.
 
-ghost use Rattle.std.specs.Prelude.{◌≡◌, ◌≢◌, ◌+◌, ◌<◌, ◌≤◌, ◌++◌, [], true, false, Ok, OnOk, IfOk, All};
+ghost use Rattle.std.specs.Prelude.{◌≡◌, ◌≢◌, ◌+◌, ◌<◌, [], true, false, Ok, OnOk, IfOk, All};
 ghost use Rattle.std.specs.String.{string_bytes};
 ghost use Rattle.one_log.specs.Places.{Keeps};
 ghost use Rattle.hall_log.specs.Entries.{behind_first_line, first_line_of};

@@ -1,8 +1,6 @@
 //! A hall to which the entries of a log are applied.
 
-ghost use Rattle.std.specs.Prelude.{◌≡◌, ◌↔◌, ◌⊎◌, ◌+◌, ◌<◌, ◌^◌, [], length, IfOk, IfErr, OnOk, Err, false};
-ghost use Rattle.commands.specs.Config.{gives_names};
-ghost use Rattle.player.specs.Progress.{after_bytes};
+ghost use Rattle.std.specs.Prelude.{◌≡◌, ◌+◌, ◌<◌, [], IfOk, OnOk, Err};
 ghost use Rattle.hall.specs.Halls.{hall_of};
 ghost use Rattle.hall_log.specs.Entries.{HallApplies, TakesBytes, behind_first_line};
 ghost use Rattle.hall_log.specs.Said.{NotingSays, tape_of};

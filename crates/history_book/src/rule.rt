@@ -1,7 +1,5 @@
 //! What a book of one word keeps.
 
-ghost use Rattle.std.specs.Prelude.{◌≡◌};
-
 use logbook::{Gain, Play, Rule};
 
 /// The rule of the book: its word is the length of the history.

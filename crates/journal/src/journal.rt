@@ -1,7 +1,7 @@
 //! The journal of a chronicle, on a disk.
 
-ghost use Rattle.std.specs.Prelude.{◌≡◌, ◌≢◌, true, false, length, Err, Some, OnOk, OnErr, IfOk, ◌⊎◌};
-ghost use Rattle.journal_disk.specs.Disks.{Changes, IsReplaced};
+ghost use Rattle.std.specs.Prelude.{◌≡◌, ◌≢◌, true, false, length, Err, Some, OnOk, OnErr, IfOk};
+ghost use Rattle.journal_disk.specs.Disks.{Changes};
 ghost use Rattle.journal_disk.specs.DiskState.{DiskState};
 ghost use Rattle.hall_compaction.specs.Compactions.{IsCompacted};
 ghost use Rattle.journal.specs.Chronicles.{chronicle_of};

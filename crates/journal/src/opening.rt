@@ -1,9 +1,8 @@
 //! From the bytes of a journal to the hall whose record they are.
 
-ghost use Rattle.std.specs.Prelude.{◌≡◌, ◌≤◌, ◌++◌, [], ◌∷◌, ℕ, length, drop, take, flat_map, true, IfOk, IfSome, OnOk};
-ghost use Rattle.commands.specs.declared.exchange.Exchange.{Exchange};
+ghost use Rattle.std.specs.Prelude.{◌≡◌, ◌≤◌, ◌++◌, [], length, drop, true, IfOk, IfSome, OnOk};
 ghost use Rattle.command_lines.specs.Lines.{has_no_lf};
-ghost use Rattle.player.specs.Records.{exchange_line, header_line};
+ghost use Rattle.player.specs.Records.{header_line};
 ghost use Rattle.hall.specs.Halls.{hall_of};
 ghost use Rattle.journal.specs.Chronicles.{record_of_hall};
 ghost use Rattle.journal.specs.Openings.{GoesOnBy, HasFollowed, IsRecovered};

@@ -1,6 +1,6 @@
 //! What a journal is written to.
 
-ghost use Rattle.std.specs.Prelude.{◌≡◌, IfOk, Option};
+ghost use Rattle.std.specs.Prelude.{Option};
 ghost use Rattle.journal_disk.specs.DiskState.{DiskState};
 ghost use Rattle.journal_disk.specs.Disks.{Changes, IsAppended, IsSynced, IsCut, IsReplaced, Reads};
 

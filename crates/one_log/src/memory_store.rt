@@ -1,6 +1,6 @@
 //! Places in memory.
 
-ghost use Rattle.std.specs.Prelude.{◌≡◌, ◌<◌, ◌≤◌, [], ◌∷◌, ◌++◌, length, Some, None, Ok, Err, true, false, OnOk, OnErr, IfErr, IfSome, IfNone, slice_get};
+ghost use Rattle.std.specs.Prelude.{◌≡◌, ◌<◌, ◌≤◌, [], ◌∷◌, ◌++◌, length, Some, None, Ok, Err, true, false, OnOk, OnErr, IfSome, IfNone, slice_get};
 ghost use Rattle.one_log.specs.Places.{stands_in};
 ghost use Rattle.one_log.specs.Causes.{FailsInMemory};
 ghost use Rattle.one_log.specs.declared.store.Put.TheVariants.{Written, Taken};

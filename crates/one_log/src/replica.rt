@@ -1,6 +1,6 @@
 //! A machine that follows a log.
 
-ghost use Rattle.std.specs.Prelude.{◌≡◌, ◌≢◌, ◌<◌, ◌≤◌, ℕ, length, true, false, Ok, Err, OnOk, OnErr, IfOk, IfErr, ◌+◌};
+ghost use Rattle.std.specs.Prelude.{◌≡◌, ◌≢◌, ◌<◌, ◌≤◌, length, true, false, Ok, Err, OnOk, OnErr, IfOk, IfErr, ◌+◌};
 ghost use Rattle.one_log.specs.Places.{Adds, Same};
 ghost use Rattle.one_log.specs.Replicas.{AddsOnce, FaultLeaves, GoesOn, IsAnswered, IsApplied, IsReplica, OneMore};
 ghost use Rattle.one_log.specs.Causes.{MayCause, MayFail};

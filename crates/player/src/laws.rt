@@ -4,15 +4,12 @@ ghost use Rattle.std.specs.Prelude.{◌≡◌, ◌++◌, ◌∷◌, [], ℕ, Lis
 ghost use Rattle.commands.specs.declared.bad.Bad.{Bad};
 ghost use Rattle.commands.specs.declared.command.Command.{Command};
 ghost use Rattle.commands.specs.declared.kind.WorldKind.{WorldKind};
-ghost use Rattle.commands.specs.Replies.{ShownReply};
-ghost use Rattle.commands.specs.Requests.{Request};
 ghost use Rattle.command_lines.specs.Lines.{lines, whole_lines};
 ghost use Rattle.player.specs.Asked.{asked_by, asks_quit, until_quit};
 ghost use Rattle.player.specs.PlayerState.{PlayerState};
 ghost use Rattle.player.specs.Progress.{Progress, after_bytes, after_end, at_start, ends};
 ghost use Rattle.player.specs.Shared.{SharedGoesOn};
 ghost use Rattle.player.specs.Stands.{IsFresh, Stands};
-ghost use Rattle.player.specs.Turns.{Turn};
 
 use crate::form::Form;
 use crate::service::Service;

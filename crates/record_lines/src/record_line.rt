@@ -1,6 +1,6 @@
 //! From the bytes of a record's line to what it says.
 
-ghost use Rattle.std.specs.Prelude.{◌≡◌, ◌≤◌, IfOk, MatchOption, Ok, length};
+ghost use Rattle.std.specs.Prelude.{◌≤◌, IfOk, MatchOption, Ok, length};
 ghost use Rattle.commands.specs.declared.event.Event.{Event};
 ghost use Rattle.commands.specs.declared.command.Command.TheVariants as command;
 ghost use Rattle.serde_json.specs.Data.{Data};

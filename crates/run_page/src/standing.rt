@@ -3,7 +3,6 @@
 ghost use Rattle.std.specs.Prelude.{◌≡◌, ◌++◌, OnOk};
 ghost use Rattle.desk.specs.DeskRules.{fetched};
 ghost use Rattle.bit_allocator.specs.Pool.{number_answer};
-ghost use Rattle.slot_array.specs.SlotsState.{SlotsState};
 ghost use Rattle.run_page.specs.Standing.{is_spent_by, name_words, place_words, standing_on, standing_words, stay_words, value_words};
 
 use crate::access::{put_access, put_word_of_place};

@@ -1,6 +1,6 @@
 //! Laws of the splitter, which run nothing: of one splitter, whoever uses it, and of the calls of its world.
 
-ghost use Rattle.std.specs.Prelude.{◌≡◌, ◌≢◌, ◌↔◌, ℕ, ◌<◌, ◌≤◌, true, length, Option, Some};
+ghost use Rattle.std.specs.Prelude.{◌≡◌, ◌≢◌, ◌↔◌, ℕ, ◌<◌, ◌≤◌, true, length, Some};
 ghost use Rattle.splitter.specs.Laws.{KeepsDoorLaw, GoesOn, TellsPlace, HasOneAtPlace, FourthPlaces, CountsOneMore};
 ghost use Rattle.splitter.specs.declared.stage.Stage.{Stage};
 ghost use Rattle.splitter.specs.declared.visitor.Visitor.{Visitor};

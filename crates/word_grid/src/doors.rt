@@ -1,7 +1,7 @@
 //! The words of a grid. They are reached through this type alone, of which each access of a walk is counted in the view of
 //! its seat.
 
-ghost use Rattle.std.specs.Prelude.{◌≡◌, ◌≢◌, ◌<◌, ◌≤◌, ◌+◌, ◌++◌, ◌∷◌, [], List, IfOk, IsSome};
+ghost use Rattle.std.specs.Prelude.{◌≡◌, ◌<◌, ◌≤◌, ◌+◌, ◌++◌, ◌∷◌, [], List, IfOk, IsSome};
 ghost use Rattle.word_grid.specs.declared.grid_view.Walk.{Walk};
 ghost use Rattle.word_grid.specs.declared.grid_view.Ending.{Ending};
 ghost use Rattle.word_grid.specs.GridView.{lone_view, undealt_from, unbegun, view_of, endings_of};

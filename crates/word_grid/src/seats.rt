@@ -1,6 +1,6 @@
 //! The seats of a grid: before they are dealt, before and after their walks, and what they can show of their places.
 
-ghost use Rattle.std.specs.Prelude.{◌≡◌, ◌+◌, ◌*◌, ◌/◌, ◌<◌};
+ghost use Rattle.std.specs.Prelude.{◌≡◌, ◌/◌, ◌<◌};
 ghost use Rattle.word_grid.specs.Seats.{place_of};
 ghost use Rattle.word_grid.specs.Law.{KeepsWalkLaw};
 

@@ -1,13 +1,10 @@
 //! The grid.
 
-ghost use Rattle.std.specs.Prelude.{◌≡◌, ◌≢◌, ◌<◌, ◌≤◌, ◌+◌, ◌*◌, ◌/◌, [], ◌∷◌, ◌++◌, IfOk, IfErr, IfSome, IfNone, IsOk, IsSome, Err, ◌⊎◌, ◌↔◌};
+ghost use Rattle.std.specs.Prelude.{◌≡◌, ◌≢◌, ◌<◌, ◌≤◌, ◌+◌, ◌*◌, ◌/◌, [], IfOk, IfErr, IfSome, IfNone, IsOk, IsSome, Err, ◌⊎◌, ◌↔◌};
 ghost use Rattle.splitter.specs.declared.way.Way.TheVariants.{Stop};
 ghost use Rattle.splitter_grid.specs.Door.{IsDoorWithin};
-ghost use Rattle.splitter_grid.specs.Walk.{walker_at};
-ghost use Rattle.raw_parts.specs.SplitterView.{own_word};
-ghost use Rattle.word_grid.specs.declared.grid_view.Walk.{Walk};
-ghost use Rattle.word_grid.specs.GridView.{lone_view, unbegun, undealt_from, view_of};
-ghost use Rattle.word_grid.specs.GridSteps.{HasVisited, IsDoorOf, IsUnderRule, Stands};
+ghost use Rattle.word_grid.specs.GridView.{lone_view, unbegun};
+ghost use Rattle.word_grid.specs.GridSteps.{HasVisited};
 ghost use Rattle.word_grid.specs.Law.{KeepsWalkLaw};
 ghost use Rattle.word_grid.specs.Seats.{claim_of, dealer_of, place_of, seat_of};
 
