@@ -26,3 +26,5 @@ mod lock_tests;
 mod opening;
 #[cfg(test)]
 mod server_tests;
+#[cfg(test)]
+mod serving_tests;

@@ -1,5 +1,4 @@
-//! Connections over sockets, of which one is held. What is served over readers and writers that fail is tried where it is played, in
-//! `tests_player`; clients that are slow, silent or broken, by `tests/serve`.
+//! Connections over sockets, of which one is held. Clients that are slow, silent or broken are tried by `tests/serve`.
 
 ghost use Rattle.std.specs.Prelude.{◌≡◌};
 
@@ -21,7 +20,7 @@ use std::thread::Threads;
 use step_memory::Refusal;
 
 /// Whether the history of a hall has just these events.
-fn has_just(hall: &Hall, events: &[Event]) -> bool {
+pub(crate) fn has_just(hall: &Hall, events: &[Event]) -> bool {
     if hall.len() != events.len() {
         return false;
     }

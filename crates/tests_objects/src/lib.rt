@@ -19,6 +19,8 @@ mod line_pool_tests;
 #[cfg(test)]
 mod memory_tests;
 #[cfg(test)]
+mod places_tests;
+#[cfg(test)]
 mod pool_tests;
 #[cfg(test)]
 mod raw_splitter_tests;
