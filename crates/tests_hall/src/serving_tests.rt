@@ -177,42 +177,44 @@ fn clerk_answers<L: LockName, R: Abort + Wait>(
     written.as_slice() == text && kept == count
 }
 
-/// The rows of one participant, of the pool and of the slots, through a clerk.
+/// The numbers of a pool, lines of one participant, of the pool and of the slots, the replies, and how many events are accepted.
+const ROWS: [(u64, &[u8], &[u8], usize); 5] = [
+    (
+        4,
+        b"begin 7\nstep 7\nstep 7\nstep 7\nstep 7\nstep 7\nstep 7\nstep 7\nstep 7\nstep 7\nstep 7\nowner 1\nowner 2\n",
+        b"ok\nquiet\nquiet\nquiet\nplace 0\nquiet\nquiet\nproposed 1\nquiet\nnamed 1\nrefused 5\nowner 7\nrefused 14\n",
+        10,
+    ),
+    (
+        1,
+        b"enter 5\nprobe 5\nenter 6\nenter 5\nleave 5\nenter 6\n",
+        b"ok\ngot 1\nrefused 7\nrefused 9\nleft 1\nok\n",
+        4,
+    ),
+    (
+        3,
+        b"enter 5\nprobe 5\nenter 6\nprobe 6\nprobe 6\nenter 7\nprobe 7\nleave 5\nprobe 7\nenter 8\nprobe 8\nenter 9\n",
+        b"ok\ngot 1\nok\nmissed\ngot 2\nok\nmissed\nleft 1\ngot 3\nok\ngot 1\nrefused 7\n",
+        11,
+    ),
+    (
+        2,
+        b"enter 5\nleave 5\nprobe 5\nprobe 5\nput 5 77\nget 5\nleave 5\nget 5\nenter 6\nget 6\nprobe 6\nget 6\n",
+        b"ok\nrefused 11\ngot 1\nrefused 10\nok\nvalue 77\nleft 1\nrefused 8\nok\nrefused 11\ngot 1\nvalue 77\n",
+        8,
+    ),
+    (
+        1,
+        b"enter 5\nwiden 2\nprobe 5\nenter 6\nprobe 6\nwiden 2\n",
+        b"ok\nok\ngot 1\nok\ngot 2\nrefused 14\n",
+        5,
+    ),
+];
+
+/// A clerk answers each row as it is due.
 #[test]
 fn rows_through_a_clerk(rt: HostRuntime) {
-    let rows: [(u64, &[u8], &[u8], usize); 5] = [
-        (
-            4,
-            b"begin 7\nstep 7\nstep 7\nstep 7\nstep 7\nstep 7\nstep 7\nstep 7\nstep 7\nstep 7\nstep 7\nowner 1\nowner 2\n",
-            b"ok\nquiet\nquiet\nquiet\nplace 0\nquiet\nquiet\nproposed 1\nquiet\nnamed 1\nrefused 5\nowner 7\nrefused 14\n",
-            10,
-        ),
-        (
-            1,
-            b"enter 5\nprobe 5\nenter 6\nenter 5\nleave 5\nenter 6\n",
-            b"ok\ngot 1\nrefused 7\nrefused 9\nleft 1\nok\n",
-            4,
-        ),
-        (
-            3,
-            b"enter 5\nprobe 5\nenter 6\nprobe 6\nprobe 6\nenter 7\nprobe 7\nleave 5\nprobe 7\nenter 8\nprobe 8\nenter 9\n",
-            b"ok\ngot 1\nok\nmissed\ngot 2\nok\nmissed\nleft 1\ngot 3\nok\ngot 1\nrefused 7\n",
-            11,
-        ),
-        (
-            2,
-            b"enter 5\nleave 5\nprobe 5\nprobe 5\nput 5 77\nget 5\nleave 5\nget 5\nenter 6\nget 6\nprobe 6\nget 6\n",
-            b"ok\nrefused 11\ngot 1\nrefused 10\nok\nvalue 77\nleft 1\nrefused 8\nok\nrefused 11\ngot 1\nvalue 77\n",
-            8,
-        ),
-        (
-            1,
-            b"enter 5\nwiden 2\nprobe 5\nenter 6\nprobe 6\nwiden 2\n",
-            b"ok\nok\ngot 1\nok\ngot 2\nrefused 14\n",
-            5,
-        ),
-    ];
-    for (k, input, text, count) in rows {
+    for (k, input, text, count) in ROWS {
         let is_so = clerk_answers::<Brand, _>(
             &rt,
             rt.alloc(),
