@@ -2,13 +2,12 @@
 
 ghost use Rattle.std.specs.Prelude.{◌≡◌};
 
-use crate::common::{count_set, holds};
+use crate::common::{Told, count_set, same};
 use crate::word_pool_tests::{is_clash, marks_of};
 use std::alloc::Global;
 use std::sync::atomic::AtomicU64;
-use std::test::Fail;
 use std::thread::{Threads, join};
-use word_pool::{LinePool, Ticket};
+use word_pool::{LinePool, Ticket, Tickets};
 
 /// How often in many stays, one after another, one of two threads found its number in another's hands, or above 2.
 fn stay_often(line: &LinePool<Global>, mut ticket: Ticket, marks: &[AtomicU64]) -> u64
@@ -48,19 +47,39 @@ fn stay_at_once<R: Threads + Sync>(
     )
 }
 
-/// In lines of so many numbers two threads have distinct small ones, and no word is set at the end.
+/// How often two threads clash that stay at once in a line, each with a ticket of it; none where it has fewer tickets.
+fn clashes_of_two<R: Threads + Sync>(
+    rt: &R,
+    line: &LinePool<Global>,
+    tickets: &mut Tickets,
+    marks: &[AtomicU64],
+) -> Option<(u64, u64)>
+    requires { tickets.old.table ≡ line.now.table }
+    ensures { tickets.new.table ≡ line.now.table }
+{
+    let one = line.deal(tickets)?;
+    let other = line.deal(tickets)?;
+    Some(stay_at_once(rt, line, one, other, marks))
+}
+
+/// Whether two threads have distinct small numbers in a line of so many, and no word is set at the end.
+fn two_stay<R: Threads + Sync>(rt: &R, alloc: Global, numbers: u64) -> Told {
+    let marks = marks_of(alloc, numbers)?;
+    let (line, mut tickets) = LinePool::new(alloc, numbers)?;
+    let clashes = clashes_of_two(rt, &line, &mut tickets, &marks);
+    let words = line.close(alloc, tickets, Vec::new(alloc))?;
+    let is_free = words.len() as u64 == numbers && count_set(&words) == 0;
+    Ok(is_free && clashes == Some((0, 0)))
+}
+
 #[test]
-fn threads_have_distinct_small_numbers_and_give_them_back(rt: HostRuntime) -> Result<(), Fail> {
+fn threads_have_distinct_small_numbers_and_give_them_back(rt: HostRuntime) {
     for numbers in [2, 64, 4096] {
-        let (line, mut tickets) = LinePool::new(rt.alloc(), numbers)?;
-        let (Some(one), Some(other)) = (line.deal(&mut tickets), line.deal(&mut tickets)) else {
-            panic!(rt; "too few tickets");
-        };
-        let marks = marks_of(rt.alloc(), numbers)?;
-        let clashes = stay_at_once(&rt, &line, one, other, &marks);
-        let words = line.close(rt.alloc(), tickets, Vec::new(rt.alloc()))?;
-        let is_free = words.len() as u64 == numbers && count_set(&words) == 0;
-        holds(&rt, numbers as usize, is_free && clashes == (0, 0));
+        same(
+            &rt,
+            numbers as usize,
+            two_stay(&rt, rt.alloc(), numbers),
+            Ok(true),
+        );
     }
-    Ok(())
 }

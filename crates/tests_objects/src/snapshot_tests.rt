@@ -1,6 +1,6 @@
 //! Updates and scans over segments in a row, and what plays calls of a snapshot object.
 
-use crate::common::{holds, same};
+use crate::common::{holds, lent, same};
 use snapshot_core::{Places, SnapReply};
 use snapshot_world::{Fixed, SnapWorld};
 use std::alloc::{Allocator, Global};
@@ -221,10 +221,11 @@ fn world_for(alloc: Global, most: usize) -> Result<SnapWorld<Fixed<Global>, Glob
 
 /// Makes the calls of a schedule: whether there are as many places, and the first record is the one that is due.
 fn records(rt: &impl Abort, alloc: Global, schedule: &Schedule) -> Result<bool, Refusal> {
-    let mut world = world_for(alloc, schedule.most)?;
-    plays(rt, &mut world, schedule.rows);
-    let places = world.places();
-    Ok(places.most() == schedule.most && first_record(places) == schedule.record)
+    lent(world_for(alloc, schedule.most), |world| {
+        plays(rt, world, schedule.rows);
+        let places = world.places();
+        places.most() == schedule.most && first_record(places) == schedule.record
+    })
 }
 
 #[test]

@@ -1,6 +1,6 @@
 //! Stays in a pool of words, one after another and by threads at once.
 
-use crate::common::{count_set, holds, same};
+use crate::common::{Told, count_set, holds, same};
 use std::alloc::{AllocError, Global};
 use std::sync::atomic::AtomicU64;
 use std::sync::atomic::Ordering::SeqCst;
@@ -45,7 +45,7 @@ fn words_at_end(alloc: Global, pool: WordPool<Global>) -> Result<(usize, usize),
 }
 
 /// Whether a pool for so many has as many numbers: as it says, as it gives them, and as its words are set then.
-fn has_numbers(alloc: Global, numbers: u64) -> Result<bool, Refusal> {
+fn has_numbers(alloc: Global, numbers: u64) -> Told {
     let pool = WordPool::new(alloc, numbers)?;
     let are_given = pool.numbers() == numbers && given_in_turn(&pool) == numbers;
     let ended = words_at_end(alloc, pool)?;
@@ -133,13 +133,21 @@ const STAYS: [(u64, bool); 6] = [
     (64, true),
 ];
 
+/// Whether eight threads have distinct numbers in a pool of so many, and give them back.
+fn eight_stay<R: Threads + Sync>(rt: &R, alloc: Global, numbers: u64, near: bool) -> Told {
+    let pool = WordPool::new(alloc, numbers)?;
+    let clashes = clashes_of_eight(rt, alloc, &pool, near)?;
+    Ok(words_at_end(alloc, pool)? == (numbers as usize, 0) && clashes == 0)
+}
+
 #[test]
-fn eight_threads_have_distinct_numbers_and_give_them_back(rt: HostRuntime) -> Result<(), Fail> {
+fn eight_threads_have_distinct_numbers_and_give_them_back(rt: HostRuntime) {
     for (i, (numbers, near)) in STAYS.iter().enumerate() {
-        let pool = WordPool::new(rt.alloc(), *numbers)?;
-        let clashes = clashes_of_eight(&rt, rt.alloc(), &pool, *near)?;
-        let ended = words_at_end(rt.alloc(), pool)?;
-        holds(&rt, i, clashes == 0 && ended == (*numbers as usize, 0));
+        same(
+            &rt,
+            i,
+            eight_stay(&rt, rt.alloc(), *numbers, *near),
+            Ok(true),
+        );
     }
-    Ok(())
 }
