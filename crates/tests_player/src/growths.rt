@@ -5,7 +5,6 @@ use crate::record_tests::{put_line, put_pieces};
 use schedule_player::Fault;
 use std::alloc::Global;
 use std::process::Abort;
-use tests_doubles::FailingAllocator;
 
 /// No run here makes as many growths.
 const MOST_GROWTHS: u64 = 1_000;
@@ -35,11 +34,9 @@ fn line_of_difference(one: &[u8], other: &[u8]) -> usize {
     one.len()
 }
 
-/// What comes of a run in which the growth of this number is refused, and no other, and whether the run came to it.
-fn refusing(alloc: Global, case: &Case<'_>, growth: u64) -> (Played, bool) {
-    let heap = FailingAllocator::new(alloc, growth);
-    let played = run(&heap, alloc, case, (64, 0), (64, 0, false));
-    (played, heap.left() == 0)
+/// What comes of a run in which the growth of this number is refused, and no other.
+fn refusing(alloc: Global, case: &Case<'_>, growth: u64) -> Played {
+    run(alloc, case, growth, (64, 0), (64, 0, false))
 }
 
 /// The line that tells that a line is refused memory.
@@ -57,7 +54,7 @@ fn refused_line(rt: &impl Abort, alloc: Global, line: &[u8], is_kept: bool) -> V
 
 /// Whether a run writes its text without a fault where the growth of this number is refused.
 fn writes_all(alloc: Global, case: &Case<'_>, growth: u64) -> bool {
-    let (p, _) = refusing(alloc, case, growth);
+    let p = refusing(alloc, case, growth);
     p.fault.is_none() && p.text.as_slice() == case.text
 }
 
@@ -89,24 +86,25 @@ enum Came {
     Refusal,
 }
 
-/// Runs a case with one growth refused. Before the first read that is a fault. Later one line is refused.
+/// What a run came to in which the growth of this number was to be refused: before the first read that is a fault, later one line is
+/// refused. None where it ended in another way.
+fn came_of(case: &Case<'_>, p: &Played, growth: u64) -> Option<Came> {
+    match &p.fault {
+        None if p.came_to_it => Some(Came::Refusal),
+        None if 1 < growth && p.text.as_slice() == case.text => Some(Came::Nowhere),
+        Some(Fault::Memory) if p.came_to_it && (p.reads, p.writes) == (0, 0) => Some(Came::Fault),
+        _ => None,
+    }
+}
+
+/// Runs a case with one growth refused, and where a line was refused then, asks it again.
 fn one_growth_is_refused(rt: &impl Abort, alloc: Global, case: &Case<'_>, growth: u64) -> Came {
-    let (p, came_to_it) = refusing(alloc, case, growth);
-    if came_to_it && p.fault.is_none() {
+    let p = refusing(alloc, case, growth);
+    let came = came_of(case, &p, growth).expect(rt, "an end that the growth explains");
+    if matches!(came, Came::Refusal) {
         is_answered_again(rt, alloc, case, growth, &p.text);
-        return Came::Refusal;
     }
-    let is_so = if came_to_it {
-        p.fault == Some(Fault::Memory) && p.reads == 0 && p.writes == 0
-    } else {
-        p.fault.is_none() && p.text.as_slice() == case.text && growth > 1
-    };
-    assert!(rt; is_so, "at {growth}");
-    if came_to_it {
-        Came::Fault
-    } else {
-        Came::Nowhere
-    }
+    came
 }
 
 /// Runs a case with each growth refused in turn. How many lines were refused so.

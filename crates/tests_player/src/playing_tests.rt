@@ -7,9 +7,9 @@ use schedule_player::{
     Config, Fault, MOST_READS, READ_BYTES, Sink, Source, Tried, World, WorldKind, play, play_in,
     record,
 };
-use std::alloc::{Allocator, Global};
+use std::alloc::Global;
 use std::process::Abort;
-use tests_doubles::{FaultyReader, FaultyWriter};
+use tests_doubles::{FailingAllocator, FaultyReader, FaultyWriter};
 
 /// A run that is played, or recorded where it is kept: what it is asked, and what is written.
 #[derive(Drop)]
@@ -27,6 +27,8 @@ pub(crate) struct Played {
     pub(crate) text: Vec<u8>,
     pub(crate) reads: u64,
     pub(crate) writes: u64,
+    /// Whether it came to the growth that is refused.
+    pub(crate) came_to_it: bool,
 }
 
 /// A config of this world for so many participants.
@@ -37,8 +39,8 @@ pub(crate) fn config(rt: &impl Abort, world: WorldKind, m: u64) -> Config
 }
 
 /// The fault of a case that is run over a heap, over any reader and any writer that were not called too often.
-fn fault_of<A: Allocator + Clone, R: Source, W: Sink>(
-    heap: A,
+fn fault_of<R: Source, W: Sink>(
+    heap: &FailingAllocator<Global>,
     case: &Case<'_>,
     reader: &mut R,
     writer: &mut W,
@@ -53,24 +55,26 @@ fn fault_of<A: Allocator + Clone, R: Source, W: Sink>(
     }
 }
 
-/// Runs a case over a heap: how many bytes a read gives at most and which fails; the same of the writes, and whether the one that
-/// fails takes nothing. None fails where it is 0.
-pub(crate) fn run<A: Allocator + Clone>(
-    heap: A,
+/// Runs a case: which growth is refused; how many bytes a read gives at most and which fails; the same of the writes, and whether the
+/// one that fails takes nothing. None fails where it is 0.
+pub(crate) fn run(
     alloc: Global,
     case: &Case<'_>,
+    growth: u64,
     (given, bad_read): (usize, u64),
     (taken, bad_write, takes_nothing): (usize, u64, bool),
 ) -> Played {
+    let heap = FailingAllocator::new(alloc, growth);
     let mut reader = Tried::new(FaultyReader::new(case.input, given, bad_read));
     let mut writer = Tried::new(FaultyWriter::new(alloc, taken, bad_write, takes_nothing));
-    let fault = fault_of(heap, case, &mut reader, &mut writer);
+    let fault = fault_of(&heap, case, &mut reader, &mut writer);
     let writer = writer.into_inner();
     Played {
         fault,
         reads: reader.into_inner().calls,
         writes: writer.calls,
         text: writer.taken,
+        came_to_it: heap.left() == 0,
     }
 }
 
@@ -91,7 +95,7 @@ const INPUTS: [(&[u8], &[u8]); 3] = [
 /// The same is written however the bytes are cut.
 pub(crate) fn is_run(rt: &impl Abort, alloc: Global, case: &Case<'_>) {
     for piece in [1, 3, 7, READ_BYTES] {
-        let p = run(alloc, alloc, case, (piece, 0), (piece, 0, false));
+        let p = run(alloc, case, 0, (piece, 0), (piece, 0, false));
         let is_so = p.fault.is_none() && p.text.as_slice() == case.text;
         assert!(rt; is_so, "{piece} {:?}", case.input);
     }
@@ -105,7 +109,7 @@ fn calls_of(
     given: usize,
     taken: usize,
 ) -> (u64, u64) {
-    let p = run(alloc, alloc, case, (given, 0), (taken, 0, false));
+    let p = run(alloc, case, 0, (given, 0), (taken, 0, false));
     assert!(rt; p.fault.is_none());
     (p.reads, p.writes)
 }
@@ -147,14 +151,14 @@ fn is_left_by_write(case: &Case<'_>, p: &Played, at: u64) -> bool {
 
 /// One read of a run fails.
 fn one_read_fails(rt: &impl Abort, alloc: Global, case: &Case<'_>, at: u64) {
-    let p = run(alloc, alloc, case, (4, at), (3, 0, false));
+    let p = run(alloc, case, 0, (4, at), (3, 0, false));
     let is_so = p.fault == Some(Fault::Read) && is_left_by_read(case, &p.text, at);
     assert!(rt; is_so, "at {at}");
 }
 
 /// One write of a run fails, by an error or by taking nothing.
 fn one_write_fails(rt: &impl Abort, alloc: Global, case: &Case<'_>, at: u64, takes_nothing: bool) {
-    let p = run(alloc, alloc, case, (4, 0), (3, at, takes_nothing));
+    let p = run(alloc, case, 0, (4, 0), (3, at, takes_nothing));
     let is_so = p.fault == Some(Fault::Write) && is_left_by_write(case, &p, at);
     assert!(rt; is_so, "at {at}");
 }
