@@ -1,5 +1,5 @@
 -- what ties a splitter's world to the calls that it is after
-use Rattle.std.proofs.Common.{◌≡◌, ◌≢◌, ℕ, ◌+◌, ◌<◌, ◌≤◌, true, false, cond, ◌==◌, inl, inr, List, [], ◌∷◌, ◌++◌, length, Option, Some, None, Result, Ok, Err, refl, sym, ap, subst, ◌∙◌, arith, is_some, option_map, IsSome}
+use Rattle.std.proofs.Common.{◌≡◌, ◌≢◌, ℕ, ◌+◌, ◌<◌, ◌≤◌, true, false, cond, ◌==◌, inl, inr, List, [], ◌∷◌, ◌++◌, length, Option, Some, None, Result, Ok, Err, IfOk, refl, sym, ap, subst, ◌∙◌, arith, is_some, option_map, IsSome}
 use Rattle.splitter.proofs.Common.{eqb_tells, set_at, set_at-cases, Stop, Right, Down, Stage, Outside, WroteX, SawClear, WroteY, Gone, Visitor, DoorIsLawful, IsSplitter}
 use Rattle.std.proofs.Math.Path.{fun_ext}
 use Rattle.step_memory.specs.declared.participant.Participant.{Participant}
@@ -14,10 +14,10 @@ use Rattle.step_memory.specs.Told.{Tells}
 use Rattle.step_memory.proofs.ToldLemmas.{told_quiet, told_stepped}
 use Rattle.step_memory.specs.Due.{EndsOnce}
 use Rattle.step_memory.proofs.DueLemmas.{outcomes_tell, never_grows}
-use Rattle.step_memory.specs.Machine.{IsProved, IsLawful, RefusesWhereDue, LeadsOn}
-use Rattle.step_memory.proofs.WorldMachineLemmas.{world_proved, begin_leads_on, step_leads_on, stays_alike}
+use Rattle.step_memory.specs.Machine.{After, IsProved, IsLawful, RefusesWhereDue, LeadsOn}
+use Rattle.step_memory.proofs.WorldMachineLemmas.{world_proved, begin_leads_on, step_leads_on, never_lacks, new_after, stays_alike}
 use Rattle.splitter.specs.Laws.{StaysAlike}
-use Rattle.step_memory.specs.World.{after_begin, begin_refusal, done_unless}
+use Rattle.step_memory.specs.World.{after_begin, begin_refusal, done_unless, may_refuse_step}
 use Rattle.step_memory.specs.declared.refusal.Refusal.{Refusal}
 use Rattle.splitter.specs.declared.way.Way.{Way}
 use Rattle.splitter.specs.Stage.{has_entered, is_gone, x_after, y_after, stage_after}
@@ -285,11 +285,18 @@ splitter_law w = splitter_proved.law w
 pub splitter_due : (w : SplitterState) → RefusesWhereDue splitter w
 splitter_due w = splitter_proved.due w
 
+pub splitter_opens : (most : ℕ) (r : Result SplitterState Refusal) → IfOk r (λ w. w ≡ fresh most) → IfOk r (λ w. After splitter most w [])
+splitter_opens most = new_after splitter_parts most tt
+
 pub splitter_begins : (w new : SplitterState) (id : ℕ) (reply : Result (Unit {0}) Refusal) → new ≡ after_begin w id (visit_of id) → reply ≡ done_unless (begin_refusal w id) → LeadsOn splitter w new (Began id reply)
 splitter_begins = begin_leads_on splitter_parts
 
 pub splitter_steps : (w new : SplitterState) (id : ℕ) (reply : Result (Option Way) Refusal) → new ≡ world_after_step w id → reply ≡ step_reply w id → LeadsOn splitter w new (Stepped id reply)
 splitter_steps = step_leads_on splitter_parts
+
+-- no step lacks memory
+pub splitter_fits : (w : SplitterState) (id : ℕ) → may_refuse_step visitor_steps memory_steps w id ≡ false
+splitter_fits = never_lacks splitter_parts (λ m a. refl)
 
 pub splitter_stays : (w new : SplitterState) (id : ℕ) → new ≡ world_after_step w id → StaysAlike w new id
 splitter_stays = stays_alike splitter_parts

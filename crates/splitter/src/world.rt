@@ -5,6 +5,7 @@ ghost use Rattle.splitter.specs.Laws.{StaysAlike};
 ghost use Rattle.splitter.specs.Machine.{SplitterState, fresh, splitter, visit_of, step_reply, world_after_step};
 ghost use Rattle.splitter.specs.Visitor.{visitor_steps};
 ghost use Rattle.step_memory.specs.Calls.Call.{Began, Stepped};
+ghost use Rattle.step_memory.specs.Calls.{outcome_in, reply_of};
 ghost use Rattle.step_memory.specs.Locality.{IsLocal, LookAlike};
 ghost use Rattle.step_memory.specs.Machine.{After, IsLawful, LeadsOn, RefusesWhereDue};
 ghost use Rattle.step_memory.specs.Registers.{memory_steps};
@@ -45,16 +46,7 @@ impl<A: Allocator + Clone> SplitterWorld<A> {
         if most < 1 || 16 < most {
             return Err(Refusal::OutOfRange);
         }
-        let Ok(other) = alloc.clone() else {
-            return Err(Refusal::NoMemory);
-        };
-        let Ok(memory) = Memory::new(other, 0, 2, 0) else {
-            return Err(Refusal::NoMemory);
-        };
-        match World::new(alloc, memory, most) {
-            Ok(world) => Ok(SplitterWorld { world }),
-            Err(_) => Err(Refusal::NoMemory),
-        }
+        open(alloc, most)
     }
 
     /// A participant begins: its visit has made no access. Refused where the identity is 0, then where it has begun,
@@ -92,9 +84,34 @@ impl<A: Allocator + Clone> SplitterWorld<A> {
         ensures law { IsLawful splitter self.new }
         ensures due { RefusesWhereDue splitter self.new }
     {
-        match self.world.step(id)? {
-            Note::Ended(way) => Ok(Some(way)),
-            _ => Ok(None),
-        }
+        way_told(self.world.step(id))
+    }
+}
+
+// A splitter that no one has entered.
+fn open<A: Allocator + Clone>(alloc: A, most: usize) -> Result<SplitterWorld<A>, Refusal>
+    ensures fresh { IfOk result (λ w. w ≡ fresh most) }
+    ensures only { IfErr result (λ r. r ≡ Refusal.NoMemory) }
+{
+    let Ok(other) = alloc.clone() else {
+        return Err(Refusal::NoMemory);
+    };
+    let Ok(memory) = Memory::new(other, 0, 2, 0) else {
+        return Err(Refusal::NoMemory);
+    };
+    match World::new(alloc, memory, most) {
+        Ok(world) => Ok(SplitterWorld { world }),
+        Err(_) => Err(Refusal::NoMemory),
+    }
+}
+
+// What a step answers: the way, once the visit ends.
+fn way_told(told: Result<Note<Way>, Refusal>) -> Result<Option<Way>, Refusal>
+    ensures { result ≡ reply_of outcome_in told }
+{
+    match told {
+        Ok(Note::Ended(way)) => Ok(Some(way)),
+        Ok(_) => Ok(None),
+        Err(refusal) => Err(refusal),
     }
 }

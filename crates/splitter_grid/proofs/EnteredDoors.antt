@@ -3,7 +3,7 @@ use Rattle.std.proofs.Common.{◌≡◌, ◌≢◌, ℕ, ◌+◌, ◌*◌, true,
 use Rattle.splitter_grid.proofs.Common.{cases_Bool, eqb_tells, Participant, Refusal, Registers, answer_of, after_access, memory_steps, set_at, Began, Stepped, Stage, Outside, has_entered, x_after, Walker, number_of, walk_of, walker_steps, walker_note, next_access, x_in, IsConsistent, GridState, fresh, grid, empty_doors}
 use Rattle.step_memory.specs.declared.refusal.Refusal.TheVariants.{NotBegun, Finished}
 use Rattle.step_memory.specs.Participant.{participant_of}
-use Rattle.step_memory.specs.World.{begin_refusal, begun_unless, after_begin, after_step_by, step_answer_by, may_refuse_by}
+use Rattle.step_memory.specs.World.{begin_refusal, begun_unless, after_begin, after_step_by, step_answer_by}
 use Rattle.step_memory.specs.Calls.{Call, next, IsReply, outcome_in, reply_of, lacked_memory}
 use Rattle.step_memory.specs.Machine.{After}
 use Rattle.step_memory.proofs.MachineLemmas.{after_none, call_leads_on}
@@ -11,7 +11,7 @@ use Rattle.step_memory.proofs.RunLemmas.{run_gathers}
 use Rattle.step_memory.proofs.WorldKeeps.{stepped}
 use Rattle.splitter_grid.specs.Entered.{Enters, ShowsWhatWasEntered}
 use Rattle.splitter_grid.proofs.ConsistentKept.{xs, registers_in, get_or-replicate_same}
-use Rattle.splitter_grid.proofs.GridTied.{IsTied, tied_always, walkers}
+use Rattle.splitter_grid.proofs.GridTied.{IsTied, grid_fits, tied_always, walkers}
 
 module _ (most b : ℕ) (m : Registers ℕ) (walker : ℕ → Option Walker) (c : IsConsistent most b m walker) where
   -- where anyone has entered, an identity stands in X
@@ -93,14 +93,10 @@ module _ (w : GridState) (past : List (Call (Option ℕ))) (t : IsTied w past) w
         ]
       ] refl
 
-  -- no access to the doors is refused for want of memory
-  never_lacks : (id : ℕ) → may_refuse_by walker_steps memory_steps w.memory (participant_of id w.participants) ≡ false
-  never_lacks id = elim (participant_of id w.participants) as (λ o. may_refuse_by walker_steps memory_steps w.memory o ≡ false) [ None ↦ refl | Some v ↦ elim v.ended as (λ b. cond b false false ≡ false) [ true ↦ refl | false ↦ refl ] ]
-
   one_call : (h : Call (Option ℕ)) → IsReplyOf w h → (k : ℕ) → NamedBy w (next_of w h) h k
   one_call (Began id reply) is k = quiet_call w (next_of w (Began id reply)) (Began id reply) k (memory_begun w id) (λ never. never)
   one_call (Stepped id reply) (inl is) k = subst (λ (x : Result (Option ℕ) Refusal). NamedBy w (next_of w (Stepped id x)) (Stepped id x) k) (sym is) (step_call id k)
-  one_call (Stepped id reply) (inr is) k = absurd (let yes_may : false ≡ true = sym (never_lacks id) ∙ is.1 in cc)
+  one_call (Stepped id reply) (inr is) k = absurd (let yes_may : false ≡ true = sym (grid_fits w id) ∙ is.1 in cc)
 
 -- an identity stands in X of just the doors that were entered
 pub written_entered : (w : GridState) → ShowsWhatWasEntered w

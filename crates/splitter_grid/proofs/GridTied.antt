@@ -1,5 +1,5 @@
 -- what ties a grid's world to the calls that it is after
-use Rattle.std.proofs.Common.{◌≡◌, ℕ, suc, ◌≤◌, true, false, List, [], ◌∷◌, ◌++◌, length, Option, Some, None, Result, Ok, Err, refl, sym, ap, subst, ◌∙◌, arith, length-append, is_some, option_map}
+use Rattle.std.proofs.Common.{◌≡◌, ℕ, suc, ◌≤◌, true, false, List, [], ◌∷◌, ◌++◌, length, Option, Some, None, Result, Ok, Err, IfOk, refl, sym, ap, subst, ◌∙◌, arith, length-append, is_some, option_map}
 use Rattle.splitter_grid.proofs.Common.{fun_ext, Answer, Participant, answer_of, memory_steps, set_at, Began, Stepped, Refusal, Stage, Walker, number_of, walk_of, walker_steps, walked_to, walker_after, walker_note, next_access, place_of, place_by, accesses_by, IsConsistent, IsGrid}
 use Rattle.step_memory.specs.Note.{ends}
 use Rattle.step_memory.specs.Participant.{participant_of, program_of, with_participant, beginner}
@@ -11,9 +11,9 @@ use Rattle.step_memory.specs.Told.{Tells}
 use Rattle.step_memory.proofs.ToldLemmas.{told_quiet, told_begun, told_stepped}
 use Rattle.step_memory.specs.Due.{EndsOnce}
 use Rattle.step_memory.proofs.DueLemmas.{outcomes_tell, never_grows, no_second_end}
-use Rattle.step_memory.specs.Machine.{Always, IsProved, IsLawful, RefusesWhereDue, LeadsOn}
-use Rattle.step_memory.proofs.WorldMachineLemmas.{IsTie, tied_after, world_proved, begin_leads_on, step_leads_on, stays_alike}
-use Rattle.step_memory.specs.World.{after_begin, begin_refusal, done_unless}
+use Rattle.step_memory.specs.Machine.{After, Always, IsProved, IsLawful, RefusesWhereDue, LeadsOn}
+use Rattle.step_memory.proofs.WorldMachineLemmas.{IsTie, tied_after, world_proved, begin_leads_on, step_leads_on, never_lacks, new_after, stays_alike}
+use Rattle.step_memory.specs.World.{after_begin, begin_refusal, done_unless, may_refuse_step}
 use Rattle.splitter_grid.specs.Laws.{StaysAlike}
 use Rattle.splitter.specs.Walk.{note_at_door}
 use Rattle.splitter.specs.Visitor.{stage_by}
@@ -159,6 +159,13 @@ grid_law_of w = grid_proved.law w
 
 pub grid_due : (w : GridState) → RefusesWhereDue grid w
 grid_due w = grid_proved.due w
+
+pub grid_opens : (most : ℕ) (r : Result GridState Refusal) → most ≤ 16 → IfOk r (λ w. w ≡ fresh most) → IfOk r (λ w. After grid most w [])
+grid_opens most r few = new_after grid_parts most few r
+
+-- no step lacks memory
+pub grid_fits : (w : GridState) (id : ℕ) → may_refuse_step walker_steps memory_steps w id ≡ false
+grid_fits = never_lacks grid_parts (λ m a. refl)
 
 pub grid_begins : (w new : GridState) (id : ℕ) (reply : Result (Unit {0}) Refusal) → new ≡ after_begin w id (walk_of id) → reply ≡ done_unless (begin_refusal w id) → LeadsOn grid w new (Began id reply)
 grid_begins = begin_leads_on grid_parts

@@ -6,7 +6,7 @@ ghost use Rattle.splitter_grid.specs.Door.{IsDoorWithin};
 ghost use Rattle.splitter_grid.specs.Entered.{WasEntered, ShowsWhatWasEntered, entered_count};
 ghost use Rattle.splitter_grid.specs.Machine.{GridState, fresh, grid, step_reply, world_after_step, place_in};
 ghost use Rattle.splitter_grid.specs.Walk.{walk_of, walker_steps};
-ghost use Rattle.step_memory.specs.Calls.{outcome_of, begun_in};
+ghost use Rattle.step_memory.specs.Calls.{outcome_in, outcome_of, begun_in, reply_of};
 ghost use Rattle.step_memory.specs.Calls.Call.{Began, Stepped};
 ghost use Rattle.step_memory.specs.declared.refusal.Refusal.{Refusal};
 ghost use Rattle.step_memory.specs.Locality.{IsLocal, LookAlike};
@@ -53,20 +53,7 @@ impl<A: Allocator + Clone> GridWorld<A> {
         if most < 1 || 16 < most {
             return Err(Refusal::OutOfRange);
         }
-        let Ok(other) = alloc.clone() else {
-            return Err(Refusal::NoMemory);
-        };
-        let registers = most * (most + 1);
-        let Ok(memory) = Memory::new(other, 0, registers, 0) else {
-            return Err(Refusal::NoMemory);
-        };
-        match World::new(alloc, memory, most) {
-            Ok(world) => Ok(GridWorld {
-                world,
-                doors: registers / 2,
-            }),
-            Err(_) => Err(Refusal::NoMemory),
-        }
+        open(alloc, most)
     }
 
     /// A participant begins: it stands before the door in the corner and has made no access. Refused where the identity
@@ -104,10 +91,7 @@ impl<A: Allocator + Clone> GridWorld<A> {
         ensures law { IsLawful grid self.new }
         ensures due { RefusesWhereDue grid self.new }
     {
-        match self.world.step(id)? {
-            Note::Ended(place) => Ok(Some(place)),
-            _ => Ok(None),
-        }
+        place_told(self.world.step(id))
     }
 
     /// The place of a participant, once its walk has ended: the one that was answered.
@@ -139,5 +123,38 @@ impl<A: Allocator + Clone> GridWorld<A> {
             }
         }
         entered
+    }
+}
+
+// A grid that no one has entered.
+fn open<A: Allocator + Clone>(alloc: A, most: usize) -> Result<GridWorld<A>, Refusal>
+    requires { most ≤ 16 }
+    ensures fresh { IfOk result (λ w. w ≡ fresh most) }
+    ensures only { IfErr result (λ r. r ≡ Refusal.NoMemory) }
+{
+    let Ok(other) = alloc.clone() else {
+        return Err(Refusal::NoMemory);
+    };
+    let registers = most * (most + 1);
+    let Ok(memory) = Memory::new(other, 0, registers, 0) else {
+        return Err(Refusal::NoMemory);
+    };
+    match World::new(alloc, memory, most) {
+        Ok(world) => Ok(GridWorld {
+            world,
+            doors: registers / 2,
+        }),
+        Err(_) => Err(Refusal::NoMemory),
+    }
+}
+
+// What a step answers: the place, once the walk ends.
+fn place_told(told: Result<Note<Place>, Refusal>) -> Result<Option<Place>, Refusal>
+    ensures { result ≡ reply_of outcome_in told }
+{
+    match told {
+        Ok(Note::Ended(place)) => Ok(Some(place)),
+        Ok(_) => Ok(None),
+        Err(refusal) => Err(refusal),
     }
 }

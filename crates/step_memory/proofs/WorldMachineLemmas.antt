@@ -1,13 +1,15 @@
 -- what follows for every world that is a machine
-use Rattle.std.proofs.Common.{◌≡◌, ℕ, List, [], Result, inl, refl, ap, ◌∙◌, Bool, false}
+use Rattle.std.proofs.Common.{◌≡◌, ℕ, ◌≤◌, ◌<◌, ◌⊎◌, ◌↔◌, List, [], Some, None, Result, Ok, Err, IfOk, IfErr, inl, inr, refl, ap, sym, subst, ◌∙◌, Bool, true, false, cond, arith}
 use Rattle.step_memory.proofs.Common.{Note, Refusal, ProgramSteps, MemorySteps, WorldState, Call, reply_of, lacked_memory, Began, Stepped, participant_of}
-use Rattle.step_memory.specs.World.{begin_refusal, done_unless, after_begin, after_step, step_answer}
+use Rattle.step_memory.specs.declared.access.Access.{Access}
+use Rattle.step_memory.specs.declared.refusal.Refusal.TheVariants.{NoMemory, OutOfRange}
+use Rattle.step_memory.specs.World.{begin_refusal, done_unless, after_begin, after_step, step_answer, may_refuse_by, may_refuse_step}
 use Rattle.step_memory.specs.Locality.{LookAlike, StandAlike}
 use Rattle.step_memory.proofs.LocalityLemmas.{stand_alike}
 use Rattle.step_memory.specs.Due.{TellsTheEnd, GrowsOnly, EndsOnce}
 use Rattle.step_memory.specs.Machine.{After, LeadsOn, RefusesWhereDue, IsProved}
 use Rattle.step_memory.specs.WorldMachine.{WorldParts, world_machine, fresh_world, any_world}
-use Rattle.step_memory.proofs.MachineLemmas.{call_leads_on, machine_proved}
+use Rattle.step_memory.proofs.MachineLemmas.{after_none, call_leads_on, machine_proved}
 use Rattle.step_memory.proofs.StepLemmas.{lacks_none}
 use Rattle.step_memory.proofs.DueLemmas.{world_counted, ends_once}
 use Rattle.step_memory.proofs.WorldKeeps.{IsKept, world_keeps}
@@ -27,7 +29,17 @@ module _ {P S R V O X : Type 0} (program : ProgramSteps P R V O) (memory : Memor
       let goes : lacked_memory reply ≡ false = ap lacked_memory is ∙ lacks_none program memory shown w id in
       call_leads_on (any_world program memory shown start last grows) w new (Stepped id reply) (e ∙ rw goes refl) (inl is)
 
+-- a number in range is not out of range
+pub within : {W : Type 0} (low high n : ℕ) (r : Result W Refusal) → low ≤ n → n ≤ high → IfErr r (λ why. why ≡ NoMemory) → r ≡ Err OutOfRange ↔ ((n < low) ⊎ (high < n))
+within low high n (Ok w) at_least at_most only = (λ e. cc e, λ out. elim out [ inl less ↦ absurd (omega (arith, less, at_least)) | inr more ↦ absurd (omega (arith, more, at_most)) ])
+within low high n (Err why) at_least at_most only = (λ e. absurd (let same : NoMemory ≡ OutOfRange = cc in cc same), λ out. elim out [ inl less ↦ absurd (omega (arith, less, at_least)) | inr more ↦ absurd (omega (arith, more, at_most)) ])
+
 module _ {P S R V O X : Type 0} (parts : WorldParts P S R V O X) where
+  -- a new world is after no call
+  pub new_after : (most : ℕ) → parts.MayStart most → (r : Result (WorldState S P) Refusal) → IfOk r (λ w. w ≡ fresh_world parts most) → IfOk r (λ w. After (world_machine parts) most w [])
+  new_after most may (Ok w) is = subst (λ (u : WorldState S P). After (world_machine parts) most u []) (sym is) (after_none (world_machine parts) most may)
+  new_after most may (Err why) is = tt
+
   -- a beginning leads on
   pub begin_leads_on : (w new : WorldState S P) (id : ℕ) (reply : Result (Unit {0}) Refusal) → new ≡ after_begin w id (parts.start id) → reply ≡ done_unless (begin_refusal w id) →
       LeadsOn (world_machine parts) w new (Began id reply)
@@ -39,6 +51,13 @@ module _ {P S R V O X : Type 0} (parts : WorldParts P S R V O X) where
   step_leads_on w new id reply e is =
       let goes : lacked_memory reply ≡ false = ap lacked_memory is ∙ lacks_none parts.program parts.memory parts.shown w id in
       call_leads_on (world_machine parts) w new (Stepped id reply) (e ∙ rw goes refl) (inl is)
+
+  -- no step lacks memory where the memory refuses no access
+  pub never_lacks : ((m : S) (a : Access R V) → parts.memory.may_refuse m a ≡ false) → (w : WorldState S P) (id : ℕ) → may_refuse_step parts.program parts.memory w id ≡ false
+  never_lacks fits w id = elim (participant_of id w.participants) as (λ o. may_refuse_by parts.program parts.memory w.memory o ≡ false) [
+    | None ↦ refl
+    | Some v ↦ elim v.ended as (λ b. cond b false (parts.memory.may_refuse w.memory (parts.program.next v.program)) ≡ false) [ true ↦ refl | false ↦ fits w.memory (parts.program.next v.program) ]
+  ]
 
   -- who stands in the new world stands alike in each world that looked alike to it
   pub stays_alike : (w new : WorldState S P) (id : ℕ) → new ≡ after_step parts.program parts.memory w id → (other : WorldState S P) → LookAlike parts.program parts.memory id w other →

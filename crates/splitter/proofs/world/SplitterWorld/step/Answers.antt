@@ -1,27 +1,31 @@
-use Rattle.std.proofs.Common.{rules}
-use Rattle.splitter.proofs.SplitterTied.{splitter_law, splitter_due, splitter_steps, splitter_stays}
+use Rattle.std.proofs.Common.{◌≢◌, ◌∙◌, ap, sym, Err}
+use Rattle.std.proofs.lemmas.Bool.{false≢true}
+use Rattle.step_memory.specs.Calls.{outcome_in, reply_of}
+use Rattle.step_memory.specs.declared.refusal.Refusal.TheVariants.{NoMemory}
+use Rattle.splitter.proofs.SplitterTied.{splitter_law, splitter_due, splitter_steps, splitter_stays, splitter_fits}
 use Rattle.splitter.proofs.world.SplitterWorld.step.Goals as goal
+use Rattle.splitter.proofs.world.SplitterWorld.step.Goals.{After-way_told}
 
-pub returns-in_err-way-clause-stands_alike : goal.returns-in_err-way-clause-stands_alike
-returns-in_err-way-clause-stands_alike g c = splitter_stays c.args.self.now c.step.new.self c.args.id (search rules)
+sure : (g : _) (c : After-way_told g) → c.step.result ≢ Err NoMemory
+sure g c = λ e. false≢true (sym (splitter_fits c.self.inside.world c.args.id) ∙ c.step.ensures.no_memory e)
 
-pub returns-in_err-way-clause-after : goal.returns-in_err-way-clause-after
-returns-in_err-way-clause-after g c = splitter_steps c.args.self.now c.step.new.self c.args.id c.from_residual.result (search rules) (search rules)
+pub returns-clause-answer : goal.returns-clause-answer
+returns-clause-answer g c = c.way_told.ensures ∙ ap (reply_of outcome_in) (rw c.self.view_is at c.step.ensures.answer (sure g c))
 
-pub returns-in_err-way-clause-law : goal.returns-in_err-way-clause-law
-returns-in_err-way-clause-law g c = splitter_law c.step.new.self
+pub returns-clause-state : goal.returns-clause-state
+returns-clause-state g c = rw c.self.view_is at c.step.ensures.after (sure g c)
 
-pub returns-in_err-way-clause-due : goal.returns-in_err-way-clause-due
-returns-in_err-way-clause-due g c = splitter_due c.step.new.self
+pub returns-clause-alike : goal.returns-clause-alike
+returns-clause-alike g c = λ other same. c.way_told.ensures ∙ ap (reply_of outcome_in) ((rw c.self.view_is at c.step.ensures.alike (sure g c)) other same)
 
 pub returns-clause-stands_alike : goal.returns-clause-stands_alike
-returns-clause-stands_alike g c = splitter_stays c.args.self.now c.step.new.self c.args.id (search rules)
+returns-clause-stands_alike g c = splitter_stays c.args.self.now c.step.new.self c.args.id (returns-clause-state g c)
+
+pub returns-clause-after : goal.returns-clause-after
+returns-clause-after g c = splitter_steps c.args.self.now c.step.new.self c.args.id c.way_told.result (returns-clause-state g c) (returns-clause-answer g c)
 
 pub returns-clause-law : goal.returns-clause-law
 returns-clause-law g c = splitter_law c.step.new.self
 
 pub returns-clause-due : goal.returns-clause-due
 returns-clause-due g c = splitter_due c.step.new.self
-
-pub returns-clause-after : goal.returns-clause-after
-returns-clause-after g c = splitter_steps c.args.self.now c.step.new.self c.args.id _ (search rules) (search rules)

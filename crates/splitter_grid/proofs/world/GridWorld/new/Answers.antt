@@ -1,33 +1,23 @@
-use Rattle.std.proofs.Common.{rules}
-use Rattle.splitter_grid.proofs.GridTied.{grid_law_of}
+use Rattle.std.proofs.Common.{inl}
+use Rattle.std.proofs.lemmas.Result.{IfOk-weaker, IfErr-weaker}
+use Rattle.step_memory.proofs.WorldMachineLemmas.{within}
+use Rattle.splitter_grid.proofs.GridTied.{grid_law_of, grid_opens}
 use Rattle.splitter_grid.proofs.world.GridWorld.new.Goals as goal
 
-pub returns-then-most-lt1-clause-after : goal.returns-then-most-lt1-clause-after
-returns-then-most-lt1-clause-after g c = search rules
+pub returns-clause-fresh : goal.returns-clause-fresh
+returns-clause-fresh g c = c.open.ensures.fresh
 
-pub returns-then-most-lt1-clause-law : goal.returns-then-most-lt1-clause-law
-returns-then-most-lt1-clause-law g c = search rules
+pub returns-clause-after : goal.returns-clause-after
+returns-clause-after g c = grid_opens c.args.most c.open.result c.if-most-gt16.false c.open.ensures.fresh
 
-pub returns-in_default-clause-after : goal.returns-in_default-clause-after
-returns-in_default-clause-after g c = search rules
+pub returns-clause-law : goal.returns-clause-law
+returns-clause-law g c = IfOk-weaker c.open.result _ _ (λ w is. grid_law_of w) c.open.ensures.fresh
 
-pub returns-in_default-clause-law : goal.returns-in_default-clause-law
-returns-in_default-clause-law g c = search rules
+pub returns-clause-range : goal.returns-clause-range
+returns-clause-range g c = λ ok. (c.if-most-lt1.false, c.if-most-gt16.false)
 
-pub returns-in_default-new-clause-after : goal.returns-in_default-new-clause-after
-returns-in_default-new-clause-after g c = search rules
+pub returns-clause-out_of_range : goal.returns-clause-out_of_range
+returns-clause-out_of_range g c = within 1 16 c.args.most c.open.result c.if-most-lt1.false c.if-most-gt16.false c.open.ensures.only
 
-pub returns-in_default-new-clause-law : goal.returns-in_default-new-clause-law
-returns-in_default-new-clause-law g c = search rules
-
-pub returns-in-Ok-new-2-clause-after : goal.returns-in-Ok-new-2-clause-after
-returns-in-Ok-new-2-clause-after g c = search rules
-
-pub returns-in-Ok-new-2-clause-law : goal.returns-in-Ok-new-2-clause-law
-returns-in-Ok-new-2-clause-law g c = grid_law_of c.in-Ok-new-2.world
-
-pub returns-in-Err-clause-after : goal.returns-in-Err-clause-after
-returns-in-Err-clause-after g c = search rules
-
-pub returns-in-Err-clause-law : goal.returns-in-Err-clause-law
-returns-in-Err-clause-law g c = search rules
+pub returns-clause-only : goal.returns-clause-only
+returns-clause-only g c = IfErr-weaker c.open.result _ _ (λ why is. inl is) c.open.ensures.only
