@@ -5,6 +5,8 @@ use Rattle.one_log.specs.declared.replica.Step.{Step}
 use Rattle.one_log.specs.declared.replica.Step.TheVariants.{Nothing, Answered, Passed}
 use Rattle.one_log.specs.declared.serve_fault.Cause.{Cause}
 use Rattle.one_log.specs.declared.serve_fault.Cause.TheVariants.{Memory, Spoiled, Full, Busy, Store}
+use Rattle.one_log.specs.declared.serve_fault.ServeFault.{ServeFault}
+use Rattle.one_log.specs.declared.serve_fault.ServeFault.TheVariants.{TooLong, Unknown}
 use Rattle.one_log.specs.Places.{Adds, Keeps, Same}
 use Rattle.one_log.specs.Replicas.{AddsOnce, FaultLeaves, GoesOn, IsAnswered, IsApplied, IsDueAt, IsReplica, Leads, OneMore, StandsFrom}
 use Rattle.one_log.specs.ReplicaState.{ReplicaState}
@@ -34,6 +36,10 @@ adds_none first last at batch same = record { keeps = same.keeps; only = λ plac
 -- what failed did not answer
 pub not_done : (cause : Cause) → Err cause ≢ Ok Answered
 not_done cause e = cc e
+
+-- what was tried was not too long
+pub not_long : (cause : Cause) → let r : Result (Unit {0}) ServeFault = Err (Unknown cause) in r ≢ Err TooLong
+not_long cause e = cc e
 
 -- a step that only read wrote nothing, nor did one that offered a batch and was not answered
 pub read_unwritten : (S : Type 0) (result : Result Step Cause) → S → IfOk result (λ step. step ≢ Answered → S)

@@ -1,7 +1,8 @@
 -- What did not answer the batch wrote nothing, and what answered it wrote it at most once.
 use Rattle.std.proofs.Common.{◌≡◌, ap, arith, refl, rules, sym, ◌∙◌, false}
 use mathlib.Core.Bool.{false≢true}
-use Rattle.one_log.proofs.Chains.{adds_none, adds_once, answered, follows, goes_on_trans, later_follows, none_goes_on, not_done, same_self, same_trans, step_is_well}
+use Rattle.one_log.proofs.Chains.{adds_none, adds_once, answered, follows, goes_on_trans, later_follows, none_goes_on, not_done, not_long, same_self, same_trans, step_is_well}
+use Rattle.one_log.specs.declared.serve_fault.Cause.TheVariants.{Busy, Spoiled}
 use Rattle.one_log.proofs.replica.Replica.serve.Goals as goal
 
 pub loop-preserved : goal.loop-preserved
@@ -97,3 +98,27 @@ returns-in-Err-clause-spoiled g c =
 
 pub returns-in-Err-clause-unanswered : goal.returns-in-Err-clause-unanswered
 returns-in-Err-clause-unanswered g c = c.step.ensures.unanswered (λ done. not_done c.in-Err.cause (sym c.in-Err.is ∙ done))
+
+pub returns-then-self-clause-too_long : goal.returns-then-self-clause-too_long
+returns-then-self-clause-too_long g c = λ long. absurd (omega (arith, c.if-batch-gt-MOST_BATCH.false, long))
+
+pub returns-in-Ok-clause-too_long : goal.returns-in-Ok-clause-too_long
+returns-in-Ok-clause-too_long g c = λ long. absurd (omega (arith, c.if-batch-gt-MOST_BATCH.false, long))
+
+pub returns-in-Err-clause-too_long : goal.returns-in-Err-clause-too_long
+returns-in-Err-clause-too_long g c = λ long. absurd (omega (arith, c.if-batch-gt-MOST_BATCH.false, long))
+
+pub returns-clause-too_long : goal.returns-clause-too_long
+returns-clause-too_long g c = λ long. absurd (omega (arith, c.if-batch-gt-MOST_BATCH.false, long))
+
+pub returns-then-self-clause-refused : goal.returns-then-self-clause-refused
+returns-then-self-clause-refused g c = λ e. absurd (not_long Spoiled e)
+
+pub returns-in-Err-clause-refused : goal.returns-in-Err-clause-refused
+returns-in-Err-clause-refused g c = λ e. absurd (not_long c.in-Err.cause e)
+
+pub returns-clause-refused : goal.returns-clause-refused
+returns-clause-refused g c = λ e. absurd (not_long Busy e)
+
+pub returns-in-Err-clause-fault : goal.returns-in-Err-clause-fault
+returns-in-Err-clause-fault g c = c.in-Err.ensures.cause
