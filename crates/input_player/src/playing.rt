@@ -37,35 +37,27 @@ pub fn play_on<H, D: Service<H>, A: Allocator + Clone, R: Source, W: Sink>(
         (reading R.remaining R.calls R.failed reader.old reader.new) (writing W.contents W.failed writer.old writer.new) result }
     ensures unchanged { result ≡ Err Fault.Memory → world.new ≡ world.old }
 {
-    let mut chunk = room_for_a_read(&alloc)?;
-    let mut player = fresh_player::<A, AsReplies>(alloc, kind)?;
+    let (mut player, mut chunk) = fresh::<A, AsReplies>(alloc, kind)?;
     run(rt, world, &mut player, &mut chunk, reader, writer)
 }
 
-/// Room for the bytes of one read; `Fault::Memory` where memory was refused.
-pub(crate) fn room_for_a_read<A: Allocator + Clone>(alloc: &A) -> Result<Vec<u8, A>, Fault>
-    ensures room { IfOk result (λ chunk. length chunk.items ≡ READ_BYTES) }
+/// A player that has read nothing, and room for the bytes of one read; `Fault::Memory` where memory was refused.
+pub(crate) fn fresh<A: Allocator + Clone, F: Form>(
+    alloc: A,
+    kind: WorldKind,
+) -> Result<(Player<A, F>, Vec<u8, A>), Fault>
+    ensures fresh { IfOk result (λ both. IsFresh kind both.0) }
+    ensures room { IfOk result (λ both. length both.1.items ≡ READ_BYTES) }
     ensures only { IfErr result (λ fault. fault ≡ Fault.Memory) }
 {
     let Ok(other) = alloc.clone() else {
         return Err(Fault::Memory);
     };
-    match Vec::from_elem(other, 0, READ_BYTES) {
-        Ok(chunk) => Ok(chunk),
-        Err(_) => Err(Fault::Memory),
-    }
-}
-
-/// A player that has read nothing; `Fault::Memory` where memory was refused.
-pub(crate) fn fresh_player<A: Allocator + Clone, F: Form>(
-    alloc: A,
-    kind: WorldKind,
-) -> Result<Player<A, F>, Fault>
-    ensures fresh { IfOk result (λ player. IsFresh kind player) }
-    ensures only { IfErr result (λ fault. fault ≡ Fault.Memory) }
-{
+    let Ok(chunk) = Vec::from_elem(other, 0, READ_BYTES) else {
+        return Err(Fault::Memory);
+    };
     match Player::new(alloc, kind) {
-        Ok(player) => Ok(player),
+        Ok(player) => Ok((player, chunk)),
         Err(_) => Err(Fault::Memory),
     }
 }

@@ -7,7 +7,7 @@ ghost use Rattle.player.specs.Recorded.{IsRecordedOn};
 ghost use Rattle.player.specs.Runs.{IsRunTo, CanRun};
 ghost use Rattle.player.specs.Stands.{IsFresh};
 
-use crate::playing::{fresh_player, room_for_a_read, run};
+use crate::playing::{fresh, run};
 use commands::Config;
 use player::player::Player;
 use player::{AsRecord, Fault, READ_BYTES, Service, Sink, Source};
@@ -32,8 +32,7 @@ pub fn record_on<H, D: Service<H>, A: Allocator + Clone, R: Source, W: Sink>(
         (reading R.remaining R.calls R.failed reader.old reader.new) (writing W.contents W.failed writer.old writer.new) result }
     ensures unchanged { result ≡ Err Fault.Memory → world.new ≡ world.old }
 {
-    let mut chunk = room_for_a_read(&alloc)?;
-    let mut player = fresh_player::<A, AsRecord>(alloc, config.world)?;
+    let (mut player, mut chunk) = fresh::<A, AsRecord>(alloc, config.world)?;
     record_run(rt, world, &mut player, &mut chunk, config, reader, writer)
 }
 
