@@ -168,7 +168,7 @@ impl<M: Machine> Replica<M> {
         }
         match self.follow(store, &[], replies) {
             Ok(Step::Nothing) => Ok(false),
-            Ok(Step::Passed | Step::Answered) => Ok(true),
+            Ok(_) => Ok(true),
             Err(cause) => Err(cause),
         }
     }
