@@ -23,10 +23,19 @@ use std::marker::Model;
 use step_memory::{NoMemory, View};
 
 /// A run under way: one side of a talk, and the replies that are not written yet.
-#[derive(Drop)]
 pub struct Player<A: Allocator, F: Form> {
     talker: Talker<A, F>,
     replies: Replies<A>,
+}
+
+// By hand, so that a player is taken apart here alone, and not wherever one is dropped.
+impl<A: Allocator, F: Form> Drop for Player<A, F> {
+    fn drop(self) {
+        let Player {
+            talker: _,
+            replies: _,
+        } = self;
+    }
 }
 
 impl<A: Allocator, F: Form> Model for Player<A, F> {
