@@ -6,12 +6,12 @@ ghost use mathlib.Core.Option.{some};
 ghost use Rattle.raw_parts.specs.declared.board_view.Claim.{Claim};
 ghost use Rattle.raw_parts.specs.BoardRule.{IsClaimed};
 ghost use Rattle.raw_parts.specs.BoardView.{lone_claim};
-ghost use Rattle.raw_parts.specs.Boards.{FindsClaims, GrantId, HasClaimOf, HasReadAll, grant_of, reader_of};
+ghost use Rattle.raw_parts.specs.Boards.{IsBoardTable, FindsClaims, GrantId, HasClaimOf, HasReadAll, grant_of, reader_of};
 
 use crate::board_seats::{Grant, LastRead, ReaderSeat};
 use crate::board_steps::{Begin, Boarding, Find, Hand, LookOn, Part, Post, Read, Unite};
 use crate::board_view::BoardView;
-use atomic_table::{Badge, Seat, Table};
+use atomic_table::{Badge, Seat, Shared, Table};
 use std::alloc::{AllocError, Allocator};
 use std::marker::Model;
 use std::mem;
@@ -19,6 +19,89 @@ use step_memory::Refusal;
 
 /// The most names of a board, as many as 64 participants may get.
 const MOST_NAMES: u64 = 127;
+
+/// The words of a board. There are no slots, so what a slot holds says nothing.
+type Words = Shared<u8, BoardView, u64, Boarding>;
+
+/// Two seats with a claim each become one, look at a word and part again: so both claims stand in the same words.
+fn look_together(
+    table: &Words,
+    mut left: Seat<u8, BoardView>,
+    right: Seat<u8, BoardView>,
+    _one: (u64, u64),
+    _other: (u64, u64),
+) -> (Seat<u8, BoardView>, Seat<u8, BoardView>)
+    requires board { IsBoardTable table.now.table_id table.now.key }
+    requires ours { (left.table_id ≡ table.now.table_id) × (right.table_id ≡ table.now.table_id) }
+    requires left { left.me ≡ (lone_claim _one.0 _one.1, []) }
+    requires right { right.me ≡ (lone_claim _other.0 _other.1, []) }
+    ensures ours { (result.0.table_id ≡ table.now.table_id) × (result.1.table_id ≡ table.now.table_id) }
+    ensures left { result.0.me ≡ left.me }
+    ensures right { result.1.me ≡ right.me }
+    ensures met { _one.0 ≡ _other.0 → _one.1 ≡ _other.1 }
+{
+    table.join_seat::<Unite>(&mut left, right);
+    table.load::<LookOn>(&mut left, 0);
+    let right = table.split_seat::<Part>(&mut left);
+    (left, right)
+}
+
+/// A seat takes over the claim of one grant.
+fn gather(table: &Words, seat: &mut Seat<u8, BoardView>, grant: Grant)
+    requires board { IsBoardTable table.now.table_id table.now.key }
+    requires ours { (seat.old.table_id ≡ table.now.table_id) × (seat.old.me.1 ≡ []) }
+    requires grant { grant.board ≡ table.now.table_id }
+    ensures ours { (seat.new.table_id ≡ table.now.table_id) × (seat.new.me.1 ≡ []) }
+    ensures same { (seat.new.me.0.accesses ≡ seat.old.me.0.accesses) × (seat.new.me.0.read ≡ seat.old.me.0.read) }
+    ensures more { (c : Claim) → IsClaimed c seat.old.me.0.claims → IsClaimed c seat.new.me.0.claims }
+    ensures claim { HasClaimOf seat.new.me.0 grant }
+{
+    let Grant {
+        word: _,
+        identity: _,
+        badge,
+    } = grant;
+    table.join_seat::<Unite>(seat, badge.into_seat::<u8>());
+}
+
+/// A seat takes over the claims of some grants.
+fn gather_all<C: Allocator>(table: &Words, seat: &mut Seat<u8, BoardView>, mut out: Vec<Grant, C>)
+    requires board { IsBoardTable table.now.table_id table.now.key }
+    requires ours { (seat.old.table_id ≡ table.now.table_id) × (seat.old.me.1 ≡ []) }
+    requires out { (i : ℕ) (g : GrantId) → get_elem? out.items i ≡ some g → g.board ≡ table.now.table_id }
+    ensures ours { (seat.new.table_id ≡ table.now.table_id) × (seat.new.me.1 ≡ []) }
+    ensures same { (seat.new.me.0.accesses ≡ seat.old.me.0.accesses) × (seat.new.me.0.read ≡ seat.old.me.0.read) }
+    ensures claims { (i : ℕ) (g : GrantId) → get_elem? out.items i ≡ some g → HasClaimOf seat.new.me.0 g }
+{
+    while let Some(grant) = out.pop() {
+        gather(table, seat, grant);
+    }
+}
+
+/// The words, each read once by a seat that has read none.
+fn read_all<B: Allocator>(
+    table: &Words,
+    count: usize,
+    alloc: B,
+    seat: &mut Seat<u8, BoardView>,
+) -> Result<Vec<u64, B>, AllocError>
+    requires board { IsBoardTable table.now.table_id table.now.key }
+    requires ours { (seat.old.table_id ≡ table.now.table_id) × (seat.old.me.1 ≡ []) }
+    requires count { count ≡ table.now.table_id.words }
+    requires none { seat.old.me.0.read ≡ [] }
+    ensures ours { (seat.new.table_id ≡ table.now.table_id) × (seat.new.me.1 ≡ []) }
+    ensures count { IfOk result (λ v. vec_len v ≡ table.now.table_id.words) }
+    ensures claims { IfOk result (λ v. FindsClaims seat.old.me.0 table.now.table_id.words v.items) }
+    ensures read { IfOk result (λ v. seat.new.me.0.read ≡ reverse v.items) }
+    ensures accesses { IsOk result → seat.new.me.0.accesses ≡ seat.old.me.0.accesses + table.now.table_id.words }
+{
+    let mut words = Vec::with_capacity(alloc, count)?;
+    for word in 0..count {
+        let found = table.load::<Read>(seat, word);
+        words.push_reserved(found);
+    }
+    Ok(words)
+}
 
 /// A word for each of the names from 1 on: 0, or the identity that was first posted there, which never changes.
 ///
@@ -84,8 +167,13 @@ impl<A: Allocator + Clone> Board<A> {
             return Err(Refusal::NoMemory);
         };
         let (_, mut seat) = self.table.shared.load_new_seat::<Begin>(0);
-        self.gather(&mut seat, grant);
-        match self.read_all(alloc, &mut seat) {
+        gather(&self.table.shared, &mut seat, grant);
+        match read_all(
+            &self.table.shared,
+            self.table.word_count(),
+            alloc,
+            &mut seat,
+        ) {
             Ok(words) => Ok(words),
             Err(AllocError) => Err(Refusal::NoMemory),
         }
@@ -217,7 +305,8 @@ impl<A: Allocator> Board<A> {
     {
         let left = mem::replace(&mut one.badge, Badge::blank()).into_seat::<u8>();
         let right = mem::replace(&mut other.badge, Badge::blank()).into_seat::<u8>();
-        let (left, right) = self.look_together(
+        let (left, right) = look_together(
+            &self.table.shared,
             left,
             right,
             (one.word, one.identity),
@@ -225,28 +314,6 @@ impl<A: Allocator> Board<A> {
         );
         one.badge = left.into_badge();
         other.badge = right.into_badge();
-    }
-
-    /// Two seats with a claim each become one, look at a word and part again: so both claims stand in the same words.
-    fn look_together(
-        &self,
-        mut left: Seat<u8, BoardView>,
-        right: Seat<u8, BoardView>,
-        _one: (u64, u64),
-        _other: (u64, u64),
-    ) -> (Seat<u8, BoardView>, Seat<u8, BoardView>)
-        requires ours { (left.table_id ≡ self.now) × (right.table_id ≡ self.now) }
-        requires left { left.me ≡ (lone_claim _one.0 _one.1, []) }
-        requires right { right.me ≡ (lone_claim _other.0 _other.1, []) }
-        ensures ours { (result.0.table_id ≡ self.now) × (result.1.table_id ≡ self.now) }
-        ensures left { result.0.me ≡ left.me }
-        ensures right { result.1.me ≡ right.me }
-        ensures met { _one.0 ≡ _other.0 → _one.1 ≡ _other.1 }
-    {
-        self.table.shared.join_seat::<Unite>(&mut left, right);
-        self.table.shared.load::<LookOn>(&mut left, 0);
-        let right = self.table.shared.split_seat::<Part>(&mut left);
-        (left, right)
     }
 
     /// Ends the board, and tells its words by rising name. `out` is the grants that the caller has, each of which finds its
@@ -263,64 +330,14 @@ impl<A: Allocator> Board<A> {
         ensures read { IfOk result (λ r. HasReadAll self r.0.items r.1) }
     {
         let (_, mut seat) = self.table.shared.load_new_seat::<Begin>(0);
-        self.gather_all(&mut seat, out);
-        let words = self.read_all(alloc, &mut seat)?;
+        gather_all(&self.table.shared, &mut seat, out);
+        let words = read_all(
+            &self.table.shared,
+            self.table.word_count(),
+            alloc,
+            &mut seat,
+        )?;
         let badge = seat.into_badge();
         Ok((words, LastRead { badge }))
-    }
-
-    /// A seat takes over the claims of some grants.
-    fn gather_all<C: Allocator>(&self, seat: &mut Seat<u8, BoardView>, mut out: Vec<Grant, C>)
-        requires ours { (seat.old.table_id ≡ self.now) × (seat.old.me.1 ≡ []) }
-        requires out { (i : ℕ) (g : GrantId) → get_elem? out.items i ≡ some g → g.board ≡ self.now }
-        ensures ours { (seat.new.table_id ≡ self.now) × (seat.new.me.1 ≡ []) }
-        ensures same { (seat.new.me.0.accesses ≡ seat.old.me.0.accesses) × (seat.new.me.0.read ≡ seat.old.me.0.read) }
-        ensures claims { (i : ℕ) (g : GrantId) → get_elem? out.items i ≡ some g → HasClaimOf seat.new.me.0 g }
-    {
-        while let Some(grant) = out.pop() {
-            self.gather(seat, grant);
-        }
-    }
-
-    /// A seat takes over the claim of one grant.
-    fn gather(&self, seat: &mut Seat<u8, BoardView>, grant: Grant)
-        requires ours { (seat.old.table_id ≡ self.now) × (seat.old.me.1 ≡ []) }
-        requires grant { grant.board ≡ self.now }
-        ensures ours { (seat.new.table_id ≡ self.now) × (seat.new.me.1 ≡ []) }
-        ensures same { (seat.new.me.0.accesses ≡ seat.old.me.0.accesses) × (seat.new.me.0.read ≡ seat.old.me.0.read) }
-        ensures more { (c : Claim) → IsClaimed c seat.old.me.0.claims → IsClaimed c seat.new.me.0.claims }
-        ensures claim { HasClaimOf seat.new.me.0 grant }
-    {
-        let Grant {
-            word: _,
-            identity: _,
-            badge,
-        } = grant;
-        self.table
-            .shared
-            .join_seat::<Unite>(seat, badge.into_seat::<u8>());
-    }
-
-    /// The words, each read once by a seat that has read none.
-    fn read_all<B: Allocator>(
-        &self,
-        alloc: B,
-        seat: &mut Seat<u8, BoardView>,
-    ) -> Result<Vec<u64, B>, AllocError>
-        requires ours { (seat.old.table_id ≡ self.now) × (seat.old.me.1 ≡ []) }
-        requires none { seat.old.me.0.read ≡ [] }
-        ensures ours { (seat.new.table_id ≡ self.now) × (seat.new.me.1 ≡ []) }
-        ensures count { IfOk result (λ v. vec_len v ≡ self.now.words) }
-        ensures claims { IfOk result (λ v. FindsClaims seat.old.me.0 self.now.words v.items) }
-        ensures read { IfOk result (λ v. seat.new.me.0.read ≡ reverse v.items) }
-        ensures accesses { IsOk result → seat.new.me.0.accesses ≡ seat.old.me.0.accesses + self.now.words }
-    {
-        let count = self.table.word_count();
-        let mut words = Vec::with_capacity(alloc, count)?;
-        for word in 0..count {
-            let found = self.table.shared.load::<Read>(seat, word);
-            words.push_reserved(found);
-        }
-        Ok(words)
     }
 }

@@ -11,7 +11,7 @@ ghost use Rattle.raw_parts.specs.Seats.{seat_of, first_seats, gone_at, HasMet, I
 use crate::seats::{EnteredSeat, FreshSeat};
 use crate::splitter_steps::{Access, Deal, Look, Splitting, Unite};
 use crate::splitter_view::SplitterView;
-use atomic_table::{Badge, Seat, Table};
+use atomic_table::{Badge, Seat, Shared, Table};
 use splitter::Way;
 use std::alloc::{AllocError, Allocator};
 use std::marker::Model;
@@ -29,6 +29,52 @@ const Y: usize = 1;
 
 /// What stands in Y once it is set.
 const SET: u64 = 1;
+
+/// The words of a splitter. There are no slots, so what a slot holds says nothing.
+type Words = Shared<u8, SplitterView, u64, Splitting>;
+
+/// The accesses of a visit, in their order.
+fn visit(words: &Words, seat: &mut Seat<u8, SplitterView>, number: u64) -> Way
+    requires two { words.now.table_id.words ≡ 2 }
+    requires ours { seat.old.table_id ≡ words.now.table_id }
+    requires fresh { seat.old.me ≡ (lone_view words.now.key (fresh_visit number), []) }
+    requires few { number < 64 }
+    ensures ours { seat.new.table_id ≡ words.now.table_id }
+    ensures ended { HasEnded words.now.key number result seat.new.me }
+{
+    let own = number + 1;
+    words.store::<Access>(seat, X, own);
+    if words.load::<Access>(seat, Y) != 0 {
+        return Way::Right;
+    }
+    words.store::<Access>(seat, Y, SET);
+    if words.load::<Access>(seat, X) == own {
+        Way::Stop
+    } else {
+        Way::Down
+    }
+}
+
+/// Two seats with a visit each become one, look at a word and part again: so both visits are under one rule.
+fn look_together(
+    words: &Words,
+    left: Seat<u8, SplitterView>,
+    mut right: Seat<u8, SplitterView>,
+) -> (Seat<u8, SplitterView>, Seat<u8, SplitterView>)
+    requires two { words.now.table_id.words ≡ 2 }
+    requires ours { (left.table_id ≡ words.now.table_id) × (right.table_id ≡ words.now.table_id) }
+    requires left { (v : Visit) × (left.me ≡ (view_of words.now.key (v ∷ []), [])) }
+    requires right { (v : Visit) × (right.me ≡ (view_of words.now.key (v ∷ []), [])) }
+    ensures ours { (result.0.table_id ≡ words.now.table_id) × (result.1.table_id ≡ words.now.table_id) }
+    ensures left { result.0.me ≡ left.me }
+    ensures right { result.1.me ≡ right.me }
+    ensures met { IsUnderRule (view_of words.now.key (left.me.0.visits ++ right.me.0.visits)) }
+{
+    words.join_seat::<Unite>(&mut right, left);
+    words.load::<Look>(&mut right, Y);
+    let left = words.split_seat::<Deal>(&mut right);
+    (left, right)
+}
 
 /// A splitter on two atomic words, for the seats that came with it.
 ///
@@ -137,30 +183,9 @@ impl<A: Allocator> RawSplitter<A> {
         ensures alone { self.now.seats ≡ 1 → result.1 ≡ Stop }
     {
         let FreshSeat { number, mut seat } = fresh;
-        let way = self.visit(&mut seat, number);
+        let way = visit(&self.table.shared, &mut seat, number);
         let badge = seat.into_badge();
         (EnteredSeat { number, way, badge }, way)
-    }
-
-    /// The accesses of a visit, in their order.
-    fn visit(&self, seat: &mut Seat<u8, SplitterView>, number: u64) -> Way
-        requires ours { seat.old.table_id ≡ self.now.table }
-        requires fresh { seat.old.me ≡ (lone_view self.now.seats (fresh_visit number), []) }
-        requires few { number < 64 }
-        ensures ours { seat.new.table_id ≡ self.now.table }
-        ensures ended { HasEnded self.now.seats number result seat.new.me }
-    {
-        let own = number + 1;
-        self.table.shared.store::<Access>(seat, X, own);
-        if self.table.shared.load::<Access>(seat, Y) != 0 {
-            return Way::Right;
-        }
-        self.table.shared.store::<Access>(seat, Y, SET);
-        if self.table.shared.load::<Access>(seat, X) == own {
-            Way::Stop
-        } else {
-            Way::Down
-        }
     }
 
     /// Two seats that have entered meet, and show that they keep the law: they did not both stop, and of a pair they went
@@ -181,28 +206,8 @@ impl<A: Allocator> RawSplitter<A> {
     {
         let left = mem::replace(&mut one.badge, Badge::blank()).into_seat::<u8>();
         let right = mem::replace(&mut other.badge, Badge::blank()).into_seat::<u8>();
-        let (left, right) = self.look_together(left, right);
+        let (left, right) = look_together(&self.table.shared, left, right);
         one.badge = left.into_badge();
         other.badge = right.into_badge();
-    }
-
-    /// Two seats with a visit each become one, look at a word and part again: so both visits are under one rule.
-    fn look_together(
-        &self,
-        left: Seat<u8, SplitterView>,
-        mut right: Seat<u8, SplitterView>,
-    ) -> (Seat<u8, SplitterView>, Seat<u8, SplitterView>)
-        requires ours { (left.table_id ≡ self.now.table) × (right.table_id ≡ self.now.table) }
-        requires left { (v : Visit) × (left.me ≡ (view_of self.now.seats (v ∷ []), [])) }
-        requires right { (v : Visit) × (right.me ≡ (view_of self.now.seats (v ∷ []), [])) }
-        ensures ours { (result.0.table_id ≡ self.now.table) × (result.1.table_id ≡ self.now.table) }
-        ensures left { result.0.me ≡ left.me }
-        ensures right { result.1.me ≡ right.me }
-        ensures met { IsUnderRule (view_of self.now.seats (left.me.0.visits ++ right.me.0.visits)) }
-    {
-        self.table.shared.join_seat::<Unite>(&mut right, left);
-        self.table.shared.load::<Look>(&mut right, Y);
-        let left = self.table.shared.split_seat::<Deal>(&mut right);
-        (left, right)
     }
 }

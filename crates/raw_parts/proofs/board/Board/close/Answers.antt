@@ -1,4 +1,4 @@
-use Rattle.std.proofs.Common.{◌-◌, ◌<◌, subst}
+use Rattle.std.proofs.Common.{sym, ◌∙◌, ◌-◌, ◌<◌, subst}
 use Rattle.raw_parts.proofs.Common.{TableId, claim}
 use Rattle.raw_parts.proofs.Claims.{may_begin}
 use Rattle.raw_parts.proofs.board.Board.close.Goals as goal
@@ -10,4 +10,4 @@ pub returns-in-Ok-read_all-clause-grant : goal.returns-in-Ok-read_all-clause-gra
 returns-in-Ok-read_all-clause-grant g c =
     let has = c.gather.ensures.claim in
     let place = c.args.grant.name - 1 in
-    c.in-Ok-read_all.ensures.claims (claim place c.args.grant.identity) has.0 (subst (λ (t : TableId). place < t.words) c.requires has.1)
+    c.in-Ok-read_all.ensures.claims (claim place c.args.grant.identity) has.0 (subst (λ (t : TableId). place < t.words) (c.requires ∙ sym c.self.view_is) has.1)

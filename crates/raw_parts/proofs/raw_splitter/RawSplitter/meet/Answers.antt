@@ -8,36 +8,36 @@ use Rattle.raw_parts.proofs.raw_splitter.RawSplitter.meet.Goals as goal
 
 pub look_together-left-requires-clause-left : goal.look_together-left-requires-clause-left
 look_together-left-requires-clause-left g c =
-    let view = badge_view _ _ _ _ c.args.one.now c.args.self.now c.into_seat-left.result.me.0 c.one.invariant c.one.view_is c.requires.one
+    let view = badge_view _ _ _ _ c.args.one.now _ c.into_seat-left.result.me.0 c.one.invariant c.one.view_is (c.requires.one ∙ sym c.self.view_is)
     (ap (λ b. b.views) (sym c.replace.ensures.value) ∙ c.into_seat-left.ensures.2) in
     (gone_at c.args.one.now, λ i. (view i, c.into_seat-left.ensures.3 i))
 
 pub look_together-left-requires-clause-right : goal.look_together-left-requires-clause-right
 look_together-left-requires-clause-right g c =
-    let view = badge_view _ _ _ _ c.args.other.now c.args.self.now c.into_seat-right.result.me.0 c.other.invariant c.other.view_is c.requires.other
+    let view = badge_view _ _ _ _ c.args.other.now _ c.into_seat-right.result.me.0 c.other.invariant c.other.view_is (c.requires.other ∙ sym c.self.view_is)
     (ap (λ b. b.views) (sym c.replace-2.ensures.value) ∙ c.into_seat-right.ensures.2) in
     (gone_at c.args.other.now, λ i. (view i, c.into_seat-right.ensures.3 i))
 
 met : (g : Over) (c : After-drop-other-inside g)
-    → IsUnderRule (view_of c.args.self.now.seats (gone_at c.args.one.now ∷ gone_at c.args.other.now ∷ []))
+    → IsUnderRule (view_of c.self.inside.table.shared.key (gone_at c.args.one.now ∷ gone_at c.args.other.now ∷ []))
 met g c =
-    let left = badge_view _ _ _ _ c.args.one.now c.args.self.now c.into_seat-left.result.me.0 c.one.invariant c.one.view_is c.requires.one
+    let left = badge_view _ _ _ _ c.args.one.now _ c.into_seat-left.result.me.0 c.one.invariant c.one.view_is (c.requires.one ∙ sym c.self.view_is)
     (ap (λ b. b.views) (sym c.replace.ensures.value) ∙ c.into_seat-left.ensures.2) in
-    let right = badge_view _ _ _ _ c.args.other.now c.args.self.now c.into_seat-right.result.me.0 c.other.invariant c.other.view_is c.requires.other
+    let right = badge_view _ _ _ _ c.args.other.now _ c.into_seat-right.result.me.0 c.other.invariant c.other.view_is (c.requires.other ∙ sym c.self.view_is)
     (ap (λ b. b.views) (sym c.replace-2.ensures.value) ∙ c.into_seat-right.ensures.2) in
     rw (left, right) at c.look_together-left.ensures.met
 
 pub returns-clause-apart : goal.returns-clause-apart
-returns-clause-apart g c = apart c.args.self.now.seats c.args.one.now c.args.other.now (met g c)
+returns-clause-apart g c = apart c.self.inside.table.shared.key c.args.one.now c.args.other.now (met g c)
 
 pub returns-clause-one_stops : goal.returns-clause-one_stops
-returns-clause-one_stops g c = one_stops c.args.self.now.seats c.args.one.now c.args.other.now (met g c)
+returns-clause-one_stops g c = one_stops c.self.inside.table.shared.key c.args.one.now c.args.other.now (met g c)
 
 pub returns-clause-split : goal.returns-clause-split
-returns-clause-split g c = split_of_two c.args.self.now.seats c.args.one.now c.args.other.now (met g c)
+returns-clause-split g c = λ two. split_of_two c.self.inside.table.shared.key c.args.one.now c.args.other.now (met g c) (ap (λ w. w.seats) c.self.view_is ∙ two)
 
 pub returns-clause-right : goal.returns-clause-right
-returns-clause-right g c = right_after c.args.self.now.seats c.args.one.now c.args.other.now (met g c)
+returns-clause-right g c = right_after c.self.inside.table.shared.key c.args.one.now c.args.other.now (met g c)
 
 pub returns-clause-down : goal.returns-clause-down
-returns-clause-down g c = down_before c.args.self.now.seats c.args.one.now c.args.other.now (met g c)
+returns-clause-down g c = down_before c.self.inside.table.shared.key c.args.one.now c.args.other.now (met g c)

@@ -3,19 +3,19 @@ use Rattle.raw_parts.proofs.Common.{Me, Claim, BoardView}
 use Rattle.std.proofs.lemmas.List.{length-reverse, reverse-append}
 use Rattle.raw_parts.specs.BoardSteps.{AgreeWith}
 use Rattle.raw_parts.proofs.Claims.{may_read, read_more}
-use Rattle.raw_parts.proofs.board.Board.read_all.Goals as goal
+use Rattle.raw_parts.proofs.board.read_all.Goals as goal
 
 pub load-found-requires : goal.load-found-requires
 load-found-requires g c =
     let l = c.loop-word.invariant in
     let below = c.loop-word-test.true in
-    let words = c.word_count-count.ensures in
+    let words = c.requires.count in
     let long : length c.loop-word.words.items ≡ c.loop-word.word = omega (arith, c.loop-word.words.ok.0, l.length_is) in
     let next : c.loop-word.word ≡ length c.loop-word.seat.me.0.read = sym (ap (λ (r : List ℕ). length r) l.read ∙ length-reverse c.loop-word.words.items ∙ long) in
     let me : c.loop-word.seat.me ≡ (c.loop-word.seat.me.0, []) = (λ i. (c.loop-word.seat.me.0, l.ours.1 i)) in (
-      l.ours.0 ∙ sym c.self.view_is,
+      l.ours.0,
       omega arith,
-      rw me (may_read c.self.inside.table.shared.key _ _ c.loop-word.seat.me.0 c.loop-word.word next),
+      rw me (may_read c.args.table.now.key _ _ c.loop-word.seat.me.0 c.loop-word.word next),
     )
 
 pub loop-word-preserved : goal.loop-word-preserved

@@ -2,13 +2,13 @@ use Rattle.std.proofs.Common.{◌≡◌, ◌⊎◌, ℕ, [], length}
 use mathlib.Core.Option.{some}
 use lib.ListN.{get_elem?}
 use Rattle.raw_parts.specs.Boards.{GrantId, HasClaimOf}
-use Rattle.raw_parts.proofs.board.Board.gather_all.Given as goal
+use Rattle.raw_parts.proofs.board.gather_all.Given as goal
 
 abbrev pub invariant-loop-grant : goal.invariant-loop-grant
 invariant-loop-grant g l = record {
-  ours : (l.seat.table_id ≡ l.self) × (l.seat.me.1 ≡ []);
+  ours : (l.seat.table_id ≡ l.table.table_id) × (l.seat.me.1 ≡ []);
   same : (l.seat.me.0.accesses ≡ l.fn.seat.me.0.accesses) × (l.seat.me.0.read ≡ l.fn.seat.me.0.read);
-  rest : (i : ℕ) (h : GrantId) → get_elem? l.out.items i ≡ some h → h.board ≡ l.self;
+  rest : (i : ℕ) (h : GrantId) → get_elem? l.out.items i ≡ some h → h.board ≡ l.table.table_id;
   done : (i : ℕ) (h : GrantId) → get_elem? l.fn.out.items i ≡ some h → (get_elem? l.out.items i ≡ some h) ⊎ HasClaimOf l.seat.me.0 h;
 }
 

@@ -2,7 +2,7 @@ use Rattle.std.proofs.Common.{◌≡◌, ⊎_elim, inl, inr, ℕ, List, ap, sym,
 use Rattle.raw_parts.proofs.Common.{at_last, at_longer, at_snoc, GrantId, HasClaimOf}
 use mathlib.Core.Option.{some, some-ne-none}
 use lib.ListN.{get_elem?}
-use Rattle.raw_parts.proofs.board.Board.gather_all.Goals as goal
+use Rattle.raw_parts.proofs.board.gather_all.Goals as goal
 
 none_there : (l : List GrantId) (i : ℕ) (h : GrantId) → length l ≡ 0 → ¬ (get_elem? l i ≡ some h)
 none_there [] i h n e = some-ne-none h (sym e)

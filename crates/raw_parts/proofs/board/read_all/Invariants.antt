@@ -1,10 +1,10 @@
 use Rattle.std.proofs.Common.{◌≡◌, ◌<◌, ◌≤◌, ◌+◌, [], reverse, slice_index, vec_len, vec_capacity}
 use Rattle.raw_parts.proofs.Common.{Claim, IsClaimed}
-use Rattle.raw_parts.proofs.board.Board.read_all.Given as goal
+use Rattle.raw_parts.proofs.board.read_all.Given as goal
 
 abbrev pub invariant-loop-word : goal.invariant-loop-word
 invariant-loop-word g l = record {
-  ours : (l.seat.table_id ≡ l.self) × (l.seat.me.1 ≡ []);
+  ours : (l.seat.table_id ≡ l.table.table_id) × (l.seat.me.1 ≡ []);
   upto : l.word ≤ l.count;
   length_is : vec_len l.words ≡ l.word;
   room : vec_capacity l.words ≡ l.count;
