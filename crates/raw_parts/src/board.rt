@@ -149,8 +149,8 @@ impl<A: Allocator + Clone> Board<A> {
         ensures board { IfOk result (λ r. r.0.words ≡ names) }
         ensures seat { IfOk result (λ r. r.1 ≡ reader_of r.0 0) }
     {
-        let words = Vec::from_elem(alloc.clone()?, 0u64, names as usize)?;
-        let (table, seat) = Table::of_words(alloc.clone()?, words.as_slice(), &names)?;
+        let words = &[0; MOST_NAMES as usize][..names as usize];
+        let (table, seat) = Table::of_words(alloc.clone()?, words, &names)?;
         Ok((Board { alloc, table }, ReaderSeat { seat }))
     }
 
