@@ -1,7 +1,7 @@
 //! A renaming world, taken step by step.
 
 ghost use Rattle.std.specs.Prelude.{◌≡◌, ◌≢◌, ◌<◌, ◌≤◌, ◌⊎◌, ◌↔◌, [], length, IfOk, IfErr, OnErr, Some, None, Err, false};
-ghost use Rattle.step_memory.specs.Participant.{index_of, program_of};
+ghost use Rattle.step_memory.specs.Participant.{AreDistinct, index_of, program_of};
 ghost use Rattle.step_memory.specs.World.{begin_refusal, done_unless};
 ghost use Rattle.step_memory.specs.Calls.Call.{Began, Stepped};
 ghost use Rattle.commands.specs.Config.{is_played_over, most_in};
@@ -10,7 +10,7 @@ ghost use Rattle.rename_core.specs.Machine.{renaming, IsFresh, MakesOwnAccess, I
 ghost use Rattle.step_memory.specs.Machine.{After, IsLawful, LeadsOn};
 ghost use Rattle.rename_core.specs.Round.{standing_by};
 ghost use Rattle.rename_core.specs.Reply.{outcome_with};
-ghost use Rattle.rename_core.specs.RenameWorld.{fresh_world, step_refusal, name_in, owner_by, shown_with, shown_by, after_rename_begin, rename_answer, after_rename_step, LacksMemory};
+ghost use Rattle.rename_core.specs.RenameWorld.{fresh_world, step_refusal, refusal_by, name_in, name_by, owner_by, shown_with, shown_by, after_rename_begin, rename_answer, after_rename_step, LacksMemory};
 
 use crate::places::RenamePlaces;
 use crate::reply::Reply;
@@ -53,27 +53,110 @@ fn show(view: &mut View, participant: &Participant<Round>)
     }
 }
 
+/// Where the round of an identity stands that may take a step; why it may take none, want of memory aside.
+#[inline(always)]
+fn open_round(hints: &Hints, rounds: &[Participant<Round>], id: u64) -> Result<usize, Refusal>
+    requires { AreDistinct rounds.now }
+    ensures ready { IfOk result (λ i. (Some i ≡ index_of id rounds.now) × (refusal_by (program_of id rounds.now) ≡ None)) }
+    ensures inside { IfOk result (λ i. i < length rounds.now) }
+    ensures closed { IfErr result (λ why. refusal_by (program_of id rounds.now) ≡ Some why) }
+{
+    let Some(i) = hints.find(rounds, id) else {
+        return Err(Refusal::NotBegun);
+    };
+    match rounds[i].program.stage.refusal() {
+        None => Ok(i),
+        Some(refusal) => Err(refusal),
+    }
+}
+
+/// The name that the round of an identity has ended with.
+fn name_among(hints: &Hints, rounds: &[Participant<Round>], id: u64) -> Option<u64>
+    requires { AreDistinct rounds.now }
+    ensures { result ≡ name_by (program_of id rounds.now) }
+{
+    let Some(i) = hints.find(rounds, id) else {
+        return None;
+    };
+    rounds[i].program.name()
+}
+
+/// Whose round has ended with a name.
+fn owner_among(rounds: &[Participant<Round>], number: u64) -> Option<u64>
+    ensures { result ≡ owner_by number rounds.now }
+{
+    for participant in rounds {
+        if participant.program.has_name(number) {
+            return Some(participant.identity);
+        }
+    }
+    None
+}
+
+/// The proposals that stand in the memory, by the rounds.
+fn proposals_among(rounds: &[Participant<Round>]) -> View
+    requires { length rounds.now ≤ 64 }
+    ensures { result ≡ shown_by [] rounds.now }
+{
+    let mut view = View::new();
+    for participant in rounds {
+        show(&mut view, participant);
+    }
+    view
+}
+
+impl<W: RenamePlaces<A>, A: Allocator> RenameWorld<W, A> {
+    /// The snapshot object, for what watches from outside.
+    pub fn snap(&self) -> &SnapWorld<W, A>
+        ensures { result.now ≡ self.now.snap }
+    {
+        &self.snap
+    }
+
+    /// Why an identity may take no step: what `step` would be refused, want of memory aside. It changes nothing.
+    pub fn step_refusal(&self, id: u64) -> Option<Refusal>
+        ensures { result ≡ step_refusal self.now id }
+    {
+        open_round(&self.hints, &self.rounds, id).err()
+    }
+
+    /// The name of a participant, once it has one.
+    pub fn name_of(&self, id: u64) -> Option<u64>
+        ensures value { result ≡ name_in self.now id }
+
+        // It is the name that the replies have given to the identity.
+        ensures law { IsName ⟦<W as Known>⟧.places W.world self.now id result }
+    {
+        name_among(&self.hints, &self.rounds, id)
+    }
+
+    /// Who has a name.
+    pub fn owner_of(&self, number: u64) -> Option<u64>
+        ensures value { result ≡ owner_by number self.now.rounds }
+
+        // It is the identity to which the replies have given the name.
+        ensures law { IsOwnerOf ⟦<W as Known>⟧.places W.world self.now number result }
+    {
+        owner_among(&self.rounds, number)
+    }
+
+    /// The last moment: the proposal of each identity that has proposed, by rising identity.
+    pub fn proposals(&self) -> View
+        ensures value { result ≡ shown_by [] self.now.rounds }
+
+        // It is the last moment that the replies have made.
+        ensures law { IsLastMoment ⟦<W as Known>⟧.places W.world self.now result }
+    {
+        proposals_among(&self.rounds)
+    }
+}
+
 impl<W: RenamePlaces<A> + Drop, A: Allocator> RenameWorld<W, A>
 where
     W::Walker: Copy,
     W::Walk: Copy,
     W::Value: Drop,
 {
-    /// Where the round of an identity stands that may take a step; why it may take none, want of memory aside.
-    #[inline(always)]
-    fn open_round(&self, id: u64) -> Result<usize, Refusal>
-        ensures ready { IfOk result (λ i. (Some i ≡ index_of id self.now.rounds) × (step_refusal self.now id ≡ None)) }
-        ensures closed { IfErr result (λ why. step_refusal self.now id ≡ Some why) }
-    {
-        let Some(i) = self.hints.find(&self.rounds, id) else {
-            return Err(Refusal::NotBegun);
-        };
-        match self.rounds[i].program.stage.refusal() {
-            None => Ok(i),
-            Some(refusal) => Err(refusal),
-        }
-    }
-
     /// A step, and what follows it.
     #[inline(always)]
     fn take_step(&mut self, id: u64, view: &mut View) -> Result<Reply<()>, Refusal>
@@ -82,8 +165,10 @@ where
         ensures refused { OnErr result (self.new ≡ self.old) }
         ensures no_memory { result ≡ Err Refusal.NoMemory → LacksMemory ⟦<W as Known>⟧.places self.old id }
     {
-        let at = self.open_round(id)?;
-        take(&mut self.snap, &mut self.rounds[at], self.limit, view)
+        match open_round(&self.hints, &self.rounds, id) {
+            Ok(at) => take(&mut self.snap, &mut self.rounds[at], self.limit, view),
+            Err(refusal) => Err(refusal),
+        }
     }
 
     /// One step of a participant: one access, and what follows it. Refused where the identity has not begun, then where it
@@ -124,13 +209,6 @@ where
         self.take_step(id, view)
     }
 
-    /// The snapshot object, for what watches from outside.
-    pub fn snap(&self) -> &SnapWorld<W, A>
-        ensures { result.now ≡ self.now.snap }
-    {
-        &self.snap
-    }
-
     /// The most participants, of whom a view has room for.
     pub fn most(&self) -> u64
         ensures value { result ≡ self.now.snap.most }
@@ -144,86 +222,6 @@ where
         ensures { result ≡ begin_refusal self.now.snap id }
     {
         self.snap.begin_refusal(id)
-    }
-
-    /// The round of an identity that has begun.
-    fn round(&self, id: u64) -> Option<Round>
-        ensures { result ≡ program_of id self.now.rounds }
-    {
-        let Some(i) = self.hints.find(&self.rounds, id) else {
-            return None;
-        };
-        Some(self.rounds[i].program)
-    }
-
-    /// Why an identity may take no step: what `step` would be refused, want of memory aside. It changes nothing.
-    pub fn step_refusal(&self, id: u64) -> Option<Refusal>
-        ensures { result ≡ step_refusal self.now id }
-    {
-        self.open_round(id).err()
-    }
-
-    /// The name that the round of an identity has ended with.
-    fn round_name(&self, id: u64) -> Option<u64>
-        ensures { result ≡ name_in self.now id }
-    {
-        match self.round(id) {
-            None => None,
-            Some(round) => round.name(),
-        }
-    }
-
-    /// The name of a participant, once it has one.
-    pub fn name_of(&self, id: u64) -> Option<u64>
-        ensures value { result ≡ name_in self.now id }
-
-        // It is the name that the replies have given to the identity.
-        ensures law { IsName ⟦<W as Known>⟧.places W.world self.now id result }
-    {
-        self.round_name(id)
-    }
-
-    /// Who has a name, by the rounds.
-    fn round_owner(&self, number: u64) -> Option<u64>
-        ensures { result ≡ owner_by number self.now.rounds }
-    {
-        for participant in &self.rounds {
-            if participant.program.has_name(number) {
-                return Some(participant.identity);
-            }
-        }
-        None
-    }
-
-    /// Who has a name.
-    pub fn owner_of(&self, number: u64) -> Option<u64>
-        ensures value { result ≡ owner_by number self.now.rounds }
-
-        // It is the identity to which the replies have given the name.
-        ensures law { IsOwnerOf ⟦<W as Known>⟧.places W.world self.now number result }
-    {
-        self.round_owner(number)
-    }
-
-    /// The proposals that stand in the memory, by the rounds.
-    fn round_proposals(&self) -> View
-        ensures { result ≡ shown_by [] self.now.rounds }
-    {
-        let mut view = View::new();
-        for participant in &self.rounds {
-            show(&mut view, participant);
-        }
-        view
-    }
-
-    /// The last moment: the proposal of each identity that has proposed, by rising identity.
-    pub fn proposals(&self) -> View
-        ensures value { result ≡ shown_by [] self.now.rounds }
-
-        // It is the last moment that the replies have made.
-        ensures law { IsLastMoment ⟦<W as Known>⟧.places W.world self.now result }
-    {
-        self.round_proposals()
     }
 
     /// A participant begins, and asks at once for what it can do.

@@ -66,15 +66,15 @@ begun_fits snap p goes capacity rounds old =
     omega (arith, free, known_in, fits)
 
 -- why a step is refused, by where the round stands among the rounds
-module _ {S U K : Type 0} (w : RenameState S U K) (p : ℕ) where
-  pub absent_refusal : index_of p w.rounds ≡ None → step_refusal w p ≡ Some NotBegun
-  absent_refusal h = let none = none-index_of p w.rounds h in rw none refl
+-- the round of who is found, and of who is not
+pub round_at : (p : ℕ) (vs : List (Participant Round)) (i : ℕ) (other : Participant Round) → Some i ≡ index_of p vs → program_of p vs ≡ Some (get_or vs i other).program
+round_at p vs i other at = ap (option_map (λ v. v.program)) (found p vs i _ at (get_or_default vs i other _ (index_of-below p vs i at))).is
 
-  pub refusal_here : (v : Participant Round) → participant_of p w.rounds ≡ Some v → step_refusal w p ≡ stage_refusal v.program.stage
-  refusal_here v here = rw here refl
+pub absent_round : (p : ℕ) (vs : List (Participant Round)) → None ≡ index_of p vs → program_of p vs ≡ None
+absent_round p vs none = ap (option_map (λ v. v.program)) (none-index_of p vs (sym none))
 
-  pub refusal_at : (i : ℕ) (v : Participant Round) → Some i ≡ index_of p w.rounds → v ≡ get_or w.rounds i v → step_refusal w p ≡ stage_refusal v.program.stage
-  refusal_at i v at is = refusal_here v (found p w.rounds i v at is).is
+pub refusal_here : {S U K : Type 0} (w : RenameState S U K) (p : ℕ) (v : Participant Round) → participant_of p w.rounds ≡ Some v → step_refusal w p ≡ stage_refusal v.program.stage
+refusal_here w p v here = rw here refl
 
 pub same_err : {X : Type 0} (why other : Refusal) → ◌≡◌ {A = Result X Refusal} (Err why) (Err other) → why ≡ other
 same_err why other e = cc

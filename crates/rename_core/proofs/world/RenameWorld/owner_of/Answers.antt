@@ -1,5 +1,10 @@
+use Rattle.std.proofs.Common.{ap, ◌∙◌}
+use Rattle.rename_core.proofs.Common.{owner_by}
 use Rattle.rename_core.proofs.NamedPlaces.{owner_is}
 use Rattle.rename_core.proofs.world.RenameWorld.owner_of.Goals as goal
 
+pub returns-clause-value : goal.returns-clause-value
+returns-clause-value g c = c.owner_among.ensures ∙ ap (owner_by c.args.number) (c.deref.ensures.value ∙ ap (λ w. w.rounds) c.self.view_is)
+
 pub returns-clause-law : goal.returns-clause-law
-returns-clause-law g c = rw c.round_owner.ensures (owner_is _ g.met.W.Places.laws g.W.RenamePlaces.world g.met.W.RenamePlaces.may_grow g.met.W.RenamePlaces.at_once c.args.self.now c.args.number)
+returns-clause-law g c = rw (returns-clause-value g c) (owner_is _ g.met.W.Places.laws g.W.RenamePlaces.world g.met.W.RenamePlaces.may_grow g.met.W.RenamePlaces.at_once c.args.self.now c.args.number)
