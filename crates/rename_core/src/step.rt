@@ -13,7 +13,7 @@ use crate::round::{Round, Wish};
 use snapshot_core::{Known, SnapReply};
 use snapshot_world::SnapWorld;
 use std::alloc::Allocator;
-use step_memory::{Participant, Refusal, View};
+use step_memory::{NoMemory, Participant, Refusal, View};
 
 /// Asks the snapshot object for what a round wants, with no access. It is never refused, since nothing of the identity is
 /// pending then.
@@ -77,11 +77,10 @@ where
     W::Value: Drop,
     ensures { IsTaken ⟦<W as Known>⟧.places snap.old snap.new participant.old participant.new limit result view.new }
 {
-    let told = match snap.step(participant.identity) {
-        Ok(told) => told,
-        Err(refusal) => return Err(refusal),
-    };
-    Ok(follow(snap, participant, told, limit, view))
+    match snap.step(participant.identity) {
+        Ok(told) => Ok(follow(snap, participant, told, limit, view)),
+        Err(refusal) => Err(refusal),
+    }
 }
 
 /// A step that is no read of a scan that goes on, and what follows it. A function of its own, as `take_other` is.
@@ -98,15 +97,15 @@ where
     W::Value: Drop,
     ensures { IsTaken ⟦<W as Known>⟧.places snap.old snap.new participant.old participant.new limit result view.new }
 {
-    let Some(note) = snap.walk_on(participant.identity)? else {
-        return take_other(snap, participant, limit, view);
-    };
-    if note.is_quiet() {
-        participant.ended = false;
-        return Ok(Reply::Quiet);
+    match snap.walk_on(participant.identity) {
+        Ok(None) => take_other(snap, participant, limit, view),
+        Ok(Some(note)) if note.is_quiet() => {
+            participant.ended = false;
+            Ok(Reply::Quiet)
+        }
+        Ok(Some(note)) => Ok(follow(snap, participant, SnapReply::of_way(note), limit, view)),
+        Err(NoMemory) => Err(Refusal::NoMemory),
     }
-    let told = SnapReply::of_way(note);
-    Ok(follow(snap, participant, told, limit, view))
 }
 
 /// A step, and what follows it.

@@ -1,6 +1,6 @@
 //! A renaming world, taken step by step.
 
-ghost use Rattle.std.specs.Prelude.{◌≡◌, ◌≢◌, ◌<◌, ◌≤◌, ◌⊎◌, ◌↔◌, [], length, IfOk, IfErr, OnErr, Some, None, Err, false};
+ghost use Rattle.std.specs.Prelude.{◌≡◌, ◌≢◌, ◌<◌, ◌≤◌, ◌⊎◌, ◌↔◌, [], length, vec_capacity, IfOk, IfErr, OnErr, Some, None, Err, false};
 ghost use Rattle.step_memory.specs.Participant.{AreDistinct, index_of, program_of};
 ghost use Rattle.step_memory.specs.World.{begin_refusal, done_unless};
 ghost use Rattle.step_memory.specs.Calls.Call.{Began, Stepped};
@@ -19,7 +19,7 @@ use crate::step::{ask, take};
 use commands::Config;
 use snapshot_core::Known;
 use snapshot_world::SnapWorld;
-use std::alloc::Allocator;
+use std::alloc::{AllocError, Allocator};
 use std::marker::Model;
 use step_memory::{Hints, Participant, Refusal, View};
 
@@ -103,6 +103,20 @@ fn proposals_among(rounds: &[Participant<Round>]) -> View
         show(&mut view, participant);
     }
     view
+}
+
+/// Room for the rounds of so many.
+fn room_for<A: Allocator + Clone>(
+    alloc: &A,
+    most: usize,
+) -> Result<Vec<Participant<Round>, A>, AllocError>
+    ensures none { IfOk result (λ v. v.items ≡ []) }
+    ensures room { IfOk result (λ v. most ≤ vec_capacity v) }
+{
+    match alloc.clone() {
+        Ok(other) => Vec::with_capacity(other, most),
+        Err(error) => Err(error),
+    }
 }
 
 impl<W: RenamePlaces<A>, A: Allocator> RenameWorld<W, A> {
@@ -230,7 +244,9 @@ where
         ensures state { self.new ≡ after_rename_begin ⟦<W as Known>⟧.places self.old id }
         ensures no_access { self.new.snap.memory ≡ self.old.snap.memory }
     {
-        self.snap.begin(id)?;
+        if let Err(refusal) = self.snap.begin(id) {
+            return Err(refusal);
+        }
         let placed = self.snap.place_of(id).is_some();
         ask(&mut self.snap, id, Wish::first(placed));
         self.hints.note(id, self.rounds.len());
@@ -302,10 +318,7 @@ where
         ensures made { IfOk result (λ w. w ≡ fresh_world (W.empty_for most) most limit) }
         ensures no_memory { IfErr result (λ why. why ≡ Refusal.NoMemory) }
     {
-        let Ok(other) = alloc.clone() else {
-            return Err(Refusal::NoMemory);
-        };
-        let Ok(rounds) = Vec::with_capacity(other, most) else {
+        let Ok(rounds) = room_for(&alloc, most) else {
             return Err(Refusal::NoMemory);
         };
         match Self::empty_snap(alloc, most) {

@@ -10,8 +10,8 @@ known g = places_by g.W.Walker.StepProgram.steps g.W.Walker.PlaceWalker.place_of
 pub returns-in-Err : goal.returns-in-Err
 returns-in-Err g c = inr (c.in-Err.refusal, record { result_is = refl; kept = c.in-Err.ensures.refused; same = refl; is_told = c.in-Err.ensures.answer; lacks = c.in-Err.ensures.no_memory })
 
-pub returns : goal.returns
-returns g c =
+pub returns-in-Ok : goal.returns-in-Ok
+returns-in-Ok g c =
     let stepped : c.step.new.self ≡ after_snap_step (known g) c.args.snap.now c.args.participant.now.identity = c.in-Ok.ensures.state (no_err c.in-Ok.told NoMemory) in
     inl (
       c.in-Ok.told,
