@@ -19,7 +19,7 @@ use slot_array::Slots;
 use snapshot_core::{Known, Places};
 use std::alloc::Allocator;
 use std::marker::Model;
-use step_memory::{Access, Place, Refusal, StepProgram, View};
+use step_memory::{Access, NoMemory, Place, Refusal, StepProgram, View};
 
 /// A renaming world over these places, and slots over a pool.
 #[derive(Drop)]
@@ -36,16 +36,22 @@ impl<W: RenamePlaces<A>, A: Allocator> Model for DeskOver<W, A> {
     ghost view = { λ d. record { names = d.names; slots = d.slots } };
 }
 
-// Slots over a pool of so many numbers, each of which holds 0.
-fn zero_slots<A: Allocator + Clone>(alloc: A, size: u64) -> Result<Slots<u64, A>, Refusal>
+/// Slots over a pool of so many numbers, each of which holds 0. The pool is made last: what is let go where room is refused is
+/// then the values alone.
+fn zero_slots<A: Allocator + Clone>(alloc: &A, size: u64) -> Result<Slots<u64, A>, Refusal>
     requires some { 1 ≤ size }
     requires few { size ≤ 64 }
     ensures made { IfOk result (λ s. s ≡ record { pool = fresh_pool size; values = replicate size 0 }) }
     ensures no_memory { IfErr result (λ why. why ≡ Refusal.NoMemory) }
 {
-    let pool = Pool::new(alloc.clone()?, size)?;
-    let values = Vec::from_elem(alloc, 0u64, size as usize)?;
-    Ok(Slots::new(pool, values)?)
+    let values = Vec::from_elem(alloc.clone()?, 0u64, size as usize)?;
+    match Pool::new(alloc.clone()?, size) {
+        Ok(pool) => match Slots::new(pool, values) {
+            Ok(slots) => Ok(slots),
+            Err(NoMemory) => Err(Refusal::NoMemory),
+        },
+        Err(refusal) => Err(refusal),
+    }
 }
 
 impl<W: RenamePlaces<A> + Drop, A: Allocator + Clone> DeskOver<W, A>
@@ -64,11 +70,22 @@ where
         if !config.world.is_played_over(W::world()) {
             return Err(Refusal::OutOfRange);
         }
-        let slots = zero_slots(alloc.clone()?, config.k)?;
+        let Ok(slots) = zero_slots(&alloc, config.k) else {
+            return Err(Refusal::NoMemory);
+        };
         match RenameWorld::new(alloc, config) {
             Ok(names) => Ok(DeskOver { names, slots }),
             Err(why) => Err(why),
         }
+    }
+}
+
+impl<W: RenamePlaces<A>, A: Allocator> DeskOver<W, A> {
+    /// The name of a participant, once it has one.
+    pub(crate) fn name_of(&self, id: u64) -> Option<u64>
+        ensures { result ≡ name_in self.now.names id }
+    {
+        self.names.name_of(id)
     }
 }
 
@@ -133,13 +150,6 @@ where
         ensures { result ≡ place_in ⟦<W as Known>⟧.places self.now.names.snap id }
     {
         self.names.snap().place_of(id)
-    }
-
-    /// The name of a participant, once it has one.
-    pub(crate) fn name_of(&self, id: u64) -> Option<u64>
-        ensures { result ≡ name_in self.now.names id }
-    {
-        self.names.name_of(id)
     }
 
     /// Who has a name, or that nobody has it; a refusal where names don't reach there.
