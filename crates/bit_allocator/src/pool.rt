@@ -25,11 +25,21 @@ use step_memory::{Access, Answer, Memory, Refusal, StepMemory};
 pub const MOST_NUMBERS: usize = 64;
 
 /// A pool of the numbers from 1 to its size. Each number below the size has a bit, which is set where it is held.
-#[derive(Drop)]
 pub struct Pool<A: Allocator> {
     size: u8,
     bits: Memory<(), A>,
     competitors: Roster<A>,
+}
+
+// By hand, so that a pool is taken apart here alone, and not wherever one is dropped.
+impl<A: Allocator> Drop for Pool<A> {
+    fn drop(self) {
+        let Pool {
+            size: _,
+            bits: _,
+            competitors: _,
+        } = self;
+    }
 }
 
 impl<A: Allocator> Model for Pool<A> {
