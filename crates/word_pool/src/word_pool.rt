@@ -5,13 +5,13 @@ ghost use lib.ListN.{get_elem?};
 ghost use mathlib.Core.Option.{some};
 ghost use Rattle.word_pool.specs.PoolView.{call_of, first_places, races, IsSeeking, IsWithin, HasLooked, HasSwapped};
 ghost use Rattle.word_pool.specs.PoolSteps.{IsWordFor};
-ghost use Rattle.word_pool.specs.Pools.{CallId, HasLookedAtAll, HasMetAllHeld, set_places};
+ghost use Rattle.word_pool.specs.Pools.{CallId, HasLookedAtAll, HasMetAllHeld, IsTableOf, pool_of, set_places};
 
 use crate::held::{AllHeld, Held, LastLook, Released};
 use crate::pool_over::{PoolOver, STRIDE};
 use crate::pool_steps::{Come, ComeBySwap, LookAside, Pooling, ReadFirst, ReadOn, Take, TakeAside};
 use crate::pool_view::PoolView;
-use atomic_table::Seat;
+use atomic_table::{Seat, Shared};
 use std::alloc::{AllocError, Allocator};
 use step_memory::Refusal;
 
@@ -31,6 +31,65 @@ impl<A: Allocator + Clone> PoolOver<Pooling, A> {
         let (pool, _) = WordPool::with_seat(alloc, numbers)?;
         Ok(pool)
     }
+}
+
+/// The words of a pool's numbers.
+type Words = Shared<u8, PoolView, u64, Pooling>;
+
+/// Swaps 1 into the word of one place after another, from this on, until one of so many was free.
+fn take_from(
+    table: &Words,
+    numbers: u64,
+    mut seat: Seat<u8, PoolView>,
+    from: u64,
+) -> Result<Held, AllHeld>
+    requires table { IsTableOf numbers table.now.table_id table.now.key }
+    requires ours { seat.table_id ≡ table.now.table_id }
+    requires range { from ≤ numbers }
+    requires here { IsSeeking from seat.me.0 × (seat.me.1 ≡ []) }
+    ensures ours { IfOk result (λ h. h.pool ≡ table.now.table_id) }
+    ensures range { IfOk result (λ h. (from < h.number) × (h.number ≤ numbers)) }
+    ensures below { IfOk result (λ h. (h.call.met ≡ first_places (h.number - 1)) × (h.call.hinted ≡ false)) }
+    ensures accesses { IfOk result (λ h. h.call.accesses + from ≡ (call_of seat.me.0).accesses + h.number) }
+    ensures races { IfOk result (λ h. suc from < h.number → h.call.lost ≡ races (call_of seat.me.0)) }
+    ensures all_held { IfErr result (λ a. HasMetAllHeld (pool_of table.now.table_id numbers) a) }
+    ensures accesses_in_vain { IfErr result (λ a. a.call.accesses + from ≡ (call_of seat.me.0).accesses + numbers) }
+    ensures races_in_vain { IfErr result (λ a. from < numbers → a.call.lost ≡ races (call_of seat.me.0)) }
+{
+    for place in from..numbers {
+        let found = table.swap::<Take>(&mut seat, (place * STRIDE) as usize, 1);
+        if found == 0 {
+            return Ok(Held::of(seat, place));
+        }
+    }
+    Err(AllHeld {
+        badge: seat.into_badge(),
+    })
+}
+
+/// The words of so many numbers, by a new call of the seat, which looks at each once.
+fn look_at_all<B: Allocator>(
+    table: &Words,
+    numbers: u64,
+    alloc: B,
+    seat: &mut Seat<u8, PoolView>,
+) -> Result<Vec<u64, B>, AllocError>
+    requires table { IsTableOf numbers table.now.table_id table.now.key }
+    requires ours { (seat.old.table_id ≡ table.now.table_id) × (seat.old.me.1 ≡ []) }
+    ensures ours { (seat.new.table_id ≡ table.now.table_id) × (seat.new.me.1 ≡ []) }
+    ensures count { IfOk result (λ v. vec_len v ≡ numbers) }
+    ensures words { IfOk result (λ v. (place : ℕ) → place < numbers → IsWordFor place seat.old.me.0 (slice_index v.items place)) }
+    ensures met { IfOk result (λ v. (call_of seat.new.me.0).met ≡ set_places v.items numbers) }
+    ensures accesses { IsOk result → (call_of seat.new.me.0).accesses ≡ numbers }
+{
+    let mut words = Vec::with_capacity(alloc, numbers as usize)?;
+    let first = table.load::<ReadFirst>(seat, 0);
+    words.push_reserved(first);
+    for place in 1..numbers {
+        let found = table.load::<ReadOn>(seat, (place * STRIDE) as usize);
+        words.push_reserved(found);
+    }
+    Ok(words)
 }
 
 impl<A: Allocator> PoolOver<Pooling, A> {
@@ -73,7 +132,7 @@ impl<A: Allocator> PoolOver<Pooling, A> {
         } else {
             self.look_on(&mut seat)
         };
-        self.take_from(seat, place)
+        take_from(&self.table.shared, self.numbers, seat, place)
     }
 
     /// The walk of a seat whose swap at the first place found this. It goes on by swaps alone.
@@ -91,35 +150,7 @@ impl<A: Allocator> PoolOver<Pooling, A> {
         if found == 0 {
             return Ok(Held::of(seat, 0));
         }
-        self.take_from(seat, 1)
-    }
-
-    /// Swaps 1 into the word of one place after another, from this on, until one was free.
-    fn take_from(&self, mut seat: Seat<u8, PoolView>, from: u64) -> Result<Held, AllHeld>
-        requires ours { seat.table_id ≡ self.now.table }
-        requires range { from ≤ self.now.numbers }
-        requires here { IsSeeking from seat.me.0 × (seat.me.1 ≡ []) }
-        ensures ours { IfOk result (λ h. h.pool ≡ self.now.table) }
-        ensures range { IfOk result (λ h. (from < h.number) × (h.number ≤ self.now.numbers)) }
-        ensures below { IfOk result (λ h. (h.call.met ≡ first_places (h.number - 1)) × (h.call.hinted ≡ false)) }
-        ensures accesses { IfOk result (λ h. h.call.accesses + from ≡ (call_of seat.me.0).accesses + h.number) }
-        ensures races { IfOk result (λ h. suc from < h.number → h.call.lost ≡ races (call_of seat.me.0)) }
-        ensures all_held { IfErr result (λ a. HasMetAllHeld self.now a) }
-        ensures accesses_in_vain { IfErr result (λ a. a.call.accesses + from ≡ (call_of seat.me.0).accesses + self.now.numbers) }
-        ensures races_in_vain { IfErr result (λ a. from < self.now.numbers → a.call.lost ≡ races (call_of seat.me.0)) }
-    {
-        for place in from..self.numbers {
-            let found = self
-                .table
-                .shared
-                .swap::<Take>(&mut seat, (place * STRIDE) as usize, 1);
-            if found == 0 {
-                return Ok(Held::of(seat, place));
-            }
-        }
-        Err(AllHeld {
-            badge: seat.into_badge(),
-        })
+        take_from(&self.table.shared, self.numbers, seat, 1)
     }
 
     /// The same, but it tries the number of a hint first, by a look and, where that finds it free, a swap. Where it is held it
@@ -181,36 +212,8 @@ impl<A: Allocator> PoolOver<Pooling, A> {
     {
         let (_, mut seat) = self.table.shared.load_new_seat::<LookAside>(0);
         self.gather_all(&mut seat, out);
-        let words = self.look_at_all(alloc, &mut seat)?;
+        let words = look_at_all(&self.table.shared, self.numbers, alloc, &mut seat)?;
         let badge = seat.into_badge();
         Ok((words, LastLook { badge }))
-    }
-
-    /// The words, by a new call of the seat, which looks at each once.
-    fn look_at_all<B: Allocator>(
-        &self,
-        alloc: B,
-        seat: &mut Seat<u8, PoolView>,
-    ) -> Result<Vec<u64, B>, AllocError>
-        requires ours { (seat.old.table_id ≡ self.now.table) × (seat.old.me.1 ≡ []) }
-        requires some { 0 < self.now.numbers }
-        ensures ours { (seat.new.table_id ≡ self.now.table) × (seat.new.me.1 ≡ []) }
-        ensures count { IfOk result (λ v. vec_len v ≡ self.now.numbers) }
-        ensures words { IfOk result (λ v. (place : ℕ) → place < self.now.numbers → IsWordFor place seat.old.me.0 (slice_index v.items place)) }
-        ensures met { IfOk result (λ v. (call_of seat.new.me.0).met ≡ set_places v.items self.now.numbers) }
-        ensures accesses { IsOk result → (call_of seat.new.me.0).accesses ≡ self.now.numbers }
-    {
-        let numbers = self.numbers;
-        let mut words = Vec::with_capacity(alloc, numbers as usize)?;
-        let first = self.table.shared.load::<ReadFirst>(seat, 0);
-        words.push_reserved(first);
-        for place in 1..numbers {
-            let found = self
-                .table
-                .shared
-                .load::<ReadOn>(seat, (place * STRIDE) as usize);
-            words.push_reserved(found);
-        }
-        Ok(words)
     }
 }

@@ -1,10 +1,10 @@
 use Rattle.std.proofs.Common.{◌≡◌, ◌+◌, ◌<◌, [], false}
 use Rattle.word_pool.specs.PoolView.{call_of, races, IsSeeking}
-use Rattle.word_pool.proofs.word_pool.PoolOver+Pooling+A.take_from.Given as goal
+use Rattle.word_pool.proofs.word_pool.take_from.Given as goal
 
 abbrev pub invariant-loop-place : goal.invariant-loop-place
-invariant-loop-place g l = record {
-  ours : l.seat.table_id ≡ l.self.table;
+invariant-loop-place l = record {
+  ours : l.seat.table_id ≡ l.table.table_id;
   slots : l.seat.me.1 ≡ [];
   here : IsSeeking l.place l.seat.me.0;
   few : (call_of l.seat.me.0).accesses + l.from ≡ (call_of l.initial.seat.me.0).accesses + l.place;

@@ -2,17 +2,16 @@ use Rattle.std.proofs.Common.{◌≡◌, ap, sym, ◌∙◌, arith, []}
 use Rattle.word_pool.proofs.Common.{step, lone, call_of, PoolId}
 use mathlib.Core.Option.{none}
 use Rattle.word_pool.proofs.Keeping.{may_take}
-use Rattle.word_pool.proofs.word_pool.PoolOver+Pooling+A.take_from.Goals as goal
+use Rattle.word_pool.proofs.word_pool.take_from.Goals as goal
 
 pub swap-found-requires : goal.swap-found-requires
-swap-found-requires g c =
-    let numbers : c.self.inside.numbers ≡ c.args.self.now.numbers = ap (λ (t : PoolId). t.numbers) c.self.view_is in
-    let words = c.self.invariant.0.0 in
-    let key = c.self.invariant.0.1 in
+swap-found-requires c =
+    let words = c.requires.table.0 in
+    let key = c.requires.table.1 in
     let below = c.loop-place-test.true in
     let here = c.loop-place.invariant.here in
     let me : c.loop-place.seat.me ≡ (lone (call_of c.loop-place.seat.me.0) c.loop-place.seat.me.0.past, []) = (λ i. (here.view_is i, c.loop-place.invariant.slots i)) in (
-      c.loop-place.invariant.ours ∙ sym (ap (λ (p : PoolId). p.table) c.self.view_is),
+      c.loop-place.invariant.ours,
       omega arith,
-      rw me (may_take c.self.inside.table.shared.key _ _ _ _ c.loop-place.place (step 0 0 0 0 none) (omega arith) here.stage_is here.place_is),
+      rw me (may_take c.args.table.now.key _ _ _ _ c.loop-place.place (step 0 0 0 0 none) (omega arith) here.stage_is here.place_is),
     )

@@ -3,30 +3,28 @@ use Rattle.word_pool.proofs.Common.{Me, step, PoolView, call_of, view_of, read_a
 use mathlib.Core.Option.{none}
 use Rattle.word_pool.proofs.Keeping.{may_read_first, may_read_on, read_own, read_accesses}
 use Rattle.word_pool.proofs.Closing.{met_more, words_more, as_word}
-use Rattle.word_pool.proofs.word_pool.PoolOver+Pooling+A.look_at_all.Goals as goal
+use Rattle.word_pool.proofs.word_pool.look_at_all.Goals as goal
 
 pub load-first-requires : goal.load-first-requires
 load-first-requires g c =
-    let numbers : c.self.inside.numbers ≡ c.args.self.now.numbers = ap (λ (t : PoolId). t.numbers) c.self.view_is in
-    let words = c.self.invariant.0.0 in
-    let key = c.self.invariant.0.1 in
-    let some = c.requires.some in
+    let words = c.requires.table.0 in
+    let key = c.requires.table.1 in
+    let some = c.requires.table.2 in
     let me : c.args.seat.now.me ≡ (c.args.seat.now.me.0, []) = (λ i. (c.args.seat.now.me.0, c.requires.ours.1 i)) in (
-      c.requires.ours.0 ∙ sym (ap (λ (p : PoolId). p.table) c.self.view_is),
+      c.requires.ours.0,
       omega arith,
-      rw me (may_read_first c.self.inside.table.shared.key _ _ 0 0 _ (step 0 0 0 0 none) refl refl (omega arith)),
+      rw me (may_read_first c.args.table.now.key _ _ 0 0 _ (step 0 0 0 0 none) refl refl (omega arith)),
     )
 
 pub load-found-requires : goal.load-found-requires
 load-found-requires g c =
-    let numbers : c.self.inside.numbers ≡ c.args.self.now.numbers = ap (λ (t : PoolId). t.numbers) c.self.view_is in
-    let words = c.self.invariant.0.0 in
-    let key = c.self.invariant.0.1 in
+    let words = c.requires.table.0 in
+    let key = c.requires.table.1 in
     let below = c.loop-place-test.true in
     let me : c.loop-place.seat.me ≡ (c.loop-place.seat.me.0, []) = (λ i. (c.loop-place.seat.me.0, c.loop-place.invariant.ours.1 i)) in (
-      c.loop-place.invariant.ours.0 ∙ sym (ap (λ (p : PoolId). p.table) c.self.view_is),
+      c.loop-place.invariant.ours.0,
       omega arith,
-      rw me (may_read_on c.self.inside.table.shared.key _ _ c.loop-place.place _ _ (step 0 (c.loop-place.place * 8) 0 0 none) refl refl (omega arith)),
+      rw me (may_read_on c.args.table.now.key _ _ c.loop-place.place _ _ (step 0 (c.loop-place.place * 8) 0 0 none) refl refl (omega arith)),
     )
 
 pub loop-place-preserved : goal.loop-place-preserved
