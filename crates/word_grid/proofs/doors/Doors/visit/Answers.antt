@@ -2,7 +2,7 @@ use Rattle.std.proofs.Common.{arith, ap, sym, ◌≡◌, ◌∙◌, refl}
 use Rattle.word_grid.proofs.Common.{step, WroteX, SawClear, WroteY, walker_at, visit_on, number_below, own_word, GridId}
 use mathlib.Core.Option.{none}
 use Rattle.word_grid.proofs.Walking.{may_write_x, may_read_y, may_write_y, may_read_x}
-use Rattle.word_grid.proofs.Visiting.{wrote_x, saw_clear, wrote_y}
+use Rattle.word_grid.proofs.Visiting.{wrote_x, saw_clear, wrote_y, turns_right, stops_here, turns_down}
 use Rattle.word_grid.proofs.doors.Doors.visit.Goals as goal
 
 pub store-requires : goal.store-requires
@@ -54,3 +54,22 @@ load-requires-2 g c =
       omega arith,
       rw word (may_read_x _ _ _ _ _ (step 0 0 0 0 none) (visit_on (walker_at (own_word c.args.number) c.args.door) WroteY) _ stands_y refl),
     )
+
+pub returns-then-load-ne0-clause-after : goal.returns-then-load-ne0-clause-after
+returns-then-load-ne0-clause-after g c =
+    let stands_x = wrote_x c.args.self.now.most c.args.number (step 0 0 0 0 none) c.args.door c.args.seat.now.me c.store.new.seat.me c.requires.before c.store.ensures.2 in
+    turns_right c.args.self.now.most c.args.number (step 0 0 0 0 none) c.args.door c.store.new.seat.me c.load.new.seat.me c.load.result stands_x c.load.ensures.2 c.if-load-ne0.true
+
+pub returns-then-load-own-clause-after : goal.returns-then-load-own-clause-after
+returns-then-load-own-clause-after g c =
+    let stands_x = wrote_x c.args.self.now.most c.args.number (step 0 0 0 0 none) c.args.door c.args.seat.now.me c.store.new.seat.me c.requires.before c.store.ensures.2 in
+    let stands_clear = saw_clear c.args.self.now.most c.args.number (step 0 0 0 0 none) c.args.door c.store.new.seat.me c.load.new.seat.me c.load.result stands_x c.load.ensures.2 c.if-load-ne0.false in
+    let stands_y = wrote_y c.args.self.now.most c.args.number (step 0 0 0 0 none) c.args.door c.load.new.seat.me c.store-2.new.seat.me stands_clear c.store-2.ensures.2 in
+    stops_here c.args.self.now.most c.args.number (step 0 0 0 0 none) c.args.door c.store-2.new.seat.me c.load-2.new.seat.me c.load-2.result stands_y c.load-2.ensures.2 c.if-load-own.true
+
+pub returns-else-load-own-clause-after : goal.returns-else-load-own-clause-after
+returns-else-load-own-clause-after g c =
+    let stands_x = wrote_x c.args.self.now.most c.args.number (step 0 0 0 0 none) c.args.door c.args.seat.now.me c.store.new.seat.me c.requires.before c.store.ensures.2 in
+    let stands_clear = saw_clear c.args.self.now.most c.args.number (step 0 0 0 0 none) c.args.door c.store.new.seat.me c.load.new.seat.me c.load.result stands_x c.load.ensures.2 c.if-load-ne0.false in
+    let stands_y = wrote_y c.args.self.now.most c.args.number (step 0 0 0 0 none) c.args.door c.load.new.seat.me c.store-2.new.seat.me stands_clear c.store-2.ensures.2 in
+    turns_down c.args.self.now.most c.args.number (step 0 0 0 0 none) c.args.door c.store-2.new.seat.me c.load-2.new.seat.me c.load-2.result stands_y c.load-2.ensures.2 c.if-load-own.false
