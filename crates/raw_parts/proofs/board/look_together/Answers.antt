@@ -1,4 +1,4 @@
-use Rattle.std.proofs.Common.{◌≡◌, ◌∷◌, [], sym, ◌∙◌, refl}
+use Rattle.std.proofs.Common.{◌≡◌, ◌∷◌, [], ◌∙◌, refl}
 use Rattle.raw_parts.proofs.Common.{step, claim, claims_of, united}
 use mathlib.Core.Option.{none}
 use Rattle.raw_parts.proofs.Claims.{may_unite, may_look_on, may_divide}

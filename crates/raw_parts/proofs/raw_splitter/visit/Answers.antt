@@ -1,4 +1,4 @@
-use Rattle.std.proofs.Common.{arith, ap, ◌≡◌, ◌+◌, ◌∙◌, []}
+use Rattle.std.proofs.Common.{arith, ap, ◌+◌, ◌∙◌, []}
 use Rattle.raw_parts.proofs.Common.{step, WroteX, SawClear, WroteY, fresh_visit, lone_view, visit_at, after_access}
 use mathlib.Core.Option.{none}
 use Rattle.raw_parts.proofs.Accesses.{may_write_x, may_read_y, may_write_y, may_read_x, stands_after}

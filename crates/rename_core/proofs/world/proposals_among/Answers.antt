@@ -1,4 +1,4 @@
-use Rattle.std.proofs.Common.{◌+◌, ◌∙◌, arith}
+use Rattle.std.proofs.Common.{◌∙◌, arith}
 use Rattle.rename_core.proofs.rounds.Shown.{shown_next, length_shown}
 use Rattle.rename_core.proofs.world.proposals_among.Goals as goal
 

@@ -1,5 +1,5 @@
 use Rattle.std.proofs.Common.{◌≡◌, ◌*◌, ◌+◌, ◌++◌, ℕ, suc, List, ◌∷◌, drop, length, ap, sym, subst, ◌∙◌, refl, arith, [], vec_len}
-use Rattle.word_pool.proofs.Common.{Me, step, PoolView, call_of, view_of, read_at, own, holding, IsWordFor, PoolId, set_places}
+use Rattle.word_pool.proofs.Common.{Me, step, PoolView, call_of, view_of, read_at, own, holding, IsWordFor, set_places}
 use mathlib.Core.Option.{none}
 use Rattle.word_pool.proofs.Keeping.{may_read_first, may_read_on, read_own, read_accesses}
 use Rattle.word_pool.proofs.Closing.{met_more, words_more, as_word}

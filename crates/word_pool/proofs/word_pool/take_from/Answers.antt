@@ -1,5 +1,5 @@
-use Rattle.std.proofs.Common.{◌≡◌, ap, sym, ◌∙◌, arith, []}
-use Rattle.word_pool.proofs.Common.{step, lone, call_of, PoolId}
+use Rattle.std.proofs.Common.{◌≡◌, arith, []}
+use Rattle.word_pool.proofs.Common.{step, lone, call_of}
 use mathlib.Core.Option.{none}
 use Rattle.word_pool.proofs.Keeping.{may_take}
 use Rattle.word_pool.proofs.word_pool.take_from.Goals as goal

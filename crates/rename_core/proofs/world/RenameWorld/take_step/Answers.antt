@@ -1,5 +1,5 @@
-use Rattle.std.proofs.Common.{arith, length, ◌<◌, ◌≡◌, Some, None, Err, sym, ap, ◌∙◌}
-use Rattle.rename_core.proofs.Common.{index_of, program_of, KnownPlaces, places_by, outcome_with, RenameState, step_refusal}
+use Rattle.std.proofs.Common.{arith, length, ◌<◌, ◌≡◌, Some, None, sym, ap, ◌∙◌}
+use Rattle.rename_core.proofs.Common.{index_of, program_of, KnownPlaces, places_by, RenameState, step_refusal}
 use Rattle.rename_core.specs.RenameWorld.{refusal_by}
 use Rattle.rename_core.proofs.rounds.StepCases.{step_refused, closed_answer, taken_step, taken_room}
 use Rattle.rename_core.proofs.world.RenameWorld.take_step.Given.{Over}
