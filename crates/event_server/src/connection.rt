@@ -92,8 +92,17 @@ impl<S: Stream, A: Allocator> Connection<S, A> {
             Some(look) => look.more,
             None => self.wire.has_input(),
         };
-        let takes = self.wire.has_room() && !self.wire.is_ended() && (waits || self.readable);
+        let takes = self.may_take() && (waits || self.readable);
         !self.wire.is_broken() && (sends || takes)
+    }
+
+    // Whether more may come and be taken: there is room for a reply.
+    fn may_take(&self) -> bool
+        ensures whole { IsTrue result → self.now.wire.broken ≡ false }
+        ensures reply { IsTrue result → length self.now.wire.outbox + TURN_ROOM ≤ UNSENT_ROOM }
+        ensures count { IsTrue result → self.now.wire.talker.summary.lines ≤ MOST_LINES }
+    {
+        !self.wire.is_broken() && !self.wire.is_ended() && self.wire.has_room()
     }
 
     /// Takes its turn, which is due: what waited of its lines, or else what one read gives.
@@ -111,7 +120,7 @@ impl<S: Stream, A: Allocator> Connection<S, A> {
         ensures room { IsRoom room.new }
     {
         self.stage = Stage::Taken;
-        if self.wire.is_broken() || self.wire.is_ended() || !self.wire.has_room() {
+        if !self.may_take() {
             return;
         }
         if self.wire.has_input() {
@@ -141,7 +150,7 @@ impl<S: Stream, A: Allocator> Connection<S, A> {
         let Some(look) = self.look else {
             return;
         };
-        if self.wire.is_broken() || self.wire.is_ended() || !self.wire.has_room() {
+        if !self.may_take() {
             return;
         }
         self.look = Some(look.taken());
@@ -187,7 +196,7 @@ impl<S: Stream, A: Allocator> Connection<S, A> {
         ensures reply { IsTrue result → length self.now.wire.outbox + TURN_ROOM ≤ UNSENT_ROOM }
         ensures count { IsTrue result → self.now.wire.talker.summary.lines ≤ MOST_LINES }
     {
-        !self.wire.is_broken() && !self.wire.has_input() && self.wire.has_room()
+        self.may_take() && !self.wire.has_input()
     }
 
     /// Reads once what came, if there is room, and looks at its lines before they are taken: its requests are added to the batch, as far
@@ -212,7 +221,7 @@ impl<S: Stream, A: Allocator> Connection<S, A> {
             None => Look::new(),
         };
         self.look = Some(look);
-        if self.wire.is_broken() || self.wire.is_ended() || !self.wire.has_room() {
+        if !self.may_take() {
             return;
         }
         self.gather_bytes(&mut room.chunk);

@@ -15,7 +15,7 @@ use mio::net::TcpListener;
 use mio::unix::SourceFd;
 use mio::{Events, Interest, Poll, Token};
 use player::Service;
-use std::alloc::Global;
+use std::alloc::{AllocError, Global};
 use std::io::{self, ErrorKind, Write};
 use std::net::{Net, SocketAddr};
 use std::rt::Clock;
@@ -37,8 +37,9 @@ const MOST_ACCEPTS: u32 = 1024;
 /// How many seconds pass from one report to the next.
 const REPORT_TICKS: u64 = 60;
 
-/// How many ticks of a tenth of a second are waited at the end for replies to be taken.
-const LAST_TICKS: u64 = 10;
+/// How many rounds, each of which waits for a tenth of a second at most, are given at the end for replies to be taken, the one in which the
+/// end is told among them.
+const LAST_ROUNDS: u64 = 11;
 
 /// What a host serves.
 #[derive(Clone, Copy, Debug, Drop)]
@@ -63,11 +64,12 @@ pub struct Hosted {
 }
 
 /// A server under way.
-#[derive(Drop)]
 struct Hosting {
     alloc: Global,
     options: HostOptions,
     poll: Poll,
+    /// What the system told last.
+    events: Events<Global>,
     listener: TcpListener,
     house: House,
     start: Instant,
@@ -81,10 +83,36 @@ struct Hosting {
     /// Whether it was said that one could not be accepted.
     said: bool,
     stop: bool,
+    /// For how many rounds more what waits is sent, once it is to stop.
+    last: u64,
     /// What is told to the keeper before a turn, where the service learns its answers ahead.
     batch: Option<Batch<Global>>,
     /// Whether a second has passed since the keeper was last told.
     ticked: bool,
+}
+
+// By hand, so that a server is taken apart here alone, and not where it is let go.
+impl Drop for Hosting {
+    fn drop(self) {
+        let Hosting {
+            alloc: _,
+            options: _,
+            poll: _,
+            events: _,
+            listener: _,
+            house: _,
+            start: _,
+            tick: _,
+            report: _,
+            waiting: _,
+            full: _,
+            said: _,
+            stop: _,
+            last: _,
+            batch: _,
+            ticked: _,
+        } = self;
+    }
 }
 
 /// Serves clients of one service, each its own talk, in one thread.
@@ -106,13 +134,16 @@ where
     R: Net + Wait + Clock,
     requires { (q : Request) → D.knows q ≡ true }
 {
-    // These come first, so that a server that listens is let go in one place.
     let mut room = Room::new(alloc)?;
-    let Ok(mut events) = Events::with_capacity(alloc, EVENTS) else {
-        return Err(HostFault::Memory);
-    };
     let mut hosting = Hosting::new(rt, alloc, options, keep.most_ahead())?;
-    hosting.run(rt, service, keep, &mut room, &mut events, output, errors)
+    hosting.tell_port(output)?;
+    for _ in rt.forever() {
+        hosting.go_round(rt, service, keep, &mut room, errors)?;
+        if hosting.is_over() {
+            break;
+        }
+    }
+    hosting.tell_end(output)
 }
 
 // A listener at an address, of which it is told who waits there, and of standard input when it ends.
@@ -136,6 +167,9 @@ impl Hosting {
         most_ahead: Option<usize>,
     ) -> Result<Hosting, HostFault<F>> {
         let start = Instant::now(rt)?;
+        let Ok(events) = Events::with_capacity(alloc, EVENTS) else {
+            return Err(HostFault::Memory);
+        };
         let poll = Poll::new(rt)?;
         let listener = listen(rt, &poll, options.address)?;
         let batch = most_ahead.map(|most| Batch::new(alloc, options.kind, most));
@@ -143,6 +177,7 @@ impl Hosting {
             alloc,
             options,
             poll,
+            events,
             listener,
             house: House::new(alloc),
             start,
@@ -152,34 +187,10 @@ impl Hosting {
             full: false,
             said: false,
             stop: false,
+            last: LAST_ROUNDS,
             batch,
             ticked: false,
         })
-    }
-
-    // Says where clients are listened for, goes round until it is to end, sends what waits then, and says how many were served.
-    fn run<R: Wait + Clock, D: Service<R>, K: Keep<D>, W: Write, E: Write>(
-        &mut self,
-        rt: &R,
-        service: &mut D,
-        keep: &mut K,
-        room: &mut Room<Global>,
-        events: &mut Events<Global>,
-        output: &mut W,
-        errors: &mut E,
-    ) -> Result<Hosted, HostFault<K::Fault>>
-        requires knows { (q : Request) → D.knows q ≡ true }
-        requires room { IsRoom room.old }
-    {
-        self.tell_port(output)?;
-        for _ in rt.forever() {
-            self.go_round(rt, service, keep, room, events, errors)?;
-            if self.stop {
-                break;
-            }
-        }
-        self.finish(rt, service, keep, room, events)?;
-        self.tell_end(output)
     }
 
     // Once round: waits, accepts, has the keeper go on, serves, and tells how much there is where that is due.
@@ -189,15 +200,13 @@ impl Hosting {
         service: &mut D,
         keep: &mut K,
         room: &mut Room<Global>,
-        events: &mut Events<Global>,
         errors: &mut E,
     ) -> Result<(), HostFault<K::Fault>>
         requires knows { (q : Request) → D.knows q ≡ true }
         requires room { IsRoom room.old }
         ensures { IsRoom room.new }
     {
-        let wait = self.next_wait();
-        self.wait(rt, events, wait)?;
+        self.wait(rt)?;
         self.accept_all(errors)?;
         self.tell_tick(service, keep)?;
         self.serve(rt, service, keep, room)?;
@@ -207,15 +216,26 @@ impl Hosting {
         Ok(())
     }
 
+    // Whether it is to end, and nothing waits to be sent or what waits had its time. Is asked once a round.
+    fn is_over(&mut self) -> bool {
+        if !self.stop {
+            return false;
+        }
+        self.last = self.last.saturating_sub(1);
+        self.last == 0 || !self.house.has_unsent()
+    }
+
     // Whether a connection that waits can be accepted: the system tells only once that some wait.
     fn can_accept(&self) -> bool {
         self.waiting && !self.full && self.house.open < self.options.clients && !self.stop
     }
 
-    // For how long nothing need be done: no time where connections are due or wait to be accepted, a second where some are open, else any
-    // time.
+    // For how long nothing need be done: a tenth of a second at the end, no time where connections are due or wait to be accepted, a second
+    // where some are open, else any time.
     fn next_wait(&self) -> Option<Duration> {
-        if self.can_accept() || !self.house.ready.is_empty() {
+        if self.stop {
+            Some(Duration::from_millis(100))
+        } else if self.can_accept() || !self.house.ready.is_empty() {
             Some(Duration::from_millis(0))
         } else if 0 < self.house.open || self.full || self.options.reports || self.batch.is_some() {
             Some(Duration::from_millis(1000))
@@ -225,14 +245,10 @@ impl Hosting {
     }
 
     // Waits, and notes what the system tells.
-    fn wait<R: Clock, F>(
-        &mut self,
-        rt: &R,
-        events: &mut Events<Global>,
-        wait: Option<Duration>,
-    ) -> Result<(), HostFault<F>> {
-        self.poll.poll(events, wait)?;
-        for event in &*events {
+    fn wait<R: Clock, F>(&mut self, rt: &R) -> Result<(), HostFault<F>> {
+        let most = self.next_wait();
+        self.poll.poll(&mut self.events, most)?;
+        for event in &self.events {
             match event.token() {
                 LISTENER => self.waiting = true,
                 STOPPER => self.stop = self.stop || event.is_read_closed(),
@@ -250,7 +266,7 @@ impl Hosting {
     }
 
     // Accepts who waits, as far as there is room.
-    fn accept_all<E: Write, F>(&mut self, errors: &mut E) -> Result<(), HostFault<F>> {
+    fn accept_all<E: Write>(&mut self, errors: &mut E) -> Result<(), AllocError> {
         for _ in 0..MOST_ACCEPTS {
             if !self.can_accept() {
                 break;
@@ -272,38 +288,28 @@ impl Hosting {
         requires room { IsRoom room.old }
         ensures { IsRoom room.new }
     {
-        let called = match self.call(rt, service, keep, room) {
-            Ok(called) => called,
-            Err(fault) => return Err(HostFault::Keep(fault)),
-        };
-        let before = self.house.open;
-        self.house.settle(called, self.tick)?;
-        self.full = self.full && before <= self.house.open;
-        Ok(())
-    }
-
-    // The turn of the connections that are due: how many were called.
-    fn call<R, D: Service<R>, K: Keep<D>>(
-        &mut self,
-        rt: &R,
-        service: &mut D,
-        keep: &mut K,
-        room: &mut Room<Global>,
-    ) -> Result<usize, K::Fault>
-        requires knows { (q : Request) → D.knows q ≡ true }
-        requires room { IsRoom room.old }
-        ensures { IsRoom room.new }
-    {
         let seats = &mut self.house.seats;
         let ready = &self.house.ready;
-        match &mut self.batch {
+        let called = match &mut self.batch {
             None => turn(rt, service, keep, room, seats, ready),
             Some(batch) => match turn_ahead(rt, service, keep, batch, room, seats, ready) {
                 Ok(Called::Served(called)) => Ok(called),
                 Ok(Called::Unserved(called)) => Ok(called),
                 Err(fault) => Err(fault),
             },
+        };
+        match called {
+            Ok(called) => self.settle(called),
+            Err(fault) => Err(HostFault::Keep(fault)),
         }
+    }
+
+    // After the turn of so many: where one has left, another may be accepted again.
+    fn settle<F>(&mut self, called: usize) -> Result<(), HostFault<F>> {
+        let before = self.house.open;
+        self.house.settle(called, self.tick)?;
+        self.full = self.full && before <= self.house.open;
+        Ok(())
     }
 
     // Has the keeper go on, where it learns answers ahead and a second has passed.
@@ -323,7 +329,7 @@ impl Hosting {
     }
 
     // Accepts one connection, if one waits. Where the system has no room for it, says so once, and waits until another leaves.
-    fn accept<E: Write, F>(&mut self, errors: &mut E) -> Result<(), HostFault<F>> {
+    fn accept<E: Write>(&mut self, errors: &mut E) -> Result<(), AllocError> {
         match self.listener.accept() {
             Ok((stream, _)) => {
                 self.house.admit(self.alloc, &self.poll, self.options.kind, stream, self.tick)?;
@@ -366,49 +372,28 @@ impl Hosting {
         }
     }
 
-    // Sends what waits, for about a second.
-    fn finish<R: Clock, D: Service<R>, K: Keep<D>>(
-        &mut self,
-        rt: &R,
-        service: &mut D,
-        keep: &mut K,
-        room: &mut Room<Global>,
-        events: &mut Events<Global>,
-    ) -> Result<(), HostFault<K::Fault>>
-        requires knows { (q : Request) → D.knows q ≡ true }
-        requires room { IsRoom room.old }
-    {
-        for _ in 0..LAST_TICKS {
-            if !self.house.has_unsent() {
-                return Ok(());
-            }
-            self.wait(rt, events, Some(Duration::from_millis(100)))?;
-            self.serve(rt, service, keep, room)?;
-        }
-        Ok(())
-    }
-
     // Says where clients are listened for.
     fn tell_port<W: Write, F>(&self, output: &mut W) -> Result<(), HostFault<F>> {
         let address = self.listener.local_addr()?;
-        let Ok(line) = format!(in self.alloc; "listening {address}\n") else {
-            return Err(HostFault::Memory);
-        };
-        if output.write_all(line.as_bytes()).is_err() || output.flush().is_err() {
-            return Err(HostFault::Output);
-        }
-        Ok(())
+        put_line(format!(in self.alloc; "listening {address}\n"), output)
     }
 
     // Says how many were served: those that have left, and those that are there.
     fn tell_end<W: Write, F>(&self, output: &mut W) -> Result<Hosted, HostFault<F>> {
         let served = self.house.served.saturating_add(self.house.open as u64);
-        let Ok(line) = format!(in self.alloc; "served {served}\n") else {
-            return Err(HostFault::Memory);
-        };
-        if output.write_all(line.as_bytes()).is_err() || output.flush().is_err() {
-            return Err(HostFault::Output);
-        }
+        put_line(format!(in self.alloc; "served {served}\n"), output)?;
         Ok(Hosted { served })
     }
+}
+
+// Writes a line, where there was memory for it.
+fn put_line<W: Write, F>(
+    line: Result<String, AllocError>,
+    output: &mut W,
+) -> Result<(), HostFault<F>> {
+    let line = line?;
+    if output.write_all(line.as_bytes()).is_err() || output.flush().is_err() {
+        return Err(HostFault::Output);
+    }
+    Ok(())
 }

@@ -70,6 +70,14 @@ impl House {
         }
     }
 
+    // Whoever sits there.
+    fn seated(&mut self, key: usize) -> Option<&mut Connection<Socket, Global>> {
+        match self.seats.get_mut(key) {
+            Some(seat) => seat.as_mut(),
+            None => None,
+        }
+    }
+
     /// Gives a seat to a stream. One that cannot be waited for is closed.
     pub fn admit(
         &mut self,
@@ -103,10 +111,7 @@ impl House {
     /// Notes what the system tells of a connection, which is due then.
     pub fn note(&mut self, event: &Event) -> Result<(), AllocError> {
         let key = event.token().0;
-        let Some(seat) = self.seats.get_mut(key) else {
-            return Ok(());
-        };
-        let Some(connection) = seat else {
+        let Some(connection) = self.seated(key) else {
             return Ok(());
         };
         let hung = event.is_read_closed() || event.is_error();
@@ -124,10 +129,7 @@ impl House {
 
     // After its turn a connection leaves, or is due again, or waits for the system.
     fn settle_one(&mut self, key: usize, tick: u64) -> Result<(), AllocError> {
-        let Some(seat) = self.seats.get_mut(key) else {
-            return Ok(());
-        };
-        let Some(connection) = seat else {
+        let Some(connection) = self.seated(key) else {
             return Ok(());
         };
         if connection.is_done() {
@@ -188,22 +190,28 @@ impl House {
     }
 
     fn sweep_one(&mut self, key: usize, tick: u64, idle: Option<u64>) {
-        let Some(seat) = self.seats.get_mut(key) else {
-            return;
-        };
-        let Some(connection) = seat else {
+        let Some(connection) = self.seated(key) else {
             return;
         };
         let quiet = tick.saturating_sub(connection.since);
         let leaving = connection.wire.is_over() || connection.wire.is_ended();
         let most = if leaving { Some(FLUSH_TICKS) } else { idle };
-        if connection.stage == Stage::Idle && most.is_some_and(|most| most <= quiet) {
-            self.leave(key);
+        let idle = connection.stage == Stage::Idle;
+        match most {
+            Some(most) if idle && most <= quiet => self.leave(key),
+            _ => {}
         }
     }
 
     /// Whether replies wait to be sent to any.
     pub fn has_unsent(&self) -> bool {
-        self.seats.iter().any(|seat| seat.as_ref().is_some_and(|c| !c.wire.unsent().is_empty()))
+        for seat in &self.seats {
+            if let Some(connection) = seat {
+                if !connection.wire.unsent().is_empty() {
+                    return true;
+                }
+            }
+        }
+        false
     }
 }

@@ -6,7 +6,9 @@ use Rattle.clap.specs.declared.builder.command.Command.{Command}
 use Rattle.clap.specs.declared.builder.command.Command.TheViews.{out-Command}
 use Rattle.clap.specs.declared.builder.value_parser.ValueParser.TheVariants.{Unsigned}
 use Rattle.program_args.specs.declared.command_line.Choice.{Choice}
+use Rattle.program_args.specs.declared.command_line.Manual.{Manual}
 use Rattle.program_args.specs.declared.command_line.Subcommand.{Subcommand}
+use Rattle.program_args.specs.declared.command_line.Subcommand.TheVariants.{Play, Check, Migrate, Show, Draw, Serve, Host}
 use Rattle.program_args.specs.declared.command_line.Takes.{Takes}
 use Rattle.program_args.specs.declared.command_line.Takes.TheVariants.{Text, TextOr, Number, Needed, Nothing}
 
@@ -132,13 +134,22 @@ rule_taking name Nothing = flag name
 abbrev pub rule_for : Choice → Rule
 rule_for choice = rule_taking choice.name.now choice.takes
 
--- a command with an option of a table more, and a subcommand of a table with its options
+-- a command with an option of a table more, and a subcommand with the options of its table
 abbrev pub with_choice : App → Choice → App
 with_choice app choice = with_rule app (rule_for choice)
 
-abbrev pub subcommand_app : Subcommand → App
-subcommand_app sub = fold with_choice (new_app sub.name.now) sub.choices.now
+abbrev pub manual_app : Manual → App
+manual_app manual = fold with_choice (new_app manual.name.now) manual.choices.now
 
--- a program with a subcommand of a table more
+-- a subcommand, and a program with one more
+abbrev pub subcommand_app : Subcommand → App
+subcommand_app Play = play_app
+subcommand_app Check = check_app
+subcommand_app Migrate = migrate_app
+subcommand_app Show = show_app
+subcommand_app Draw = draw_app
+subcommand_app Serve = serve_app
+subcommand_app Host = host_app
+
 abbrev pub with_entry : App → Subcommand → App
 with_entry app sub = with_subcommand app (subcommand_app sub).top

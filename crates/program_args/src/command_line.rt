@@ -2,7 +2,7 @@
 
 ghost use Rattle.std.specs.Prelude.{◌≡◌, false, fold, IfOk};
 ghost use Rattle.clap.specs.Words.{App, app_of, rule_of};
-ghost use Rattle.program_args.specs.CommandLine.{IsCommandOf, chosen_option, flag, needed_option, number_option, rule_for, slotctl_app, subcommand_app, text_option, with_entry};
+ghost use Rattle.program_args.specs.CommandLine.{IsCommandOf, chosen_option, flag, manual_app, needed_option, number_option, rule_for, slotctl_app, subcommand_app, text_option, with_entry};
 
 use clap::builder::ValueParser;
 use clap::{Arg, ArgAction, Command};
@@ -32,9 +32,9 @@ struct Choice {
     help: &'static str,
 }
 
-/// A subcommand with its options, and two examples under its help.
+/// What the help tells of a subcommand: its name, its options, and two examples under them.
 #[derive(Clone, Copy, Drop)]
-struct Subcommand {
+struct Manual {
     name: &'static str,
     about: &'static str,
     examples: &'static str,
@@ -87,7 +87,7 @@ const PORT: Choice = Choice {
 };
 
 // `slotctl play`.
-const PLAY: Subcommand = Subcommand {
+const PLAY: Manual = Manual {
     name: "play",
     about: "Plays the commands of the standard input, and writes a reply to each",
     examples: "Examples:
@@ -107,7 +107,7 @@ const PLAY: Subcommand = Subcommand {
 };
 
 // `slotctl check`.
-const CHECK: Subcommand = Subcommand {
+const CHECK: Manual = Manual {
     name: "check",
     about: "Checks the record of the standard input, and writes its verdict",
     examples: "Examples:
@@ -117,7 +117,7 @@ const CHECK: Subcommand = Subcommand {
 };
 
 // `slotctl migrate`.
-const MIGRATE: Subcommand = Subcommand {
+const MIGRATE: Manual = Manual {
     name: "migrate",
     about: "Writes the record of the standard input again, in version 2",
     examples: "Examples:
@@ -127,7 +127,7 @@ const MIGRATE: Subcommand = Subcommand {
 };
 
 // `slotctl show`.
-const SHOW: Subcommand = Subcommand {
+const SHOW: Manual = Manual {
     name: "show",
     about: "Writes the record of the standard input as a page that shows its run",
     examples: "Examples:
@@ -148,7 +148,7 @@ const SHOW: Subcommand = Subcommand {
 };
 
 // `slotctl draw`.
-const DRAW: Subcommand = Subcommand {
+const DRAW: Manual = Manual {
     name: "draw",
     about: "Draws schedules, and writes one, or a line for each of many that are played",
     examples: "Examples:
@@ -187,7 +187,7 @@ const DRAW: Subcommand = Subcommand {
 };
 
 // `slotctl serve`.
-const SERVE: Subcommand = Subcommand {
+const SERVE: Manual = Manual {
     name: "serve",
     about: "Serves the commands of connections to 127.0.0.1, over one hall",
     examples: "Examples:
@@ -213,7 +213,7 @@ const SERVE: Subcommand = Subcommand {
 };
 
 // `slotctl host`.
-const HOST: Subcommand = Subcommand {
+const HOST: Manual = Manual {
     name: "host",
     about: "Hosts a hall: clients of a socket in one thread, with a journal or a log",
     examples: "Examples:
@@ -274,8 +274,45 @@ const HOST: Subcommand = Subcommand {
     ],
 };
 
+/// A subcommand.
+#[derive(Clone, Copy, Drop)]
+enum Subcommand {
+    Play,
+    Check,
+    Migrate,
+    Show,
+    Draw,
+    Serve,
+    Host,
+}
+
 // The subcommands, in the order of the help.
-const SUBCOMMANDS: &[Subcommand] = &[PLAY, CHECK, MIGRATE, SHOW, DRAW, SERVE, HOST];
+const SUBCOMMANDS: &[Subcommand] = &[
+    Subcommand::Play,
+    Subcommand::Check,
+    Subcommand::Migrate,
+    Subcommand::Show,
+    Subcommand::Draw,
+    Subcommand::Serve,
+    Subcommand::Host,
+];
+
+impl Subcommand {
+    // What the help tells of it. There is no table of these tables, since in the proof of a table each of its texts is looked up among all.
+    fn manual(self) -> Manual
+        ensures { manual_app result ≡ subcommand_app self }
+    {
+        match self {
+            Subcommand::Play => PLAY,
+            Subcommand::Check => CHECK,
+            Subcommand::Migrate => MIGRATE,
+            Subcommand::Show => SHOW,
+            Subcommand::Draw => DRAW,
+            Subcommand::Serve => SERVE,
+            Subcommand::Host => HOST,
+        }
+    }
+}
 
 // An option with a text.
 fn text_option<'a>(alloc: Global, name: &'a str, value: &'a str, help: &'a str) -> Arg<'a>
@@ -359,13 +396,13 @@ fn option_of<'a>(alloc: Global, choice: Choice) -> Arg<'a>
 }
 
 // A subcommand with its options, for clap.
-fn command_of<'a>(alloc: Global, subcommand: Subcommand) -> Result<Command<'a>, AllocError>
-    ensures { IfOk result (IsCommandOf (subcommand_app subcommand)) }
+fn command_of<'a>(alloc: Global, manual: Manual) -> Result<Command<'a>, AllocError>
+    ensures { IfOk result (IsCommandOf (manual_app manual)) }
 {
-    let mut command = Command::new(alloc, subcommand.name)
-        .about(subcommand.about)
-        .after_help(subcommand.examples);
-    for choice in subcommand.choices {
+    let mut command = Command::new(alloc, manual.name)
+        .about(manual.about)
+        .after_help(manual.examples);
+    for choice in manual.choices {
         command = command.arg(option_of(alloc, *choice))?;
     }
     Ok(command)
@@ -374,14 +411,15 @@ fn command_of<'a>(alloc: Global, subcommand: Subcommand) -> Result<Command<'a>, 
 // A program with these subcommands more, for clap.
 fn with_subcommands<'a>(
     alloc: Global,
-    program: Command<'a>,
+    mut program: Command<'a>,
     subcommands: &[Subcommand],
 ) -> Result<Command<'a>, AllocError>
     ensures { (app : App) → app_of program.entry ≡ app → IfOk result (λ c. app_of c ≡ fold with_entry app subcommands.now) }
 {
-    let mut program = program;
     for subcommand in subcommands {
-        let command = command_of(alloc, *subcommand)?;
+        let Ok(command) = command_of(alloc, subcommand.manual()) else {
+            return Err(AllocError);
+        };
         program = program.subcommand(command)?;
     }
     Ok(program)

@@ -14,7 +14,7 @@ pub loop-choice-preserved : goal.loop-choice-preserved
 loop-choice-preserved c =
     let was = c.loop-choice.invariant in
     let option = c.option_of.ensures in
-    let more = fold_more with_choice (new_app c.args.subcommand.name.now) c.args.subcommand.choices.now c.loop-choice.choice-index _ c.loop-choice-test.true in
+    let more = fold_more with_choice (new_app c.args.manual.name.now) c.args.manual.choices.now c.loop-choice.choice-index _ c.loop-choice-test.true in
     record {
       shape = c.in_ok-command.ensures.shape option.local ∙ ap₂ with_rule was.shape option.rule ∙ sym more;
       local = c.in_ok-command.ensures.globals ∙ ap₂ ◌||◌ was.local option.local;

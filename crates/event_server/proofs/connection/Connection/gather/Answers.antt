@@ -27,11 +27,11 @@ begins g c = elim c.match-self.branch [
 room_kept : (read items : List ℕ) (len : ℕ) → length read ≡ length items → len ≡ length items → length items ≡ 65536 → length (take len (read ++ drop (length read) items)) ≡ 65536
 room_kept read items len whole is long = rw (take_at read (drop (length read) items) len (whole ∙ sym is)) (whole ∙ long)
 
-pub returns-then-is_broken : goal.returns-then-is_broken
-returns-then-is_broken g c =
+pub returns-then-not-may_take : goal.returns-then-not-may_take
+returns-then-not-may_take g c =
     let left = g.S.Stream.left c.args.self.now.stream in
     let wire = c.args.self.now.wire in
-    let b = begins g (goal.at.returns-then-is_broken g c).After-self-1 in
+    let b = begins g (goal.at.returns-then-not-may_take g c).After-self-1 in
     let none = none_seen c.args.kind wire (Some c.match-self.look) b.bytes b.ends in
     record {
       gathers = gathers_none left left wire wire (Consumes-nil left) refl refl refl (λ h. (refl, h));

@@ -3,8 +3,8 @@ use Rattle.std.proofs.KnownBytes.{Consumes-nil}
 use Rattle.event_server.proofs.WireLemmas.{takes_idle, takes_some}
 use Rattle.event_server.proofs.connection.Connection.take.Goals as goal
 
-pub returns-then-is_broken : goal.returns-then-is_broken
-returns-then-is_broken g c = record {
+pub returns-then-not-may_take : goal.returns-then-not-may_take
+returns-then-not-may_take g c = record {
   takes = ([], refl, takes_idle _ _ c.args.self.now.wire (Consumes-nil (g.S.Stream.left c.args.self.now.stream)));
   unsent = refl;
   stage = refl;

@@ -6,8 +6,8 @@ use Rattle.event_server.proofs.connection.Connection.take_looked.Goals as goal
 pub returns-in_default-clause-takes : goal.returns-in_default-clause-takes
 returns-in_default-clause-takes g c = ([], refl, looked_nothing c.args.self.now.look (g.S.Stream.left c.args.self.now.stream) c.args.self.now.wire)
 
-pub returns-then-is_broken-clause-takes : goal.returns-then-is_broken-clause-takes
-returns-then-is_broken-clause-takes g c = ([], refl, looked_nothing c.args.self.now.look (g.S.Stream.left c.args.self.now.stream) c.args.self.now.wire)
+pub returns-then-not-may_take-clause-takes : goal.returns-then-not-may_take-clause-takes
+returns-then-not-may_take-clause-takes g c = ([], refl, looked_nothing c.args.self.now.look (g.S.Stream.left c.args.self.now.stream) c.args.self.now.wire)
 
 pub returns-then-may_read-clause-takes : goal.returns-then-may_read-clause-takes
 returns-then-may_read-clause-takes g c =
@@ -42,14 +42,14 @@ returns-in_default-clause-stage g c = refl
 pub returns-in_default-clause-room : goal.returns-in_default-clause-room
 returns-in_default-clause-room g c = c.requires.room
 
-pub returns-then-is_broken-clause-unsent : goal.returns-then-is_broken-clause-unsent
-returns-then-is_broken-clause-unsent g c = refl
+pub returns-then-not-may_take-clause-unsent : goal.returns-then-not-may_take-clause-unsent
+returns-then-not-may_take-clause-unsent g c = refl
 
-pub returns-then-is_broken-clause-stage : goal.returns-then-is_broken-clause-stage
-returns-then-is_broken-clause-stage g c = refl
+pub returns-then-not-may_take-clause-stage : goal.returns-then-not-may_take-clause-stage
+returns-then-not-may_take-clause-stage g c = refl
 
-pub returns-then-is_broken-clause-room : goal.returns-then-is_broken-clause-room
-returns-then-is_broken-clause-room g c = c.requires.room
+pub returns-then-not-may_take-clause-room : goal.returns-then-not-may_take-clause-room
+returns-then-not-may_take-clause-room g c = c.requires.room
 
 pub returns-then-may_read-clause-unsent : goal.returns-then-may_read-clause-unsent
 returns-then-may_read-clause-unsent g c = c.take_end.ensures.unsent

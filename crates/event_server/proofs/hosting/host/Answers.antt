@@ -1,6 +1,6 @@
 use Rattle.std.proofs.Common.{◌++◌, []}
 use contract.BorrowLft.{⊑_meet, ⊑_refl, ⊑_static}
-use Rattle.event_server.proofs.hosting.Hosting.run.Goals as goal
+use Rattle.event_server.proofs.hosting.host.Goals as goal
 
 pub into_iter-iterator-requires : goal.into_iter-iterator-requires
 into_iter-iterator-requires g c κs = λ within.

@@ -1,5 +1,0 @@
-use Rattle.event_server.specs.Rooms.{IsRoom}
-use Rattle.event_server.proofs.hosting.Hosting.finish.Given as goal
-
-abbrev pub invariant-loop : goal.invariant-loop
-invariant-loop g l = IsRoom l.room
