@@ -1,24 +1,11 @@
 -- one connection's turn after another
-use Rattle.std.proofs.Common.{◌≡◌, inl, inr, false, true, ℕ, ◌<◌, set, List, [], ◌++◌, length, get_or, Option, Some, None, Result, Ok, Err, OnOk, OnErr, IsErr, refl, sym, ap, subst, ◌∙◌}
+use Rattle.std.proofs.Common.{◌≡◌, inl, inr, ℕ, ◌<◌, set, List, [], ◌++◌, length, get_or, Option, Some, None, refl, sym, ap, subst, ◌∙◌}
 use Rattle.event_server.proofs.Common.{append-nil, get_or-set_same, get_or-set_other, length-set, cases_eq, eq-eqb, ne_eqb, ShownReply, Request, Runs, runs-append, all-append, all-tagged, of-append, of-same, of-other, Turn}
 use Rattle.std.proofs.KnownBytes.{Consumes-nil, Appends-nil}
 use Rattle.player.specs.Shared.{TurnLog, turns_of, all_turns, tagged}
 use Rattle.event_server.specs.Seats.{Seating, NoneSent, SeatTakes, SeatSends, SeatTurn, SeatSent, TurnsTaken, RepliesSent}
 use Rattle.event_server.specs.Wires.{TakesOf, SendsTo}
 use Rattle.event_server.proofs.WireLemmas.{takes_idle}
-
--- what holds holds at an error
-pub so_on_err : {T E : Type 0} (r : Result T E) (P : Type 0) → P → OnErr r P
-so_on_err (Ok x) P p = tt
-so_on_err (Err e) P p = p
-
--- an error is no answer
-pub ok_never : {T E : Type 0} (r : Result T E) (P : Type 0) → IsErr r → OnOk r P
-ok_never (Ok x) P err = absurd (let e : false ≡ true = err in cc)
-ok_never (Err e) P err = tt
-
-pub err_not_ok : {T E : Type 0} (r : Result T E) (x : T) → IsErr r → r ≡ Ok x → ⊥
-err_not_ok r x err same = let e : false ≡ true = subst (λ q. IsErr q) same err in cc
 
 some_same : {C : Type 0} (c d : C) → Some c ≡ Some d → c ≡ d
 some_same c d e = cc

@@ -209,15 +209,20 @@ pub fn turn_ahead<R, D: Service<R>, K: Keep<D>, S: Stream, A: Allocator, B: Allo
     let looked = gather(batch, room, seats, ready);
     let called = &ready[..looked];
     match learn(service, keep, batch) {
-        Ok(Ahead::Known) => {}
+        Ok(Ahead::Known) => {
+            take_looked(rt, service, room, seats, called);
+            match keep.keep(service) {
+                Ok(()) => {
+                    send_replies(seats, called);
+                    Ok(Called::Served(looked))
+                }
+                Err(fault) => Err(fault),
+            }
+        }
         Ok(Ahead::Lost) => {
             give_up(seats, called);
-            return Ok(Called::Unserved(looked));
+            Ok(Called::Unserved(looked))
         }
-        Err(fault) => return Err(fault),
+        Err(fault) => Err(fault),
     }
-    take_looked(rt, service, room, seats, called);
-    keep.keep(service)?;
-    send_replies(seats, called);
-    Ok(Called::Served(looked))
 }

@@ -172,7 +172,10 @@ impl Hosting {
         };
         let poll = Poll::new(rt)?;
         let listener = listen(rt, &poll, options.address)?;
-        let batch = most_ahead.map(|most| Batch::new(alloc, options.kind, most));
+        let batch = match most_ahead {
+            Some(most) => Some(Batch::new(alloc, options.kind, most)),
+            None => None,
+        };
         Ok(Hosting {
             alloc,
             options,
@@ -207,7 +210,8 @@ impl Hosting {
         ensures { IsRoom room.new }
     {
         self.wait(rt)?;
-        self.accept_all(errors)?;
+        self.accept_all()?;
+        self.tell_full(errors);
         self.tell_tick(service, keep)?;
         self.serve(rt, service, keep, room)?;
         if self.is_report_due() {
@@ -266,12 +270,12 @@ impl Hosting {
     }
 
     // Accepts who waits, as far as there is room.
-    fn accept_all<E: Write>(&mut self, errors: &mut E) -> Result<(), AllocError> {
+    fn accept_all(&mut self) -> Result<(), AllocError> {
         for _ in 0..MOST_ACCEPTS {
             if !self.can_accept() {
                 break;
             }
-            self.accept(errors)?;
+            self.accept()?;
         }
         Ok(())
     }
@@ -328,8 +332,8 @@ impl Hosting {
         }
     }
 
-    // Accepts one connection, if one waits. Where the system has no room for it, says so once, and waits until another leaves.
-    fn accept<E: Write>(&mut self, errors: &mut E) -> Result<(), AllocError> {
+    // Accepts one connection, if one waits. Where the system has no room for it, none is accepted until another leaves.
+    fn accept(&mut self) -> Result<(), AllocError> {
         match self.listener.accept() {
             Ok((stream, _)) => {
                 self.house.admit(self.alloc, &self.poll, self.options.kind, stream, self.tick)?;
@@ -337,16 +341,15 @@ impl Hosting {
             Err(e) => match e.kind() {
                 ErrorKind::WouldBlock => self.waiting = false,
                 ErrorKind::Interrupted | ErrorKind::ConnectionAborted => {}
-                _ => self.pause(errors),
+                _ => self.full = true,
             },
         }
         Ok(())
     }
 
-    // No more are accepted for now.
-    fn pause<E: Write>(&mut self, errors: &mut E) {
-        self.full = true;
-        if !self.said {
+    // Says once that no more are accepted for now.
+    fn tell_full<E: Write>(&mut self, errors: &mut E) {
+        if self.full && !self.said {
             self.said = true;
             let _ = errors.write_all(
                 b"slotctl: no room for more connections; those that wait are accepted as others leave\n",

@@ -106,7 +106,11 @@ pub fn turn<R, D: Service<R>, K: Keep<D>, S: Stream, A: Allocator, B: Allocator>
     ensures room { IsRoom room.new }
 {
     let called = take_turns(rt, service, keep, room, seats, ready);
-    keep.keep(service)?;
-    send_replies(seats, &ready[..called]);
-    Ok(called)
+    match keep.keep(service) {
+        Ok(()) => {
+            send_replies(seats, &ready[..called]);
+            Ok(called)
+        }
+        Err(fault) => Err(fault),
+    }
 }

@@ -63,14 +63,11 @@ impl<A: Allocator + Clone> Wire<A> {
         let Ok(for_inbox) = alloc.clone() else {
             return Err(NoMemory);
         };
-        let Ok(for_outbox) = alloc.clone() else {
-            return Err(NoMemory);
-        };
         let talker = Talker::new(for_line, kind)?;
         Ok(Wire {
             talker,
             inbox: Vec::new(for_inbox),
-            outbox: Vec::new(for_outbox),
+            outbox: Vec::new(alloc),
             ended: false,
             broken: false,
         })

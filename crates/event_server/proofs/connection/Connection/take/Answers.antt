@@ -32,3 +32,21 @@ returns-else-self g c = record {
   stage = refl;
   room = c.requires.room;
 }
+
+pub take-requires-clause-whole : goal.take-requires-clause-whole
+take-requires-clause-whole g c = c.if-not-may_take.ensures.whole refl
+
+pub take-requires-clause-few : goal.take-requires-clause-few
+take-requires-clause-few g c = omega (arith, c.if-has_input.ensures.few)
+
+pub take-requires-clause-count : goal.take-requires-clause-count
+take-requires-clause-count g c = c.if-not-may_take.ensures.count refl
+
+pub read-requires-clause-whole : goal.read-requires-clause-whole
+read-requires-clause-whole g c = c.if-not-may_take.ensures.whole refl
+
+pub read-requires-clause-reply : goal.read-requires-clause-reply
+read-requires-clause-reply g c = c.if-not-may_take.ensures.reply refl
+
+pub read-requires-clause-count : goal.read-requires-clause-count
+read-requires-clause-count g c = c.if-not-may_take.ensures.count refl
