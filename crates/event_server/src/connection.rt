@@ -63,6 +63,18 @@ fn read_into<S: Stream, B: Allocator>(stream: &mut S, room: &mut Room<B>) -> io:
     stream.read_some(&mut room.chunk)
 }
 
+// A read or a write did nothing: it may do something once the stream is told able again, or at once, or else the wire is at fault.
+fn note_fault<A: Allocator>(fault: &io::Error, able: &mut bool, wire: &mut Wire<A>)
+    ensures wire { wire.new ≡ record wire.old { broken = wire.new.broken } }
+    ensures whole { wire.new.broken ≡ false → wire.old.broken ≡ false }
+{
+    match fault.kind() {
+        ErrorKind::WouldBlock => *able = false,
+        ErrorKind::Interrupted => {}
+        _ => wire.fail(),
+    }
+}
+
 impl<S: Stream, A: Allocator> Connection<S, A> {
     /// A connection of which nothing was read.
     pub fn new(stream: S, wire: Wire<A>, since: u64) -> Connection<S, A>
@@ -185,7 +197,7 @@ impl<S: Stream, A: Allocator> Connection<S, A> {
                 .wire
                 .finish(rt, service, &mut room.view, &mut room.replies),
             Ok(_) => self.wire.fail(),
-            Err(fault) => self.note_fault(&fault),
+            Err(fault) => note_fault(&fault, &mut self.readable, &mut self.wire),
         }
     }
 
@@ -238,21 +250,6 @@ impl<S: Stream, A: Allocator> Connection<S, A> {
         self.readable = false;
         if let Some(look) = &mut self.look {
             look.at_end = true;
-        }
-    }
-
-    // A read gave nothing: it may give something later, or else it is at fault.
-    fn note_fault(&mut self, fault: &io::Error)
-        ensures wire { self.new.wire ≡ record self.old.wire { broken = self.new.wire.broken } }
-        ensures whole { self.new.wire.broken ≡ false → self.old.wire.broken ≡ false }
-        ensures stream { self.new.stream ≡ self.old.stream }
-        ensures stage { self.new.stage ≡ self.old.stage }
-        ensures look { self.new.look ≡ self.old.look }
-    {
-        match fault.kind() {
-            ErrorKind::WouldBlock => self.readable = false,
-            ErrorKind::Interrupted => {}
-            _ => self.wire.fail(),
         }
     }
 
@@ -323,7 +320,7 @@ impl<S: Stream, A: Allocator> Connection<S, A> {
                 self.readable = self.hung || count == free;
                 self.wire.add(&chunk[..count]);
             }
-            Err(fault) => self.note_fault(&fault),
+            Err(fault) => note_fault(&fault, &mut self.readable, &mut self.wire),
         }
     }
 
@@ -354,7 +351,7 @@ impl<S: Stream, A: Allocator> Connection<S, A> {
                     &mut room.replies,
                 );
             }
-            Err(fault) => self.note_fault(&fault),
+            Err(fault) => note_fault(&fault, &mut self.readable, &mut self.wire),
         }
     }
 
@@ -392,12 +389,8 @@ impl<S: Stream, A: Allocator> Connection<S, A> {
                 0
             }
             Ok(count) => count,
-            Err(e) => {
-                match e.kind() {
-                    ErrorKind::WouldBlock => self.writable = false,
-                    ErrorKind::Interrupted => {}
-                    _ => self.wire.fail(),
-                }
+            Err(fault) => {
+                note_fault(&fault, &mut self.writable, &mut self.wire);
                 0
             }
         }

@@ -12,14 +12,14 @@ returns-in-Err-clause-gathers g c =
     let left = g.S.Stream.left c.args.self.now.stream in
     let left' = g.S.Stream.left c.read_some.new.self in
     let is = c.note_fault.ensures.wire in
-    rw c.note_fault.ensures.stream (gathers_none left left' c.args.self.now.wire c.note_fault.new.self.wire (consumes_kept left left' c.in-Err.ensures.bytes) (ap (λ (q : WireState). q.talker) is) (ap (λ (q : WireState). q.outbox) is) (ap (λ (q : WireState). q.ended) is)
-    (λ h. (ap (λ (q : WireState). q.inbox) is, c.note_fault.ensures.whole h)))
+    gathers_none left left' c.args.self.now.wire c.note_fault.new.wire (consumes_kept left left' c.in-Err.ensures.bytes) (ap (λ (q : WireState). q.talker) is) (ap (λ (q : WireState). q.outbox) is) (ap (λ (q : WireState). q.ended) is)
+    (λ h. (ap (λ (q : WireState). q.inbox) is, c.note_fault.ensures.whole h))
 
 pub returns-in-Err-clause-look : goal.returns-in-Err-clause-look
-returns-in-Err-clause-look g c = rw c.note_fault.ensures.look (refl, refl, refl, refl)
+returns-in-Err-clause-look g c = (refl, refl, refl, refl)
 
 pub returns-in-Err-clause-unsent : goal.returns-in-Err-clause-unsent
-returns-in-Err-clause-unsent g c = ap (λ s. g.S.Stream.gone s) c.note_fault.ensures.stream ∙ c.read_some.ensures.same
+returns-in-Err-clause-unsent g c = c.read_some.ensures.same
 
 pub returns-in-Ok-eq0-clause-look : goal.returns-in-Ok-eq0-clause-look
 returns-in-Ok-eq0-clause-look g c = c.note_end.ensures.look
@@ -56,7 +56,7 @@ pub returns-in-Ok-eq0-clause-stage : goal.returns-in-Ok-eq0-clause-stage
 returns-in-Ok-eq0-clause-stage g c = ap (λ s. s.stage) c.note_end.ensures.same
 
 pub returns-in-Err-clause-stage : goal.returns-in-Err-clause-stage
-returns-in-Err-clause-stage g c = c.note_fault.ensures.stage
+returns-in-Err-clause-stage g c = refl
 
 pub returns-after-self-clause-stage : goal.returns-after-self-clause-stage
 returns-after-self-clause-stage g c = refl

@@ -11,8 +11,8 @@ returns-in-Err-clause-takes g c =
     let is = c.note_fault.ensures.wire in (
       [],
       refl,
-      rw c.note_fault.ensures.stream (takes_none left left' c.args.self.now.wire c.note_fault.new.self.wire (consumes_kept left left' c.in-Err.ensures.bytes) (ap (λ (q : WireState). q.talker) is) (ap (λ (q : WireState). q.ended) is)
-          (λ h. (ap (λ (q : WireState). q.inbox) is, ap (λ (q : WireState). q.outbox) is, c.note_fault.ensures.whole h))),
+      takes_none left left' c.args.self.now.wire c.note_fault.new.wire (consumes_kept left left' c.in-Err.ensures.bytes) (ap (λ (q : WireState). q.talker) is) (ap (λ (q : WireState). q.ended) is)
+          (λ h. (ap (λ (q : WireState). q.inbox) is, ap (λ (q : WireState). q.outbox) is, c.note_fault.ensures.whole h)),
     )
 
 pub returns-after-self-clause-takes : goal.returns-after-self-clause-takes
@@ -50,7 +50,7 @@ pub returns-in-Ok-eq0-clause-unsent : goal.returns-in-Ok-eq0-clause-unsent
 returns-in-Ok-eq0-clause-unsent g c = c.read_into.ensures.same
 
 pub returns-in-Err-clause-unsent : goal.returns-in-Err-clause-unsent
-returns-in-Err-clause-unsent g c = ap (λ s. g.S.Stream.gone s) c.note_fault.ensures.stream ∙ c.read_into.ensures.same
+returns-in-Err-clause-unsent g c = c.read_into.ensures.same
 
 pub returns-in-Ok-eq0-clause-stage : goal.returns-in-Ok-eq0-clause-stage
 returns-in-Ok-eq0-clause-stage g c = refl
@@ -59,4 +59,4 @@ pub returns-after-self-clause-stage : goal.returns-after-self-clause-stage
 returns-after-self-clause-stage g c = refl
 
 pub returns-in-Err-clause-stage : goal.returns-in-Err-clause-stage
-returns-in-Err-clause-stage g c = c.note_fault.ensures.stage
+returns-in-Err-clause-stage g c = refl

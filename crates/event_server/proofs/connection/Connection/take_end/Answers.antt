@@ -22,7 +22,7 @@ pub returns-in-Err-clause-takes : goal.returns-in-Err-clause-takes
 returns-in-Err-clause-takes g c =
     let left = g.S.Stream.left c.args.self.now.stream in
     let left' = g.S.Stream.left c.read_into.new.stream in
-    ([], refl, rw c.note_fault.ensures.stream (takes_no_end left left' c.args.self.now.wire c.note_fault.new.self.wire (consumes_kept left left' c.in-Err.ensures.bytes) c.note_fault.ensures.wire c.note_fault.ensures.whole))
+    ([], refl, takes_no_end left left' c.args.self.now.wire c.note_fault.new.wire (consumes_kept left left' c.in-Err.ensures.bytes) c.note_fault.ensures.wire c.note_fault.ensures.whole)
 
 pub returns-in-Ok-eq0-clause-room : goal.returns-in-Ok-eq0-clause-room
 returns-in-Ok-eq0-clause-room g c = (c.read_into.ensures.room.0, c.finish.ensures.empty)
@@ -40,4 +40,4 @@ pub returns-in-Ok-clause-unsent : goal.returns-in-Ok-clause-unsent
 returns-in-Ok-clause-unsent g c = c.read_into.ensures.same
 
 pub returns-in-Err-clause-unsent : goal.returns-in-Err-clause-unsent
-returns-in-Err-clause-unsent g c = ap (λ s. g.S.Stream.gone s) c.note_fault.ensures.stream ∙ c.read_into.ensures.same
+returns-in-Err-clause-unsent g c = c.read_into.ensures.same
