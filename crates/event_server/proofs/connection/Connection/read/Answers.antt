@@ -1,4 +1,4 @@
-use Rattle.std.proofs.Common.{rules, ◌≤◌, ◌∙◌, [], length, take, refl, ap}
+use Rattle.std.proofs.Common.{rules, ◌≤◌, [], length, take, refl, ap}
 use Rattle.std.specs.Io.KnownBytes.{Consumes, IsAtEnd}
 use Rattle.event_server.specs.WireState.{WireState}
 use Rattle.event_server.proofs.WireLemmas.{takes_at_end, takes_none, takes_some, consumes_kept}
