@@ -196,9 +196,9 @@ impl House {
         let quiet = tick.saturating_sub(connection.since);
         let leaving = connection.wire.is_over() || connection.wire.is_ended();
         let most = if leaving { Some(FLUSH_TICKS) } else { idle };
-        let idle = connection.stage == Stage::Idle;
+        let rests = connection.stage == Stage::Idle;
         match most {
-            Some(most) if idle && most <= quiet => self.leave(key),
+            Some(most) if rests && most <= quiet => self.leave(key),
             _ => {}
         }
     }

@@ -417,9 +417,7 @@ fn with_subcommands<'a>(
     ensures { (app : App) → app_of program.entry ≡ app → IfOk result (λ c. app_of c ≡ fold with_entry app subcommands.now) }
 {
     for subcommand in subcommands {
-        let Ok(command) = command_of(alloc, subcommand.manual()) else {
-            return Err(AllocError);
-        };
+        let command = command_of(alloc, subcommand.manual())?;
         program = program.subcommand(command)?;
     }
     Ok(program)
