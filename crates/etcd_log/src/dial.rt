@@ -31,11 +31,12 @@ impl<'r, R: Net> TcpDial<'r, R> {
     }
 }
 
-// Sets that a stream sends at once, and that each of its reads and writes has so long, and tells whether it could.
-fn is_set<S: OpenStream>(stream: &S, wait: Duration) -> bool {
-    stream.set_nodelay(true).is_ok()
+// A stream that sends at once, and each of whose reads and writes has so long. None where that could not be set.
+fn prepared<S: OpenStream + Drop>(stream: S, wait: Duration) -> Option<S> {
+    let is_set = stream.set_nodelay(true).is_ok()
         && stream.set_read_timeout(Some(wait)).is_ok()
-        && stream.set_write_timeout(Some(wait)).is_ok()
+        && stream.set_write_timeout(Some(wait)).is_ok();
+    is_set.then_some(stream)
 }
 
 impl<'r, R: Net> Dial for TcpDial<'r, R> {
@@ -46,11 +47,10 @@ impl<'r, R: Net> Dial for TcpDial<'r, R> {
     }
 
     fn dial(&mut self, member: usize) -> Option<R::Stream> {
-        let address = *self.members.get(member)?;
-        let stream = TcpStream::connect_timeout(self.rt, &address, self.wait).ok()?;
-        if !is_set(&stream, self.wait) {
-            return None;
+        let address = self.members.get(member)?;
+        match TcpStream::connect_timeout(self.rt, address, self.wait) {
+            Ok(stream) => prepared(stream, self.wait),
+            Err(_) => None,
         }
-        Some(stream)
     }
 }

@@ -34,9 +34,8 @@ enum Next {
     Nothing,
 }
 
-// The bytes of a request.
-fn request_text(alloc: Global, client: &mut Client, target: &[u8], body: &[u8]) -> Option<Vec<u8>> {
-    let mut output = Vec::new(alloc);
+// Appends the bytes of a request, and tells whether there was room.
+fn put_request(output: &mut Vec<u8>, client: &mut Client, target: &[u8], body: &[u8]) -> bool {
     let headers = [
         Header {
             name: b"host",
@@ -49,11 +48,10 @@ fn request_text(alloc: Global, client: &mut Client, target: &[u8], body: &[u8]) 
     ];
     let size = BodySize::Known(body.len() as u64);
     client
-        .write_request(&mut output, b"POST", target, &headers, size)
-        .ok()?;
-    client.write_data(&mut output, body).ok()?;
-    client.write_end(&mut output, &[]).ok()?;
-    Some(output)
+        .write_request(output, b"POST", target, &headers, size)
+        .is_ok()
+        && client.write_data(output, body).is_ok()
+        && client.write_end(output, &[]).is_ok()
 }
 
 // Reads an event of the bytes that are unread, and tells how many it took.
@@ -150,9 +148,10 @@ pub fn exchange<S: Read + Write>(
 ) -> Result<Response, StoreFault>
     ensures { IfErr result IsOverNetwork }
 {
-    let Some(output) = request_text(alloc, client, target, body) else {
+    let mut output = Vec::new(alloc);
+    if !put_request(&mut output, client, target, body) {
         return Err(StoreFault::Memory);
-    };
+    }
     if stream.write_all(&output).is_err() {
         return Err(StoreFault::Lost);
     }
