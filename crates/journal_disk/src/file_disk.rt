@@ -95,13 +95,24 @@ fn locked<R: Files<File = File>>(rt: &R, path: &str) -> Result<File, FileFault> 
     }
 }
 
-/// A file of this path with these bytes, all of them surely there, and locked; what was in it is gone.
-fn written<R: Files<File = File>>(rt: &R, path: &str, bytes: &[u8]) -> io::Result<File> {
-    let mut file = opened(rt, path)?;
-    File::try_lock(&file)?;
-    File::set_len(&file, 0)?;
+/// Locks a file and puts these bytes in place of all that was in it, so that they are surely there.
+fn fill(file: &mut File, bytes: &[u8]) -> io::Result<()> {
+    File::try_lock(file)?;
+    File::set_len(file, 0)?;
     file.write_all(bytes)?;
-    File::sync_all(&file)?;
+    File::sync_all(file)
+}
+
+/// A file with these bytes, all of them surely there, and locked, which was written at one path and then put in place of what another names.
+fn put_in_place<R: Files<File = File>>(
+    rt: &R,
+    beside: &str,
+    path: &str,
+    bytes: &[u8],
+) -> io::Result<File> {
+    let mut file = opened(rt, beside)?;
+    fill(&mut file, bytes)?;
+    fs::rename(rt, beside, path)?;
     Ok(file)
 }
 
@@ -146,9 +157,7 @@ impl<R: Files<File = File> + Drop> Disk for FileDisk<R> {
     /// A file of that name that a crash left is written over.
     fn replace(&mut self, alloc: Global, bytes: &[u8]) -> Result<(), DiskFault> {
         let beside = format!(in alloc; "{}.new", self.path)?;
-        let file = told(written(&self.files, &beside, bytes))?;
-        told(fs::rename(&self.files, &beside, &self.path))?;
-        self.file = file;
+        self.file = told(put_in_place(&self.files, &beside, &self.path, bytes))?;
         told(sync_folder(&self.files, &self.path))
     }
 
