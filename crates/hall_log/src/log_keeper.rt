@@ -30,7 +30,6 @@ const MOST_TRIES: u32 = 1_000_000;
 const TICK_ENTRIES: u64 = 10_000;
 
 /// Serves the clients of one front end over a log: what they ask for comes to stand in the log before it is answered.
-#[derive(Drop)]
 pub struct LogKeeper<S: Store, T: Pause> {
     alloc: Global,
     log: LogHall<S>,
@@ -39,6 +38,20 @@ pub struct LogKeeper<S: Store, T: Pause> {
     count: u64,
     pause: T,
     ghost one_line: { All (λ b. b ≢ 10) token },
+}
+
+// By hand, so that a keeper is taken apart here alone, and not wherever one is dropped.
+impl<S: Store + Drop, T: Pause + Drop> Drop for LogKeeper<S, T> {
+    fn drop(self) {
+        let LogKeeper {
+            alloc: _,
+            log: _,
+            batch: _,
+            token: _,
+            count: _,
+            pause: _,
+        } = self;
+    }
 }
 
 // A digit below 16.
@@ -126,8 +139,10 @@ impl<S: Store + Drop, T: Pause + Drop> LogKeeper<S, T> {
             count: 0,
             pause,
         };
-        keeper.start(line.as_bytes())?;
-        Ok(keeper)
+        match keeper.start(line.as_bytes()) {
+            Ok(()) => Ok(keeper),
+            Err(fault) => Err(fault),
+        }
     }
 }
 

@@ -109,11 +109,7 @@ impl HallMachine {
             &mut self.replies,
             behind_first_line(entry),
         );
-        if self.noting.is_lost() {
-            return Err(AllocError);
-        }
-        self.noting.put_on(tape);
-        Ok(())
+        self.noting.put_on(tape)
     }
 }
 

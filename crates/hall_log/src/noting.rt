@@ -1,6 +1,6 @@
 //! A hall of which each answer is noted.
 
-ghost use Rattle.std.specs.Prelude.{◌≡◌, ◌≢◌, ◌∷◌, ◌++◌, [], true, false, IfOk, map};
+ghost use Rattle.std.specs.Prelude.{◌≡◌, ◌≢◌, ◌∷◌, ◌++◌, [], true, false, IfOk, OnOk, map};
 ghost use Rattle.step_memory.specs.declared.refusal.Refusal.TheVariants as refusal;
 ghost use Rattle.commands.specs.declared.reply.Reply.TheVariants as replies;
 ghost use Rattle.commands.specs.Replies.{with_view};
@@ -13,7 +13,7 @@ use crate::tape::Tape;
 use commands::{Config, Event, Reply};
 use hall::Hall;
 use player::Service;
-use std::alloc::Global;
+use std::alloc::{AllocError, Global};
 use std::marker::Model;
 use step_memory::{Refusal, View};
 
@@ -58,13 +58,6 @@ impl Noting {
         &self.hall
     }
 
-    /// Whether memory was refused.
-    pub(crate) fn is_lost(&self) -> bool
-        ensures { result ≡ self.now.lost }
-    {
-        self.lost
-    }
-
     /// Nothing is noted so far.
     pub(crate) fn begin(&mut self)
         ensures { self.new ≡ record { hall = self.old.hall; said = []; lost = false } }
@@ -73,12 +66,16 @@ impl Noting {
         self.lost = false;
     }
 
-    /// Has a tape say what was noted.
-    pub(crate) fn put_on(&mut self, tape: &mut Tape)
-        ensures tape { tape.new ≡ tape_of self.old.said }
+    /// Has a tape say what was noted; an error where memory was refused.
+    pub(crate) fn put_on(&mut self, tape: &mut Tape) -> Result<(), AllocError>
+        ensures told { OnOk result ((tape.new ≡ tape_of self.old.said) × (self.old.lost ≡ false)) }
         ensures hall { self.new.hall ≡ self.old.hall }
     {
+        if self.lost {
+            return Err(AllocError);
+        }
         tape.take_notes(&mut self.notes);
+        Ok(())
     }
 
     // Notes a request, and the reply to it with the view beside it.

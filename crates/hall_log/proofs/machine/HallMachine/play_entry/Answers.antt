@@ -1,5 +1,6 @@
 -- The lines of the entry were played with no growth refused.
 use Rattle.std.proofs.Common.{◌∙◌, List, [], ℕ, false, ap, sym, subst}
+use Rattle.std.proofs.lemmas.Result.{on_ok_weaker}
 use Rattle.hall_log.proofs.Common.{Config, WorldKind, HallState, HallApplies, TakesBytes, NotingState, NotingSays, TapeState}
 use Rattle.player.specs.Says.{IsSilent}
 use Rattle.hall_log.proofs.Plays.{applied}
@@ -14,5 +15,7 @@ returns c =
     let world = ap (λ (g : Config). g.world) (c.config-kind.ensures.config ∙ ap (λ (s : HallState). s.config) (c.hall.ensures ∙ c.self.view_is)) in
     let silent = subst (λ (k : WorldKind). IsSilent k c.in-Ok.talker) world c.in-Ok.ensures in
     let takes = subst (λ (l : List ℕ). TakesBytes NotingSays c.begin.new.self c.in-Ok.talker l u c.play.new.talker) c.behind_first_line.ensures c.play.ensures in
-    let all = applied h entry c.in-Ok.talker c.play.new.talker c.begin.new.self u begun silent takes (sym c.is_lost.ensures ∙ c.if-is_lost.false) in
-    subst (λ (s : HallState). HallApplies h entry c.put_on.new.tape s) (sym c.put_on.ensures.hall) (subst (λ (t : TapeState). HallApplies h entry t u.hall) (sym c.put_on.ensures.tape) all)
+    on_ok_weaker c.put_on.result (
+    λ told.
+    let all = applied h entry c.in-Ok.talker c.play.new.talker c.begin.new.self u begun silent takes told.1 in
+    subst (λ (s : HallState). HallApplies h entry c.put_on.new.tape s) (sym c.put_on.ensures.hall) (subst (λ (t : TapeState). HallApplies h entry t u.hall) (sym told.0) all)) c.put_on.ensures.told
