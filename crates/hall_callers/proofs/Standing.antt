@@ -1,6 +1,7 @@
 -- what callers kept stands in the history, which goes on
-use Rattle.std.proofs.Common.{◌≡◌, ℕ, ◌+◌, ◌<◌, ◌≤◌, Bool, true, false, cond, List, [], ◌∷◌, ◌++◌, All, length, Some, slice_get, refl, sym, ap, subst, ◌∙◌, arith, length-append}
+use Rattle.std.proofs.Common.{◌≡◌, ℕ, ◌+◌, ◌<◌, ◌≤◌, Bool, true, false, cond, List, [], ◌∷◌, ◌++◌, All, length, Some, slice_get, refl, sym, ap, subst, ◌∙◌, arith, length-append, replicate}
 use Rattle.hall_callers.proofs.Common.{slice_get_within, Config, Event, Exchange, exchange, ShownReply, is_refusal, Kept, CallerState, hall_of, IsLawful, HallMay, HallState, kept_of, Fits, KeepsUnless, IsTaken, IsSound}
+use Rattle.std.proofs.lemmas.List.{replicate_more}
 use Rattle.std.proofs.lemmas.List.Elements.{All-push, All-weaker}
 use mathlib.Core.List.{IsPrefix}
 use Rattle.history_book.proofs.Fronts.{prefix_trans, prefix_get, prefix_length}
@@ -19,6 +20,14 @@ above_all history ks fits = All-weaker (λ (k : Kept). slice_get history k.place
 -- what stands in a prefix stands in the whole
 pub fits_longer : (xs ys : List Exchange) (ks : List Kept) → IsPrefix xs ys → Fits xs ks → Fits ys ks
 fits_longer xs ys ks longer fits = All-weaker (λ (k : Kept). slice_get xs k.place ≡ Some k.exchange) (λ (k : Kept). slice_get ys k.place ≡ Some k.exchange) (λ k is. prefix_get xs ys k.place k.exchange longer is) ks fits
+
+-- one more stands behind a list that is another
+pub one_more : {A : Type 0} (xs front new : List A) (x : A) → front ≡ xs → new ≡ front ++ x ∷ [] → new ≡ xs ++ x ∷ []
+one_more xs front new x same more = more ∙ ap (λ l. l ++ x ∷ []) same
+
+-- and one more mark that is clear behind so many
+pub one_clear : (n m : ℕ) (marks new : List Bool) → marks ≡ replicate n false → m ≡ n + 1 → new ≡ marks ++ false ∷ [] → new ≡ replicate m false
+one_clear n m marks new clear many more = one_more (replicate n false) marks new false clear more ∙ replicate_more n false ∙ ap (λ (k : ℕ). replicate k false) (sym many)
 
 -- the entry behind a list stands at its length
 stands_last : (xs : List Exchange) (x : Exchange) → slice_get (xs ++ x ∷ []) (length xs) ≡ Some x

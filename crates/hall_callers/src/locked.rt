@@ -12,7 +12,7 @@ ghost use Rattle.hall_callers.specs.Kepts.{IsNew, IsOpened, IsTaken, IsTold};
 use crate::act::Act;
 use crate::kept_log::KeptLog;
 use crate::parts::{Clerk, LockName, Locked, MOST_CALLERS, Session};
-use crate::telling::{Told, begins, tell};
+use crate::telling::{Told, show, tell};
 use commands::{Config, Event, Exchange, Reply};
 use hall::Hall;
 use history_book::{Front, Opened};
@@ -124,8 +124,7 @@ impl<L: LockName> Locked<L> {
             share,
             seen,
         } = clerk;
-        begins(rt, front, seen);
-        *seen = front.again();
+        show(rt, front, seen);
         let place = hall.len();
         if let Some(refusal) = refusal_of(hall, kept, marks, event) {
             return Reply::Refused(refusal);
@@ -134,8 +133,7 @@ impl<L: LockName> Locked<L> {
         if reply.is_refusal() {
             return reply;
         }
-        tell(rt, book, front, &Told { event, reply, view });
-        *seen = front.again();
+        tell(rt, book, front, seen, &Told { event, reply, view });
         count.add(share, 1);
         kept.push_reserved(place, event, reply, view);
         marks.push_reserved(false);
@@ -213,9 +211,8 @@ impl<L: LockName> Locked<L> {
     pub fn tell_owner<R: Wait>(&self, rt: &R, clerk: &mut Clerk<L>, number: u64) -> Reply<View>
         ensures { IsTold L.config clerk.old number result clerk.new }
     {
-        begins(rt, &self.front, &clerk.seen);
+        show(rt, &self.front, &mut clerk.seen);
         let _ = self.hall.len();
-        clerk.seen = self.front.again();
         self.hall.owner(number)
     }
 

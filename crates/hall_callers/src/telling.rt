@@ -37,34 +37,45 @@ impl<'a> Plain<Told<'a>, Exchange, u64> for Telling {
     ghost state = { λ t. None };
 }
 
-/// Adds an event with its reply to the history.
-pub(crate) fn tell<L: LockName, R: Wait>(
-    rt: &R,
-    book: &Book<L, Exchange>,
-    front: &mut Front<L, Exchange>,
-    told: &Told<'_>,
-)
-    requires { length front.old < 2 ^ 62 }
-    ensures { front.new ≡ front.old ++ exchange told.now.event (with_view told.now.reply told.now.view.now) ∷ [] }
+/// Waits for ever.
+fn wait<R: Wait>(rt: &R)
+    ensures { ⊥ }
 {
-    if front.add::<Told<'_>, Telling>(book, told) {
-        return;
-    }
     for _ in rt.forever() {}
     unreachable!()
 }
 
-/// Sees that the history begins with what a caller has seen.
-pub(crate) fn begins<L: LockName, R: Wait>(
+/// Adds an event with its reply to the history, of which a caller has then seen all.
+pub(crate) fn tell<L: LockName, R: Wait>(
     rt: &R,
-    front: &Front<L, Exchange>,
-    seen: &Front<L, Exchange>,
+    book: &Book<L, Exchange>,
+    front: &mut Front<L, Exchange>,
+    seen: &mut Front<L, Exchange>,
+    told: &Told<'_>,
 )
-    ensures { IsPrefix seen.now front.now }
+    requires { length front.old < 2 ^ 62 }
+    ensures told { front.new ≡ front.old ++ exchange told.now.event (with_view told.now.reply told.now.view.now) ∷ [] }
+    ensures seen { seen.new ≡ front.new }
 {
-    if front.begins_with(seen) {
+    if front.add::<Told<'_>, Telling>(book, told) {
+        *seen = front.again();
         return;
     }
-    for _ in rt.forever() {}
-    unreachable!()
+    wait(rt);
+}
+
+/// Has a caller see all of the history, which begins with what it has seen.
+pub(crate) fn show<L: LockName, R: Wait>(
+    rt: &R,
+    front: &Front<L, Exchange>,
+    seen: &mut Front<L, Exchange>,
+)
+    ensures begins { IsPrefix seen.old front.now }
+    ensures seen { seen.new ≡ front.now }
+{
+    if front.begins_with(seen) {
+        *seen = front.again();
+        return;
+    }
+    wait(rt);
 }

@@ -11,7 +11,7 @@ invariant_of-clerk g c =
     let k = c.clerk.inside in
     let inv = c.clerk.invariant in
     let old = c.args.self.now in
-    let s = stands_answered g.L.LockName.config old.hall k.seen old.front c.again.result k.kept.items k.next old.config c.len.ensures.lawful old.whole c.begins.ensures c.again.ensures inv.4 inv.3 in
+    let s = stands_answered g.L.LockName.config old.hall k.seen old.front c.show.new.seen k.kept.items k.next old.config c.len.ensures.lawful old.whole c.show.ensures.begins c.show.ensures.seen inv.4 inv.3 in
     (inv.0, inv.1, inv.2, s.within, s.fits, s.lawful)
 
 pub returns : goal.returns
@@ -20,11 +20,11 @@ returns g c =
     let k = c.clerk.inside in
     let inv = c.clerk.invariant in
     let d = g.L.LockName.config in
-    let s = stands_answered d old.hall k.seen old.front c.again.result k.kept.items k.next old.config c.len.ensures.lawful old.whole c.begins.ensures c.again.ensures inv.4 inv.3 in
-    let same : hall_of d c.again.result ≡ old.hall = ap (hall_of d) (c.again.ensures ∙ old.whole) ∙ ap (λ (e : Config). hall_of e old.hall.history) (sym old.config) in
-    subst (λ (v : CallerState). IsTold d v c.args.number c.owner.result (caller_of k.kept.items c.again.result)) c.clerk.view_is (record {
+    let s = stands_answered d old.hall k.seen old.front c.show.new.seen k.kept.items k.next old.config c.len.ensures.lawful old.whole c.show.ensures.begins c.show.ensures.seen inv.4 inv.3 in
+    let same : hall_of d c.show.new.seen ≡ old.hall = ap (hall_of d) (c.show.ensures.seen ∙ old.whole) ∙ ap (λ (e : Config). hall_of e old.hall.history) (sym old.config) in
+    subst (λ (v : CallerState). IsTold d v c.args.number c.owner.result (caller_of k.kept.items c.show.new.seen)) c.clerk.view_is (record {
       lawful = s.lawful;
-      longer = subst (IsPrefix k.seen) (sym c.again.ensures) c.begins.ensures;
+      longer = subst (IsPrefix k.seen) (sym c.show.ensures.seen) c.show.ensures.begins;
       answer = c.owner.ensures.value ∙ ap (λ (h : HallState). owner_reply (desk_of h) c.args.number) (sym same);
       same = refl;
       stands = s.fits;
