@@ -139,34 +139,31 @@ fn host_unrecorded<R: Net + Wait + Clock, W: Write, E: Write>(
     Ok(())
 }
 
-// Opens the log of a plan: all that stands in it is applied to a hall.
-fn open_log<'r, R: Net + Clock + Files<File = File>>(
+// The store in which the log of a plan stands.
+fn store_of<'r, R: Net>(
     rt: &'r R,
     alloc: Global,
-    config: Config,
     log: LogPlan<'_>,
-) -> Result<LogKeeper<EtcdStore<TcpDial<'r, R>>, Patience<'r, R>>, HostFailure> {
+) -> Result<EtcdStore<TcpDial<'r, R>>, HostFailure> {
     let members = members_of(alloc, log.members)?;
-    let token = fresh_token(rt)?;
     let Ok(prefix) = String::from_str(alloc, log.prefix) else {
         return Err(HostFailure::Memory);
     };
     let dial = TcpDial::new(rt, members, Duration::from_secs(MEMBER_SECONDS));
-    let store = EtcdStore::new(alloc, dial, prefix);
-    followed(alloc, store, Patience::new(rt, log.patience), config, token)
+    Ok(EtcdStore::new(alloc, dial, prefix))
 }
 
-// Opens the hall of a log, whatever that stands in.
-fn followed<S: Store + Drop, P: Pause + Drop>(
+// Opens the hall of a log, whatever that stands in: all that stands there is applied.
+fn followed<R: Files<File = File>, S: Store + Drop, P: Pause + Drop>(
+    rt: &R,
     alloc: Global,
+    config: Config,
     store: S,
     pause: P,
-    config: Config,
-    token: [u8; 32],
 ) -> Result<LogKeeper<S, P>, HostFailure> {
-    match LogKeeper::open(alloc, store, pause, config, token) {
-        Ok(keeper) => Ok(keeper),
-        Err(fault) => Err(HostFailure::from(fault)),
+    match fresh_token(rt) {
+        Ok(token) => Ok(LogKeeper::open(alloc, store, pause, config, token)?),
+        Err(failure) => Err(failure),
     }
 }
 
@@ -182,26 +179,33 @@ fn host_log<R, W: Write, E: Write>(
 where
     R: Net + Wait + Clock + Files<File = File>,
 {
-    match open_log(rt, alloc, plan.config, log) {
-        Ok(keeper) => host_followed(rt, alloc, plan, keeper, output, errors),
+    let pause = Patience::new(rt, log.patience);
+    match store_of(rt, alloc, log) {
+        Ok(store) => host_followed(rt, alloc, plan, store, pause, output, errors),
         Err(failure) => Err(failure),
     }
 }
 
-// Serves what a keeper follows, whatever its log stands in: it takes the keeper, which whoever opened it would have to take apart.
-fn host_followed<R: Net + Wait + Clock, S: Store + Drop, P: Pause + Drop, W: Write, E: Write>(
+// Serves what follows a log, whatever that stands in: a proof over a store in etcd is long.
+fn host_followed<R, S: Store + Drop, P: Pause + Drop, W: Write, E: Write>(
     rt: &R,
     alloc: Global,
     plan: &HostPlan<'_>,
-    keeper: LogKeeper<S, P>,
+    store: S,
+    pause: P,
     output: &mut W,
     errors: &mut E,
-) -> Result<(), HostFailure> {
-    let mut keeper = keeper;
-    host_kept(rt, alloc, plan, &mut keeper, output, errors)
+) -> Result<(), HostFailure>
+where
+    R: Net + Wait + Clock + Files<File = File>,
+{
+    match followed(rt, alloc, plan.config, store, pause) {
+        Ok(mut keeper) => host_kept(rt, alloc, plan, &mut keeper, output, errors),
+        Err(failure) => Err(failure),
+    }
 }
 
-// The same, of a keeper that is lent.
+// The same, of a keeper that is lent: what owns one takes it apart at each way out.
 fn host_kept<R: Net + Wait + Clock, S: Store, P: Pause, W: Write, E: Write>(
     rt: &R,
     alloc: Global,
@@ -223,19 +227,26 @@ pub fn export_hall<R: Net + Clock + Files<File = File>, W: Write>(
     log: LogPlan<'_>,
     output: &mut W,
 ) -> Result<(), HostFailure> {
-    match open_log(rt, alloc, config, log) {
-        Ok(keeper) => export_kept(alloc, keeper, output),
+    let pause = Patience::new(rt, log.patience);
+    match store_of(rt, alloc, log) {
+        Ok(store) => export_followed(rt, alloc, config, store, pause, output),
         Err(failure) => Err(failure),
     }
 }
 
-// Writes the events of the hall that a keeper follows, whatever its log stands in.
-fn export_kept<S: Store + Drop, P: Pause + Drop, W: Write>(
+// Writes the events of the hall of a log, whatever that stands in.
+fn export_followed<R: Files<File = File>, S: Store + Drop, P: Pause + Drop, W: Write>(
+    rt: &R,
     alloc: Global,
-    keeper: LogKeeper<S, P>,
+    config: Config,
+    store: S,
+    pause: P,
     output: &mut W,
 ) -> Result<(), HostFailure> {
-    write_events(alloc, keeper.hall(), output)
+    match followed(rt, alloc, config, store, pause) {
+        Ok(keeper) => write_events(alloc, keeper.hall(), output),
+        Err(failure) => Err(failure),
+    }
 }
 
 /// Serves a hall to clients until standard input ends where that is a pipe, or else until the program is killed.
