@@ -6,11 +6,11 @@ use crate::keepers::{Recorded, Unrecorded};
 use crate::log_plan::{LogPlan, MEMBER_SECONDS, Patience, fresh_token, members_of};
 use commands::Config;
 use etcd_log::{EtcdStore, TcpDial};
-use event_server::{HostOptions, host};
+use event_server::{HostFault, HostOptions, host};
 use hall::Hall;
 use hall_compaction::Compactor;
 use hall_log::{LogKeeper, Pause, Tape};
-use journal::{Chronicle, Journal, Opened};
+use journal::{Journal, Opened};
 use journal_disk::{Disk, FileDisk};
 use one_log::Store;
 use std::alloc::{AllocGlobal, Global};
@@ -87,16 +87,10 @@ fn host_journal<R, W: Write, E: Write>(
 where
     R: Net + Wait + Clock + Files<File = File> + AllocGlobal + Copy + Drop,
 {
-    let Opened {
-        journal,
-        mut chronicle,
-    } = open_journal(rt, alloc, plan.config, path)?;
-    let mut keeper = Recorded {
-        journal,
-        alloc,
-        compactor: Compactor::new(),
-    };
-    host_recorded(rt, alloc, plan, &mut chronicle, &mut keeper, output, errors)
+    match open_journal(rt, alloc, plan.config, path) {
+        Ok(opened) => host_recorded(rt, alloc, plan, opened, output, errors),
+        Err(failure) => Err(failure),
+    }
 }
 
 // Serves what was read of a journal, which is compacted before where it is long.
@@ -104,14 +98,35 @@ fn host_recorded<R: Net + Wait + Clock, D: Disk, W: Write, E: Write>(
     rt: &R,
     alloc: Global,
     plan: &HostPlan<'_>,
-    chronicle: &mut Chronicle,
-    keeper: &mut Recorded<D>,
+    opened: Opened<D>,
     output: &mut W,
     errors: &mut E,
 ) -> Result<(), HostFailure> {
-    keeper.compact_when_due(chronicle)?;
-    host(rt, alloc, plan.options(), chronicle, keeper, output, errors)?;
-    Ok(())
+    let Opened {
+        journal,
+        mut chronicle,
+    } = opened;
+    let mut keeper = Recorded {
+        journal,
+        alloc,
+        compactor: Compactor::new(),
+    };
+    let hosted = match keeper.compact_when_due(&mut chronicle) {
+        Ok(()) => host(
+            rt,
+            alloc,
+            plan.options(),
+            &mut chronicle,
+            &mut keeper,
+            output,
+            errors,
+        ),
+        Err(fault) => Err(HostFault::Keep(fault)),
+    };
+    match hosted {
+        Ok(_) => Ok(()),
+        Err(fault) => Err(HostFailure::from(fault)),
+    }
 }
 
 // Serves a hall whose history ends with the program.
@@ -127,7 +142,7 @@ fn host_unrecorded<R: Net + Wait + Clock, W: Write, E: Write>(
         alloc,
         compactor: Compactor::new(),
     };
-    host(
+    match host(
         rt,
         alloc,
         plan.options(),
@@ -135,8 +150,10 @@ fn host_unrecorded<R: Net + Wait + Clock, W: Write, E: Write>(
         &mut keeper,
         output,
         errors,
-    )?;
-    Ok(())
+    ) {
+        Ok(_) => Ok(()),
+        Err(fault) => Err(HostFailure::from(fault)),
+    }
 }
 
 // The store in which the log of a plan stands.
@@ -199,24 +216,23 @@ fn host_followed<R, S: Store + Drop, P: Pause + Drop, W: Write, E: Write>(
 where
     R: Net + Wait + Clock + Files<File = File>,
 {
-    match followed(rt, alloc, plan.config, store, pause) {
-        Ok(mut keeper) => host_kept(rt, alloc, plan, &mut keeper, output, errors),
-        Err(failure) => Err(failure),
-    }
-}
-
-// The same, of a keeper that is lent: what owns one takes it apart at each way out.
-fn host_kept<R: Net + Wait + Clock, S: Store, P: Pause, W: Write, E: Write>(
-    rt: &R,
-    alloc: Global,
-    plan: &HostPlan<'_>,
-    keeper: &mut LogKeeper<S, P>,
-    output: &mut W,
-    errors: &mut E,
-) -> Result<(), HostFailure> {
+    let mut keeper = match followed(rt, alloc, plan.config, store, pause) {
+        Ok(keeper) => keeper,
+        Err(failure) => return Err(failure),
+    };
     let mut tape = Tape::new(alloc);
-    host(rt, alloc, plan.options(), &mut tape, keeper, output, errors)?;
-    Ok(())
+    match host(
+        rt,
+        alloc,
+        plan.options(),
+        &mut tape,
+        &mut keeper,
+        output,
+        errors,
+    ) {
+        Ok(_) => Ok(()),
+        Err(fault) => Err(HostFailure::from(fault)),
+    }
 }
 
 /// Writes the accepted events of the history that stands in a log as the lines of commands that ask for them, and serves nobody.
