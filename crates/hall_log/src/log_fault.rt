@@ -65,16 +65,16 @@ impl From<Refusal> for LogFault {
 
 impl fmt::Display for LogFault {
     fn fmt<W: fmt::Write>(&self, f: &mut fmt::Formatter<W>) -> fmt::Result {
-        match self {
-            LogFault::Memory => f.write_str("no memory"),
-            LogFault::NoNames => f.write_str("no names are given in this world"),
-            LogFault::OtherConfig => f.write_str("log of another config"),
-            LogFault::Token => f.write_str("a token of more than a line"),
-            LogFault::TooLong => f.write_str("too many lines for one entry"),
-            LogFault::Full => f.write_str("the log is full"),
-            LogFault::Astray => f.write_str("other lines were taken than learnt"),
-            LogFault::Store(fault) => write!(f, "{fault}"),
-        }
+        f.write_str(match self {
+            LogFault::Memory => "no memory",
+            LogFault::NoNames => "no names are given in this world",
+            LogFault::OtherConfig => "log of another config",
+            LogFault::Token => "a token of more than a line",
+            LogFault::TooLong => "too many lines for one entry",
+            LogFault::Full => "the log is full",
+            LogFault::Astray => "other lines were taken than learnt",
+            LogFault::Store(fault) => return write!(f, "{fault}"),
+        })
     }
 }
 
