@@ -84,7 +84,7 @@ impl<A: Allocator + Clone> SplitterWorld<A> {
         ensures law { IsLawful splitter self.new }
         ensures due { RefusesWhereDue splitter self.new }
     {
-        way_told(self.world.step(id))
+        self.world.step(id).map(Note::outcome)
     }
 }
 
@@ -102,16 +102,5 @@ fn open<A: Allocator + Clone>(alloc: A, most: usize) -> Result<SplitterWorld<A>,
     match World::new(alloc, memory, most) {
         Ok(world) => Ok(SplitterWorld { world }),
         Err(_) => Err(Refusal::NoMemory),
-    }
-}
-
-// What a step answers: the way, once the visit ends.
-fn way_told(told: Result<Note<Way>, Refusal>) -> Result<Option<Way>, Refusal>
-    ensures { result ≡ reply_of outcome_in told }
-{
-    match told {
-        Ok(Note::Ended(way)) => Ok(Some(way)),
-        Ok(_) => Ok(None),
-        Err(refusal) => Err(refusal),
     }
 }

@@ -91,7 +91,7 @@ impl<A: Allocator + Clone> GridWorld<A> {
         ensures law { IsLawful grid self.new }
         ensures due { RefusesWhereDue grid self.new }
     {
-        place_told(self.world.step(id))
+        self.world.step(id).map(Note::outcome)
     }
 
     /// The place of a participant, once its walk has ended: the one that was answered.
@@ -145,16 +145,5 @@ fn open<A: Allocator + Clone>(alloc: A, most: usize) -> Result<GridWorld<A>, Ref
             doors: registers / 2,
         }),
         Err(_) => Err(Refusal::NoMemory),
-    }
-}
-
-// What a step answers: the place, once the walk ends.
-fn place_told(told: Result<Note<Place>, Refusal>) -> Result<Option<Place>, Refusal>
-    ensures { result ≡ reply_of outcome_in told }
-{
-    match told {
-        Ok(Note::Ended(place)) => Ok(Some(place)),
-        Ok(_) => Ok(None),
-        Err(refusal) => Err(refusal),
     }
 }

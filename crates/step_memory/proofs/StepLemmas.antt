@@ -1,6 +1,7 @@
 -- a step by cases on who takes it
-use Rattle.std.proofs.Common.{◌≡◌, ◌≢◌, ℕ, true, false, ◌⊎◌, inl, inr, refl, Some, None, Result, Ok, Err}
+use Rattle.std.proofs.Common.{◌≡◌, ◌≢◌, ℕ, true, false, ◌⊎◌, inl, inr, refl, ap, Option, Some, None, Result, MatchResult, IsOkAnd, Ok, Err}
 use Rattle.step_memory.proofs.Common.{Note, Refusal, lacked_memory, reply_of, Participant, ProgramSteps, MemorySteps, WorldState, participant_of, with_participant, resumed, step_answer, step_answer_by, after_step, after_step_by, may_refuse_step, got_by}
+use Rattle.step_memory.specs.Calls.{outcome_in}
 use Rattle.step_memory.specs.declared.refusal.Refusal.TheVariants.{NotBegun, Finished, NoMemory}
 
 module _ {P S R V O : Type 0} (program : ProgramSteps P R V O) (memory : MemorySteps S R V) where
@@ -39,3 +40,10 @@ module _ {P S R V O : Type 0} (program : ProgramSteps P R V O) (memory : MemoryS
 pub lacks_or_not : {X : Type 0} (reply : Result X Refusal) → (reply ≡ Err NoMemory) ⊎ (reply ≢ Err NoMemory)
 lacks_or_not (Err NoMemory) = inl refl
 lacks_or_not reply = inr (λ h. absurd (cc))
+
+-- what is mapped to the outcome of its note shows the outcome
+pub shows_what_is_mapped : {O : Type 0} (told : Result (Note O) Refusal) (got : Result (Option O) Refusal) →
+    MatchResult told (λ note. IsOkAnd got (λ outcome. outcome ≡ outcome_in note)) (λ refusal. got ≡ Err refusal) → got ≡ reply_of outcome_in told
+shows_what_is_mapped (Ok note) (Ok outcome) is = ap Ok is
+shows_what_is_mapped (Ok note) (Err refusal) is = absurd is
+shows_what_is_mapped (Err refusal) got is = is

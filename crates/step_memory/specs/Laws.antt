@@ -1,5 +1,5 @@
 -- what the laws of this crate say, each under a name
-use Rattle.std.specs.Prelude.{◌≡◌, ◌≢◌, ◌==◌, if◌then◌else◌, ℕ, ◌+◌, ◌<◌, ◌≤◌, [], ◌∷◌, ◌++◌, Bool, true, false, List, Option, Some, None, Ok, Err, Result, is_some, IsSome, Contains, length}
+use Rattle.std.specs.Prelude.{◌≡◌, ◌≢◌, ◌==◌, if◌then◌else◌, ℕ, ◌+◌, ◌<◌, ◌≤◌, [], ◌∷◌, ◌++◌, Bool, true, false, List, Option, Some, None, Ok, Err, Result, MatchResult, IsOkAnd, is_some, IsSome, Contains, length}
 use Rattle.std.proofs.Common.{get_or}
 use Rattle.step_memory.specs.Count.{count_to}
 use Rattle.step_memory.specs.SetAt.{set_at}
@@ -8,7 +8,7 @@ use Rattle.step_memory.specs.Participant.{participant_of, with_participant, resu
 use Rattle.step_memory.specs.Steps.{ProgramSteps, MemorySteps}
 use Rattle.step_memory.specs.WorldState.{WorldState}
 use Rattle.step_memory.specs.World.{begin_refusal, step_answer, after_step, got_by}
-use Rattle.step_memory.specs.Calls.{Call, next, begun_in, reply_of, lacked_memory, steps_by, outcome_of, outcome_by, first_of}
+use Rattle.step_memory.specs.Calls.{Call, next, begun_in, reply_of, lacked_memory, steps_by, outcome_of, outcome_by, outcome_in, first_of}
 use Rattle.step_memory.specs.Calls.Call.{Began, Stepped}
 use Rattle.step_memory.specs.Locality.{LookAlike, StandAlike}
 use Rattle.step_memory.specs.Machine.{Always, IsProved, LeadsOn}
@@ -169,6 +169,12 @@ LetsTheFirstIn X =
 abbrev pub KeepsTheFirstOutcome : (X : Type 0) → Type 0
 KeepsTheFirstOutcome X =
     (p : ℕ) (r : List (Call (Option X))) (h : Call (Option X)) → outcome_of p (r ++ h ∷ []) ≡ first_of (outcome_of p r) (outcome_by p h)
+
+-- a reply to a step, of whose note the outcome alone is handed on, shows the outcome
+abbrev pub ShowsWhatIsMapped : (O : Type 0) → Type 0
+ShowsWhatIsMapped O =
+    (told : Result (Note O) Refusal) (got : Result (Option O) Refusal) →
+    MatchResult told (λ note. IsOkAnd got (λ outcome. outcome ≡ outcome_in note)) (λ refusal. got ≡ Err refusal) → got ≡ reply_of outcome_in told
 
 -- after an insertion an identity has the value that was inserted under it, and each other the one that it had
 abbrev pub HasWhatWasInserted : Type 0

@@ -1,6 +1,7 @@
 //! What a program says of a step.
 
 ghost use Rattle.std.specs.Prelude.{◌≡◌, ◌↔◌, IsTrue};
+ghost use Rattle.step_memory.specs.Calls.{outcome_in};
 ghost use Rattle.step_memory.specs.declared.note.Note.TheVariants.{Quiet};
 ghost use Rattle.step_memory.specs.Note.{ends};
 
@@ -28,5 +29,17 @@ impl<O> Note<O> {
         ensures { IsTrue result ↔ (self.now ≡ Quiet) }
     {
         matches!(self, Note::Quiet)
+    }
+}
+
+impl<O: Drop> Note<O> {
+    /// The outcome, where this is the last output: what the program has ended with.
+    pub fn outcome(self) -> Option<O>
+        ensures { result ≡ outcome_in self }
+    {
+        match self {
+            Note::Ended(outcome) => Some(outcome),
+            Note::Quiet | Note::Said(_) => None,
+        }
     }
 }
