@@ -64,7 +64,7 @@ impl StepProgram for Walker {
                 *self = Walker::new(self.visitor.identity, self.door.down());
                 Note::Quiet
             }
-            _ => Note::Quiet,
+            Note::Quiet | Note::Said(_) => Note::Quiet,
         }
     }
 }

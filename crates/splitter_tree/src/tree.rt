@@ -118,7 +118,7 @@ impl<A: Allocator + Clone> Tree<A> {
                     Err(refused) => Err(refused),
                 }
             }
-            _ => Ok(None),
+            Access::TestAndSet(_) | Access::Clear(_) | Access::Nothing => Ok(None),
         }
     }
 

@@ -101,7 +101,7 @@ impl Walker {
                 *self = Walker::before(self.visitor.identity, left_child(self.place));
                 Note::Quiet
             }
-            _ => Note::Quiet,
+            Note::Quiet | Note::Said(_) => Note::Quiet,
         }
     }
 }
