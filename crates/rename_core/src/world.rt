@@ -244,9 +244,7 @@ where
         ensures state { self.new ≡ after_rename_begin ⟦<W as Known>⟧.places self.old id }
         ensures no_access { self.new.snap.memory ≡ self.old.snap.memory }
     {
-        if let Err(refusal) = self.snap.begin(id) {
-            return Err(refusal);
-        }
+        self.snap.begin(id)?;
         let placed = self.snap.place_of(id).is_some();
         ask(&mut self.snap, id, Wish::first(placed));
         self.hints.note(id, self.rounds.len());

@@ -13,8 +13,8 @@ known g = places_by g.W.Walker.StepProgram.steps g.W.Walker.PlaceWalker.place_of
 
 pub invariant_of-self-2 : goal.invariant_of-self-2
 invariant_of-self-2 g c =
-    let goes : begin_refusal c.self.inside.snap c.args.id ≡ None = was_begun (begin_refusal c.self.inside.snap c.args.id) c.in_default.field-0 c.in_default.ensures.answer in
-    let state : c.begin.new.self ≡ after_snap_begin (known g) c.self.inside.snap c.args.id = c.in_default.ensures.state in
+    let goes : begin_refusal c.self.inside.snap c.args.id ≡ None = was_begun (begin_refusal c.self.inside.snap c.args.id) c.in_ok-begin.field-0 c.in_ok-begin.ensures.answer in
+    let state : c.begin.new.self ≡ after_snap_begin (known g) c.self.inside.snap c.args.id = c.in_ok-begin.ensures.state in
     let asked : c.ask.new.snap ≡ after_wish (after_snap_begin (known g) c.self.inside.snap c.args.id) c.args.id c.first.result = rw (← state) c.ask.ensures.state in
     let l = begun_large (known g) (record { snap = c.self.inside.snap; rounds = c.self.inside.rounds.items; limit = c.self.inside.limit }) c.args.id c.first.result goes in
     let most = l.most in
@@ -36,22 +36,22 @@ abbrev before : (g : _) (c : After-push_reserved g) → RenameState g.row.W.Deno
 before g c = record { snap = c.self.inside.snap; rounds = c.self.inside.rounds.items; limit = c.self.inside.limit }
 
 pub returns-clause-answer : goal.returns-clause-answer
-returns-clause-answer g c = rw (← c.self.view_is) c.in_default.ensures.answer
+returns-clause-answer g c = rw (← c.self.view_is) c.in_ok-begin.ensures.answer
 
 pub returns-clause-state : goal.returns-clause-state
 returns-clause-state g c =
     let w = before g (goal.at.returns-clause-state g c).After-push_reserved in
-    let goes : begin_refusal c.self.inside.snap c.args.id ≡ None = was_begun (begin_refusal c.self.inside.snap c.args.id) c.in_default.field-0 c.in_default.ensures.answer in
-    let state : c.begin.new.self ≡ after_snap_begin (known g) c.self.inside.snap c.args.id = c.in_default.ensures.state in
+    let goes : begin_refusal c.self.inside.snap c.args.id ≡ None = was_begun (begin_refusal c.self.inside.snap c.args.id) c.in_ok-begin.field-0 c.in_ok-begin.ensures.answer in
+    let state : c.begin.new.self ≡ after_snap_begin (known g) c.self.inside.snap c.args.id = c.in_ok-begin.ensures.state in
     let there : c.is_some-placed.result ≡ is_some (place_in (known g) c.begin.new.self c.args.id) = rw (← c.place_of.ensures.value) c.is_some-placed.ensures in
     let placed : c.is_some-placed.result ≡ has_place (known g) w c.args.id = rw (← state) there in
     rw (← c.self.view_is)
     (begun_state (known g) w c.args.id goes c.is_some-placed.result placed c.ask.new.snap (rw (← state, ← c.first.ensures) c.ask.ensures.state) c.push_reserved.new.self.items (search rules))
 
 pub returns-clause-no_access : goal.returns-clause-no_access
-returns-clause-no_access g c = c.ask.ensures.no_access ∙ c.in_default.ensures.no_access ∙ ap (λ w. w.snap.memory) c.self.view_is
+returns-clause-no_access g c = c.ask.ensures.no_access ∙ c.in_ok-begin.ensures.no_access ∙ ap (λ w. w.snap.memory) c.self.view_is
 
 pub push_reserved-requires : goal.push_reserved-requires
 push_reserved-requires g c =
-    let goes : begin_refusal c.self.inside.snap c.args.id ≡ None = was_begun (begin_refusal c.self.inside.snap c.args.id) c.in_default.field-0 c.in_default.ensures.answer in
+    let goes : begin_refusal c.self.inside.snap c.args.id ≡ None = was_begun (begin_refusal c.self.inside.snap c.args.id) c.in_ok-begin.field-0 c.in_ok-begin.ensures.answer in
     rw c.self.inside.rounds.ok.0 (begun_fits c.self.inside.snap c.args.id goes (vec_capacity c.self.inside.rounds) c.self.inside.rounds.items c.self.invariant)
