@@ -1,7 +1,32 @@
 //! Laws of the tree, which run nothing: of its registers, of the walks down it and of those over its segments.
 
 ghost use Rattle.std.specs.Prelude.{◌≡◌, ℕ, ◌+◌, ◌*◌, ◌≤◌, Some, Bool};
-ghost use Rattle.splitter_tree.specs.Laws.{TellsItsPlace, StandsWhereItReads, PathsAreMarked, MarksFew, IsUpcomingWhenRead, AgreesWhenEmpty, AgreesWithBeginner, AgreesAfterAccess, AgreesElsewhere, WalksKeepTreeLaw, ComesNearer, HasAccessesLeft, EndsAtPlace, WalkKeepsSegments, WalkMarksItsNode, RefusedAtNewNode, ReadsWhatIsAhead, KeepsReads, CountsOneRead, FindsFewNodes, PlacesAreAhead, ReadsFew, WalkAddsMarks, WriteAddsMarks};
+ghost use Rattle.splitter_tree.specs.Laws.{
+  TellsItsPlace,
+  StandsWhereItReads,
+  PathsAreMarked,
+  MarksFew,
+  IsUpcomingWhenRead,
+  AgreesWhenEmpty,
+  AgreesWithBeginner,
+  AgreesAfterAccess,
+  AgreesElsewhere,
+  WalksKeepTreeLaw,
+  ComesNearer,
+  HasAccessesLeft,
+  EndsAtPlace,
+  WalkKeepsSegments,
+  WalkMarksItsNode,
+  RefusedAtNewNode,
+  ReadsWhatIsAhead,
+  KeepsReads,
+  CountsOneRead,
+  FindsFewNodes,
+  PlacesAreAhead,
+  ReadsFew,
+  WalkAddsMarks,
+  WriteAddsMarks,
+};
 ghost use Rattle.splitter_tree.specs.Ahead.{HasGrown, HasRead, marked_in, found_by, IsAhead, IsPathMarked, IsUpcoming, Sees};
 ghost use Rattle.splitter_tree.specs.CollectWalk.{first_walk, register_read, place_read, walk_resumed};
 ghost use Rattle.splitter_tree.specs.TreeMemory.{IsTreeMemory, IsEmptyTree};
