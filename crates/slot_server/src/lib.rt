@@ -20,17 +20,17 @@
 //!
 //! Not promised, and shown by tests: that connections are served at once, that a worker ends, what sockets carry.
 //!
-//! A caller, in a function over `L: Ledger` that is called with `Brand`:
+//! A caller, in a function over `L: LockName` (`serve` is one):
 //!
 //! ```text
-//! let lock = HallLock::<L>::new(alloc, config, blank)?;       // a blank of 1,000,001 parts
+//! let lock = HallLock::<L>::new(alloc, config, blank, history)?;  // a blank of 1,000,001 parts
 //! let listener = TcpListener::bind(rt, ("127.0.0.1", 0u16))?;
 //! let mut clerks = Vec::new(alloc);
-//! clerks.push(lock.clerk(rt, alloc)?)?;                       // a worker
-//! clerks.push(lock.clerk(rt, alloc)?)?;                       // and another
+//! clerks.push(lock.clerk(rt, alloc)?)?;                           // a worker
+//! clerks.push(lock.clerk(rt, alloc)?)?;                           // and another
 //! let served = serve_many(rt, alloc, &listener, &lock, &OpenGate, clerks, 10);
-//! served.served;                                              // 10, where no fault is told
-//! lock.close(Vec::new(alloc), served.clerks)?;         // the history of what all clients did
+//! served.served;                                                  // 10, where no fault is told
+//! lock.close(Vec::new(alloc), served.clerks)?;                    // the history of what all clients did
 //! ```
 #![tactic(auto)]
 
