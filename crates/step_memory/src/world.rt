@@ -38,26 +38,7 @@ impl<P, S, A: Allocator> Model for World<P, S, A> {
     ghost invariant = { λ w. (w.most ≤ vec_capacity w.participants) × AreDistinct w.participants.items };
 }
 
-impl<
-    P: StepProgram + Drop,
-    S: StepMemory<Reg = P::Reg, Value = P::Value> + Drop,
-    A: Allocator,
-> World<P, S, A> {
-    /// A world of at most `most` participants, with room for them all. An error where that room was refused.
-    pub fn new(alloc: A, memory: S, most: usize) -> Result<Self, NoMemory>
-        ensures { IfOk result (λ w. w ≡ record { memory = memory; most = most; participants = [] }) }
-    {
-        match Vec::with_capacity(alloc, most) {
-            Ok(participants) => Ok(World {
-                memory,
-                most,
-                participants,
-                hints: Hints::new(),
-            }),
-            Err(_) => Err(NoMemory),
-        }
-    }
-
+impl<P, S, A: Allocator> World<P, S, A> {
     /// Whether an identity has begun.
     fn has_begun(&self, id: u64) -> bool
         ensures { result ≡ is_some (participant_of id self.now.participants) }
@@ -80,6 +61,54 @@ impl<
         }
     }
 
+    /// The program of a participant.
+    pub fn program(&self, id: u64) -> Option<&P>
+        ensures { option_copied result ≡ program_of id self.now.participants }
+    {
+        let Some(i) = self.hints.find(&self.participants, id) else {
+            return None;
+        };
+        Some(&self.participants[i].program)
+    }
+
+    /// The most participants.
+    pub fn most(&self) -> usize
+        ensures { result ≡ self.now.most }
+    {
+        self.most
+    }
+
+    /// The memory, for what watches the world from outside.
+    pub fn memory(&self) -> &S
+        ensures { result.now ≡ self.now.memory }
+    {
+        &self.memory
+    }
+
+    /// The participants in the order of beginning.
+    pub fn participants(&self) -> &[Participant<P>]
+        ensures { result.now ≡ self.now.participants }
+    {
+        &self.participants
+    }
+
+    /// Asks a participant's program for something, where it stands, with no access; the participant has then not ended.
+    /// Refused where the identity has not begun.
+    pub fn ask<Q: Request<P> + Drop>(&mut self, id: u64, request: Q) -> Result<(), Refusal>
+        requires { CanAsk Q.can_ask request id self.old }
+        ensures answer { result ≡ set_answer self.old id }
+        ensures after { self.new ≡ after_asked (Q.asked request) self.old id }
+        ensures refused { OnErr result (self.new ≡ self.old) }
+    {
+        let Some(i) = self.hints.find(&self.participants, id) else {
+            return Err(Refusal::NotBegun);
+        };
+        self.participants[i].ask(request);
+        Ok(())
+    }
+}
+
+impl<P: Drop, S, A: Allocator> World<P, S, A> {
     /// Adds a participant, which stands at the beginning of its program. Refused where the identity is 0, then where it
     /// has begun, then where the world is full.
     pub fn begin(&mut self, id: u64, program: P) -> Result<(), Refusal>
@@ -97,6 +126,37 @@ impl<
             ended: false,
         });
         Ok(())
+    }
+
+    /// Puts another program in place of a participant's, with no access; the participant has then not ended. Refused
+    /// where the identity has not begun.
+    pub fn set(&mut self, id: u64, program: P) -> Result<(), Refusal>
+        ensures answer { result ≡ set_answer self.old id }
+        ensures after { self.new ≡ after_set self.old id program }
+        ensures refused { OnErr result (self.new ≡ self.old) }
+    {
+        self.ask(id, Replace { program })
+    }
+}
+
+impl<
+    P: StepProgram + Drop,
+    S: StepMemory<Reg = P::Reg, Value = P::Value> + Drop,
+    A: Allocator,
+> World<P, S, A> {
+    /// A world of at most `most` participants, with room for them all. An error where that room was refused.
+    pub fn new(alloc: A, memory: S, most: usize) -> Result<Self, NoMemory>
+        ensures { IfOk result (λ w. w ≡ record { memory = memory; most = most; participants = [] }) }
+    {
+        match Vec::with_capacity(alloc, most) {
+            Ok(participants) => Ok(World {
+                memory,
+                most,
+                participants,
+                hints: Hints::new(),
+            }),
+            Err(_) => Err(NoMemory),
+        }
     }
 
     /// One step of a participant: the one access that its program names, whose answer its program takes. Refused where
@@ -172,61 +232,5 @@ impl<
             return Ok(None);
         }
         self.participants[i].take::<Q, S>(&mut self.memory)
-    }
-
-    /// The program of a participant.
-    pub fn program(&self, id: u64) -> Option<&P>
-        ensures { option_copied result ≡ program_of id self.now.participants }
-    {
-        let Some(i) = self.hints.find(&self.participants, id) else {
-            return None;
-        };
-        Some(&self.participants[i].program)
-    }
-
-    /// Puts another program in place of a participant's, with no access; the participant has then not ended. Refused
-    /// where the identity has not begun.
-    pub fn set(&mut self, id: u64, program: P) -> Result<(), Refusal>
-        ensures answer { result ≡ set_answer self.old id }
-        ensures after { self.new ≡ after_set self.old id program }
-        ensures refused { OnErr result (self.new ≡ self.old) }
-    {
-        self.ask(id, Replace { program })
-    }
-
-    /// Asks a participant's program for something, where it stands, with no access; the participant has then not ended.
-    /// Refused where the identity has not begun.
-    pub fn ask<Q: Request<P> + Drop>(&mut self, id: u64, request: Q) -> Result<(), Refusal>
-        requires { CanAsk Q.can_ask request id self.old }
-        ensures answer { result ≡ set_answer self.old id }
-        ensures after { self.new ≡ after_asked (Q.asked request) self.old id }
-        ensures refused { OnErr result (self.new ≡ self.old) }
-    {
-        let Some(i) = self.hints.find(&self.participants, id) else {
-            return Err(Refusal::NotBegun);
-        };
-        self.participants[i].ask(request);
-        Ok(())
-    }
-
-    /// The most participants.
-    pub fn most(&self) -> usize
-        ensures { result ≡ self.now.most }
-    {
-        self.most
-    }
-
-    /// The memory, for what watches the world from outside.
-    pub fn memory(&self) -> &S
-        ensures { result.now ≡ self.now.memory }
-    {
-        &self.memory
-    }
-
-    /// The participants in the order of beginning.
-    pub fn participants(&self) -> &[Participant<P>]
-        ensures { result.now ≡ self.now.participants }
-    {
-        &self.participants
     }
 }
