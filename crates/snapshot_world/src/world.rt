@@ -34,6 +34,50 @@ impl<W: Places, A: Allocator> Model for SnapWorld<W, A> {
     ghost view = { λ w. w.world };
 }
 
+impl<W: Places, A: Allocator> SnapWorld<W, A> {
+    /// The most participants.
+    pub fn most(&self) -> usize
+        ensures { result ≡ self.now.most }
+    {
+        self.world.most()
+    }
+
+    /// Why an identity may not begin: what `begin` would be refused. It changes nothing.
+    pub fn begin_refusal(&self, id: u64) -> Option<Refusal>
+        ensures { result ≡ begin_refusal self.now id }
+    {
+        self.world.begin_refusal(id)
+    }
+
+    /// The place of a participant, once it has one.
+    pub fn place_of(&self, id: u64) -> Option<Place>
+        ensures value { result ≡ place_in ⟦<W as Known>⟧.places self.now id }
+
+        // No two have one place, and where a step has told a place, it is that one.
+        ensures distinct { HasDistinctPlaces ⟦<W as Known>⟧.places self.now }
+        ensures told { KeepsTold ⟦<W as Known>⟧.places self.now id }
+    {
+        let Some(client) = self.world.program(id) else {
+            return None;
+        };
+        client.walker.place()
+    }
+
+    /// A participant, for what watches from outside: `next` says which register it accesses next, and how.
+    pub fn client(&self, id: u64) -> Option<&Client<W::Walker, W::Walk>>
+        ensures { option_copied result ≡ program_of id self.now.participants }
+    {
+        self.world.program(id)
+    }
+
+    /// The places and their segments, for what watches from outside.
+    pub fn places(&self) -> &W
+        ensures { result.now ≡ self.now.memory }
+    {
+        self.world.memory()
+    }
+}
+
 impl<W: Places + Drop, A: Allocator> SnapWorld<W, A>
 where
     W::Walker: Copy,
@@ -52,20 +96,6 @@ where
         Ok(SnapWorld {
             world: World::new(alloc, places, most)?,
         })
-    }
-
-    /// The most participants.
-    pub fn most(&self) -> usize
-        ensures { result ≡ self.now.most }
-    {
-        self.world.most()
-    }
-
-    /// Why an identity may not begin: what `begin` would be refused. It changes nothing.
-    pub fn begin_refusal(&self, id: u64) -> Option<Refusal>
-        ensures { result ≡ begin_refusal self.now id }
-    {
-        self.world.begin_refusal(id)
     }
 
     /// A participant begins. Refused where the identity is 0, then where it has begun, then where the object is full. It makes
@@ -204,33 +234,5 @@ where
             return Ok(SnapReply::of_way(note));
         }
         self.take_step(id)
-    }
-
-    /// The place of a participant, once it has one.
-    pub fn place_of(&self, id: u64) -> Option<Place>
-        ensures value { result ≡ place_in ⟦<W as Known>⟧.places self.now id }
-
-        // No two have one place, and where a step has told a place, it is that one.
-        ensures distinct { HasDistinctPlaces ⟦<W as Known>⟧.places self.now }
-        ensures told { KeepsTold ⟦<W as Known>⟧.places self.now id }
-    {
-        let Some(client) = self.world.program(id) else {
-            return None;
-        };
-        client.walker.place()
-    }
-
-    /// A participant, for what watches from outside: `next` says which register it accesses next, and how.
-    pub fn client(&self, id: u64) -> Option<&Client<W::Walker, W::Walk>>
-        ensures { option_copied result ≡ program_of id self.now.participants }
-    {
-        self.world.program(id)
-    }
-
-    /// The places and their segments, for what watches from outside.
-    pub fn places(&self) -> &W
-        ensures { result.now ≡ self.now.memory }
-    {
-        self.world.memory()
     }
 }
