@@ -163,6 +163,21 @@ impl<W: RenamePlaces<A>, A: Allocator> RenameWorld<W, A> {
     {
         proposals_among(&self.rounds)
     }
+
+    /// The most participants, of whom a view has room for.
+    pub fn most(&self) -> u64
+        ensures value { result ≡ self.now.snap.most }
+        ensures few { result ≤ 64 }
+    {
+        self.snap.most() as u64
+    }
+
+    /// Why an identity may not begin: what `begin` would be refused. It changes nothing.
+    pub fn begin_refusal(&self, id: u64) -> Option<Refusal>
+        ensures { result ≡ begin_refusal self.now.snap id }
+    {
+        self.snap.begin_refusal(id)
+    }
 }
 
 impl<W: RenamePlaces<A> + Drop, A: Allocator> RenameWorld<W, A>
@@ -221,21 +236,6 @@ where
         ensures own { MakesOwnAccess ⟦<W as Known>⟧.places W.world self.old id }
     {
         self.take_step(id, view)
-    }
-
-    /// The most participants, of whom a view has room for.
-    pub fn most(&self) -> u64
-        ensures value { result ≡ self.now.snap.most }
-        ensures few { result ≤ 64 }
-    {
-        self.snap.most() as u64
-    }
-
-    /// Why an identity may not begin: what `begin` would be refused. It changes nothing.
-    pub fn begin_refusal(&self, id: u64) -> Option<Refusal>
-        ensures { result ≡ begin_refusal self.now.snap id }
-    {
-        self.snap.begin_refusal(id)
     }
 
     /// A participant begins, and asks at once for what it can do.
