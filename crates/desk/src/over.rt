@@ -87,6 +87,45 @@ impl<W: RenamePlaces<A>, A: Allocator> DeskOver<W, A> {
     {
         self.names.name_of(id)
     }
+
+    /// Why an event would be refused, want of memory aside.
+    pub(crate) fn refusal(&self, event: Event) -> Option<Refusal>
+        ensures { result ≡ refusal_over self.now event }
+    {
+        let pool = self.slots.pool();
+        match event {
+            Event::Begin(id) => self.names.begin_refusal(id),
+            Event::Step(id) => self.names.step_refusal(id),
+            Event::Enter(id) => pool.enter_refusal(id),
+            Event::Probe(id) => pool.probe_refusal(id),
+            Event::Leave(id) | Event::Put(id, _) | Event::Get(id) => pool.number_of(id).err(),
+            Event::Widen(size) => pool.widen_refusal(size),
+        }
+    }
+
+    /// The memory, for what watches from outside.
+    pub(crate) fn places(&self) -> &W
+        ensures { result.now ≡ self.now.names.snap.memory }
+    {
+        self.names.snap().places()
+    }
+
+    /// The place of a participant, once it has one.
+    pub(crate) fn place_of(&self, id: u64) -> Option<Place>
+        ensures { result ≡ place_in ⟦<W as Known>⟧.places self.now.names.snap id }
+    {
+        self.names.snap().place_of(id)
+    }
+
+    /// Who has a name, or that nobody has it; a refusal where names don't reach there.
+    pub(crate) fn owner(&self, number: u64) -> Reply<View>
+        ensures { result ≡ owner_over self.now number }
+    {
+        if number == 0 || 2 * self.names.most() <= number {
+            return Reply::Refused(Refusal::OutOfRange);
+        }
+        Reply::Owner(self.names.owner_of(number))
+    }
 }
 
 impl<W: RenamePlaces<A> + Drop, A: Allocator> DeskOver<W, A>
@@ -113,21 +152,6 @@ where
         }
     }
 
-    /// Why an event would be refused, want of memory aside.
-    pub(crate) fn refusal(&self, event: Event) -> Option<Refusal>
-        ensures { result ≡ refusal_over self.now event }
-    {
-        let pool = self.slots.pool();
-        match event {
-            Event::Begin(id) => self.names.begin_refusal(id),
-            Event::Step(id) => self.names.step_refusal(id),
-            Event::Enter(id) => pool.enter_refusal(id),
-            Event::Probe(id) => pool.probe_refusal(id),
-            Event::Leave(id) | Event::Put(id, _) | Event::Get(id) => pool.number_of(id).err(),
-            Event::Widen(size) => pool.widen_refusal(size),
-        }
-    }
-
     /// The access that a participant makes next; `None` where the identity has not begun.
     pub(crate) fn next_access(&self, id: u64) -> Option<Access<W::Reg, W::Value>>
         ensures { result ≡ next_over ⟦<W as Known>⟧.places self.now id }
@@ -136,29 +160,5 @@ where
             Some(client) => Some(client.next()),
             None => None,
         }
-    }
-
-    /// The memory, for what watches from outside.
-    pub(crate) fn places(&self) -> &W
-        ensures { result.now ≡ self.now.names.snap.memory }
-    {
-        self.names.snap().places()
-    }
-
-    /// The place of a participant, once it has one.
-    pub(crate) fn place_of(&self, id: u64) -> Option<Place>
-        ensures { result ≡ place_in ⟦<W as Known>⟧.places self.now.names.snap id }
-    {
-        self.names.snap().place_of(id)
-    }
-
-    /// Who has a name, or that nobody has it; a refusal where names don't reach there.
-    pub(crate) fn owner(&self, number: u64) -> Reply<View>
-        ensures { result ≡ owner_over self.now number }
-    {
-        if number == 0 || 2 * self.names.most() <= number {
-            return Reply::Refused(Refusal::OutOfRange);
-        }
-        Reply::Owner(self.names.owner_of(number))
     }
 }
