@@ -61,15 +61,15 @@ agreed word found c (d ∷ ds) h k e = ⊎_elim
 module _ {S : Type 0} (count slots : ℕ) where
   pub may_begin : Enters {S = S} {V = BoardView} (KeepsBoardRule count) slots 0 (λ n w. Begins {S = S} (step slots 0 0 0 none) (no_claim, []) n (w, []))
   may_begin s h _ _ =
-      let new : BoardView = no_claim_after 1 in
+      let new : BoardView = no_claim_after 1 0 in
       (new, record { as_many = h.as_many; claimed = λ j u f. ⊎_elim (λ x. h.claimed j u x) (λ (x : new ≡ u). subst (λ (v : BoardView). AreSo s.words v.claims) x tt) (at_snoc s.views new u j f) }, refl)
 
 module _ {S : Type 0} (count slots seat : ℕ) where
-  pub may_post : (word who acc : ℕ) → word < count → who ≢ 0 →
-      Allows {S = S} {V = BoardView} (KeepsBoardRule count) slots seat (no_claim_after acc, []) word (λ f. either (eqb f 0) who f) (Posts (step slots word 0 who none) (no_claim_after acc, []))
-  may_post word who acc within some_one s h _ e _ =
+  pub may_post : (word who acc last : ℕ) → word < count → who ≢ 0 →
+      Allows {S = S} {V = BoardView} (KeepsBoardRule count) slots seat (no_claim_after acc last, []) word (λ f. either (eqb f 0) who f) (Posts (step slots word 0 who none) (no_claim_after acc last, []))
+  may_post word who acc last within some_one s h _ e _ =
       let found : ℕ = slice_index s.words word in
-      let new : BoardView = board_view (cond (eqb found 0 || eqb found who) (claim word who ∷ []) []) (suc acc) [] in
+      let new : BoardView = board_view (cond (eqb found 0 || eqb found who) (claim word who ∷ []) []) (suc acc) found [] in
       let words : List ℕ = slice_set s.words word (either (eqb found 0) who found) in
       let long : word < length s.words = rw h.as_many within in
       let F : ℕ → Type 0 = λ x. ((cs : List Claim) → AreSo s.words cs → AreSo (set s.words word x) cs) in
@@ -81,11 +81,11 @@ module _ {S : Type 0} (count slots seat : ℕ) where
       (λ y. let b = ne_eqb found who y in rw (a, b) tt)) in
       (new, keeps, tt, record { as_many = length-set s.words word _ ∙ h.as_many; claimed = each_seat (λ v. AreSo words v.claims) s.views seat new mine (λ j u f. others u.claims (h.claimed j u f)) }, refl)
 
-  pub may_find : (word acc : ℕ) → word < count →
-      Allows {S = S} {V = BoardView} (KeepsBoardRule count) slots seat (no_claim_after acc, []) word (λ f. f) (Finds (step slots word 0 0 none) (no_claim_after acc, []))
-  may_find word acc within s h _ e _ =
+  pub may_find : (word acc last : ℕ) → word < count →
+      Allows {S = S} {V = BoardView} (KeepsBoardRule count) slots seat (no_claim_after acc last, []) word (λ f. f) (Finds (step slots word 0 0 none) (no_claim_after acc last, []))
+  may_find word acc last within s h _ e _ =
       let found : ℕ = slice_index s.words word in
-      let new : BoardView = board_view (cond (eqb found 0) [] (claim word found ∷ [])) (suc acc) [] in
+      let new : BoardView = board_view (cond (eqb found 0) [] (claim word found ∷ [])) (suc acc) found [] in
       let long : word < length s.words = rw h.as_many within in
       let same : slice_set s.words word found ≡ s.words = set-get_or s.words word 0 in
       let mine : AreSo s.words new.claims = dite (ℕ_discrete found 0)
@@ -100,16 +100,16 @@ module _ {S : Type 0} (count slots seat : ℕ) where
       Allows {S = S} {V = BoardView} (KeepsBoardRule count) slots seat (u, []) word (λ f. f) (Reads (step slots word 0 0 none) (u, []))
   may_read u word next s h _ e _ =
       let found : ℕ = slice_index s.words word in
-      let new : BoardView = board_view u.claims (suc u.accesses) (found ∷ u.read) in
+      let new : BoardView = board_view u.claims (suc u.accesses) u.found (found ∷ u.read) in
       let same : slice_set s.words word found ≡ s.words = set-get_or s.words word 0 in
       let mine : AreSo s.words u.claims = h.claimed seat u e in
       let kept : KeepsBoard count s.words (set s.views seat new) = record { as_many = h.as_many; claimed = each_seat (λ v. AreSo s.words v.claims) s.views seat new mine h.claimed } in
       let still : KeepsBoard count (slice_set s.words word found) (set s.views seat new) = rw same kept in
       (new, keeps, tt, still, (next, agree s.words word u.claims mine, refl))
 
-  pub may_hand : (v : BoardView) → Splits {S = S} {V = BoardView} (KeepsBoardRule count) seat v (board_view [] v.accesses v.read) (claims_of v.claims)
+  pub may_hand : (v : BoardView) → Splits {S = S} {V = BoardView} (KeepsBoardRule count) seat v (board_view [] v.accesses v.found v.read) (claims_of v.claims)
   may_hand v s h e =
-      let left : BoardView = board_view [] v.accesses v.read in
+      let left : BoardView = board_view [] v.accesses v.found v.read in
       record {
         as_many = h.as_many;
         claimed = λ j u f. ⊎_elim (λ x. each_seat (λ v. AreSo s.words v.claims) s.views seat left tt h.claimed j u x)

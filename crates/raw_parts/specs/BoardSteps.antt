@@ -6,20 +6,20 @@ use Rattle.raw_parts.specs.declared.board_view.BoardView.{BoardView}
 use Rattle.raw_parts.specs.BoardView.{claim, board_view}
 use Rattle.raw_parts.specs.BoardRule.{AreSo}
 
--- a post: the seat gains the claim where the word was 0 or held the identity
+-- a post: the seat gains the claim where the word was 0 or held the identity, and keeps what it found
 abbrev pub Posts : {S : Type 0} → Step S → Me S BoardView → ℕ → Me S BoardView → Type 0
 Posts s before found after =
     after ≡ (
       board_view (if found == 0 || found == s.second then claim s.word s.second ∷ before.0.claims else before.0.claims) (suc before.0.accesses)
-          before.0.read,
+          found before.0.read,
       before.1,
     )
 
--- a load: the seat gains the claim of the identity that it found
+-- a load: the seat gains the claim of the identity that it found, and keeps what it found
 abbrev pub Finds : {S : Type 0} → Step S → Me S BoardView → ℕ → Me S BoardView → Type 0
 Finds s before found after =
     after ≡
-    (board_view (if found == 0 then before.0.claims else claim s.word found ∷ before.0.claims) (suc before.0.accesses) before.0.read, before.1)
+    (board_view (if found == 0 then before.0.claims else claim s.word found ∷ before.0.claims) (suc before.0.accesses) found before.0.read, before.1)
 
 -- these claims stand together in some words
 pub record AreTogether (v : BoardView) : Type 0 where
@@ -32,7 +32,7 @@ LooksOn s before found after = (after ≡ before) × AreTogether after.0 × (len
 
 -- a new seat comes, by a load
 abbrev pub Begins : {S : Type 0} → Step S → Me S BoardView → ℕ → Me S BoardView → Type 0
-Begins s before found after = after ≡ (board_view [] 1 [], [])
+Begins s before found after = after ≡ (board_view [] 1 0 [], [])
 
 -- of these claims those of this word are of what was found in it
 abbrev pub AgreeWith : ℕ → ℕ → List Claim → Type 0
@@ -43,4 +43,4 @@ AgreeWith word found (c ∷ cs) = (c.word ≡ word → found ≡ c.identity) × 
 abbrev pub Reads : {S : Type 0} → Step S → Me S BoardView → ℕ → Me S BoardView → Type 0
 Reads s before found after =
     (s.word ≡ length before.0.read) × AgreeWith s.word found before.0.claims ×
-    (after ≡ (board_view before.0.claims (suc before.0.accesses) (found ∷ before.0.read), before.1))
+    (after ≡ (board_view before.0.claims (suc before.0.accesses) before.0.found (found ∷ before.0.read), before.1))

@@ -1,5 +1,5 @@
 -- a name board and its seats, as callers see them
-use Rattle.std.specs.Prelude.{◌≡◌, ◌<◌, ◌≤◌, ◌+◌, ◌-◌, ℕ, List, [], ◌∷◌, reverse, slice_index}
+use Rattle.std.specs.Prelude.{◌≡◌, ◌≢◌, ◌<◌, ◌≤◌, ◌+◌, ◌-◌, ℕ, List, [], ◌∷◌, reverse, slice_index}
 use Rattle.atomic_table.specs.Seated.{TableId}
 use Rattle.raw_parts.specs.declared.board_view.BoardView.{BoardView}
 use Rattle.raw_parts.specs.BoardView.{claim}
@@ -19,13 +19,18 @@ pub record GrantId : Type 0 where
 abbrev pub grant_of : TableId → ℕ → ℕ → GrantId
 grant_of board name identity = record { board = board; name = name; identity = identity }
 
--- a seat that claims nothing: of which board, and how many accesses it has made
+-- this board has the name, and the identity may have one
+abbrev pub MayHold : TableId → ℕ → ℕ → Type 0
+MayHold board name identity = (1 ≤ name) × (name ≤ board.words) × (identity ≢ 0)
+
+-- a seat that claims nothing: of which board, how many accesses it has made, and what its last post or look found, or 0
 pub record ReaderId : Type 0 where
   pub board : TableId
   pub accesses : ℕ
+  pub found : ℕ
 
-abbrev pub reader_of : TableId → ℕ → ReaderId
-reader_of board accesses = record { board = board; accesses = accesses }
+abbrev pub reader_of : TableId → ℕ → ℕ → ReaderId
+reader_of board accesses found = record { board = board; accesses = accesses; found = found }
 
 -- the seat with which a board ended: of which, how many accesses it made, and what it found in one word after another, the
 -- newest first

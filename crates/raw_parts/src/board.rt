@@ -1,12 +1,12 @@
 //! The name board.
 
-ghost use Rattle.std.specs.Prelude.{[], ◌≡◌, ◌≢◌, ◌<◌, ◌≤◌, ◌+◌, ◌-◌, ◌⊎◌, ◌↔◌, ℕ, Err, IfErr, IfOk, IfSome, IfNone, IsOk, vec_len, slice_index, reverse};
+ghost use Rattle.std.specs.Prelude.{[], ◌≡◌, ◌≢◌, ◌<◌, ◌≤◌, ◌+◌, ◌-◌, ◌⊎◌, ◌↔◌, ℕ, Err, IfErr, IfOk, IfSome, IfNone, IsOk, IsSome, vec_len, slice_index, reverse};
 ghost use lib.ListN.{get_elem?};
 ghost use mathlib.Core.Option.{some};
 ghost use Rattle.raw_parts.specs.declared.board_view.Claim.{Claim};
 ghost use Rattle.raw_parts.specs.BoardRule.{IsClaimed};
 ghost use Rattle.raw_parts.specs.BoardView.{lone_claim};
-ghost use Rattle.raw_parts.specs.Boards.{IsBoardTable, FindsClaims, GrantId, HasClaimOf, HasReadAll, grant_of, reader_of};
+ghost use Rattle.raw_parts.specs.Boards.{IsBoardTable, FindsClaims, GrantId, HasClaimOf, HasReadAll, MayHold, grant_of, reader_of};
 
 use crate::board_seats::{Grant, LastRead, ReaderSeat};
 use crate::board_steps::{Begin, Boarding, Find, Hand, LookOn, Part, Post, Read, Unite};
@@ -129,7 +129,7 @@ impl<A: Allocator + Clone> Board<A> {
     /// was refused.
     pub fn new(alloc: A, names: u64) -> Result<(Board<A>, ReaderSeat), Refusal>
         ensures board { IfOk result (λ r. r.0.words ≡ names) }
-        ensures seat { IfOk result (λ r. r.1 ≡ reader_of r.0 0) }
+        ensures seat { IfOk result (λ r. r.1 ≡ reader_of r.0 0 0) }
         ensures range { IsOk result → (1 ≤ names) × (names ≤ 127) }
         ensures out_of_range { result ≡ Err Refusal.OutOfRange ↔ ((names < 1) ⊎ (127 < names)) }
         ensures only { IfErr result (λ r. (r ≡ Refusal.NoMemory) ⊎ (r ≡ Refusal.OutOfRange)) }
@@ -147,15 +147,16 @@ impl<A: Allocator + Clone> Board<A> {
     fn open(alloc: A, names: u64) -> Result<(Board<A>, ReaderSeat), AllocError>
         requires { (1 ≤ names) × (names ≤ 127) }
         ensures board { IfOk result (λ r. r.0.words ≡ names) }
-        ensures seat { IfOk result (λ r. r.1 ≡ reader_of r.0 0) }
+        ensures seat { IfOk result (λ r. r.1 ≡ reader_of r.0 0 0) }
     {
         let words = &[0; MOST_NAMES as usize][..names as usize];
         let (table, seat) = Table::of_words(alloc.clone()?, words, &names)?;
         Ok((Board { alloc, table }, ReaderSeat { seat }))
     }
 
-    /// Ends the board, and tells its words by rising name, among them the grant's: `close_all` with one grant, whose words stand where
-    /// the board's own memory does. The grant is of this board. Where room for the words is refused, `NoMemory`, and the board is spent.
+    /// Ends the board, and tells its words by rising name, as `close_all` does with one grant; they stand where the board's own memory
+    /// does. It is promised that the grant's identity stands at its name, and nothing of the other words, whose `LastRead` is let go. The
+    /// grant is of this board. Where room for the words is refused, `NoMemory`, and the board is spent.
     pub fn close(self, grant: Grant) -> Result<Vec<u64, A>, Refusal>
         requires { grant.board ≡ self }
         ensures count { IfOk result (λ v. vec_len v ≡ self.words) }
@@ -217,7 +218,7 @@ impl<A: Allocator> Board<A> {
     pub fn reader(&self, seat: &mut ReaderSeat) -> ReaderSeat
         requires { seat.old.board ≡ self.now }
         ensures seat { seat.new ≡ seat.old }
-        ensures new { result ≡ reader_of self.now 0 }
+        ensures new { result ≡ reader_of self.now 0 0 }
     {
         let ReaderSeat { seat } = seat;
         ReaderSeat {
@@ -226,15 +227,16 @@ impl<A: Allocator> Board<A> {
     }
 
     /// Posts an identity at a name: one compare-exchange, from 0 to the identity. The grant of just these where the word
-    /// was 0 or held the identity. None where it holds another; and, with no access, where the identity is 0 and where there is
-    /// no such name. The seat is of this board.
+    /// was 0 or held the identity, as the seat shows what it found there. None where it holds another; and, with no access, where the
+    /// identity is 0 and where there is no such name. The seat is of this board.
     pub fn post(&self, seat: &mut ReaderSeat, name: u64, identity: u64) -> Option<Grant>
         requires { seat.old.board ≡ self.now }
-        ensures asked { (1 ≤ name) × (name ≤ self.now.words) × (identity ≢ 0) → seat.new ≡ reader_of self.now (seat.old.accesses + 1) }
+        ensures asked { MayHold self.now name identity → seat.new ≡ reader_of self.now (seat.old.accesses + 1) seat.new.found }
         ensures unasked { (name ≡ 0) ⊎ (self.now.words < name) ⊎ (identity ≡ 0) → seat.new ≡ seat.old }
         ensures seat { seat.new.board ≡ self.now }
         ensures grant { IfSome result (λ g. g ≡ grant_of self.now name identity) }
-        ensures range { IfSome result (λ g. (1 ≤ name) × (name ≤ self.now.words) × (identity ≢ 0)) }
+        ensures due { MayHold self.now name identity → IsSome result ↔ ((seat.new.found ≡ 0) ⊎ (seat.new.found ≡ identity)) }
+        ensures range { IfSome result (λ g. MayHold self.now name identity) }
     {
         let word = self.word_for(name, identity)?;
         let ReaderSeat { seat } = seat;
@@ -253,15 +255,17 @@ impl<A: Allocator> Board<A> {
         })
     }
 
-    /// Looks a name up: one load. The grant of just these where the word holds the identity. None where it does not; and, with
-    /// no access, where the identity is 0 and where there is no such name. The seat is of this board.
+    /// Looks a name up: one load. The grant of just these where the word holds the identity, as the seat shows what it found there.
+    /// None where it does not; and, with no access, where the identity is 0 and where there is no such name. The seat is of this
+    /// board.
     pub fn confirm(&self, seat: &mut ReaderSeat, name: u64, identity: u64) -> Option<Grant>
         requires { seat.old.board ≡ self.now }
-        ensures asked { (1 ≤ name) × (name ≤ self.now.words) × (identity ≢ 0) → seat.new ≡ reader_of self.now (seat.old.accesses + 1) }
+        ensures asked { MayHold self.now name identity → seat.new ≡ reader_of self.now (seat.old.accesses + 1) seat.new.found }
         ensures unasked { (name ≡ 0) ⊎ (self.now.words < name) ⊎ (identity ≡ 0) → seat.new ≡ seat.old }
         ensures seat { seat.new.board ≡ self.now }
         ensures grant { IfSome result (λ g. g ≡ grant_of self.now name identity) }
-        ensures range { IfSome result (λ g. (1 ≤ name) × (name ≤ self.now.words) × (identity ≢ 0)) }
+        ensures due { MayHold self.now name identity → IsSome result ↔ (seat.new.found ≡ identity) }
+        ensures range { IfSome result (λ g. MayHold self.now name identity) }
     {
         let word = self.word_for(name, identity)?;
         let ReaderSeat { seat } = seat;

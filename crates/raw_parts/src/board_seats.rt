@@ -19,9 +19,9 @@ impl Model for ReaderSeat {
 
     ghost Value = { ReaderId };
 
-    ghost view = { λ r. reader_of r.seat.table_id r.seat.me.0.accesses };
+    ghost view = { λ r. reader_of r.seat.table_id r.seat.me.0.accesses r.seat.me.0.found };
 
-    ghost invariant = { λ r. r.seat.me ≡ (no_claim_after r.seat.me.0.accesses, []) };
+    ghost invariant = { λ r. r.seat.me ≡ (no_claim_after r.seat.me.0.accesses r.seat.me.0.found, []) };
 }
 
 /// What was found in each word of a board as it ended, one after another. It has no bytes.

@@ -35,7 +35,7 @@ impl<S> Play<S, BoardView> for Find {
 pub struct Hand;
 
 impl Split<BoardView> for Hand {
-    ghost left = { λ v. board_view [] v.accesses v.read };
+    ghost left = { λ v. board_view [] v.accesses v.found v.read };
 
     ghost right = { λ v. claims_of v.claims };
 }
@@ -60,7 +60,7 @@ impl<S> Play<S, BoardView> for LookOn {
 pub struct Part;
 
 impl Split<BoardView> for Part {
-    ghost left = { λ v. board_view (take 1 v.claims) v.accesses v.read };
+    ghost left = { λ v. board_view (take 1 v.claims) v.accesses v.found v.read };
 
     ghost right = { λ v. claims_of (drop 1 v.claims) };
 }

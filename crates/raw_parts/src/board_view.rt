@@ -14,6 +14,8 @@ pub struct BoardView {
     pub claims: LinkedList<Claim>,
     /// How many accesses it has made.
     pub accesses: u64,
+    /// What its last post or look found in its word, or 0.
+    pub found: u64,
     /// Of the seat with which a board ends: what it found in one word after another, the newest first.
     pub read: LinkedList<u64>,
 }

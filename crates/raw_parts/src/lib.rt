@@ -27,11 +27,12 @@
 //!
 //! A board has a word for each name: 0, or the identity that was first posted there, which never changes. Who was named
 //! posts its name, by one compare-exchange; who has to know whether a name is somebody's looks, by one load. Either gets a
-//! grant: that the word holds this identity, for good. So a name is checked by whoever was told of it, without a lock.
+//! grant: that the word holds this identity, for good. So a name is checked by whoever was told of it, without a lock. A post gives
+//! its grant just where its one access found the word 0 or the identity in it, a look just where it found the identity.
 //!
 //! The law: each grant finds its word equal to its identity, which is not 0. So two grants that meet have two names where
 //! their identities differ; and the words at the end are what a last seat read, each grant's that is handed in among them. What
-//! is not promised: that a post or a look gives a grant, but that it gives no other than was asked for; anything of `owner`.
+//! is not promised: anything of `owner`.
 //!
 //! A caller:
 //!

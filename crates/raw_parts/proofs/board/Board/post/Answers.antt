@@ -10,7 +10,7 @@ compare_exchange-found-requires g c =
     let count : c.self.inside.table.shared.key ≡ c.self.inside.table.shared.table_id.words = c.self.invariant.2 in (
       ap (λ (r : ReaderId). r.board) c.seat.view_is ∙ c.requires ∙ sym c.self.view_is,
       within,
-      rw c.seat.invariant (may_post _ _ _ _ _ _ (subst (λ (n : ℕ). c.in_ok-word.word < n) (sym count) within) c.in_ok-word.ensures.word.2),
+      rw c.seat.invariant (may_post _ _ _ _ _ _ _ (subst (λ (n : ℕ). c.in_ok-word.word < n) (sym count) within) c.in_ok-word.ensures.word.2),
     )
 
 pub split_seat-given-requires : goal.split_seat-given-requires
