@@ -1,5 +1,5 @@
 -- Entries that are applied in a row.
-use Rattle.std.proofs.Common.{append_assoc, ◌≡◌, ℕ, ◌+◌, List, [], ◌∷◌, ◌++◌, length, true, false, inl, inr, refl, ap, sym, subst, ◌∙◌, arith, add-zero}
+use Rattle.std.proofs.Common.{append_assoc, ◌≡◌, ◌≤◌, ℕ, ◌+◌, List, [], ◌∷◌, ◌++◌, length, true, false, inl, inr, refl, ap, sym, subst, ◌∙◌, arith, add-zero}
 use Rattle.std.proofs.Common.{length-append, Result, Ok, Err, IfOk, IfErr, ◌≢◌}
 use Rattle.one_log.specs.declared.replica.Step.{Step}
 use Rattle.one_log.specs.declared.replica.Step.TheVariants.{Nothing, Answered, Passed}
@@ -8,7 +8,8 @@ use Rattle.one_log.specs.declared.serve_fault.Cause.TheVariants.{Memory, Spoiled
 use Rattle.one_log.specs.declared.serve_fault.ServeFault.{ServeFault}
 use Rattle.one_log.specs.declared.serve_fault.ServeFault.TheVariants.{TooLong, Unknown}
 use Rattle.one_log.specs.Places.{Adds, Keeps, Same}
-use Rattle.one_log.specs.Replicas.{AddsOnce, FaultLeaves, GoesOn, IsAnswered, IsApplied, IsDueAt, IsReplica, Leads, OneMore, StandsFrom}
+use Rattle.one_log.specs.declared.store.TheConstants.{MOST_PLACES}
+use Rattle.one_log.specs.Replicas.{AddsOnce, EndsBy, FaultLeaves, GoesOn, IsAnswered, IsApplied, IsDueAt, IsReplica, Leads, OneMore, StandsFrom}
 use Rattle.one_log.specs.ReplicaState.{ReplicaState}
 
 pub same_trans : (first between last : ℕ → List ℕ → Type 0) → Same first between → Same between last → Same first last
@@ -119,8 +120,16 @@ module _ {M R : Type 0} (applies : M → List ℕ → R → M → Type 0) where
   fault_goes_on stands old new (Store fault) is well = subst (GoesOn applies stands old) (sym is) (none_goes_on stands old (ap (λ (r : ReplicaState M). r.spoiled) (sym is) ∙ well))
   fault_goes_on stands old new Memory is well = absurd (let bad : true ≡ false = sym is ∙ well in cc)
   fault_goes_on stands old new Spoiled is well = absurd (let bad : true ≡ false = sym is.0 ∙ (ap (λ (r : ReplicaState M). r.spoiled) (sym is.1) ∙ well) in cc)
-  fault_goes_on stands old new Full is well = subst (GoesOn applies stands old) (sym is) (none_goes_on stands old (ap (λ (r : ReplicaState M). r.spoiled) (sym is) ∙ well))
-  fault_goes_on stands old new Busy is well = subst (GoesOn applies stands old) (sym is) (none_goes_on stands old (ap (λ (r : ReplicaState M). r.spoiled) (sym is) ∙ well))
+  fault_goes_on stands old new Full is well = subst (GoesOn applies stands old) (sym is.1) (none_goes_on stands old (ap (λ (r : ReplicaState M). r.spoiled) (sym is.1) ∙ well))
+  fault_goes_on stands old new Busy is well = absurd is
+
+  -- behind steps after which it was well
+  pub fault_ends : (old mid new : ReplicaState M) (cause : Cause) → mid.spoiled ≡ false → FaultLeaves mid cause new → EndsBy old cause new
+  fault_ends old mid new (Store fault) well is = ap (λ (r : ReplicaState M). r.spoiled) is ∙ well
+  fault_ends old mid new Memory well is = is
+  fault_ends old mid new Spoiled well is = absurd (let bad : true ≡ false = sym is.0 ∙ well in cc)
+  fault_ends old mid new Full well is = (subst (λ (r : ReplicaState M). MOST_PLACES ≤ r.place) (sym is.1) is.0, ap (λ (r : ReplicaState M). r.spoiled) is.1 ∙ well)
+  fault_ends old mid new Busy well is = absurd is
 
   pub more_goes_on : (stands : ℕ → List ℕ → Type 0) (old new : ReplicaState M) → OneMore applies stands old new → GoesOn applies stands old new
   more_goes_on stands old new h = one_goes_on stands old h.entry h.said new h.more

@@ -1,7 +1,10 @@
 -- Replicas of a machine that apply the entries of one log (state machine replication: Schneider 1990).
-use Rattle.std.specs.Prelude.{◌≡◌, ℕ, ◌+◌, List, [], ◌∷◌, ◌++◌, length, false, true}
+use Rattle.std.specs.Prelude.{◌≡◌, ◌≤◌, ℕ, ◌+◌, List, [], ◌∷◌, ◌++◌, length, false, true}
 use Rattle.one_log.specs.declared.serve_fault.Cause.{Cause}
 use Rattle.one_log.specs.declared.serve_fault.Cause.TheVariants.{Store, Memory, Spoiled, Full, Busy}
+use Rattle.one_log.specs.declared.serve_fault.ServeFault.{ServeFault}
+use Rattle.one_log.specs.declared.serve_fault.ServeFault.TheVariants.{TooLong, Unknown}
+use Rattle.one_log.specs.declared.store.TheConstants.{MOST_PLACES}
 use Rattle.one_log.specs.Places.{Adds}
 use Rattle.one_log.specs.ReplicaState.{ReplicaState}
 
@@ -15,13 +18,27 @@ pub record AddsOnce (before : ℕ → List ℕ → Type 0) (batch : List ℕ) (a
   pub at : ℕ
   pub adds : Adds before at batch after
 
--- so a fault leaves a replica: where an entry was to be applied and memory was refused it is spoiled, and else as it was
+-- so a fault of a step leaves a replica: where an entry was to be applied and memory was refused it is spoiled, and else as it was. No
+-- place is left where all were applied, and no step is told that others came first
 abbrev pub FaultLeaves : {M : Type 0} → ReplicaState M → Cause → ReplicaState M → Type 0
 FaultLeaves old (Store fault) new = new ≡ old
 FaultLeaves old Memory new = new.spoiled ≡ true
 FaultLeaves old Spoiled new = (old.spoiled ≡ true) × (new ≡ old)
-FaultLeaves old Full new = new ≡ old
-FaultLeaves old Busy new = new ≡ old
+FaultLeaves old Full new = (MOST_PLACES ≤ old.place) × (new ≡ old)
+FaultLeaves old Busy new = ⊥
+
+-- so a fault ends some steps of a replica, which may have applied entries before it
+abbrev pub EndsBy : {M : Type 0} → ReplicaState M → Cause → ReplicaState M → Type 0
+EndsBy old (Store fault) new = new.spoiled ≡ false
+EndsBy old Memory new = new.spoiled ≡ true
+EndsBy old Spoiled new = (old.spoiled ≡ true) × (new ≡ old)
+EndsBy old Full new = (MOST_PLACES ≤ new.place) × (new.spoiled ≡ false)
+EndsBy old Busy new = new.spoiled ≡ false
+
+-- so one leaves a replica that was to serve a batch
+abbrev pub ServeLeaves : {M : Type 0} → ReplicaState M → ServeFault → ReplicaState M → Type 0
+ServeLeaves old TooLong new = new ≡ old
+ServeLeaves old (Unknown cause) new = EndsBy old cause new
 
 -- where an entry applied to a machine, what is said to it and the machine after it are so related
 module _ {M R : Type 0} (applies : M → List ℕ → R → M → Type 0) where

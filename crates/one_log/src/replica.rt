@@ -2,7 +2,7 @@
 
 ghost use Rattle.std.specs.Prelude.{◌≡◌, ◌≢◌, ◌<◌, ◌≤◌, length, true, false, Ok, Err, OnOk, OnErr, IfOk, IfErr, ◌+◌};
 ghost use Rattle.one_log.specs.Places.{Adds, Same};
-ghost use Rattle.one_log.specs.Replicas.{AddsOnce, FaultLeaves, GoesOn, IsAnswered, IsApplied, IsReplica, OneMore};
+ghost use Rattle.one_log.specs.Replicas.{AddsOnce, EndsBy, FaultLeaves, GoesOn, IsAnswered, IsApplied, IsReplica, OneMore, ServeLeaves};
 ghost use Rattle.one_log.specs.Causes.{MayCause, MayFail};
 ghost use Rattle.one_log.specs.declared.replica.Step.TheVariants.{Nothing, Answered, Passed};
 ghost use Rattle.one_log.specs.declared.serve_fault.Cause.TheVariants.{Spoiled};
@@ -243,6 +243,7 @@ impl<M: Machine> Replica<M> {
         ensures too_long { 65536 < length batch.now → result ≡ Err TooLong }
         ensures refused { result ≡ Err TooLong → (65536 < length batch.now) × (self.new ≡ self.old) × (store.new ≡ store.old) }
         ensures fault { IfErr result (MayFail S.fails) }
+        ensures leaves { IfErr result (λ fault. ServeLeaves self.old fault self.new) }
         ensures spoiled { self.old.spoiled ≡ true → length batch.now ≤ 65536 →
             (result ≡ Err (Unknown Spoiled)) × (self.new ≡ self.old) × (store.new ≡ store.old) }
         ensures goes_on { self.new.spoiled ≡ false → GoesOn M.applies (S.stands store.new) self.old self.new }
@@ -276,6 +277,8 @@ impl<M: Machine> Replica<M> {
         replies: &mut M::Replies,
     ) -> Result<u64, Cause>
         ensures count { IfOk result (λ n. self.new.place ≡ self.old.place + n) }
+        ensures most { IfOk result (λ n. n ≤ most) }
+        ensures fault { IfErr result (λ cause. EndsBy self.old cause self.new) }
         ensures well { OnOk result (self.new.spoiled ≡ false) }
         ensures spoiled { self.old.spoiled ≡ true → (result ≡ Err Spoiled) × (self.new ≡ self.old) }
         ensures goes_on { self.new.spoiled ≡ false → GoesOn M.applies (S.stands store.new) self.old self.new }
@@ -304,6 +307,8 @@ impl<M: Machine> Replica<M> {
         replies: &mut M::Replies,
     ) -> Result<u64, Cause>
         ensures count { IfOk result (λ n. self.new.place ≡ self.old.place + n) }
+        ensures most { IfOk result (λ n. n ≤ most) }
+        ensures fault { IfErr result (λ cause. EndsBy self.old cause self.new) }
         ensures well { OnOk result (self.new.spoiled ≡ false) }
         ensures unanswered { M.silent replies.new }
         ensures spoiled { self.old.spoiled ≡ true → (result ≡ Err Spoiled) × (self.new ≡ self.old) }

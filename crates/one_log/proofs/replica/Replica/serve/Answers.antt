@@ -1,5 +1,5 @@
 -- What did not answer the batch wrote nothing, and what answered it wrote it at most once.
-use Rattle.std.proofs.Common.{◌≡◌, ap, arith, refl, rules, sym, ◌∙◌, false}
+use Rattle.std.proofs.Common.{◌≡◌, ap, arith, rules, sym, ◌∙◌, false}
 use mathlib.Core.Bool.{false≢true}
 use Rattle.one_log.proofs.Chains.{adds_none, adds_once, answered, follows, goes_on_trans, later_follows, none_goes_on, not_done, not_long, same_self, same_trans, step_is_well}
 use Rattle.one_log.specs.declared.serve_fault.Cause.TheVariants.{Busy, Spoiled}
