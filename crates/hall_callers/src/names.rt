@@ -1,10 +1,11 @@
 //! Names on a board.
 
-ghost use Rattle.std.specs.Prelude.{◌≡◌, ◌↔◌, Some, IfSome, true};
+ghost use Rattle.std.specs.Prelude.{◌≡◌, ◌⊎◌, ◌↔◌, ◌+◌, ℕ, None, Some, IfSome, IsSome, true};
 ghost use Rattle.desk.specs.Desk.{owner_reply};
 ghost use Rattle.hall.specs.Halls.{desk_of};
 ghost use Rattle.hall_callers.specs.KeptNames.{name_kept};
 ghost use Rattle.hall_callers.specs.Words.{IsOwnerOrNone, Agree};
+ghost use Rattle.raw_parts.specs.Boards.{MayHold, reader_of};
 
 use crate::closing::Closed;
 use crate::parts::{LockName, Session};
@@ -25,6 +26,12 @@ pub fn post_name<L: LockName, A: Allocator>(
     ensures board { IfSome result (λ g. g.board ≡ board.now) }
     ensures name { IfSome result (λ g. name_kept session.now.clerk.kept ≡ Some g.name) }
     ensures identity { IfSome result (λ g. g.identity ≡ session.now.id) }
+
+    // It is posted, and the grant is given where the board's word was free or held the identity.
+    ensures posted { (name : ℕ) → name_kept session.now.clerk.kept ≡ Some name → MayHold board.now name session.now.id →
+        (seat.new ≡ reader_of board.now (seat.old.accesses + 1) seat.new.found) ×
+        (IsSome result ↔ ((seat.new.found ≡ 0) ⊎ (seat.new.found ≡ session.now.id))) }
+    ensures unnamed { name_kept session.now.clerk.kept ≡ None → seat.new ≡ seat.old }
 {
     let name = session.name()?;
     board.post(seat, name, session.id())
