@@ -6,7 +6,7 @@ pub use Rattle.atomic_table.specs.Seated.{TableId}
 pub use Rattle.word_pool.specs.declared.pool_view.PoolView.{PoolView}
 pub use Rattle.word_pool.specs.Tally.{own, holding, sum_of, tally, one_if, if_holding, sum_below}
 pub use Rattle.word_pool.specs.declared.pool_view.Call.{Call}
-pub use Rattle.word_pool.specs.PoolView.{read_at, at_rest, coming, sighting, passing, taking, going, lone, view_of, no_call, united, spent, looked, swapped, swapped_hint, resting, call_of, races, past_in, call_in}
+pub use Rattle.word_pool.specs.PoolView.{read_at, at_rest, coming, sighting, passing, taking, going, lone, view_of, no_call, united, spent, looked, looked_aside, passing_aside, swapped, swapped_hint, resting, call_of, races, past_in, call_in}
 pub use Rattle.word_pool.specs.PoolSteps.{IsWordFor, Comes, Looks, Frees, LooksOn, IsUnderRule}
 pub use Rattle.word_pool.specs.Pools.{set_places, PoolId, CallId}
 pub use Rattle.word_pool.specs.PoolRule.{KeepsPoolRule, word_of}

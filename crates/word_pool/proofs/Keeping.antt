@@ -7,7 +7,7 @@ use mathlib.Core.Logic.{dite}
 use native.Mathlib.Decide.{ℕ_discrete}
 use lib.ListN.{get_elem?}
 use Rattle.atomic_table.specs.Table.{State, Step, step, Allows, Enters, Arrives, Joins, Splits, keeps}
-use Rattle.word_pool.specs.PoolView.{at_rest, coming, spent, sighting, passing, going, looked, swapped, swapped_hint, lone, resting, view_of, no_call, united, read_at, call_of, first_of}
+use Rattle.word_pool.specs.PoolView.{at_rest, coming, spent, sighting, passing, passing_aside, going, looked, looked_aside, swapped, swapped_hint, lone, resting, view_of, no_call, united, read_at, call_of, first_of}
 use Rattle.word_pool.specs.PoolRule.{KeepsPool, KeepsPoolRule, IsHolder}
 use Rattle.word_pool.specs.PoolSteps.{Comes, ComesBySwap, Looks, Takes, LooksAside, TakesAside, Frees, LooksOn, ReadsFirst, ReadsOn, IsWordFor, IsUnderRule}
 use Rattle.word_pool.proofs.Tallies.{tally_set, tally_snoc, tally_has, tally_two, tally_finds, sum_both}
@@ -144,8 +144,14 @@ module _ {S : Type 0} (count slots : ℕ) where
       (λ q ne. let b = here q in let y = none_held q in omega arith)) in
       (lone new [], keeps, tt, kept, (1, 1, [], refl))
 
-  pub may_look_aside : (i : ℕ) → Enters {S = S} {V = PoolView} (KeepsPoolRule count) slots i (λ n w. LooksAside {S = S} (step slots i 0 0 none) (resting [], []) n (w, []))
-  may_look_aside i s h _ _ = (lone (spent at_rest) [], arrive_kept count s.words s.views h (lone (spent at_rest) []) (λ q. refl), refl)
+  pub may_look_aside : (p : ℕ) → Enters {S = S} {V = PoolView} (KeepsPoolRule count) slots (p * 8) (λ n w. LooksAside {S = S} (step slots (p * 8) 0 0 none) (resting [], []) n (w, []))
+  may_look_aside p s h _ _ =
+      let found : ℕ = slice_index s.words (p * 8) in
+      let new : PoolView = lone (looked_aside p found at_rest) [] in
+      let kept : KeepsPool count s.words (s.views ++ new ∷ []) = dite (ℕ_discrete found 0)
+      (λ z. let a = eq-eqb found 0 z in rw a (arrive_kept count s.words s.views h (lone (spent at_rest) []) (λ q. refl)))
+      (λ z. let a = ne_eqb found 0 z in rw a (arrive_kept count s.words s.views h (lone (passing_aside p at_rest) []) (λ q. refl))) in
+      (new, kept, (p, refl, refl))
 
   module _ (seat : ℕ) (c : Call) (past : List Call) where
     -- a call that rests comes, by a look at the first place

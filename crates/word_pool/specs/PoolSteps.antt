@@ -4,7 +4,7 @@ use mathlib.Core.Option.{some}
 use lib.ListN.{get_elem?}
 use Rattle.atomic_table.specs.Table.{Me, Step}
 use Rattle.word_pool.specs.declared.pool_view.PoolView.{PoolView}
-use Rattle.word_pool.specs.PoolView.{at_rest, lone, call_of, coming, spent, looked, swapped, swapped_hint, going, read_at, view_of}
+use Rattle.word_pool.specs.PoolView.{at_rest, lone, call_of, coming, looked, looked_aside, swapped, swapped_hint, going, read_at, view_of}
 use Rattle.word_pool.specs.Tally.{own, holding}
 use Rattle.word_pool.specs.PoolRule.{KeepsPool, word_of}
 
@@ -29,7 +29,8 @@ Takes s before found after =
 
 -- a call at rest looks at the place of a hint
 abbrev pub LooksAside : {S : Type 0} → Step S → Me S PoolView → ℕ → Me S PoolView → Type 0
-LooksAside s before found after = after ≡ (lone (spent (call_of before.0)) before.0.past, before.1)
+LooksAside s before found after =
+    (place : ℕ) × (s.word ≡ word_of place) × (after ≡ (lone (looked_aside place found (call_of before.0)) before.0.past, before.1))
 
 -- a call at rest swaps 1 into the word of the place of a hint
 abbrev pub TakesAside : {S : Type 0} → Step S → Me S PoolView → ℕ → Me S PoolView → Type 0

@@ -13,6 +13,7 @@ at_rest =
       stage = AtRest;
       place = 0;
       met = [];
+      met_aside = [];
       accesses = 0;
       hinted = false;
       sighted = false;
@@ -25,11 +26,15 @@ at_rest =
 
 -- it comes to the first place, at this moment
 abbrev pub coming : ℕ → Call → Call
-coming moment c = record at_rest { stage = Seeking; accesses = c.accesses; came = moment }
+coming moment c = record at_rest { stage = Seeking; met_aside = c.met_aside; accesses = c.accesses; came = moment }
 
 -- one access more, which changes nothing else
 abbrev pub spent : Call → Call
 spent c = record c { accesses = suc c.accesses }
+
+-- one access more, which met this place of a hint held
+abbrev pub passing_aside : ℕ → Call → Call
+passing_aside place c = record c { met_aside = place ∷ c.met_aside; accesses = suc c.accesses }
 
 -- a look that found its place free
 abbrev pub sighting : Call → Call
@@ -63,9 +68,13 @@ races c = c.lost + one_if c.sighted
 abbrev pub swapped : ℕ → List ℕ → ℕ → Call → Call
 swapped moment crowds found c = if found == 0 then taking moment crowds c else passing (races c) c
 
+-- a look at this place of a hint by a call at rest found this
+abbrev pub looked_aside : ℕ → ℕ → Call → Call
+looked_aside place found c = if found == 0 then spent c else passing_aside place c
+
 -- a swap of 1 into this place by a call at rest found this
 abbrev pub swapped_hint : ℕ → ℕ → ℕ → Call → Call
-swapped_hint place moment found c = if found == 0 then taking_hint place moment c else spent c
+swapped_hint place moment found c = if found == 0 then taking_hint place moment c else passing_aside place c
 
 -- one access more, which met this place held
 abbrev pub meeting : ℕ → Call → Call

@@ -49,6 +49,14 @@ ticket_id pool seat past = record { pool = pool; seat = seat; past = past }
 abbrev pub HasMetAllHeld : PoolId → CallId → Type 0
 HasMetAllHeld p a = (a.pool ≡ p.table) × (a.call.met ≡ first_places p.numbers)
 
+-- a hint that is a number of this pool other than 1, at which each walk begins
+abbrev pub IsHint : PoolId → ℕ → Type 0
+IsHint p hint = (1 < hint) × (hint ≤ p.numbers)
+
+-- before its walk a call met the number of a hint held, and no other
+abbrev pub HasMetHintHeld : ℕ → CallId → Type 0
+HasMetHintHeld hint a = a.call.met_aside ≡ (hint - 1) ∷ []
+
 -- the places below this whose words are not 0, the greatest first
 abbrev pub set_places : List ℕ → ℕ → List ℕ
 set_places words zero = []

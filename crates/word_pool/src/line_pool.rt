@@ -138,8 +138,8 @@ impl<A: Allocator> PoolOver<Lining, A> {
         }
     }
 
-    /// Ends the line, and tells its words by rising number: 1 where the number is still held, else 0. At most as many are
-    /// held as tickets are dealt out. `out` is what was not given back, as far as the caller has it; all is of this line.
+    /// Ends the line, and tells its words by rising number. `out` is what was not given back, as far as the caller has it; all is
+    /// of this line. The word of each number in it is 1, each other is 0 or 1, and at most as many are 1 as tickets are dealt out.
     pub fn close<B: Allocator, C: Allocator>(
         self,
         alloc: B,

@@ -99,6 +99,7 @@ impl<R: TableRule<u8, PoolView, u64>, A: Allocator> PoolOver<R, A> {
         ensures here { IsSeeking result seat.new.me.0 }
         ensures accesses { (call_of seat.new.me.0).accesses + 1 ≡ (call_of seat.old.me.0).accesses + result + one_if (call_of seat.new.me.0).sighted }
         ensures lost { (call_of seat.new.me.0).lost ≡ (call_of seat.old.me.0).lost }
+        ensures aside { (call_of seat.new.me.0).met_aside ≡ (call_of seat.old.me.0).met_aside }
     {
         for place in 1..self.numbers - 1 {
             let found = self

@@ -21,6 +21,8 @@ pub struct Call {
     pub place: u64,
     /// The places that its walk met held, the newest first.
     pub met: LinkedList<u64>,
+    /// The places of hints that it met held, before its walk, the newest first.
+    pub met_aside: LinkedList<u64>,
     /// How many accesses it has made.
     pub accesses: u64,
     /// Whether it got its number by a hint, past the walk.

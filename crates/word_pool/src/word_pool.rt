@@ -5,7 +5,7 @@ ghost use lib.ListN.{get_elem?};
 ghost use mathlib.Core.Option.{some};
 ghost use Rattle.word_pool.specs.PoolView.{call_of, first_places, races, IsSeeking, IsWithin, HasLooked, HasSwapped};
 ghost use Rattle.word_pool.specs.PoolSteps.{IsWordFor};
-ghost use Rattle.word_pool.specs.Pools.{CallId, HasLookedAtAll, HasMetAllHeld, IsTableOf, pool_of, set_places};
+ghost use Rattle.word_pool.specs.Pools.{CallId, HasLookedAtAll, HasMetAllHeld, HasMetHintHeld, IsHint, IsTableOf, pool_of, set_places};
 
 use crate::held::{AllHeld, Held, LastLook, Released};
 use crate::pool_over::{PoolOver, STRIDE};
@@ -52,7 +52,9 @@ fn take_from(
     ensures below { IfOk result (λ h. (h.call.met ≡ first_places (h.number - 1)) × (h.call.hinted ≡ false)) }
     ensures accesses { IfOk result (λ h. h.call.accesses + from ≡ (call_of seat.me.0).accesses + h.number) }
     ensures races { IfOk result (λ h. suc from < h.number → h.call.lost ≡ races (call_of seat.me.0)) }
+    ensures aside { IfOk result (λ h. h.call.met_aside ≡ (call_of seat.me.0).met_aside) }
     ensures all_held { IfErr result (λ a. HasMetAllHeld (pool_of table.now.table_id numbers) a) }
+    ensures aside_in_vain { IfErr result (λ a. a.call.met_aside ≡ (call_of seat.me.0).met_aside) }
     ensures accesses_in_vain { IfErr result (λ a. a.call.accesses + from ≡ (call_of seat.me.0).accesses + numbers) }
     ensures races_in_vain { IfErr result (λ a. from < numbers → a.call.lost ≡ races (call_of seat.me.0)) }
 {
@@ -124,7 +126,9 @@ impl<A: Allocator> PoolOver<Pooling, A> {
         ensures below { IfOk result (λ h. (h.call.met ≡ first_places (h.number - 1)) × (h.call.hinted ≡ false)) }
         ensures accesses { IfOk result (λ h. h.call.accesses ≤ (call_of seat.me.0).accesses + h.number) }
         ensures within { IfOk result (λ h. IsWithin ((call_of seat.me.0).accesses + self.now.numbers - 1) h.call) }
+        ensures aside { IfOk result (λ h. h.call.met_aside ≡ (call_of seat.me.0).met_aside) }
         ensures all_held { IfErr result (λ a. HasMetAllHeld self.now a) }
+        ensures aside_in_vain { IfErr result (λ a. a.call.met_aside ≡ (call_of seat.me.0).met_aside) }
         ensures accesses_in_vain { IfErr result (λ a. IsWithin ((call_of seat.me.0).accesses + self.now.numbers - 1) a.call) }
     {
         let place = if found == 0 {
@@ -144,7 +148,9 @@ impl<A: Allocator> PoolOver<Pooling, A> {
         ensures range { IfOk result (λ h. (1 ≤ h.number) × (h.number ≤ self.now.numbers)) }
         ensures below { IfOk result (λ h. (h.call.met ≡ first_places (h.number - 1)) × (h.call.hinted ≡ false)) }
         ensures accesses { IfOk result (λ h. h.call.accesses + 1 ≡ (call_of seat.me.0).accesses + h.number) }
+        ensures aside { IfOk result (λ h. h.call.met_aside ≡ (call_of seat.me.0).met_aside) }
         ensures all_held { IfErr result (λ a. HasMetAllHeld self.now a) }
+        ensures aside_in_vain { IfErr result (λ a. a.call.met_aside ≡ (call_of seat.me.0).met_aside) }
         ensures accesses_in_vain { IfErr result (λ a. a.call.accesses + 1 ≡ (call_of seat.me.0).accesses + self.now.numbers) }
     {
         if found == 0 {
@@ -154,16 +160,18 @@ impl<A: Allocator> PoolOver<Pooling, A> {
     }
 
     /// The same, but it tries the number of a hint first, by a look and, where that finds it free, a swap. Where it is held it
-    /// walks from 1 upward, by swaps alone where the hint's swap lost a race. A hint that is no number of this pool but 1 is
-    /// none.
+    /// walks from 1 upward, by swaps alone where the hint's swap lost a race: the call keeps that it met the hint's number held. A
+    /// hint that is no number of this pool but 1 is none.
     pub fn acquire_near(&self, hint: u64) -> Result<Held, AllHeld>
         ensures ours { IfOk result (λ h. h.pool ≡ self.now.table) }
         ensures range { IfOk result (λ h. (1 ≤ h.number) × (h.number ≤ self.now.numbers)) }
         ensures hint { IfOk result (λ h. h.call.hinted ≡ true → (h.number ≡ hint) × (h.call.accesses ≡ 2)) }
+        ensures tried { IfOk result (λ h. h.call.hinted ≡ false → IsHint self.now hint → HasMetHintHeld hint h) }
         ensures below { IfOk result (λ h. h.call.hinted ≡ false → h.call.met ≡ first_places (h.number - 1)) }
         ensures accesses { IfOk result (λ h. h.call.accesses ≤ h.number + 2) }
         ensures all_held { IfErr result (λ a. HasMetAllHeld self.now a) }
         ensures accesses_in_vain { IfErr result (λ a. a.call.accesses ≤ self.now.numbers + 2) }
+        ensures tried_in_vain { IfErr result (λ a. IsHint self.now hint → HasMetHintHeld hint a) }
     {
         if hint <= 1 || self.numbers < hint {
             return self.acquire();

@@ -9,5 +9,6 @@ invariant-loop-place l = record {
   here : IsSeeking l.place l.seat.me.0;
   few : (call_of l.seat.me.0).accesses + l.from ≡ (call_of l.initial.seat.me.0).accesses + l.place;
   races : races (call_of l.seat.me.0) ≡ races (call_of l.initial.seat.me.0);
+  aside : (call_of l.seat.me.0).met_aside ≡ (call_of l.initial.seat.me.0).met_aside;
   unseen : l.from < l.place → (call_of l.seat.me.0).sighted ≡ false;
 }

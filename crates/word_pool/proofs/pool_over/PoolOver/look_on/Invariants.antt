@@ -12,4 +12,5 @@ invariant-loop-place g l = record {
   unseen : (call_of l.seat.me.0).sighted ≡ false;
   few : (call_of l.seat.me.0).accesses + 1 ≡ (call_of l.fn.seat.me.0).accesses + l.place;
   lost : (call_of l.seat.me.0).lost ≡ (call_of l.fn.seat.me.0).lost;
+  aside : (call_of l.seat.me.0).met_aside ≡ (call_of l.fn.seat.me.0).met_aside;
 }

@@ -1,13 +1,21 @@
-use Rattle.std.proofs.Common.{rules, ◌≡◌, ◌≢◌, ◌-◌, ℕ, ap, refl, ne_eqb, ◌∙◌, arith, []}
-use Rattle.word_pool.proofs.Common.{Me, step, PoolView, at_rest, call_of, lone, spent, swapped_hint, PoolId}
+use Rattle.std.proofs.Common.{rules, ◌≡◌, ◌≢◌, ◌-◌, ◌*◌, ℕ, ap, refl, eq-eqb, ne_eqb, ◌∙◌, arith, []}
+use Rattle.word_pool.proofs.Common.{Me, step, PoolView, at_rest, call_of, lone, spent, looked_aside, passing_aside, swapped_hint, PoolId}
 use mathlib.Core.Option.{none}
 use Rattle.word_pool.proofs.Keeping.{may_come_back, may_come_back_by_swap, may_look_aside, may_take_aside}
 use Rattle.word_pool.proofs.word_pool.PoolOver+Pooling+A.acquire_near.Goals as goal
 
+-- a look at the place of a hint that met it held, and one that found it free
+avoided : (hint place found : ℕ) (after : Me ℕ PoolView) → hint * 8 ≡ place * 8 → found ≢ 0
+    → after ≡ (lone (looked_aside place found at_rest) [], []) → after ≡ (lone (passing_aside hint at_rest) [], [])
+avoided hint place found after same ne e = let a = ne_eqb found 0 ne in let b : place ≡ hint = omega arith in e ∙ rw (a, b) refl
+
+sighted : (place found : ℕ) (after : Me ℕ PoolView) → found ≡ 0 → after ≡ (lone (looked_aside place found at_rest) [], []) → after ≡ (lone (spent at_rest) [], [])
+sighted place found after z e = let a = eq-eqb found 0 z in e ∙ rw a refl
+
 -- a swap of 1 into the place of a hint that met it held leaves the call at rest
-missed : (place moment found : ℕ) (before after : Me ℕ PoolView) → before ≡ (lone (spent at_rest) [], []) → found ≢ 0
-    → after ≡ (lone (swapped_hint place moment found (call_of before.0)) before.0.past, before.1) → after ≡ (lone (spent (spent at_rest)) [], [])
-missed place moment found before after b ne e = let a = ne_eqb found 0 ne in e ∙ rw (b, a) refl
+missed : (hint place moment found : ℕ) (before after : Me ℕ PoolView) → before ≡ (lone (spent at_rest) [], []) → hint * 8 ≡ place * 8 → found ≢ 0
+    → after ≡ (lone (swapped_hint place moment found (call_of before.0)) before.0.past, before.1) → after ≡ (lone (passing_aside hint (spent at_rest)) [], [])
+missed hint place moment found before after b same ne e = let a = ne_eqb found 0 ne in let d : place ≡ hint = omega arith in e ∙ rw (b, a, d) refl
 
 pub load_new_seat-aside-requires : goal.load_new_seat-aside-requires
 load_new_seat-aside-requires g c =
@@ -15,15 +23,17 @@ load_new_seat-aside-requires g c =
     let words = c.self.invariant.0.0 in
     let above = c.if-hint-le1.false in
     let below = c.if-self-hint.false in
-    (omega arith, may_look_aside c.self.inside.table.shared.key _ _)
+    (omega arith, may_look_aside c.self.inside.table.shared.key _ (c.args.hint - 1))
 
 pub load-found-requires : goal.load-found-requires
 load-found-requires g c =
     let words = c.self.invariant.0.0 in
-    let some = c.self.invariant.0.2 in (
+    let some = c.self.invariant.0.2 in
+    let aside = c.load_new_seat-aside.ensures.2 in
+    let me = avoided (c.args.hint - 1) aside.0 c.load_new_seat-aside.result.0 c.load_new_seat-aside.result.1.me aside.1 (omega (arith, c.if-aside-ne0.true)) aside.2 in (
       c.load_new_seat-aside.ensures.0,
       omega arith,
-      rw c.load_new_seat-aside.ensures.2 (may_come_back c.self.inside.table.shared.key _ _ (spent at_rest) [] (step 0 0 0 0 none) refl),
+      rw me (may_come_back c.self.inside.table.shared.key _ _ (passing_aside (c.args.hint - 1) at_rest) [] (step 0 0 0 0 none) refl),
     )
 
 pub swap-at_swap-requires : goal.swap-at_swap-requires
@@ -32,10 +42,12 @@ swap-at_swap-requires g c =
     let words = c.self.invariant.0.0 in
     let key = c.self.invariant.0.1 in
     let above = c.if-hint-le1.false in
-    let below = c.if-self-hint.false in (
+    let below = c.if-self-hint.false in
+    let aside = c.load_new_seat-aside.ensures.2 in
+    let me = sighted aside.0 c.load_new_seat-aside.result.0 c.load_new_seat-aside.result.1.me (omega (arith, c.if-aside-ne0.false)) aside.2 in (
       c.load_new_seat-aside.ensures.0,
       omega arith,
-      rw c.load_new_seat-aside.ensures.2 (may_take_aside c.self.inside.table.shared.key _ _ (spent at_rest) [] (c.args.hint - 1) 0 1 0 none (omega arith) refl),
+      rw me (may_take_aside c.self.inside.table.shared.key _ _ (spent at_rest) [] (c.args.hint - 1) 0 1 0 none (omega arith) refl),
     )
 
 pub swap-found-requires : goal.swap-found-requires
@@ -44,10 +56,12 @@ swap-found-requires g c =
     let key = c.self.invariant.0.1 in
     let some = c.self.invariant.0.2 in
     let hint = c.swap-at_swap.ensures.2 in
-    let me = missed hint.0 hint.2 c.swap-at_swap.result c.load_new_seat-aside.result.1.me c.swap-at_swap.new.seat.me c.load_new_seat-aside.ensures.2 (omega (arith, c.if-at_swap-eq0.false)) hint.3 in (
+    let aside = c.load_new_seat-aside.ensures.2 in
+    let before = sighted aside.0 c.load_new_seat-aside.result.0 c.load_new_seat-aside.result.1.me (omega (arith, c.if-aside-ne0.false)) aside.2 in
+    let me = missed (c.args.hint - 1) hint.0 hint.2 c.swap-at_swap.result c.load_new_seat-aside.result.1.me c.swap-at_swap.new.seat.me before hint.1 (omega (arith, c.if-at_swap-eq0.false)) hint.3 in (
       c.swap-at_swap.ensures.0 ∙ c.load_new_seat-aside.ensures.0,
       omega arith,
-      rw me (may_come_back_by_swap c.self.inside.table.shared.key _ _ (spent (spent at_rest)) [] (step 0 0 0 0 none) (omega arith) refl),
+      rw me (may_come_back_by_swap c.self.inside.table.shared.key _ _ (passing_aside (c.args.hint - 1) (spent at_rest)) [] (step 0 0 0 0 none) (omega arith) refl),
     )
 
 pub walk_by_swaps-requires-clause-some : goal.walk_by_swaps-requires-clause-some

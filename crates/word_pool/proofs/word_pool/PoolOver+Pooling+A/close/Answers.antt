@@ -6,4 +6,4 @@ pub load_new_seat-seat-requires : goal.load_new_seat-seat-requires
 load_new_seat-seat-requires g c =
     let words = c.self.invariant.0.0 in
     let some = c.self.invariant.0.2 in
-    (omega arith, may_look_aside c.self.inside.table.shared.key _ _)
+    (omega arith, may_look_aside c.self.inside.table.shared.key _ 0)
