@@ -1,7 +1,14 @@
--- what a walk that got no number met
-use Rattle.std.specs.Prelude.{◌≤◌, ◌+◌}
-use Rattle.word_pool.specs.Pools.{PoolId, CallId, HasMetAllHeld}
+-- what a call met, that got a number or none
+use Rattle.std.specs.Prelude.{◌≡◌, ◌≤◌, ◌+◌, ◌-◌, ℕ, true, false}
+use Rattle.word_pool.specs.PoolView.{first_places}
+use Rattle.word_pool.specs.Pools.{PoolId, CallId, HasMetAllHeld, HasMetHintHeld, IsHint}
 
--- it met each number of the pool held, one after another, from 1 on, by at most so many accesses
-abbrev pub MetAllInTime : PoolId → CallId → Type 0
-MetAllInTime p a = HasMetAllHeld p a × (a.call.accesses ≤ p.numbers + 2)
+-- it met each number of the pool held, one after another, from 1 on, by at most so many accesses; and before them that of the hint
+abbrev pub MetAllInTime : ℕ → PoolId → CallId → Type 0
+MetAllInTime hint p a = HasMetAllHeld p a × (a.call.accesses ≤ p.numbers + 2) × (IsHint p hint → HasMetHintHeld hint a)
+
+-- it got the number of the hint; or one with all below it met held, in order, and before them that of the hint
+pub record WasSought (hint : ℕ) (p : PoolId) (h : CallId) : Type 0 where
+  pub near : h.call.hinted ≡ true → h.number ≡ hint
+  pub below : h.call.hinted ≡ false → h.call.met ≡ first_places (h.number - 1)
+  pub tried : h.call.hinted ≡ false → IsHint p hint → HasMetHintHeld hint h

@@ -91,9 +91,10 @@ pub extern "C" fn word_pool_acquire(alloc: Global, handle: &mut Handle) -> u64
     ghost pool: { Member }
     requires held { handle.old.pool ≡ Some pool }
     ensures pool { IsSomeAnd handle.new.pool (λ m. arc_value m.pool ≡ arc_value pool.pool) }
-    ensures number { result ≢ 0 → IsSomeAnd handle.new.pool (HoldsNumber result) }
+    ensures one { IsSome pool.held → result ≡ 0 }
+    ensures number { result ≢ 0 → IsSomeAnd handle.new.pool (HoldsNumber 1 result) }
     ensures kept { result ≡ 0 → IsSomeAnd handle.new.pool (λ m. m.held ≡ pool.held) }
-    ensures none { result ≡ 0 → IsSome pool.held ⊎ IsSomeAnd handle.new.pool WasRefused }
+    ensures none { result ≡ 0 → IsSome pool.held ⊎ IsSomeAnd handle.new.pool (WasRefused 1) }
 {
     let mut whole = mem::replace(handle, Handle::blank(alloc)).into_box();
     let number = whole.acquire(1);
@@ -107,9 +108,10 @@ pub extern "C" fn word_pool_acquire_near(alloc: Global, handle: &mut Handle, hin
     ghost pool: { Member }
     requires held { handle.old.pool ≡ Some pool }
     ensures pool { IsSomeAnd handle.new.pool (λ m. arc_value m.pool ≡ arc_value pool.pool) }
-    ensures number { result ≢ 0 → IsSomeAnd handle.new.pool (HoldsNumber result) }
+    ensures one { IsSome pool.held → result ≡ 0 }
+    ensures number { result ≢ 0 → IsSomeAnd handle.new.pool (HoldsNumber hint result) }
     ensures kept { result ≡ 0 → IsSomeAnd handle.new.pool (λ m. m.held ≡ pool.held) }
-    ensures none { result ≡ 0 → IsSome pool.held ⊎ IsSomeAnd handle.new.pool WasRefused }
+    ensures none { result ≡ 0 → IsSome pool.held ⊎ IsSomeAnd handle.new.pool (WasRefused hint) }
 {
     let mut whole = mem::replace(handle, Handle::blank(alloc)).into_box();
     let number = whole.acquire(hint);

@@ -2,7 +2,7 @@
 
 ghost use Rattle.std.specs.Prelude.{◌≡◌, ◌≢◌, ◌≤◌, ◌+◌, ◌⊎◌, IfSome, IsSome, IsSomeAnd, None};
 ghost use Rattle.std.specs.Arc.{arc_value};
-ghost use Rattle.word_pool_c.specs.Refused.{MetAllInTime};
+ghost use Rattle.word_pool_c.specs.Refused.{MetAllInTime, WasSought};
 ghost use Rattle.std.proofs.Props.{props};
 
 use std::alloc::Global;
@@ -35,10 +35,12 @@ impl Member {
     /// the walk met each number held, and where one is held already.
     pub fn acquire(&mut self, hint: u64) -> u64
         ensures pool { arc_value self.new.pool ≡ arc_value self.old.pool }
-        ensures held { result ≢ 0 → IsSomeAnd self.new.held (λ h. (h.number ≡ result) × (h.call.accesses ≤ result + 2)) }
+        ensures one { IsSome self.old.held → result ≡ 0 }
+        ensures held { result ≢ 0 → IsSomeAnd self.new.held (λ h. (h.number ≡ result) × (h.call.accesses ≤ result + 2) ×
+            WasSought hint (arc_value self.new.pool) h) }
         ensures range { result ≢ 0 → result ≤ (arc_value self.new.pool).numbers }
         ensures kept { result ≡ 0 → self.new.held ≡ self.old.held }
-        ensures none { result ≡ 0 → IsSome self.old.held ⊎ IsSomeAnd self.new.refused (MetAllInTime (arc_value self.new.pool)) }
+        ensures none { result ≡ 0 → IsSome self.old.held ⊎ IsSomeAnd self.new.refused (MetAllInTime hint (arc_value self.new.pool)) }
     {
         if self.held.is_some() {
             return 0;
