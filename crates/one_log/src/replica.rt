@@ -166,11 +166,7 @@ impl<M: Machine> Replica<M> {
         if self.place >= MOST_PLACES {
             return Ok(false);
         }
-        match self.follow(store, &[], replies) {
-            Ok(Step::Nothing) => Ok(false),
-            Ok(_) => Ok(true),
-            Err(cause) => Err(cause),
-        }
+        Ok(self.follow(store, &[], replies)? != Step::Nothing)
     }
 
     // One step for a batch, as `step`, with whatever replies.
@@ -260,8 +256,8 @@ impl<M: Machine> Replica<M> {
         }
         for _ in 0..MOST_STEPS {
             match self.step(store, batch, replies) {
-                Ok(step) if step == Step::Answered => return Ok(()),
-                Ok(_) => {}
+                Ok(Step::Answered) => return Ok(()),
+                Ok(Step::Passed | Step::Nothing) => {}
                 Err(cause) => return Err(ServeFault::Unknown(cause)),
             }
         }
@@ -289,10 +285,9 @@ impl<M: Machine> Replica<M> {
             return Err(Cause::Spoiled);
         }
         for passed in 0..most {
-            match self.pass(store, replies) {
-                Ok(true) => {}
-                Ok(false) => return Ok(passed),
-                Err(cause) => return Err(cause),
+            let stood = self.pass(store, replies)?;
+            if !stood {
+                return Ok(passed);
             }
         }
         Ok(most)

@@ -3,19 +3,19 @@ use Rattle.std.proofs.Common.{rules, arith}
 use Rattle.one_log.proofs.Chains.{fault_goes_on, goes_on_trans, more_goes_on, same_goes_on, same_trans}
 use Rattle.one_log.proofs.replica.Replica.pass_all.Goals as goal
 
-pub returns-in-Ok-false-clause-goes_on : goal.returns-in-Ok-false-clause-goes_on
-returns-in-Ok-false-clause-goes_on g c =
+pub returns-then-not-stood-clause-goes_on : goal.returns-then-not-stood-clause-goes_on
+returns-then-not-stood-clause-goes_on g c =
     let stands = g.S.Store.stands in
     let applies = g.M.Machine.applies in
     λ well. goes_on_trans applies (stands c.loop-passed.store) (stands c.pass.new.store) c.pass.ensures.same.keeps c.args.self.now c.loop-passed.self c.pass.new.self c.loop-passed.invariant.goes_on
     (same_goes_on applies (stands c.pass.new.store) c.loop-passed.self c.pass.new.self (c.pass.ensures.nothing (search rules)) c.loop-passed.invariant.well)
 
-pub returns-in-Err-clause-goes_on : goal.returns-in-Err-clause-goes_on
-returns-in-Err-clause-goes_on g c =
+pub returns-in_err-stood-clause-goes_on : goal.returns-in_err-stood-clause-goes_on
+returns-in_err-stood-clause-goes_on g c =
     let stands = g.S.Store.stands in
     let applies = g.M.Machine.applies in
     λ well. goes_on_trans applies (stands c.loop-passed.store) (stands c.pass.new.store) c.pass.ensures.same.keeps c.args.self.now c.loop-passed.self c.pass.new.self c.loop-passed.invariant.goes_on
-    (fault_goes_on applies (stands c.pass.new.store) c.loop-passed.self c.pass.new.self c.in-Err.cause c.in-Err.ensures.fault well)
+    (fault_goes_on applies (stands c.pass.new.store) c.loop-passed.self c.pass.new.self c.in_err-stood.field-0.0 c.in_err-stood.ensures.fault well)
 
 pub loop-passed-preserved : goal.loop-passed-preserved
 loop-passed-preserved g c =
@@ -30,12 +30,12 @@ loop-passed-preserved g c =
       same = same_trans (stands c.args.store.now) (stands c.loop-passed.store) (stands c.pass.new.store) c.loop-passed.invariant.same c.pass.ensures.same;
     }
 
-pub returns-in-Ok-false-clause-same : goal.returns-in-Ok-false-clause-same
-returns-in-Ok-false-clause-same g c =
+pub returns-then-not-stood-clause-same : goal.returns-then-not-stood-clause-same
+returns-then-not-stood-clause-same g c =
     let stands = g.S.Store.stands in
     same_trans (stands c.args.store.now) (stands c.loop-passed.store) (stands c.pass.new.store) c.loop-passed.invariant.same c.pass.ensures.same
 
-pub returns-in-Err-clause-same : goal.returns-in-Err-clause-same
-returns-in-Err-clause-same g c =
+pub returns-in_err-stood-clause-same : goal.returns-in_err-stood-clause-same
+returns-in_err-stood-clause-same g c =
     let stands = g.S.Store.stands in
     same_trans (stands c.args.store.now) (stands c.loop-passed.store) (stands c.pass.new.store) c.loop-passed.invariant.same c.pass.ensures.same

@@ -10,21 +10,21 @@ loop-preserved g c =
     let stands = g.S.Store.stands in
     let applies = g.M.Machine.applies in
     let e = c.step.ensures in
-    let same = c.in-Ok.ensures.unwritten (search rules) in
-    let well = step_is_well applies (stands c.step.new.store) c.loop.self c.args.batch.now c.step.new.replies c.step.new.self c.in-Ok.step c.step.result c.in-Ok.is e.answered e.passed e.nothing in
+    let same = c.in-Ok-Passed.ensures.unwritten (search rules) in
+    let well = step_is_well applies (stands c.step.new.store) c.loop.self c.args.batch.now c.step.new.replies c.step.new.self c.in-Ok-Passed.field-0 c.step.result c.in-Ok-Passed.is e.answered e.passed e.nothing in
     record {
       well = well;
       goes_on = goes_on_trans applies (stands c.loop.store) (stands c.step.new.store) same.keeps c.args.self.now c.loop.self c.step.new.self c.loop.invariant.goes_on (e.goes_on well);
       same = same_trans (stands c.args.store.now) (stands c.loop.store) (stands c.step.new.store) c.loop.invariant.same same;
     }
 
-pub returns-in-Ok-clause-answered : goal.returns-in-Ok-clause-answered
-returns-in-Ok-clause-answered g c =
+pub returns-in-Ok-Answered-clause-answered : goal.returns-in-Ok-Answered-clause-answered
+returns-in-Ok-Answered-clause-answered g c =
     let stands = g.S.Store.stands in
     answered g.M.Machine.applies (stands c.loop.store) (stands c.step.new.store) c.step.ensures.adds.keeps c.args.self.now c.loop.self c.step.new.self c.args.batch.now c.step.new.replies c.loop.invariant.goes_on (c.step.ensures.answered (search rules))
 
-pub returns-in-Ok-clause-goes_on : goal.returns-in-Ok-clause-goes_on
-returns-in-Ok-clause-goes_on g c =
+pub returns-in-Ok-Answered-clause-goes_on : goal.returns-in-Ok-Answered-clause-goes_on
+returns-in-Ok-Answered-clause-goes_on g c =
     let stands = g.S.Store.stands in
     λ well. goes_on_trans g.M.Machine.applies (stands c.loop.store) (stands c.step.new.store) c.step.ensures.adds.keeps c.args.self.now c.loop.self c.step.new.self c.loop.invariant.goes_on (c.step.ensures.goes_on well)
 
@@ -33,8 +33,8 @@ returns-in-Err-clause-goes_on g c =
     let stands = g.S.Store.stands in
     λ well. goes_on_trans g.M.Machine.applies (stands c.loop.store) (stands c.step.new.store) c.step.ensures.adds.keeps c.args.self.now c.loop.self c.step.new.self c.loop.invariant.goes_on (c.step.ensures.goes_on well)
 
-pub returns-in-Ok-clause-follows : goal.returns-in-Ok-clause-follows
-returns-in-Ok-clause-follows g c =
+pub returns-in-Ok-Answered-clause-follows : goal.returns-in-Ok-Answered-clause-follows
+returns-in-Ok-Answered-clause-follows g c =
     let stands = g.S.Store.stands in
     later_follows g.M.Machine.applies (stands c.args.store.now) (stands c.loop.store) (stands c.step.new.store) c.loop.invariant.same c.step.ensures.adds.keeps c.args.self.now c.loop.self c.step.new.self c.loop.invariant.goes_on c.step.ensures.goes_on
 
@@ -43,8 +43,8 @@ returns-in-Err-clause-follows g c =
     let stands = g.S.Store.stands in
     later_follows g.M.Machine.applies (stands c.args.store.now) (stands c.loop.store) (stands c.step.new.store) c.loop.invariant.same c.step.ensures.adds.keeps c.args.self.now c.loop.self c.step.new.self c.loop.invariant.goes_on c.step.ensures.goes_on
 
-pub returns-in-Ok-clause-once : goal.returns-in-Ok-clause-once
-returns-in-Ok-clause-once g c =
+pub returns-in-Ok-Answered-clause-once : goal.returns-in-Ok-Answered-clause-once
+returns-in-Ok-Answered-clause-once g c =
     let stands = g.S.Store.stands in
     adds_once (stands c.args.store.now) (stands c.loop.store) (stands c.step.new.store) c.loop.self.place c.args.batch.now c.loop.invariant.same c.step.ensures.adds
 
@@ -86,8 +86,8 @@ returns-then-self-clause-once g c =
 pub returns-clause-goes_on : goal.returns-clause-goes_on
 returns-clause-goes_on g c = λ well. c.loop.invariant.goes_on
 
-pub returns-in-Ok-clause-spoiled : goal.returns-in-Ok-clause-spoiled
-returns-in-Ok-clause-spoiled g c =
+pub returns-in-Ok-Answered-clause-spoiled : goal.returns-in-Ok-Answered-clause-spoiled
+returns-in-Ok-Answered-clause-spoiled g c =
     let well : c.args.self.now.spoiled ≡ false = ap (λ r. r.spoiled) (sym c.self.view_is) ∙ c.if-self.false in
     λ was. absurd (false≢true (sym well ∙ was))
 
@@ -102,8 +102,8 @@ returns-in-Err-clause-unanswered g c = c.step.ensures.unanswered (λ done. not_d
 pub returns-then-self-clause-too_long : goal.returns-then-self-clause-too_long
 returns-then-self-clause-too_long g c = λ long. absurd (omega (arith, c.if-batch-gt-MOST_BATCH.false, long))
 
-pub returns-in-Ok-clause-too_long : goal.returns-in-Ok-clause-too_long
-returns-in-Ok-clause-too_long g c = λ long. absurd (omega (arith, c.if-batch-gt-MOST_BATCH.false, long))
+pub returns-in-Ok-Answered-clause-too_long : goal.returns-in-Ok-Answered-clause-too_long
+returns-in-Ok-Answered-clause-too_long g c = λ long. absurd (omega (arith, c.if-batch-gt-MOST_BATCH.false, long))
 
 pub returns-in-Err-clause-too_long : goal.returns-in-Err-clause-too_long
 returns-in-Err-clause-too_long g c = λ long. absurd (omega (arith, c.if-batch-gt-MOST_BATCH.false, long))
