@@ -43,10 +43,7 @@ fn number_given(matches: &ArgMatches<'_>, name: &str) -> Option<u64>
 fn flag_given(matches: &ArgMatches<'_>, name: &str) -> bool
     ensures { result ≡ asks_flag name.now (rows_of (found_of matches.now)) }
 {
-    match matches.get_str(name) {
-        Some(text) => text == "true",
-        None => false,
-    }
+    matches.get_str(name) == Some("true")
 }
 
 // The config that the options of `play` or of `serve` give, where they give one.
@@ -145,23 +142,11 @@ fn log_given<'a>(matches: &ArgMatches<'a>) -> Option<LogWords<'a>>
 fn keeping_given<'a>(matches: &ArgMatches<'a>) -> Option<Keeping<'a>>
     ensures { MatchOption result ((k : Keeping) → IsKeepingOf (rows_of (found_of matches.now)) k → ⊥) (IsKeepingOf (rows_of (found_of matches.now))) }
 {
-    let is_log = log_asked(matches);
-    match text_given(matches, "journal") {
-        Some(path) => {
-            if is_log {
-                return None;
-            }
-            Some(Keeping::Journal(path))
-        }
-        None => {
-            if !is_log {
-                return Some(Keeping::Nothing);
-            }
-            match log_given(matches) {
-                Some(log) => Some(Keeping::Log(log)),
-                None => None,
-            }
-        }
+    match (text_given(matches, "journal"), log_asked(matches)) {
+        (None, false) => Some(Keeping::Nothing),
+        (Some(path), false) => Some(Keeping::Journal(path)),
+        (None, true) => Some(Keeping::Log(log_given(matches)?)),
+        (Some(_), true) => None,
     }
 }
 

@@ -1,17 +1,17 @@
-use Rattle.std.proofs.Common.{ap, codes, Some, None, false, ◌≡◌, ◌∙◌}
-use Rattle.program_args.proofs.Common.{first_of, found_of, rows_of, first_value-rows}
-use Rattle.std.specs.Option.{option_map_or}
+use Rattle.std.proofs.Common.{ap, codes, Bool, List, Option, Some, None, false, ℕ, refl, ◌≡◌, ◌∙◌}
+use Rattle.program_args.proofs.Common.{found_of, first_value-rows}
+use Rattle.std.specs.Borrow.{Bor}
+use Rattle.std.specs.Option.{option_eq, option_map, option_map_or}
 use Rattle.std.specs.Str.{bytes_eq}
 use Rattle.program_args.proofs.words.flag_given.Goals as goal
 
-pub returns-in-Some : goal.returns-in-Some
-returns-in-Some c =
-    let given : Some c.in-Some.text.now ≡ first_of c.args.name.now (rows_of (found_of c.args.matches.now)) =
-    rw c.in-Some.is at c.get_str.ensures ∙ first_value-rows (found_of c.args.matches.now) c.args.name.now in
-    c.eq.ensures ∙ ap (λ o. option_map_or (λ text. bytes_eq text (codes "true")) o false) given
+-- texts that may be there are compared by their bytes
+by_bytes : (eq : Bor (List ℕ) → Bor (List ℕ) → Bool) → ((s t : Bor (List ℕ)) → eq s t ≡ bytes_eq s.now t.now) → (o : Option (Bor (List ℕ))) (t : Bor (List ℕ)) →
+    option_eq eq o (Some t) ≡ option_map_or (λ text. bytes_eq text t.now) (option_map (λ s. s.now) o) false
+by_bytes eq same None t = refl
+by_bytes eq same (Some s) t = same s t
 
-pub returns-in-None : goal.returns-in-None
-returns-in-None c =
-    let none : None ≡ first_of c.args.name.now (rows_of (found_of c.args.matches.now)) =
-    rw c.in-None.is at c.get_str.ensures ∙ first_value-rows (found_of c.args.matches.now) c.args.name.now in
-    ap (λ o. option_map_or (λ text. bytes_eq text (codes "true")) o false) none
+pub returns : goal.returns
+returns c =
+    c.eq.ensures ∙ by_bytes _ (λ s t. refl) c.get_str.result _ ∙
+    ap (λ o. option_map_or (λ text. bytes_eq text (codes "true")) o false) (c.get_str.ensures ∙ first_value-rows (found_of c.args.matches.now) c.args.name.now)
