@@ -33,9 +33,7 @@ pub fn put_said(answer: &Value<'_>) -> Option<bool>
 fn entry_said<'v>(entry: &Value<'v>, key: &str) -> Option<&'v str>
     ensures { option_map (λ text. text.now) result ≡ entry_said key.now (value_view entry.now) }
 {
-    let Some(found) = entry.get("key")?.as_str() else {
-        return None;
-    };
+    let found = entry.get("key")?.as_str()?;
     if found != key {
         return None;
     }
@@ -54,10 +52,7 @@ pub fn get_said<'v>(answer: &Value<'v>, index: usize, key: &str) -> Option<Optio
         return Some(None);
     };
     match entries.at(index) {
-        Some(entry) => match entry_said(entry, key) {
-            Some(text) => Some(Some(text)),
-            None => None,
-        },
+        Some(entry) => Some(Some(entry_said(entry, key)?)),
         None => Some(None),
     }
 }
@@ -84,10 +79,7 @@ pub fn read_put(alloc: Global, body: &[u8]) -> Result<Put, StoreFault>
     ensures fault { IfErr result IsOverNetwork }
 {
     let mut scratch = Scratch::new(alloc);
-    let said = match parsed(alloc, body, &mut scratch) {
-        Ok(answer) => put_said(&answer),
-        Err(fault) => return Err(fault),
-    };
+    let said = put_said(&parsed(alloc, body, &mut scratch)?);
     match said {
         Some(true) => Ok(Put::Written),
         Some(false) => Ok(Put::Taken),
@@ -122,10 +114,7 @@ fn found_at(
         return Err(StoreFault::Memory);
     };
     match get_said(answer, index, key.as_str()) {
-        Some(Some(text)) => match decoded(alloc, text) {
-            Ok(bytes) => Ok(Some(bytes)),
-            Err(fault) => Err(fault),
-        },
+        Some(Some(text)) => Ok(Some(decoded(alloc, text)?)),
         Some(None) => Ok(None),
         None => Err(StoreFault::Wrong),
     }
@@ -149,10 +138,8 @@ fn read_from(
     if most == 0 {
         return Ok(());
     }
-    let entry = match found_at(alloc, answer, index, prefix, place) {
-        Ok(Some(entry)) => entry,
-        Ok(None) => return Ok(()),
-        Err(fault) => return Err(fault),
+    let Some(entry) = found_at(alloc, answer, index, prefix, place)? else {
+        return Ok(());
     };
     if found.push(entry).is_err() {
         return Err(StoreFault::Memory);
@@ -179,10 +166,8 @@ fn read_all(
     ensures fault { IfErr result IsOverNetwork }
 {
     let mut found = Vec::new(alloc);
-    match read_from(alloc, answer, 0, most, prefix, place, &mut found) {
-        Ok(()) => Ok(found),
-        Err(fault) => Err(fault),
-    }
+    read_from(alloc, answer, 0, most, prefix, place, &mut found)?;
+    Ok(found)
 }
 
 /// Reads the body of an answer to a request for what stands under a prefix at the places from one on, so many at most. An answer is wrong
@@ -198,8 +183,6 @@ pub fn read_get(
     ensures fault { IfErr result IsOverNetwork }
 {
     let mut scratch = Scratch::new(alloc);
-    match parsed(alloc, body, &mut scratch) {
-        Ok(answer) => read_all(alloc, &answer, most, prefix, place),
-        Err(fault) => Err(fault),
-    }
+    let answer = parsed(alloc, body, &mut scratch)?;
+    read_all(alloc, &answer, most, prefix, place)
 }

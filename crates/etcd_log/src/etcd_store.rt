@@ -76,16 +76,8 @@ impl<D: Dial> EtcdStore<D> {
         let Some(mut kept) = self.connection() else {
             return Err(StoreFault::Lost);
         };
-        let response = match exchange(
-            self.alloc,
-            &mut kept.client,
-            &mut kept.stream,
-            target,
-            text,
-        ) {
-            Ok(response) => response,
-            Err(fault) => return Err(fault),
-        };
+        let Kept { stream, client } = &mut kept;
+        let response = exchange(self.alloc, client, stream, target, text)?;
         if response.status != ANSWERED {
             return Err(StoreFault::Lost);
         }
@@ -109,9 +101,7 @@ impl<D: Dial> EtcdStore<D> {
         }
         Err(StoreFault::Lost)
     }
-}
 
-impl<D: Dial> EtcdStore<D> {
     // Asks what stands at the places from one on.
     fn ask_from(&mut self, place: u64) -> Result<(), StoreFault>
         requires { place < MOST_PLACES }
@@ -121,14 +111,8 @@ impl<D: Dial> EtcdStore<D> {
         let Ok(text) = get_text(self.alloc, self.prefix.as_str(), place, last) else {
             return Err(StoreFault::Memory);
         };
-        let body = match self.ask(b"/v3/kv/range", &text) {
-            Ok(body) => body,
-            Err(fault) => return Err(fault),
-        };
-        self.ahead = match read_get(self.alloc, &body, MOST_FOUND, self.prefix.as_str(), place) {
-            Ok(found) => found,
-            Err(fault) => return Err(fault),
-        };
+        let body = self.ask(b"/v3/kv/range", &text)?;
+        self.ahead = read_get(self.alloc, &body, MOST_FOUND, self.prefix.as_str(), place)?;
         self.ahead.reverse();
         self.place = place;
         Ok(())
@@ -144,10 +128,8 @@ impl<D: Dial> Store for EtcdStore<D> {
         let Ok(text) = put_text(self.alloc, self.prefix.as_str(), place, entry) else {
             return Err(StoreFault::Memory);
         };
-        match self.ask(b"/v3/kv/txn", &text) {
-            Ok(body) => read_put(self.alloc, &body),
-            Err(fault) => Err(fault),
-        }
+        let body = self.ask(b"/v3/kv/txn", &text)?;
+        read_put(self.alloc, &body)
     }
 
     fn get(&mut self, place: u64, entry: &mut Vec<u8>) -> Result<bool, StoreFault> {

@@ -119,18 +119,11 @@ fn receive<S: Read>(
         body: Vec::new(alloc),
     };
     for _ in 0..MOST_EVENTS {
-        let (consumed, next) = match read_event(client, &input[from..], &mut response) {
-            Ok(read) => read,
-            Err(fault) => return Err(fault),
-        };
+        let (consumed, next) = read_event(client, &input[from..], &mut response)?;
         from += consumed;
         match next {
             Next::Event => {}
-            Next::Bytes => {
-                if let Err(fault) = fill(stream, &mut input) {
-                    return Err(fault);
-                }
-            }
+            Next::Bytes => fill(stream, &mut input)?,
             Next::Nothing if from == input.len() => return Ok(response),
             Next::Nothing => return Err(StoreFault::Wrong),
         }
