@@ -1,11 +1,9 @@
 -- what is gathered of connections before their lines are taken
-use Rattle.std.proofs.Common.{◌≡◌, inl, inr, ℕ, ◌<◌, if◌then◌else◌, Bool, true, false, set, take, List, [], ◌++◌, length, get_or, Option, Some, None, Result, Ok, Err, refl, sym, ap, subst, ◌∙◌, append_assoc}
+use Rattle.std.proofs.Common.{◌≡◌, inl, inr, ℕ, ◌<◌, if◌then◌else◌, Bool, true, false, set, take, List, [], ◌++◌, length, get_or, Option, Some, None, refl, sym, ap, subst, ◌∙◌, append_assoc}
 use Rattle.event_server.proofs.Common.{append-nil, get_or-set_same, get_or-set_other, length-set, cases_eq, Consumes, Look, WireState, WorldKind, requests_seen}
 use Rattle.event_server.specs.Told.{behind, bytes_of, ends_of, long_of, requests, requests_in}
 use Rattle.std.proofs.KnownBytes.{Consumes-nil, Consumes-trans}
-use Rattle.event_server.specs.declared.gathering.Called.{Called}
-use Rattle.event_server.specs.declared.gathering.Called.TheVariants.{Served, Unserved}
-use Rattle.event_server.specs.Seats.{Seating, NoneSent}
+use Rattle.event_server.specs.Seats.{Seating}
 use Rattle.event_server.specs.Gathering.{GathersOf, SeatGathers, Gathered}
 
 -- these bytes came, and wait where it is at no fault
@@ -65,19 +63,6 @@ module _ {C : Type 0} (on : Seating C) where
   some_is : (c d : C) → Some c ≡ Some d → c ≡ d
   some_is c d e = cc
 
-  pub gathered_unsent : (seats seats' : List (Option C)) → Gathered on seats seats' → NoneSent on seats seats'
-  gathered_unsent seats seats' all i c d a b =
-      let one : SeatGathers on (Some c) (Some d) = rw (a, b) at (all.each i) in
-      one.1
-
-  -- nothing is sent of what was gathered
-  pub unsent_after : (xs ys zs : List (Option C)) → Gathered on xs ys → NoneSent on ys zs → NoneSent on xs zs
-  unsent_after xs ys zs all none i c d a b = between (get_or ys i None) refl (rw a at (all.each i))
-    where
-      between : (y : Option C) → get_or ys i None ≡ y → SeatGathers on (Some c) y → on.gone d ≡ on.gone c
-      between None is one = absurd one
-      between (Some e) is one = none i e d is b ∙ one.1
-
 no_line : (kind : WorldKind) (long : Bool) → requests kind (behind long []) ≡ []
 no_line kind true = refl
 no_line kind false = refl
@@ -86,13 +71,3 @@ no_line kind false = refl
 pub none_seen : (kind : WorldKind) (s : WireState) (look : Option Look) → bytes_of look ≡ 0 → ends_of look ≡ false → requests_seen kind s look ≡ []
 none_seen kind s look bytes ends = elim s.talker.over as (λ over. (if over then [] else requests_in kind (long_of look) (take (bytes_of look) s.inbox) (ends_of look)) ≡ [])
     [ true ↦ refl | false ↦ rw (bytes, ends) (no_line kind (long_of look)) ]
-
--- how a turn ends are other ends than these
-pub no_answer : {X E : Type 0} {x : X} {e : E} → (let r : Result X E = Err e in r ≡ Ok x) → ⊥
-no_answer at = cc
-
-pub not_unserved : {E : Type 0} {n m : ℕ} → (let r : Result Called E = Ok (Served n) in r ≡ Ok (Unserved m)) → ⊥
-not_unserved at = cc
-
-pub not_served : {E : Type 0} {n m : ℕ} → (let r : Result Called E = Ok (Unserved n) in r ≡ Ok (Served m)) → ⊥
-not_served at = cc

@@ -3,7 +3,7 @@ use Rattle.std.proofs.Common.{◌≡◌, inl, inr, ℕ, ◌<◌, set, List, [], 
 use Rattle.event_server.proofs.Common.{append-nil, get_or-set_same, get_or-set_other, length-set, cases_eq, eq-eqb, ne_eqb, ShownReply, Request, Runs, runs-append, all-append, all-tagged, of-append, of-same, of-other, Turn}
 use Rattle.std.proofs.KnownBytes.{Consumes-nil, Appends-nil}
 use Rattle.player.specs.Shared.{TurnLog, turns_of, all_turns, tagged}
-use Rattle.event_server.specs.Seats.{Seating, NoneSent, SeatTakes, SeatSends, SeatTurn, SeatSent, TurnsTaken, RepliesSent}
+use Rattle.event_server.specs.Seats.{Seating, SeatTakes, SeatSends, SeatTurn, SeatSent, TurnsTaken, RepliesSent}
 use Rattle.event_server.specs.Wires.{TakesOf, SendsTo}
 use Rattle.event_server.proofs.WireLemmas.{takes_idle}
 
@@ -14,12 +14,6 @@ module _ {C : Type 0} (on : Seating C) where
   pub seat_rests : (x : Option C) → SeatTakes on [] x x
   seat_rests None = refl
   seat_rests (Some c) = (takes_idle (on.left c) (on.left c) (on.wire c) (Consumes-nil (on.left c)), refl)
-
-  -- where turns are taken, nothing is sent
-  pub taken_unsent : {T : Type 0} (may : T → Request → ShownReply → T → Type 0) (w : T) (seats : List (Option C)) (log : TurnLog) (u : T) (seats' : List (Option C)) → TurnsTaken on may w seats log u seats' → NoneSent on seats seats'
-  taken_unsent may w seats log u seats' all i c d a b =
-      let one : SeatTakes on (turns_of i log) (Some c) (Some d) = rw (a, b) at (all.each i) in
-      one.1
 
   -- one connection has its turn where it sits
   abbrev pub seat_took : {T : Type 0} (may : T → Request → ShownReply → T → Type 0) (Due : C → Type 0) (key : ℕ) (w : T) (seats : List (Option C)) (u : T) (was is : C) → key < length seats → get_or seats key None ≡ Some was → Due was → (Due is → ⊥) →

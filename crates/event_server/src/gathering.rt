@@ -53,6 +53,15 @@ pub enum Called {
     Unserved(usize),
 }
 
+impl Called {
+    /// How many of the seats were called.
+    pub fn count(self) -> usize {
+        match self {
+            Called::Served(count) | Called::Unserved(count) => count,
+        }
+    }
+}
+
 // The connection of a seat is read, and its lines are looked at, where there is one and its turn is due.
 fn gather_at<S: Stream, A: Allocator, B: Allocator>(
     batch: &mut Batch<B>,
@@ -208,21 +217,16 @@ pub fn turn_ahead<R, D: Service<R>, K: Keep<D>, S: Stream, A: Allocator, B: Allo
 {
     let looked = gather(batch, room, seats, ready);
     let called = &ready[..looked];
-    match learn(service, keep, batch) {
-        Ok(Ahead::Known) => {
+    match learn(service, keep, batch)? {
+        Ahead::Known => {
             take_looked(rt, service, room, seats, called);
-            match keep.keep(service) {
-                Ok(()) => {
-                    send_replies(seats, called);
-                    Ok(Called::Served(looked))
-                }
-                Err(fault) => Err(fault),
-            }
+            keep.keep(service)?;
+            send_replies(seats, called);
+            Ok(Called::Served(looked))
         }
-        Ok(Ahead::Lost) => {
+        Ahead::Lost => {
             give_up(seats, called);
             Ok(Called::Unserved(looked))
         }
-        Err(fault) => Err(fault),
     }
 }

@@ -292,15 +292,12 @@ impl Hosting {
         requires room { IsRoom room.old }
         ensures { IsRoom room.new }
     {
-        let seats = &mut self.house.seats;
-        let ready = &self.house.ready;
+        let House { seats, ready, .. } = &mut self.house;
         let called = match &mut self.batch {
             None => turn(rt, service, keep, room, seats, ready),
-            Some(batch) => match turn_ahead(rt, service, keep, batch, room, seats, ready) {
-                Ok(Called::Served(called)) => Ok(called),
-                Ok(Called::Unserved(called)) => Ok(called),
-                Err(fault) => Err(fault),
-            },
+            Some(batch) => {
+                turn_ahead(rt, service, keep, batch, room, seats, ready).map(Called::count)
+            }
         };
         match called {
             Ok(called) => self.settle(called),

@@ -31,6 +31,14 @@ pub struct House {
     empty: Vec<usize>,
 }
 
+// Whether replies wait to be sent to whoever sits there.
+fn has_unsent(seat: &Option<Connection<Socket, Global>>) -> bool {
+    match seat {
+        Some(connection) => !connection.wire.unsent().is_empty(),
+        None => false,
+    }
+}
+
 impl House {
     /// No seats.
     pub fn new(alloc: Global) -> House {
@@ -72,10 +80,7 @@ impl House {
 
     // Whoever sits there.
     fn seated(&mut self, key: usize) -> Option<&mut Connection<Socket, Global>> {
-        match self.seats.get_mut(key) {
-            Some(seat) => seat.as_mut(),
-            None => None,
-        }
+        self.seats.get_mut(key)?.as_mut()
     }
 
     /// Gives a seat to a stream. One that cannot be waited for is closed.
@@ -120,9 +125,7 @@ impl House {
         connection.writable = connection.writable || event.is_writable();
         if connection.stage == Stage::Idle {
             connection.stage = Stage::Queued;
-            if self.ready.push(key).is_err() {
-                return Err(AllocError);
-            }
+            self.ready.push(key)?;
         }
         Ok(())
     }
@@ -143,9 +146,7 @@ impl House {
         }
         if connection.goes_on() {
             connection.stage = Stage::Queued;
-            if self.later.push(key).is_err() {
-                return Err(AllocError);
-            }
+            self.later.push(key)?;
         }
         Ok(())
     }
@@ -189,6 +190,7 @@ impl House {
         }
     }
 
+    // The same, of one seat.
     fn sweep_one(&mut self, key: usize, tick: u64, idle: Option<u64>) {
         let Some(connection) = self.seated(key) else {
             return;
@@ -205,13 +207,6 @@ impl House {
 
     /// Whether replies wait to be sent to any.
     pub fn has_unsent(&self) -> bool {
-        for seat in &self.seats {
-            if let Some(connection) = seat {
-                if !connection.wire.unsent().is_empty() {
-                    return true;
-                }
-            }
-        }
-        false
+        self.seats.iter().any(has_unsent)
     }
 }

@@ -106,11 +106,7 @@ pub fn turn<R, D: Service<R>, K: Keep<D>, S: Stream, A: Allocator, B: Allocator>
     ensures room { IsRoom room.new }
 {
     let called = take_turns(rt, service, keep, room, seats, ready);
-    match keep.keep(service) {
-        Ok(()) => {
-            send_replies(seats, &ready[..called]);
-            Ok(called)
-        }
-        Err(fault) => Err(fault),
-    }
+    keep.keep(service)?;
+    send_replies(seats, &ready[..called]);
+    Ok(called)
 }
