@@ -1,6 +1,6 @@
 //! What etcd answers.
 
-ghost use Rattle.std.specs.Prelude.{◌≡◌, ◌+◌, ◌<◌, ◌^◌, ◌++◌, ℕ, List, Some, None, Ok, IfOk, IfErr, OnOk, option_map, option_and_then};
+ghost use Rattle.std.specs.Prelude.{◌≡◌, ◌⊎◌, ◌+◌, ◌<◌, ◌^◌, ◌++◌, ℕ, List, Some, None, Ok, Err, IfOk, IfErr, OnOk, IsUtf8, option_map, option_and_then};
 ghost use Rattle.std.specs.declared.vec.Vec.{Vec};
 ghost use Rattle.std.specs.declared.alloc.Global.{Global};
 ghost use Rattle.json.specs.Json.{document};
@@ -64,7 +64,8 @@ fn parsed<'a>(
     scratch: &'a mut Scratch<Global>,
 ) -> Result<Value<'a>, StoreFault>
     ensures said { IfOk result (λ answer. document body.now ≡ Some (value_view answer)) }
-    ensures fault { IfErr result IsOverNetwork }
+    ensures fault { IfErr result (λ f. (f ≡ StoreFault.Memory) ⊎ (f ≡ StoreFault.Wrong)) }
+    ensures wrong { result ≡ Err StoreFault.Wrong → IsUtf8 body.now → document body.now ≡ None }
 {
     match Value::from_slice(alloc, body, scratch) {
         Ok(answer) => Ok(answer),
@@ -73,10 +74,11 @@ fn parsed<'a>(
     }
 }
 
-/// Reads the body of an answer to a request that puts.
+/// Reads the body of an answer to a request that puts. `Wrong` only where it is none, and `Memory` where a growth was refused.
 pub fn read_put(alloc: Global, body: &[u8]) -> Result<Put, StoreFault>
     ensures said { IfOk result (λ put. option_and_then put_said (document body.now) ≡ Some (is_written put)) }
-    ensures fault { IfErr result IsOverNetwork }
+    ensures fault { IfErr result (λ f. (f ≡ StoreFault.Memory) ⊎ (f ≡ StoreFault.Wrong)) }
+    ensures wrong { result ≡ Err StoreFault.Wrong → IsUtf8 body.now → option_and_then put_said (document body.now) ≡ None }
 {
     let mut scratch = Scratch::new(alloc);
     let said = put_said(&parsed(alloc, body, &mut scratch)?);
