@@ -72,10 +72,8 @@ fn slot_command_of(word: &[u8], others: Option<&[u8]>) -> Result<Command, Bad>
     ensures { result ≡ slot_command_of word.now (words_left (option_copied others.entry)) }
 {
     if is_word(word, b"put") {
-        return match two_numbers(others) {
-            Ok((id, value)) => Ok(Command::Event(Event::Put(id, value))),
-            Err(bad) => Err(bad),
-        };
+        let (id, value) = two_numbers(others)?;
+        return Ok(Command::Event(Event::Put(id, value)));
     }
     if is_word(word, b"get") {
         return Ok(Command::Event(Event::Get(only_number(others)?)));
@@ -111,10 +109,8 @@ fn only_number(words: Option<&[u8]>) -> Result<u64, Bad>
         return Err(Bad::WrongCount);
     };
     let (word, others) = cut_word(words);
-    match no_more(others) {
-        Ok(()) => number(word).ok_or(Bad::BadNumber),
-        Err(bad) => Err(bad),
-    }
+    no_more(others)?;
+    number(word).ok_or(Bad::BadNumber)
 }
 
 // The numbers that the words which are left write, where they are two words.
@@ -129,10 +125,8 @@ fn two_numbers(words: Option<&[u8]>) -> Result<(u64, u64), Bad>
         return Err(Bad::WrongCount);
     };
     let (second, others) = cut_word(rest);
-    match no_more(others) {
-        Ok(()) => both_numbers(first, second),
-        Err(bad) => Err(bad),
-    }
+    no_more(others)?;
+    both_numbers(first, second)
 }
 
 // The numbers that both words write.
