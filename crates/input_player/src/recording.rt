@@ -56,8 +56,6 @@ fn record_run<H, D: Service<H>, A: Allocator, R: Source, W: Sink>(
     ensures never { result ≢ Err Fault.Memory }
 {
     player.write_header(config, writer)?;
-    match run(rt, world, player, chunk, reader, writer) {
-        Ok(_) => Ok(()),
-        Err(fault) => Err(fault),
-    }
+    run(rt, world, player, chunk, reader, writer)?;
+    Ok(())
 }

@@ -1,5 +1,5 @@
 use Rattle.std.proofs.Common.{◌≡◌, ◌∙◌, ap, sym, refl, inr, Ok, Err}
-use Rattle.input_player.proofs.Common.{err_from_is_err_and, Memory, PlayerState}
+use Rattle.input_player.proofs.Common.{err_from_is_err_and, PlayerState}
 use Rattle.player.specs.Recorded.{end_of}
 use Rattle.input_player.proofs.RecordedLemmas.{recorded}
 use Rattle.input_player.proofs.recording.record_run.Goals as goal
@@ -9,20 +9,19 @@ use Rattle.input_player.proofs.recording.record_run.Goals.{After-run}
 of_kind : (g : _) (c : After-run g) → c.write_header.new.self.kind ≡ c.args.config.world
 of_kind g c = ap (λ (s : PlayerState). s.kind) c.in_ok-write_header.ensures.same ∙ c.requires.fresh.kind_is
 
-pub returns-in-Ok-clause-recorded : goal.returns-in-Ok-clause-recorded
-returns-in-Ok-clause-recorded g c =
+pub returns-clause-recorded : goal.returns-clause-recorded
+returns-clause-recorded g c =
     recorded c.args.config _ _ _ _ c.write_header.new.writer c.in_ok-write_header.ensures.ok c.in_ok-write_header.ensures.unfailed
     c.run.result c.run.ensures.never
-    (rw (of_kind g (goal.at.returns-in-Ok-clause-recorded g c).After-run) at c.run.ensures.played) (Ok tt) (sym (ap end_of c.in-Ok.is))
+    (rw (of_kind g (goal.at.returns-clause-recorded g c).After-run) at c.run.ensures.played) (Ok tt) (sym (ap end_of c.in_ok-run.was))
 
-pub returns-in-Err-clause-recorded : goal.returns-in-Err-clause-recorded
-returns-in-Err-clause-recorded g c =
+pub returns-in_err-run-clause-recorded : goal.returns-in_err-run-clause-recorded
+returns-in_err-run-clause-recorded g c =
+    let fault = err_from_is_err_and c.from_residual-in_err-run.result c.from_residual-in_err-run.ensures.1 in
     recorded c.args.config _ _ _ _ c.write_header.new.writer c.in_ok-write_header.ensures.ok c.in_ok-write_header.ensures.unfailed
     c.run.result c.run.ensures.never
-    (rw (of_kind g (goal.at.returns-in-Err-clause-recorded g c).After-run) at c.run.ensures.played) (Err c.in-Err.fault) (sym (ap end_of c.in-Err.is))
-
-pub returns-in-Err-clause-never : goal.returns-in-Err-clause-never
-returns-in-Err-clause-never g c = λ e. let same : c.in-Err.fault ≡ Memory = cc in c.run.ensures.never (c.in-Err.is ∙ ap Err same)
+    (rw (of_kind g (goal.at.returns-in_err-run-clause-recorded g c).After-run) at c.run.ensures.played)
+    c.from_residual-in_err-run.result (fault.1 ∙ ap Err fault.2 ∙ sym (ap end_of c.in_err-run.was))
 
 pub returns-in_err-write_header-clause-recorded : goal.returns-in_err-write_header-clause-recorded
 returns-in_err-write_header-clause-recorded g c =
