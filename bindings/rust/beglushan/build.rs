@@ -65,7 +65,10 @@ fn from_the_clone() -> Vec<PathBuf> {
         let done = Command::new("rt").arg("lib").current_dir(&folder).output();
         match done {
             Err(_) => fail("`rt` is not on the path"),
-            Ok(done) if !done.status.success() => fail("`rt lib` in crates/word_pool_c failed"),
+            Ok(done) if !done.status.success() => {
+                eprint!("{}", String::from_utf8_lossy(&done.stderr));
+                fail("`rt lib` in crates/word_pool_c failed, as told above")
+            }
             Ok(_) => {}
         }
     }
