@@ -53,15 +53,11 @@ fn play_for<R: Source, W: Sink, A: Allocator + Clone>(
 {
     let Playing { config, recorded } = playing;
     if recorded {
-        return match record(alloc, reader, writer, config) {
-            Ok(()) => Ok(0),
-            Err(fault) => Err(fault),
-        };
+        record(alloc, reader, writer, config)?;
+    } else {
+        play_any(alloc, reader, writer, config)?;
     }
-    match play_any(alloc, reader, writer, config) {
-        Ok(_) => Ok(0),
-        Err(fault) => Err(fault),
-    }
+    Ok(0)
 }
 
 /// Does what was asked for, over this input and this output, and answers the status of the program: 0, but 1 where the
