@@ -188,6 +188,7 @@ impl<L: LockName> Locked<L> {
         ensures just { result ≡ true → IsJust self.new.hall.history (map (λ s. s.clerk.kept) sessions.now.items ++ map (λ c. c.kept) clerks.now.items) }
     {
         let Locked { hall, marks, .. } = self;
+        // Asked for what it tells of the history: that it is lawful.
         let _ = hall.len();
         let agrees = mark_callers(hall, marks, sessions, clerks);
         marks.fill(false);

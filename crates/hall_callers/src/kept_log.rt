@@ -69,9 +69,7 @@ impl KeptLog {
     pub fn get(&self, at: usize) -> Option<Kept>
         ensures { result ≡ slice_get self.now.items at }
     {
-        let Some(exchange) = self.log.get(at) else {
-            return None;
-        };
+        let exchange = self.log.get(at)?;
         Some(Kept {
             place: self.places[at],
             exchange,

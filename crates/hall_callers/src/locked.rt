@@ -168,6 +168,7 @@ impl<L: LockName> Locked<L> {
             return Err(Refusal::Full);
         }
         let kept = KeptLog::new(alloc)?;
+        // Asked for what it tells of the history: that it is lawful.
         let _ = self.hall.len();
         let seen = self.front.again();
         let Locked { rest, opened, .. } = self;
@@ -212,6 +213,7 @@ impl<L: LockName> Locked<L> {
         ensures { IsTold L.config clerk.old number result clerk.new }
     {
         show(rt, &self.front, &mut clerk.seen);
+        // Asked for what it tells of the history: that it is lawful.
         let _ = self.hall.len();
         self.hall.owner(number)
     }
@@ -220,6 +222,7 @@ impl<L: LockName> Locked<L> {
     pub fn owner(&self, number: u64) -> Reply<View>
         ensures { IsSomeOwner L.config number result }
     {
+        // Asked for what it tells of the history: that it is lawful.
         let _ = self.hall.len();
         self.hall.owner(number)
     }

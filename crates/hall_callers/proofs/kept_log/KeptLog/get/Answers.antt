@@ -3,19 +3,19 @@ use Rattle.hall_callers.proofs.Common.{slice_get_within, KeptState}
 use Rattle.hall_callers.proofs.Keeping.{kept_none, kept_there}
 use Rattle.hall_callers.proofs.kept_log.KeptLog.get.Goals as goal
 
-pub returns-in_default : goal.returns-in_default
-returns-in_default c =
+pub returns-in_err-exchange : goal.returns-in_err-exchange
+returns-in_err-exchange c =
     let i = c.self.inside in
-    sym (kept_none i.places.items i.log.items c.args.at (sym c.in_default.ensures)) ∙ ap (λ (k : KeptState). slice_get k.items c.args.at) c.self.view_is
+    c.from_residual.ensures ∙ sym (kept_none i.places.items i.log.items c.args.at (sym c.in_err-exchange.ensures)) ∙ ap (λ (k : KeptState). slice_get k.items c.args.at) c.self.view_is
 
 pub index-requires : goal.index-requires
 index-requires c =
     let i = c.self.inside in
-    let at : slice_get i.log.items c.args.at ≡ Some c.in-Some.exchange = sym c.in-Some.ensures in
-    omega (arith, slice_get_within i.log.items c.args.at c.in-Some.exchange at, c.self.invariant, i.places.ok.0)
+    let at : slice_get i.log.items c.args.at ≡ Some c.in_ok-exchange.exchange = sym c.in_ok-exchange.ensures in
+    omega (arith, slice_get_within i.log.items c.args.at c.in_ok-exchange.exchange at, c.self.invariant, i.places.ok.0)
 
 pub returns : goal.returns
 returns c =
     let i = c.self.inside in
-    let at : slice_get i.log.items c.args.at ≡ Some c.in-Some.exchange = sym c.in-Some.ensures in
-    sym (kept_there i.places.items i.log.items c.args.at c.index.result.now c.in-Some.exchange c.self.invariant.0 c.index.ensures at) ∙ ap (λ (k : KeptState). slice_get k.items c.args.at) c.self.view_is
+    let at : slice_get i.log.items c.args.at ≡ Some c.in_ok-exchange.exchange = sym c.in_ok-exchange.ensures in
+    sym (kept_there i.places.items i.log.items c.args.at c.index.result.now c.in_ok-exchange.exchange c.self.invariant.0 c.index.ensures at) ∙ ap (λ (k : KeptState). slice_get k.items c.args.at) c.self.view_is
