@@ -235,10 +235,8 @@ impl Look {
         if rest.is_empty() {
             return Ok(());
         }
-        match self.take_line(rest, limits, batch) {
-            Ok(_) => Ok(()),
-            Err(fault) => Err(fault),
-        }
+        self.take_line(rest, limits, batch)?;
+        Ok(())
     }
 
     // One line more is taken: a request is added to the batch. Says whether to look on.

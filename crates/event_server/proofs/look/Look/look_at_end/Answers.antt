@@ -3,15 +3,15 @@ use Rattle.std.proofs.lemmas.List.{append-nil, take_rest}
 use Rattle.event_server.proofs.LookLemmas.{behind_none, last_line, no_last_line}
 use Rattle.event_server.proofs.look.Look.look_at_end.Goals as goal
 
-pub returns-in-Ok-clause-told : goal.returns-in-Ok-clause-told
-returns-in-Ok-clause-told g c =
+pub returns-clause-told : goal.returns-clause-told
+returns-clause-told g c =
     let from = c.args.self.now.bytes in
-    rw (last_line (drop from c.args.bytes.now) _ (take_rest c.args.bytes.now from) (sym c.is_empty.ensures ∙ c.if-is_empty.false)) c.in-Ok.ensures.told
+    rw (last_line (drop from c.args.bytes.now) _ (take_rest c.args.bytes.now from) (sym c.is_empty.ensures ∙ c.if-is_empty.false)) c.in_ok-take_line.ensures.told
 
-pub returns-in-Ok-clause-asks : goal.returns-in-Ok-clause-asks
-returns-in-Ok-clause-asks g c =
+pub returns-clause-asks : goal.returns-clause-asks
+returns-clause-asks g c =
     let from = c.args.self.now.bytes in
-    rw (last_line (drop from c.args.bytes.now) _ (take_rest c.args.bytes.now from) (sym c.is_empty.ensures ∙ c.if-is_empty.false)) c.in-Ok.ensures.asks
+    rw (last_line (drop from c.args.bytes.now) _ (take_rest c.args.bytes.now from) (sym c.is_empty.ensures ∙ c.if-is_empty.false)) c.in_ok-take_line.ensures.asks
 
 pub returns-then-is_empty-clause-told : goal.returns-then-is_empty-clause-told
 returns-then-is_empty-clause-told g c =
