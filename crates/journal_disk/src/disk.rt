@@ -4,8 +4,8 @@ ghost use Rattle.std.specs.Prelude.{Option};
 ghost use Rattle.journal_disk.specs.DiskState.{DiskState};
 ghost use Rattle.journal_disk.specs.Disks.{Changes, IsAppended, IsSynced, IsCut, IsReplaced, Reads};
 
-use std::alloc::Global;
-use std::io::ErrorKind;
+use std::alloc::{AllocError, Global};
+use std::io::{self, ErrorKind};
 
 /// Why a call of a disk failed.
 #[derive(Clone, Copy, Debug, Drop, PartialEq, Eq)]
@@ -14,6 +14,21 @@ pub enum DiskFault {
     Failed(ErrorKind),
     /// A growth was refused.
     NoMemory,
+}
+
+impl From<AllocError> for DiskFault {
+    fn from(_refused: AllocError) -> DiskFault {
+        DiskFault::NoMemory
+    }
+}
+
+impl From<io::Error> for DiskFault {
+    fn from(error: io::Error) -> DiskFault {
+        match error.kind() {
+            ErrorKind::OutOfMemory => DiskFault::NoMemory,
+            kind => DiskFault::Failed(kind),
+        }
+    }
 }
 
 /// Bytes that outlast a crash: written behind one another, and surely there once they are synced.

@@ -19,6 +19,12 @@ pub enum FileFault {
     Failed(ErrorKind),
 }
 
+impl From<io::Error> for FileFault {
+    fn from(error: io::Error) -> FileFault {
+        FileFault::Failed(error.kind())
+    }
+}
+
 /// A file that is written at its end alone, and locked as long as it is open.
 #[derive(Drop)]
 pub struct FileDisk<R> {
@@ -33,17 +39,6 @@ fn folder_of(path: &str) -> &str {
         Some(0) => "/",
         Some(end) => path.get(..end).unwrap_or("."),
         None => ".",
-    }
-}
-
-/// What a call answered, as a call of a disk does.
-fn told<T: Drop>(answer: io::Result<T>) -> Result<T, DiskFault> {
-    match answer {
-        Ok(value) => Ok(value),
-        Err(error) => match error.kind() {
-            ErrorKind::OutOfMemory => Err(DiskFault::NoMemory),
-            kind => Err(DiskFault::Failed(kind)),
-        },
     }
 }
 
@@ -73,26 +68,20 @@ fn lock<R: Files<File = File>>(rt: &R, path: &str, file: &File) -> Result<(), Fi
     match File::try_lock(file) {
         Ok(()) => {}
         Err(TryLockError::WouldBlock) => return Err(FileFault::InUse),
-        Err(TryLockError::Error(error)) => return Err(FileFault::Failed(error.kind())),
+        Err(TryLockError::Error(error)) => return Err(FileFault::from(error)),
     }
-    match is_named(rt, path, file) {
-        Ok(true) => Ok(()),
-        Ok(false) => Err(FileFault::InUse),
-        Err(error) => Err(FileFault::Failed(error.kind())),
+    if !is_named(rt, path, file)? {
+        return Err(FileFault::InUse);
     }
+    Ok(())
 }
 
 /// Opens and locks a file; one that is missing is made, and its folder is synced.
 fn locked<R: Files<File = File>>(rt: &R, path: &str) -> Result<File, FileFault> {
-    let file = match opened(rt, path) {
-        Ok(file) => file,
-        Err(error) => return Err(FileFault::Failed(error.kind())),
-    };
+    let file = opened(rt, path)?;
     lock(rt, path, &file)?;
-    match sync_folder(rt, path) {
-        Ok(()) => Ok(file),
-        Err(error) => Err(FileFault::Failed(error.kind())),
-    }
+    sync_folder(rt, path)?;
+    Ok(file)
 }
 
 /// Locks a file and puts these bytes in place of all that was in it, so that they are surely there.
@@ -136,29 +125,33 @@ impl<R: Files<File = File> + Drop> Disk for FileDisk<R> {
 
     fn read(&mut self, alloc: Global) -> Result<Vec<u8>, DiskFault> {
         let mut bytes = Vec::new(alloc);
-        told(self.file.seek(SeekFrom::Start(0)))?;
-        told(self.file.read_to_end(&mut bytes))?;
+        self.file.seek(SeekFrom::Start(0))?;
+        self.file.read_to_end(&mut bytes)?;
         Ok(bytes)
     }
 
     fn append(&mut self, bytes: &[u8]) -> Result<(), DiskFault> {
-        told(self.file.write_all(bytes))
+        self.file.write_all(bytes)?;
+        Ok(())
     }
 
     fn sync(&mut self) -> Result<(), DiskFault> {
-        told(File::sync_data(&self.file))
+        File::sync_data(&self.file)?;
+        Ok(())
     }
 
     fn cut(&mut self, len: usize) -> Result<(), DiskFault> {
-        told(File::set_len(&self.file, len as u64))
+        File::set_len(&self.file, len as u64)?;
+        Ok(())
     }
 
     /// The bytes are written into a file beside, `PATH.new`, which is locked, synced and then renamed; the folder is synced last.
     /// A file of that name that a crash left is written over.
     fn replace(&mut self, alloc: Global, bytes: &[u8]) -> Result<(), DiskFault> {
         let beside = format!(in alloc; "{}.new", self.path)?;
-        self.file = told(put_in_place(&self.files, &beside, &self.path, bytes))?;
-        told(sync_folder(&self.files, &self.path))
+        self.file = put_in_place(&self.files, &beside, &self.path, bytes)?;
+        sync_folder(&self.files, &self.path)?;
+        Ok(())
     }
 
     fn size(&self) -> u64 {

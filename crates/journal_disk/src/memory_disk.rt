@@ -5,7 +5,7 @@ ghost use Rattle.journal_disk.specs.Disks.{state_of, MayLeave};
 ghost use Rattle.journal_disk.specs.Memories.{memory_before, memory_state};
 
 use crate::disk::{Disk, DiskFault};
-use std::alloc::{AllocError, Global};
+use std::alloc::Global;
 use std::io::ErrorKind;
 use std::mem;
 
@@ -26,12 +26,6 @@ pub struct MemoryDisk {
     cuts: usize,
     calls_left: usize,
     before: Option<Before>,
-}
-
-impl From<AllocError> for DiskFault {
-    fn from(_refused: AllocError) -> DiskFault {
-        DiskFault::NoMemory
-    }
 }
 
 impl MemoryDisk {
