@@ -189,6 +189,33 @@ fn asked<'a>(matches: &ArgMatches<'a>) -> Option<Ask<'a>>
     asked_of(name, options)
 }
 
+// Why options that clap takes ask for nothing in a world that there is, as a text for people.
+fn why_nothing_in(world: WorldKind, options: &ArgMatches<'_>) -> &'static str {
+    if world.most() < number_given(options, "m").unwrap_or(0) {
+        return "error: '--m' is at most 16, or 64 in the world tree\n";
+    }
+    if !world.gives_names() {
+        return "error: no names are given in this world: '--record', draw, serve and host want rename or tree\n";
+    }
+    if address_given(options).is_none() {
+        return "error: '--address' wants an IPv4 or IPv6 address; no names are looked up, and '--port' gives the port\n";
+    }
+    if text_given(options, "journal").is_some() {
+        return "error: '--journal' goes with none of '--etcd', '--prefix' and '--export'\n";
+    }
+    "error: '--etcd' and '--prefix' go together, and '--export' wants both\n"
+}
+
+// Why what clap takes asks for nothing, as a text for people.
+fn why_nothing(matches: &ArgMatches<'_>) -> &'static str {
+    if let Some((_, options)) = matches.subcommand() {
+        if let Some(world) = world_given(options) {
+            return why_nothing_in(world, options);
+        }
+    }
+    "error: no such world: there are splitter, grid, rename and tree, and the last two give names\n"
+}
+
 /// That the words are refused, for this reason.
 pub fn refused(alloc: Global, why: &str) -> Misuse
     ensures { IsRefusal result }
@@ -232,9 +259,6 @@ pub fn ask<'a, S: AsStr>(alloc: Global, words: &'a [S]) -> Result<Ask<'a>, Misus
     };
     match asked(&matches) {
         Some(asked) => Ok(asked),
-        None => Err(refused(
-            alloc,
-            "error: no such world or address, or a number out of its range\n",
-        )),
+        None => Err(refused(alloc, why_nothing(&matches))),
     }
 }

@@ -30,6 +30,10 @@ use std::sync::Wait;
 use std::sync::ledger::Blank;
 use std::thread::Threads;
 
+// What is told where `--etcd` names no members.
+const MEMBERS_WANTED: &str =
+    "error: '--etcd' wants addresses with ports, a comma between them, as 10.0.0.1:2379; no names are looked up\n";
+
 // The words of the command line.
 fn command_words(rt: &HostRuntime) -> Result<Vec<String>, Misuse> {
     let alloc = rt.alloc();
@@ -129,9 +133,7 @@ fn report_hosted<W: Write, E: Write>(
     errors: &mut E,
 ) -> u8 {
     let failure = match failure {
-        HostFailure::NoMembers => {
-            Failure::Misuse(refused(alloc, "error: no such address of a member\n"))
-        }
+        HostFailure::NoMembers => { Failure::Misuse(refused(alloc, MEMBERS_WANTED)) }
         HostFailure::No(line, reason) => Failure::No(line, reason),
         HostFailure::BadRecord(line) => Failure::BadRecord(line),
         HostFailure::Output => Failure::Fault(Fault::Write),
