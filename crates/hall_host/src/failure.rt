@@ -16,7 +16,7 @@ pub enum HostFailure {
     #[error("no memory")]
     Memory,
     /// To listen or to wait failed.
-    #[error("network fault")]
+    #[error("network fault: is the port taken, or the address none of this machine?")]
     Network,
     /// What it tells was not taken.
     #[error("write fault")]
@@ -37,7 +37,7 @@ pub enum HostFailure {
     #[error("journal: bad record {0}")]
     BadRecord(u64),
     /// The journal is one of another config, or of an older version.
-    #[error("journal of another config")]
+    #[error("journal of another config: its first line says of which")]
     OtherConfig,
     /// The line of this number of the journal is none that a server writes.
     #[error("journal: line {0} is none of a server")]
