@@ -140,10 +140,8 @@ impl<D: Disk> Journal<D> {
         let Some(hall) = compactor.compacted(alloc, chronicle.hall()) else {
             return Ok(());
         };
-        match self.compact(alloc, chronicle, hall) {
-            Ok(_) => Ok(()),
-            Err(fault) => Err(fault),
-        }
+        self.compact(alloc, chronicle, hall)?;
+        Ok(())
     }
 }
 

@@ -12,7 +12,7 @@ use commands::{Config, Event, WorldKind};
 use hall::Hall;
 use journal_disk::DiskFault;
 use memchr::memchr;
-use player::{AsRecord, Form, Replies, print_header};
+use player::{AsRecord, Form, Replies, after_front, print_header};
 use record_lines::{Version, read_line};
 use run_checker::{Verdict, check};
 use std::alloc::{AllocError, Global};
@@ -51,16 +51,6 @@ impl From<NoMemory> for OpenFault {
 impl From<DiskFault> for OpenFault {
     fn from(fault: DiskFault) -> OpenFault {
         OpenFault::Disk(fault)
-    }
-}
-
-/// What follows these bytes, where others begin with them.
-fn after<'a>(bytes: &'a [u8], front: &[u8]) -> Option<&'a [u8]>
-    ensures { IfSome result (λ rest. bytes.now ≡ front.now ++ rest.now) }
-{
-    match bytes.strip_prefix(front) {
-        Some(rest) => Some(rest),
-        None => None,
     }
 }
 
@@ -108,7 +98,7 @@ fn follow<'a>(
     }
     line.clear();
     AsRecord::put_answered(event, reply, view, line);
-    match after(lines, line.as_slice()) {
+    match after_front(lines, line.as_slice()) {
         Some(rest) => Ok(rest),
         None => Err(OpenFault::OtherLine(number)),
     }
@@ -149,7 +139,7 @@ fn replayed(alloc: Global, config: Config, header: &[u8], whole: &[u8]) -> Resul
         Verdict::NoMemory => return Err(OpenFault::NoMemory),
         verdict => return Err(OpenFault::Judged(verdict)),
     }
-    let Some(lines) = after(whole, header) else {
+    let Some(lines) = after_front(whole, header) else {
         return Err(OpenFault::OtherConfig);
     };
     let mut hall = fresh(alloc, config)?;
@@ -169,7 +159,7 @@ pub fn recovered(
     ensures { IfOk result (λ r. IsRecovered config bytes.now r.0 r.1) }
 {
     let end = whole_length(bytes);
-    if end == 0 && after(header, bytes).is_some() {
+    if end == 0 && after_front(header, bytes).is_some() {
         return Ok((fresh(alloc, config)?, 0));
     }
     let hall = replayed(alloc, config, header, &bytes[..end])?;
