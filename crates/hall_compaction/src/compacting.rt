@@ -34,6 +34,7 @@ fn is_renaming(event: Event) -> bool
 fn sort(hall: &Hall, place: usize, new: &mut Rebuilding, old: &mut SlotsCopy) -> Result<(), Stuck>
     ensures { OnOk result (IsSorted hall.now place new.old old.old → IsSorted hall.now (place + 1) new.new old.new) }
 {
+    // Asked for what it tells of the history: that it is lawful.
     let _ = hall.len();
     let Some(exchange) = hall.get(place) else {
         return Err(Stuck);
@@ -41,10 +42,8 @@ fn sort(hall: &Hall, place: usize, new: &mut Rebuilding, old: &mut SlotsCopy) ->
     if !is_renaming(exchange.event) {
         return old.follow(exchange.event);
     }
-    match new.take(exchange.event) {
-        Ok(_) => Ok(()),
-        Err(stuck) => Err(stuck),
-    }
+    new.take(exchange.event)?;
+    Ok(())
 }
 
 /// A hall with the renaming of another, and a copy of the pool and the slots of that.

@@ -4,11 +4,11 @@ use Rattle.hall_compaction.specs.DeskParts.{is_renaming}
 use Rattle.hall_compaction.proofs.RebuiltLemmas.{one_taken_over, one_followed}
 use Rattle.hall_compaction.proofs.compacting.sort.Goals as goal
 
-pub returns-in-Ok : goal.returns-in-Ok
-returns-in-Ok c = λ s.
+pub returns : goal.returns
+returns c = λ s.
     let at : slice_get c.args.hall.now.history c.args.place ≡ Some c.in-Some.exchange = sym c.in-Some.ensures in
     let is : is_renaming c.in-Some.exchange.event ≡ true = sym c.is_renaming.ensures ∙ c.if-not-is_renaming.false in
-    one_taken_over c.args.hall.now c.args.place c.in-Some.exchange at c.len.ensures.lawful c.args.new.now c.take.new.self c.args.old.now s c.in-Ok.ensures.taken is
+    one_taken_over c.args.hall.now c.args.place c.in-Some.exchange at c.len.ensures.lawful c.args.new.now c.take.new.self c.args.old.now s c.in_ok-take.ensures.taken is
 
 pub returns-then-not-is_renaming : goal.returns-then-not-is_renaming
 returns-then-not-is_renaming c = on_ok_weaker c.follow.result (λ follow s.
