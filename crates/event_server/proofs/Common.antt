@@ -13,9 +13,9 @@ pub use Rattle.player.specs.RunProofs.{runs-append}
 pub use Rattle.player.specs.Shared.{TurnLog, turns_of, tagged}
 pub use Rattle.player.specs.SharedProofs.{all-append, all-tagged, of-append, of-same, of-other}
 pub use Rattle.player.specs.Turns.{Turn}
-pub use Rattle.event_server.specs.Seats.{Seating, seats_of}
+pub use Rattle.event_server.specs.Seats.{Seating, SeatIs, SeatIdle, EachIs, seats_of}
 pub use Rattle.event_server.specs.WireState.{WireState}
-pub use Rattle.event_server.specs.Gathering.{Gathered, SeatIdle, SeatAsks, SeatBroken, SeatLooked}
+pub use Rattle.event_server.specs.Gathering.{Gathered, SeatAsks, SeatBroken, SeatLooked}
 pub use Rattle.event_server.specs.Told.{HasLooked, SeatLines, all_lines, bytes_of, requests_seen}
 pub use Rattle.event_server.specs.Wires.{TakesLooked}
 pub use Rattle.event_server.specs.declared.look.Look.{Look}

@@ -4,3 +4,4 @@ mod SeatLemmas
 mod GatherLemmas
 mod LookLemmas
 mod ToldLemmas
+mod CallLemmas

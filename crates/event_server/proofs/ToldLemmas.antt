@@ -1,9 +1,9 @@
 -- what is told of seats, one after another, and taken of them
 use Rattle.std.proofs.Common.{◌≡◌, ◌⊎◌, inl, inr, ℕ, zero, suc, ◌+◌, ◌<◌, ◌≤◌, Bool, true, false, set, List, [], ◌∷◌, ◌++◌, length, take, get_or, Option, Some, None, refl, sym, ap, subst, ◌∙◌, arith}
-use Rattle.event_server.proofs.Common.{WorldKind, ShownReply, Request, with_ends, Runs, TurnLog, turns_of, tagged, all-append, all-tagged, of-append, of-same, of-other, Turn, Seating, TakesLooked, Look}
+use Rattle.event_server.proofs.Common.{WorldKind, ShownReply, Request, with_ends, Runs, TurnLog, turns_of, tagged, all-append, all-tagged, of-append, of-same, of-other, Turn, Seating, SeatIdle, TakesLooked, Look}
 use Rattle.std.proofs.lemmas.List.{append-nil, get_or-set_same, get_or-set_other, get_or-take, length-take-le}
 use Rattle.std.proofs.lemmas.Bool.{cases_eq, eq-eqb, ne_eqb, cases_Bool}
-use Rattle.event_server.specs.Gathering.{SeatGathers, Gathered, SeatIdle, SeatAsks, SeatBroken, SeatLooked, Told, SeatTakesLooked, SeatTurnLooked, TakenLooked, SeatToldAndTakes}
+use Rattle.event_server.specs.Gathering.{SeatGathers, Gathered, SeatAsks, SeatBroken, SeatLooked, Told, SeatTakesLooked, SeatTurnLooked, TakenLooked, SeatToldAndTakes}
 use Rattle.event_server.specs.Told.{SeatLines, EndsWith, IsAmong, all_lines, asks_of, lines_of, requests_seen}
 use Rattle.event_server.proofs.LookLemmas.{ends_append}
 use Rattle.event_server.proofs.SeatLemmas.{Going, seat_took}
@@ -31,7 +31,7 @@ later : (n i : ℕ) (keys : List ℕ) → IsFirst n keys i → IsFirst (n + 1) k
 later n i keys f = (f.0, (let lt = f.1 in omega (arith, lt)), f.2)
 
 -- it is the last of them, or one before
-last : (n i j : ℕ) (keys : List ℕ) → j < n + 1 → get_or keys j 0 ≡ i → (i ≡ get_or keys n 0 → ⊥) → IsFirst n keys i
+pub last : (n i j : ℕ) (keys : List ℕ) → j < n + 1 → get_or keys j 0 ≡ i → (i ≡ get_or keys n 0 → ⊥) → IsFirst n keys i
 last n i j keys lt at other =
     elim (cases_eq j n) as (λ _. IsFirst n keys i) [
       | inl same ↦ absurd (other (sym at ∙ ap (λ (k : ℕ). get_or keys k 0) same))

@@ -11,6 +11,8 @@ use Rattle.event_server.specs.Told.{SeatLines, EndsWith, IsAmong, all_lines, ask
 use Rattle.event_server.specs.WireState.{WireState}
 use Rattle.event_server.specs.Wires.{TakesLooked}
 use Rattle.event_server.specs.Seats.{Seating, SeatTurn, LoopTurn}
+use Rattle.event_server.specs.declared.gathering.Called.{Called}
+use Rattle.event_server.specs.declared.gathering.Called.TheVariants as called
 use Rattle.event_server.specs.declared.look.Look.{Look}
 
 -- these bytes came of the stream, and wait behind what waited, but where it is at fault; nothing was taken or said
@@ -22,10 +24,10 @@ pub record GathersOf (left : Option (List ℕ)) (s : WireState) (left' : Option 
   pub ended_is : s'.ended ≡ s.ended
   pub kept : s'.broken ≡ false → (s'.inbox ≡ s.inbox ++ came) × (s.broken ≡ false)
 
--- no connection at a seat is due
-abbrev pub SeatIdle : {C : Type 0} → (C → Type 0) → Option C → Type 0
-SeatIdle Due None = Unit {0}
-SeatIdle Due (Some c) = Due c → ⊥
+-- how many of the seats a turn called
+abbrev pub count_of : Called → ℕ
+count_of (called.Served count) = count
+count_of (called.Unserved count) = count
 
 -- the connection at a seat, where this was looked at of each, asks for what was told
 abbrev pub SeatAsks : {C : Type 0} → (C → Option Look) → Option C → Type 0

@@ -1,10 +1,11 @@
 -- a turn of the loop, over connections that have seats: what each takes and sends, and the one order of all that was said
-use Rattle.std.specs.Prelude.{◌≡◌, ◌≢◌, ℕ, List, [], length, get_or, Option, Some, None}
+use Rattle.std.specs.Prelude.{◌≡◌, ◌≢◌, ℕ, ◌<◌, ◌≤◌, List, [], length, get_or, Option, Some, None}
 use Rattle.commands.specs.Replies.{ShownReply}
 use Rattle.commands.specs.Requests.{Request}
 use Rattle.player.specs.Runs.{Runs}
 use Rattle.player.specs.Shared.{TurnLog, turns_of, all_turns}
 use Rattle.player.specs.Turns.{Turn}
+use Rattle.event_server.specs.Told.{IsAmong}
 use Rattle.event_server.specs.WireState.{WireState}
 use Rattle.event_server.specs.Wires.{TakesOf, SendsTo}
 use Rattle.event_server.specs.declared.connection.Connection.{Connection}
@@ -21,6 +22,23 @@ seating left gone wire = record { left = left; gone = gone; wire = wire }
 -- of connections over streams that tell this of themselves
 abbrev pub seats_of : {S A : Type 0} → (S → Option (List ℕ)) → (S → Option (List ℕ)) → Seating (Connection S A)
 seats_of left gone = seating (λ c. left c.stream) (λ c. gone c.stream) (λ c. c.wire)
+
+-- a connection at a seat is so, if one sits there
+abbrev pub SeatIs : {C : Type 0} → (C → Type 0) → Option C → Type 0
+SeatIs P None = Unit {0}
+SeatIs P (Some c) = P c
+
+-- no connection at a seat is due
+abbrev pub SeatIdle : {C : Type 0} → (C → Type 0) → Option C → Type 0
+SeatIdle Due x = SeatIs (λ c. Due c → ⊥) x
+
+-- each connection that sits at one of these seats is so
+abbrev pub EachIs : {C : Type 0} → (C → Type 0) → List ℕ → List (Option C) → Type 0
+EachIs P keys seats = (i : ℕ) → IsAmong i keys → SeatIs P (get_or seats i None)
+
+-- of the seats that are ready so many are called: one at least, where any is ready
+abbrev pub CallsSome : List ℕ → ℕ → Type 0
+CallsSome ready called = (called ≤ length ready) × (0 < length ready → 0 < called)
 
 module _ {C : Type 0} (on : Seating C) where
   -- by these turns a connection takes what came, and nothing is sent; an empty seat stays empty

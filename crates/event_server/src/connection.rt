@@ -291,6 +291,7 @@ impl<S: Stream, A: Allocator> Connection<S, A> {
         ensures whole { self.new.wire.broken ≡ false → self.old.wire.broken ≡ false }
         ensures stream { self.new.stream ≡ self.old.stream }
         ensures told { asks_of self.old.look ≡ true → self.new.wire.broken ≡ true }
+        ensures stage { self.new.stage ≡ Stage.Idle }
     {
         if let Some(look) = self.look {
             if look.asks {

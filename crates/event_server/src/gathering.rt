@@ -1,12 +1,12 @@
 //! One turn of the loop over a service that learns its answers before.
 
-ghost use Rattle.std.specs.Prelude.{◌≡◌, ◌⊎◌, ℕ, List, ◌++◌, ◌≤◌, true, [], length, get_or, take, None, OnErr};
+ghost use Rattle.std.specs.Prelude.{◌≡◌, ◌⊎◌, ℕ, List, ◌++◌, ◌≤◌, true, [], get_or, take, None, IfOk, OnErr};
 ghost use Rattle.commands.specs.Requests.{Request};
 ghost use Rattle.command_lines.specs.Lines.{with_ends};
 ghost use Rattle.player.specs.Shared.{TurnLog};
 ghost use Rattle.event_server.specs.Rooms.{IsRoom};
-ghost use Rattle.event_server.specs.Seats.{seats_of, NoneSent, TurnsTaken};
-ghost use Rattle.event_server.specs.Gathering.{Gathered, SeatIdle, SeatLooked, SeatAsks, SeatBroken, SeatTurnLooked, TakenLooked, Told, TurnAhead, Unlearnt};
+ghost use Rattle.event_server.specs.Seats.{seats_of, CallsSome, EachIs, NoneSent, SeatIdle, SeatIs, TurnsTaken};
+ghost use Rattle.event_server.specs.Gathering.{Gathered, SeatLooked, SeatAsks, SeatBroken, SeatTurnLooked, TakenLooked, Told, TurnAhead, Unlearnt, count_of};
 ghost use Rattle.event_server.specs.Told.{SeatLines, all_lines, IsAmong};
 
 use crate::connection::{Connection, Stage};
@@ -55,7 +55,9 @@ pub enum Called {
 
 impl Called {
     /// How many of the seats were called.
-    pub fn count(self) -> usize {
+    pub fn count(self) -> usize
+        ensures { result ≡ count_of self }
+    {
         match self {
             Called::Served(count) | Called::Unserved(count) => count,
         }
@@ -87,7 +89,7 @@ fn gather_at<S: Stream, A: Allocator, B: Allocator>(
 }
 
 /// The connections of these seats are read, and their lines are looked at, one after another, as far as there is room for one line more
-/// in the batch. Says how many of the seats had their look. Nothing is taken and nothing sent.
+/// in the batch; the first is in any case. Says how many of the seats had their look. Nothing is taken and nothing sent.
 pub fn gather<S: Stream, A: Allocator, B: Allocator>(
     batch: &mut Batch<B>,
     room: &mut Room<B>,
@@ -99,7 +101,7 @@ pub fn gather<S: Stream, A: Allocator, B: Allocator>(
     ensures told { (told : SeatLines) × (batch.new.lines.items ≡ with_ends (all_lines told)) ×
         Told (seats_of S.left S.gone) (λ c. c.look) (λ c. c.stage ≡ Stage.Queued) batch.old.kind (take result ready.now) told seats.new }
     ensures kind { batch.new.kind ≡ batch.old.kind }
-    ensures looked { result ≤ length ready.now }
+    ensures looked { CallsSome ready.now result }
     ensures room { IsRoom room.new }
 {
     batch.lines.clear();
@@ -115,6 +117,7 @@ pub fn gather<S: Stream, A: Allocator, B: Allocator>(
 fn give_up_at<S: Stream, A: Allocator>(seats: &mut [Option<Connection<S, A>>], key: usize)
     ensures gathered { Gathered (seats_of S.left S.gone) seats.old seats.new }
     ensures told { SeatAsks (λ c. c.look) (get_or seats.old key None) → SeatBroken (seats_of S.left S.gone) (get_or seats.new key None) }
+    ensures rests { SeatIs (λ c. c.stage ≡ Stage.Idle) (get_or seats.new key None) }
     ensures others { (i : ℕ) → (i ≡ key → ⊥) → get_or seats.new i None ≡ get_or seats.old i None }
 {
     if key < seats.len() {
@@ -129,6 +132,7 @@ fn give_up<S: Stream, A: Allocator>(seats: &mut [Option<Connection<S, A>>], call
     ensures gathered { Gathered (seats_of S.left S.gone) seats.old seats.new }
     ensures told { (i : ℕ) → IsAmong i called.now → SeatAsks (λ c. c.look) (get_or seats.old i None) →
         SeatBroken (seats_of S.left S.gone) (get_or seats.new i None) }
+    ensures rest { EachIs (λ c. c.stage ≡ Stage.Idle) called.now seats.new }
 {
     for key in called {
         give_up_at(seats, *key);
@@ -147,6 +151,8 @@ fn take_looked_at<R, D: Service<R>, S: Stream, A: Allocator, B: Allocator>(
     requires room { IsRoom room.old }
     ensures took { ((service.new ≡ service.old) × (seats.new ≡ seats.old)) ⊎
         SeatTurnLooked (seats_of S.left S.gone) (λ c. c.look) (λ c. c.stage ≡ Stage.Queued) D.may key service.old seats.old service.new seats.new }
+    ensures done { SeatIs (λ c. c.stage ≡ Stage.Queued → ⊥) (get_or seats.new key None) }
+    ensures others { (i : ℕ) → (i ≡ key → ⊥) → get_or seats.new i None ≡ get_or seats.old i None }
     ensures room { IsRoom room.new }
 {
     if key < seats.len() {
@@ -170,6 +176,7 @@ fn take_looked<R, D: Service<R>, S: Stream, A: Allocator, B: Allocator>(
     requires room { IsRoom room.old }
     ensures taken { (log : TurnLog) × TurnsTaken (seats_of S.left S.gone) D.may service.old seats.old log service.new seats.new ×
         TakenLooked (seats_of S.left S.gone) (λ c. c.look) (λ c. c.stage ≡ Stage.Queued) called.now log seats.old seats.new }
+    ensures done { EachIs (λ c. c.stage ≡ Stage.Queued → ⊥) called.now seats.new }
     ensures room { IsRoom room.new }
 {
     for key in called {
@@ -194,7 +201,8 @@ fn learn<D, K: Keep<D>, B: Allocator>(
 
 /// One turn of the loop over a service that learns its answers before: the connections of these seats are read, the requests among their
 /// lines are told to the keeper, which has the service learn the answers, and then they take their turns (as in `turn`). Where the answers are not
-/// learnt in time, those whose lines were told are at fault, and nothing is sent. No connection takes more than was looked at.
+/// learnt in time, those whose lines were told are at fault, and nothing is sent. No connection takes more than was looked at. One seat at
+/// least is called, where any is given, and of each that is called the connection rests then.
 ///
 /// The fault of what keeps, with no byte sent.
 pub fn turn_ahead<R, D: Service<R>, K: Keep<D>, S: Stream, A: Allocator, B: Allocator>(
@@ -213,6 +221,8 @@ pub fn turn_ahead<R, D: Service<R>, K: Keep<D>, S: Stream, A: Allocator, B: Allo
         keep.old service.old seats.old batch.new.lines.items keep.new service.new seats.new }
     ensures unserved { (called : ℕ) → result ≡ Ok (Called.Unserved called) → Unlearnt (seats_of S.left S.gone) seats.old batch.new.lines.items seats.new }
     ensures unsent { OnErr result (NoneSent (seats_of S.left S.gone) seats.old seats.new) }
+    ensures called { IfOk result (λ called. CallsSome ready.now (count_of called)) }
+    ensures rest { IfOk result (λ called. EachIs (λ c. c.stage ≡ Stage.Idle) (take (count_of called) ready.now) seats.new) }
     ensures room { IsRoom room.new }
 {
     let looked = gather(batch, room, seats, ready);

@@ -1,6 +1,6 @@
 //! What is seen of a connection's lines before its turn takes them.
 
-ghost use Rattle.std.specs.Prelude.{◌≡◌, ◌++◌, ◌≤◌, List, ℕ, true, false, [], ◌∷◌, length, take, drop, IfOk};
+ghost use Rattle.std.specs.Prelude.{◌≡◌, ◌++◌, ◌≤◌, List, ℕ, true, false, [], ◌∷◌, length, take, drop, IfOk, IsTrue};
 ghost use Rattle.command_lines.specs.Lines.{has_no_lf, unless_empty, with_ends};
 ghost use Rattle.event_server.specs.Told.{requests, behind, requests_in, HasLooked};
 
@@ -80,7 +80,9 @@ pub struct Limits {
 }
 
 /// Whether there is room for one line more in a batch of so many bytes at most.
-pub fn has_room<B: Allocator>(most: usize, batch: &Vec<u8, B>) -> bool {
+pub fn has_room<B: Allocator>(most: usize, batch: &Vec<u8, B>) -> bool
+    ensures { batch.now.items ≡ [] → IsTrue result }
+{
     batch.len() <= most.saturating_sub(REQUEST_ROOM)
 }
 

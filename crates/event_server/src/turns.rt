@@ -1,10 +1,10 @@
 //! One turn of the loop.
 
-ghost use Rattle.std.specs.Prelude.{◌≡◌, ◌⊎◌, ◌+◌, ◌≤◌, true, length, OnOk, IfOk, OnErr};
+ghost use Rattle.std.specs.Prelude.{◌≡◌, ◌⊎◌, ℕ, true, get_or, take, None, OnOk, IfOk, OnErr};
 ghost use Rattle.commands.specs.Requests.{Request};
 ghost use Rattle.player.specs.Shared.{TurnLog};
 ghost use Rattle.event_server.specs.Rooms.{IsRoom};
-ghost use Rattle.event_server.specs.Seats.{seats_of, TurnsTaken, RepliesSent, NoneSent, SeatTurn, SeatSent, LoopTurn};
+ghost use Rattle.event_server.specs.Seats.{seats_of, CallsSome, EachIs, SeatIs, TurnsTaken, RepliesSent, NoneSent, SeatTurn, SeatSent, LoopTurn};
 
 use crate::connection::{Connection, Stage};
 use crate::keep::Keep;
@@ -25,6 +25,8 @@ fn take_at<R, D: Service<R>, S: Stream, A: Allocator, B: Allocator>(
     requires room { IsRoom room.old }
     ensures took { ((service.new ≡ service.old) × (seats.new ≡ seats.old)) ⊎
         SeatTurn (seats_of S.left S.gone) D.may (λ c. c.stage ≡ Stage.Queued) key service.old seats.old service.new seats.new }
+    ensures done { SeatIs (λ c. c.stage ≡ Stage.Queued → ⊥) (get_or seats.new key None) }
+    ensures others { (i : ℕ) → (i ≡ key → ⊥) → get_or seats.new i None ≡ get_or seats.old i None }
     ensures room { IsRoom room.new }
 {
     if key < seats.len() {
@@ -36,8 +38,8 @@ fn take_at<R, D: Service<R>, S: Stream, A: Allocator, B: Allocator>(
     }
 }
 
-/// The connections of these seats have their turns, one after another, until so much is told that it is to be kept. Says how many
-/// of the seats were called. Nothing is sent.
+/// The connections of these seats have their turns, one after another, until so much is told that it is to be kept; the first has it in any
+/// case. Says how many of the seats were called. Nothing is sent.
 pub fn take_turns<R, D: Service<R>, K: Keep<D>, S: Stream, A: Allocator, B: Allocator>(
     rt: &R,
     service: &mut D,
@@ -49,11 +51,12 @@ pub fn take_turns<R, D: Service<R>, K: Keep<D>, S: Stream, A: Allocator, B: Allo
     requires knows { (q : Request) → D.knows q ≡ true }
     requires room { IsRoom room.old }
     ensures taken { (log : TurnLog) × TurnsTaken (seats_of S.left S.gone) D.may service.old seats.old log service.new seats.new }
-    ensures called { result ≤ length ready.now }
+    ensures called { CallsSome ready.now result }
+    ensures done { EachIs (λ c. c.stage ≡ Stage.Queued → ⊥) (take result ready.now) seats.new }
     ensures room { IsRoom room.new }
 {
     let mut called = 0;
-    while called < ready.len() && !keep.is_full(service) {
+    while called < ready.len() && (called == 0 || !keep.is_full(service)) {
         take_at(rt, service, room, seats, ready[called]);
         called += 1;
     }
@@ -64,6 +67,8 @@ pub fn take_turns<R, D: Service<R>, K: Keep<D>, S: Stream, A: Allocator, B: Allo
 fn send_at<S: Stream, A: Allocator>(seats: &mut [Option<Connection<S, A>>], key: usize)
     ensures sent { (seats.new ≡ seats.old) ⊎
         SeatSent (seats_of S.left S.gone) (λ c. c.stage ≡ Stage.Taken) key seats.old seats.new }
+    ensures rests { SeatIs (λ c. c.stage ≡ Stage.Queued → ⊥) (get_or seats.old key None) → SeatIs (λ c. c.stage ≡ Stage.Idle) (get_or seats.new key None) }
+    ensures others { (i : ℕ) → (i ≡ key → ⊥) → get_or seats.new i None ≡ get_or seats.old i None }
 {
     if key < seats.len() {
         if let Some(connection) = &mut seats[key] {
@@ -79,7 +84,8 @@ pub fn send_replies<S: Stream, A: Allocator>(
     seats: &mut [Option<Connection<S, A>>],
     called: &[usize],
 )
-    ensures { RepliesSent (seats_of S.left S.gone) seats.old seats.new }
+    ensures sent { RepliesSent (seats_of S.left S.gone) seats.old seats.new }
+    ensures rest { EachIs (λ c. c.stage ≡ Stage.Queued → ⊥) called.now seats.old → EachIs (λ c. c.stage ≡ Stage.Idle) called.now seats.new }
 {
     for key in called {
         send_at(seats, *key);
@@ -87,7 +93,8 @@ pub fn send_replies<S: Stream, A: Allocator>(
 }
 
 /// One turn of the loop: the connections of these seats take what came, what the service tells of it is kept, and only then are
-/// replies sent. Says how many of the seats were called; the others are to be called in the next turn.
+/// replies sent. Says how many of the seats were called, one at least where any is given: of each of them the connection rests then, and the
+/// others are to be called in the next turn.
 ///
 /// The fault of what keeps, with no byte sent.
 pub fn turn<R, D: Service<R>, K: Keep<D>, S: Stream, A: Allocator, B: Allocator>(
@@ -102,7 +109,8 @@ pub fn turn<R, D: Service<R>, K: Keep<D>, S: Stream, A: Allocator, B: Allocator>
     requires room { IsRoom room.old }
     ensures turned { OnOk result (LoopTurn (seats_of S.left S.gone) D.may K.keeps keep.old service.old seats.old keep.new service.new seats.new) }
     ensures unsent { OnErr result (NoneSent (seats_of S.left S.gone) seats.old seats.new) }
-    ensures called { IfOk result (λ called. called ≤ length ready.now) }
+    ensures called { IfOk result (λ called. CallsSome ready.now called) }
+    ensures rest { IfOk result (λ called. EachIs (λ c. c.stage ≡ Stage.Idle) (take called ready.now) seats.new) }
     ensures room { IsRoom room.new }
 {
     let called = take_turns(rt, service, keep, room, seats, ready);

@@ -14,6 +14,7 @@ loop-looked-init g c =
       told = ([], c.clear.ensures.items, telling_none on (λ x. x.look) (λ x. x.stage ≡ stage.Queued) c.args.batch.now.kind c.args.ready.now c.args.seats.now);
       kind = refl;
       room = c.requires;
+      first = λ none. c.clear.ensures.items;
       inside = omega arith;
     }
 
@@ -45,6 +46,7 @@ loop-looked-preserved g c =
       ];
       kind = c.gather_at.ensures.kind ∙ i.kind;
       room = c.gather_at.ensures.room;
+      first = λ none. absurd (omega (arith, none));
       inside = omega arith;
     }
 
@@ -67,9 +69,6 @@ returns-else-has_room-clause-gathered g c = c.loop-looked.invariant.gathered
 pub returns-else-has_room-clause-kind : goal.returns-else-has_room-clause-kind
 returns-else-has_room-clause-kind g c = c.loop-looked.invariant.kind
 
-pub returns-else-has_room-clause-looked : goal.returns-else-has_room-clause-looked
-returns-else-has_room-clause-looked g c = c.loop-looked.invariant.inside
-
 pub returns-else-has_room-clause-room : goal.returns-else-has_room-clause-room
 returns-else-has_room-clause-room g c = c.loop-looked.invariant.room
 
@@ -78,9 +77,6 @@ returns-after-loop-looked-clause-gathered g c = c.loop-looked.invariant.gathered
 
 pub returns-after-loop-looked-clause-kind : goal.returns-after-loop-looked-clause-kind
 returns-after-loop-looked-clause-kind g c = c.loop-looked.invariant.kind
-
-pub returns-after-loop-looked-clause-looked : goal.returns-after-loop-looked-clause-looked
-returns-after-loop-looked-clause-looked g c = c.loop-looked.invariant.inside
 
 pub returns-after-loop-looked-clause-room : goal.returns-after-loop-looked-clause-room
 returns-after-loop-looked-clause-room g c = c.loop-looked.invariant.room

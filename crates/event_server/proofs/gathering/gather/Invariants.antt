@@ -1,4 +1,4 @@
-use Rattle.std.proofs.Common.{◌≡◌, ◌≤◌, ◌-◌, length}
+use Rattle.std.proofs.Common.{◌≡◌, ◌≤◌, ◌-◌, [], length}
 use Rattle.event_server.proofs.Common.{with_ends, IsRoom, seats_of, Gathered, SeatLines, all_lines}
 use Rattle.event_server.specs.declared.connection.Stage.TheVariants as stage
 use Rattle.event_server.proofs.ToldLemmas.{Telling}
@@ -11,6 +11,7 @@ invariant-loop-looked g l = record {
       Telling (seats_of g.S.Stream.left g.S.Stream.gone) (λ c. c.look) (λ c. c.stage ≡ stage.Queued) l.fn.batch.kind l.ready l.looked told l.seats;
   kind : l.batch.kind ≡ l.fn.batch.kind;
   room : IsRoom l.room;
+  first : l.looked ≡ 0 → l.batch.lines.items ≡ [];
   inside : l.looked ≤ length l.ready;
 }
 

@@ -3,11 +3,13 @@ use Rattle.event_server.proofs.Common.{TurnLog, tagged, seats_of}
 use Rattle.event_server.specs.declared.connection.Stage.TheVariants as stage
 use Rattle.event_server.proofs.SeatLemmas.{Going, going_none, going_on}
 use Rattle.event_server.proofs.ToldLemmas.{Taking, taking_idle, taking_on, taking_all}
+use Rattle.event_server.proofs.CallLemmas.{first_none, first_on, first_all}
 use Rattle.event_server.proofs.gathering.take_looked.Goals as goal
 
 pub loop-key-init : goal.loop-key-init
 loop-key-init g c = record {
   so = ([], going_none (seats_of g.S.Stream.left g.S.Stream.gone) g.D.Service.may (λ x. x.stage ≡ stage.Queued) c.args.service.now c.args.seats.now, λ i. inl refl);
+  done = first_none (λ x. x.stage ≡ stage.Queued → ⊥) c.args.called.now c.args.seats.now;
   room = c.requires.room;
 }
 
@@ -30,6 +32,7 @@ loop-key-preserved g c =
               taking_on on (λ x. x.look) (λ x. x.stage ≡ stage.Queued) keys seats g.D.Service.may w n log c.loop-key.service c.take_looked_at.new.service c.loop-key.seats c.take_looked_at.new.seats i.so.1 i.so.2 one,
             )
           ];
+      done = first_on (λ x. x.stage ≡ stage.Queued → ⊥) n keys c.loop-key.seats c.take_looked_at.new.seats i.done c.take_looked_at.ensures.done c.take_looked_at.ensures.others;
       room = c.take_looked_at.ensures.room;
     }
 
@@ -43,6 +46,9 @@ returns-clause-taken g c =
       taking_all on (λ x. x.look) (λ x. x.stage ≡ stage.Queued) c.args.called.now c.args.seats.now i.so.0 c.loop-key.seats
           (subst (λ (n : ℕ). Taking on (λ x. x.look) (λ x. x.stage ≡ stage.Queued) c.args.called.now c.args.seats.now n i.so.0 c.loop-key.seats) all i.so.2),
     )
+
+pub returns-clause-done : goal.returns-clause-done
+returns-clause-done g c = first_all (λ x. x.stage ≡ stage.Queued → ⊥) c.loop-key.key-index c.args.called.now c.loop-key.seats c.loop-key-test.false c.loop-key.invariant.done
 
 pub returns-clause-room : goal.returns-clause-room
 returns-clause-room g c = c.loop-key.invariant.room

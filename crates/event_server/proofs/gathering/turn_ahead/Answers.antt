@@ -17,7 +17,7 @@ returns-in_ok-keep-in-Known-clause-served g c =
       ready = c.learn.new.service;
       gathered = c.gather-looked.ensures.gathered;
       learnt = c.in_ok-learn.ensures (ap Ok c.in-Known.is);
-      turn = record { log = k.0; told = c.take_looked.new.service; between = c.take_looked.new.seats; taken = k.1; kept = c.in_ok-keep-in-Known.ensures; sent = c.send_replies.ensures };
+      turn = record { log = k.0; told = c.take_looked.new.service; between = c.take_looked.new.seats; taken = k.1; kept = c.in_ok-keep-in-Known.ensures; sent = c.send_replies.ensures.sent };
       told = t.0;
       told_is = t.1;
       each = taken_told on (λ x. x.look) (λ x. x.stage ≡ stage.Queued) c.args.batch.now.kind (take c.gather-looked.result c.args.ready.now) t.0 k.0 c.gather-looked.new.seats c.take_looked.new.seats t.2 k.2;
@@ -35,4 +35,4 @@ returns-in-Lost-clause-unserved g c =
     }
 
 pub slice_bounds-called-end : goal.slice_bounds-called-end
-slice_bounds-called-end g c = sym (length-take-le c.gather-looked.result c.args.ready.now c.gather-looked.ensures.looked)
+slice_bounds-called-end g c = sym (length-take-le c.gather-looked.result c.args.ready.now c.gather-looked.ensures.looked.0)

@@ -1,8 +1,13 @@
 use Rattle.std.proofs.Common.{◌≡◌}
+use Rattle.event_server.proofs.Common.{EachIs}
 use Rattle.event_server.specs.declared.connection.Stage.TheVariants as stage
 use Rattle.event_server.specs.Seats.{seats_of}
 use Rattle.event_server.proofs.SeatLemmas.{Sending}
+use Rattle.event_server.proofs.CallLemmas.{Resting}
 use Rattle.event_server.proofs.turns.send_replies.Given as goal
 
 abbrev pub invariant-loop-key : goal.invariant-loop-key
-invariant-loop-key g l = Sending (seats_of g.S.Stream.left g.S.Stream.gone) (λ c. c.stage ≡ stage.Taken) l.fn.seats l.seats
+invariant-loop-key g l = record {
+  so : Sending (seats_of g.S.Stream.left g.S.Stream.gone) (λ c. c.stage ≡ stage.Taken) l.fn.seats l.seats;
+  rest : EachIs (λ c. c.stage ≡ stage.Queued → ⊥) l.called l.fn.seats → Resting (λ c. c.stage ≡ stage.Queued → ⊥) (λ c. c.stage ≡ stage.Idle) l.key-index l.called l.seats;
+}

@@ -3,11 +3,13 @@ use Rattle.std.proofs.Common.{◌≡◌, inl, inr, ◌++◌, [], arith}
 use Rattle.event_server.proofs.Common.{TurnLog, tagged, seats_of}
 use Rattle.event_server.specs.declared.connection.Stage.TheVariants as stage
 use Rattle.event_server.proofs.SeatLemmas.{Going, going_none, going_on}
+use Rattle.event_server.proofs.CallLemmas.{first_none, first_on}
 use Rattle.event_server.proofs.turns.take_turns.Goals as goal
 
 pub loop-called-init : goal.loop-called-init
 loop-called-init g c = record {
   so = ([], going_none (seats_of g.S.Stream.left g.S.Stream.gone) g.D.Service.may (λ x. x.stage ≡ stage.Queued) c.args.service.now c.args.seats.now);
+  done = first_none (λ x. x.stage ≡ stage.Queued → ⊥) c.args.ready.now c.args.seats.now;
   room = c.requires.room;
   inside = omega arith;
 }
@@ -21,18 +23,13 @@ loop-called-preserved g c =
         | inl same ↦ (log, rw (same.0, same.1) i.so.1)
         | inr turn ↦ (log ++ tagged _ turn.turns, going_on (seats_of g.S.Stream.left g.S.Stream.gone) g.D.Service.may (λ x. x.stage ≡ stage.Queued) c.args.service.now c.args.seats.now log c.loop-called.service c.take_at.new.service c.loop-called.seats c.take_at.new.seats _ i.so.1 turn)
       ];
+      done = first_on (λ x. x.stage ≡ stage.Queued → ⊥) c.loop-called.called c.args.ready.now c.loop-called.seats c.take_at.new.seats i.done c.take_at.ensures.done c.take_at.ensures.others;
       room = c.take_at.ensures.room;
       inside = omega (arith, c.loop-called-test.true);
     }
 
 pub take_at-requires : goal.take_at-requires
 take_at-requires g c = record { knows = c.requires.knows; room = c.loop-called.invariant.room }
-
-pub returns-else-not-is_full : goal.returns-else-not-is_full
-returns-else-not-is_full g c = record { taken = (c.loop-called.invariant.so.0, c.loop-called.invariant.so.1.taken); called = c.loop-called.invariant.inside; room = c.loop-called.invariant.room }
-
-pub returns-after-loop-called : goal.returns-after-loop-called
-returns-after-loop-called g c = record { taken = (c.loop-called.invariant.so.0, c.loop-called.invariant.so.1.taken); called = c.loop-called.invariant.inside; room = c.loop-called.invariant.room }
 
 pub bounds-ready-called : goal.bounds-ready-called
 bounds-ready-called g c = c.loop-called-test.true

@@ -1,0 +1,62 @@
+-- seats that are called, one after another
+use Rattle.std.proofs.Common.{◌≡◌, inl, inr, ℕ, ◌+◌, ◌<◌, ◌≤◌, List, length, take, get_or, Option, Some, None, refl, sym, subst, ◌∙◌, arith}
+use Rattle.std.proofs.lemmas.List.{get_or-take, length-take-le}
+use Rattle.event_server.proofs.Common.{cases_eq, SeatIs, EachIs}
+use Rattle.event_server.proofs.ToldLemmas.{IsFirst, last}
+use Rattle.event_server.specs.declared.connection.Stage.{Stage}
+use Rattle.event_server.specs.declared.connection.Stage.TheVariants as stage
+
+-- whoever rests is not due
+pub rests_idle : (s : Stage) → s ≡ stage.Idle → s ≡ stage.Queued → ⊥
+rests_idle s rests due = (let e : stage.Idle ≡ stage.Queued = sym rests ∙ due in absurd cc)
+
+-- who is neither due nor has still to send rests
+pub rests_else : (s : Stage) → (s ≡ stage.Queued → ⊥) → (s ≡ stage.Taken → ⊥) → s ≡ stage.Idle
+rests_else stage.Idle due taken = refl
+rests_else stage.Queued due taken = absurd (due refl)
+rests_else stage.Taken due taken = absurd (taken refl)
+
+module _ {C : Type 0} where
+  pub seat_weakens : (P Q : C → Type 0) → ((c : C) → P c → Q c) → (x : Option C) → SeatIs P x → SeatIs Q x
+  seat_weakens P Q then None is = tt
+  seat_weakens P Q then (Some c) is = then c is
+
+  -- each connection that sits at one of the first so many seats is so
+  abbrev pub FirstAre : (C → Type 0) → ℕ → List ℕ → List (Option C) → Type 0
+  FirstAre P n keys seats = (i : ℕ) → IsFirst n keys i → SeatIs P (get_or seats i None)
+
+  pub first_none : (P : C → Type 0) (keys : List ℕ) (seats : List (Option C)) → FirstAre P 0 keys seats
+  first_none P keys seats i first = absurd (let lt = first.1 in omega (arith, lt))
+
+  -- one more is so, and the others are as they were
+  pub first_on : (P : C → Type 0) (n : ℕ) (keys : List ℕ) (seats seats' : List (Option C)) → FirstAre P n keys seats → SeatIs P (get_or seats' (get_or keys n 0) None) →
+      ((i : ℕ) → (i ≡ get_or keys n 0 → ⊥) → get_or seats' i None ≡ get_or seats i None) → FirstAre P (n + 1) keys seats'
+  first_on P n keys seats seats' so one others i first =
+      elim (cases_eq i (get_or keys n 0)) as (λ _. SeatIs P (get_or seats' i None)) [
+        | inl same ↦ subst (λ (k : ℕ). SeatIs P (get_or seats' k None)) (sym same) one
+        | inr other ↦ subst (λ (x : Option C). SeatIs P x) (sym (others i other)) (so i (last n i first.0 keys first.1 first.2 other))
+      ]
+
+  -- all that were called are so
+  pub first_called : (P : C → Type 0) (n : ℕ) (keys : List ℕ) (seats : List (Option C)) → n ≤ length keys → FirstAre P n keys seats → EachIs P (take n keys) seats
+  first_called P n keys seats le so i among = so i (let lt = among.1 in let len = length-take-le n keys le in
+      let below : among.0 < n = omega (arith, lt, len) in (among.0, below, sym (get_or-take n keys among.0 0 below) ∙ among.2))
+
+  pub first_all : (P : C → Type 0) (n : ℕ) (keys : List ℕ) (seats : List (Option C)) → length keys ≤ n → FirstAre P n keys seats → EachIs P keys seats
+  first_all P n keys seats le so i among = so i (among.0, (let lt = among.1 in omega (arith, lt, le)), among.2)
+
+  -- so far, where each that was not so at first is, once it was called
+  abbrev pub Resting : (P Q : C → Type 0) → ℕ → List ℕ → List (Option C) → Type 0
+  Resting P Q n keys seats = EachIs P keys seats × FirstAre Q n keys seats
+
+  pub resting_on : (P Q : C → Type 0) → ((c : C) → Q c → P c) → (n : ℕ) (keys : List ℕ) (seats seats' : List (Option C)) → n < length keys → Resting P Q n keys seats →
+      (SeatIs P (get_or seats (get_or keys n 0) None) → SeatIs Q (get_or seats' (get_or keys n 0) None)) →
+      ((i : ℕ) → (i ≡ get_or keys n 0 → ⊥) → get_or seats' i None ≡ get_or seats i None) → Resting P Q (n + 1) keys seats'
+  resting_on P Q then n keys seats seats' lt so one others =
+      let here = one (so.0 (get_or keys n 0) (n, lt, refl)) in (
+        λ i among. elim (cases_eq i (get_or keys n 0)) as (λ _. SeatIs P (get_or seats' i None)) [
+          | inl same ↦ subst (λ (k : ℕ). SeatIs P (get_or seats' k None)) (sym same) (seat_weakens Q P then (get_or seats' (get_or keys n 0) None) here)
+          | inr other ↦ subst (λ (x : Option C). SeatIs P x) (sym (others i other)) (so.0 i among)
+        ],
+        first_on Q n keys seats seats' so.1 here others,
+      )
