@@ -1,7 +1,9 @@
 -- seats that are called, one after another
-use Rattle.std.proofs.Common.{◌≡◌, inl, inr, ℕ, ◌+◌, ◌<◌, ◌≤◌, List, length, take, get_or, Option, Some, None, refl, sym, subst, ◌∙◌, arith}
+use Rattle.std.proofs.Common.{◌≡◌, ◌⊎◌, inl, inr, ℕ, ◌+◌, ◌<◌, ◌≤◌, List, length, take, get_or, Option, Some, None, refl, sym, subst, ◌∙◌, arith}
 use Rattle.std.proofs.lemmas.List.{get_or-take, length-take-le}
 use Rattle.event_server.proofs.Common.{cases_eq, SeatIs, EachIs}
+use Rattle.event_server.specs.Seats.{Seating, Served}
+use Rattle.event_server.specs.Wires.{HasTakenAll}
 use Rattle.event_server.proofs.ToldLemmas.{IsFirst, last}
 use Rattle.event_server.specs.declared.connection.Stage.{Stage}
 use Rattle.event_server.specs.declared.connection.Stage.TheVariants as stage
@@ -60,3 +62,24 @@ module _ {C : Type 0} where
         ],
         first_on Q n keys seats seats' so.1 here others,
       )
+
+  -- so far, where whoever is not as before is so
+  abbrev pub SameOrIs : (C → Type 0) → List (Option C) → List (Option C) → Type 0
+  SameOrIs P seats seats' = (i : ℕ) → (get_or seats' i None ≡ get_or seats i None) ⊎ SeatIs P (get_or seats' i None)
+
+  pub same_on : (P : C → Type 0) (key : ℕ) (seats seats' seats'' : List (Option C)) → SameOrIs P seats seats' → (seats'' ≡ seats') ⊎ SeatIs P (get_or seats'' key None) →
+      ((i : ℕ) → (i ≡ key → ⊥) → get_or seats'' i None ≡ get_or seats' i None) → SameOrIs P seats seats''
+  same_on P key seats seats' seats'' so (inl same) others i = subst (λ (l : List (Option C)). (get_or l i None ≡ get_or seats i None) ⊎ SeatIs P (get_or l i None)) (sym same) (so i)
+  same_on P key seats seats' seats'' so (inr one) others i =
+      elim (cases_eq i key) as (λ _. (get_or seats'' i None ≡ get_or seats i None) ⊎ SeatIs P (get_or seats'' i None)) [
+        | inl same ↦ inr (subst (λ (k : ℕ). SeatIs P (get_or seats'' k None)) (sym same) one)
+        | inr other ↦ subst (λ (x : Option C). (x ≡ get_or seats i None) ⊎ SeatIs P x) (sym (others i other)) (so i)
+      ]
+
+  -- whoever was due and is not any more is not as before
+  pub same_served : (on : Seating C) (Due : C → Type 0) (keys : List ℕ) (seats seats' : List (Option C)) → EachIs (λ c. Due c → ⊥) keys seats' → SameOrIs (λ c. HasTakenAll (on.wire c)) seats seats' →
+      Served on Due keys seats seats'
+  same_served on Due keys seats seats' done so i c among there due = elim (so i) as (λ _. SeatIs (λ d. HasTakenAll (on.wire d)) (get_or seats' i None)) [
+    | inl same ↦ absurd (let not : SeatIs (λ d. Due d → ⊥) (Some c) = subst (λ (x : Option C). SeatIs (λ d. Due d → ⊥) x) (same ∙ there) (done i among) in not due)
+    | inr is ↦ is
+  ]

@@ -7,7 +7,7 @@ use Rattle.player.specs.Shared.{TurnLog, turns_of, all_turns}
 use Rattle.player.specs.Turns.{Turn}
 use Rattle.event_server.specs.Told.{IsAmong}
 use Rattle.event_server.specs.WireState.{WireState}
-use Rattle.event_server.specs.Wires.{TakesOf, SendsTo}
+use Rattle.event_server.specs.Wires.{HasTakenAll, TakesOf, SendsTo}
 use Rattle.event_server.specs.declared.connection.Connection.{Connection}
 
 -- what a contract sees of a connection: what its stream has left to give and has taken, and its wire
@@ -62,6 +62,10 @@ module _ {C : Type 0} (on : Seating C) where
     pub each : (i : ℕ) → SeatTakes (turns_of i log) (get_or seats i None) (get_or seats' i None)
     pub many : length seats' ≡ length seats
 
+  -- each connection that was due at one of these seats has taken all that came of it
+  abbrev pub Served : (C → Type 0) → List ℕ → List (Option C) → List (Option C) → Type 0
+  Served Due keys seats seats' = (i : ℕ) (c : C) → IsAmong i keys → get_or seats i None ≡ Some c → Due c → SeatIs (λ d. HasTakenAll (on.wire d)) (get_or seats' i None)
+
   -- each connection has sent some of what waits for it
   pub record RepliesSent (seats seats' : List (Option C)) : Type 0 where
     pub each : (i : ℕ) → SeatSends (get_or seats i None) (get_or seats' i None)
@@ -106,3 +110,8 @@ module _ {C : Type 0} (on : Seating C) where
     pub taken : TurnsTaken may w seats log told between
     pub kept : keeps k told k' u
     pub sent : RepliesSent between seats'
+
+  -- a turn of the loop in which these seats are called: before anything was sent, each that was due had taken all that came
+  pub record ServedTurn {T K : Type 0} (may : T → Request → ShownReply → T → Type 0) (keeps : K → T → K → T → Type 0) (Due : C → Type 0) (keys : List ℕ) (k : K) (w : T) (seats : List (Option C)) (k' : K) (u : T) (seats' : List (Option C)) : Type 0 where
+    pub turn : LoopTurn may keeps k w seats k' u seats'
+    pub served : Served Due keys seats turn.between

@@ -1,5 +1,5 @@
 -- what a connection takes and sends in a turn of the loop
-use Rattle.std.specs.Prelude.{◌≡◌, ◌≤◌, ℕ, ◌++◌, ◌||◌, if◌then◌else◌, List, [], Bool, true, false, length, take, Option}
+use Rattle.std.specs.Prelude.{◌≡◌, ◌⊎◌, ◌+◌, ◌<◌, ◌≤◌, ℕ, ◌++◌, ◌||◌, if◌then◌else◌, List, [], Bool, true, false, length, take, Option}
 use Rattle.std.specs.Io.KnownBytes.{Appends, Consumes, IsAtEnd}
 use Rattle.commands.specs.declared.kind.WorldKind.{WorldKind}
 use Rattle.commands.specs.Replies.{ShownReply}
@@ -9,9 +9,11 @@ use Rattle.player.specs.Runs.{Runs}
 use Rattle.player.specs.Says.{Spoke, IsSilent}
 use Rattle.player.specs.Texts.{replies_of}
 use Rattle.player.specs.Turns.{Turn}
+use Rattle.player.specs.declared.form.TheConstants.{TURN_ROOM}
 use Rattle.event_server.specs.Told.{bytes_of, ends_of}
 use Rattle.event_server.specs.WireState.{WireState}
 use Rattle.event_server.specs.declared.look.Look.{Look}
+use Rattle.event_server.specs.declared.wire.TheConstants.{UNSENT_ROOM, MOST_LINES}
 
 -- nothing came, nothing was said
 pub record IsNewWire (kind : WorldKind) (s : WireState) : Type 0 where
@@ -44,6 +46,15 @@ pub record TakesOf (turns : List Turn) (left : Option (List ℕ)) (s : WireState
   pub gave : Consumes left left' came
   pub at_end : ends ≡ true → IsAtEnd left'
   pub takes : Takes turns came ends s s'
+
+-- there is no room for one reply more, or no line more is counted
+abbrev pub IsFull : WireState → Type 0
+IsFull s = (UNSENT_ROOM < length s.outbox + TURN_ROOM) ⊎ (MOST_LINES < s.talker.summary.lines)
+
+-- nothing that came waits to be taken, unless it is full, at fault or at its end: so where a line waited and there was room for a reply, a
+-- line at least was taken
+abbrev pub HasTakenAll : WireState → Type 0
+HasTakenAll s = s.broken ≡ false → s.ended ≡ false → 0 < length s.inbox → IsFull s
 
 -- by some turns, which lead the service from w to u
 abbrev pub SomeTaken : {T : Type 0} → (T → Request → ShownReply → T → Type 0) → T → T → Option (List ℕ) → WireState → Option (List ℕ) → WireState → Type 0

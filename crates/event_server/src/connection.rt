@@ -10,7 +10,7 @@ ghost use Rattle.player.specs.Turns.{Turn};
 ghost use Rattle.player.specs.declared.form.TheConstants.{TURN_ROOM};
 ghost use Rattle.event_server.specs.Rooms.{IsRoom};
 ghost use Rattle.event_server.specs.Told.{asks_of, requests_seen, IsSameGrant};
-ghost use Rattle.event_server.specs.Wires.{SomeTaken, TakesEnd, TakesLooked, SendsTo};
+ghost use Rattle.event_server.specs.Wires.{HasTakenAll, SomeTaken, TakesEnd, TakesLooked, SendsTo};
 ghost use Rattle.event_server.specs.Gathering.{GathersOf};
 ghost use Rattle.event_server.specs.declared.wire.TheConstants.{UNSENT_ROOM, MOST_LINES};
 
@@ -110,6 +110,7 @@ impl<S: Stream, A: Allocator> Connection<S, A> {
 
     // Whether more may come and be taken: there is room for a reply.
     fn may_take(&self) -> bool
+        ensures none { result ≡ false → HasTakenAll self.now.wire }
         ensures whole { IsTrue result → self.now.wire.broken ≡ false }
         ensures reply { IsTrue result → length self.now.wire.outbox + TURN_ROOM ≤ UNSENT_ROOM }
         ensures count { IsTrue result → self.now.wire.talker.summary.lines ≤ MOST_LINES }
@@ -127,6 +128,7 @@ impl<S: Stream, A: Allocator> Connection<S, A> {
         requires knows { (q : Request) → D.knows q ≡ true }
         requires room { IsRoom room.old }
         ensures takes { SomeTaken D.may service.old service.new (S.left self.old.stream) self.old.wire (S.left self.new.stream) self.new.wire }
+        ensures all { HasTakenAll self.new.wire }
         ensures unsent { S.gone self.new.stream ≡ S.gone self.old.stream }
         ensures stage { self.new.stage ≡ Stage.Taken }
         ensures room { IsRoom room.new }
@@ -334,6 +336,7 @@ impl<S: Stream, A: Allocator> Connection<S, A> {
         requires count { self.old.wire.talker.summary.lines ≤ MOST_LINES }
         requires room { IsRoom room.old }
         ensures takes { SomeTaken D.may service.old service.new (S.left self.old.stream) self.old.wire (S.left self.new.stream) self.new.wire }
+        ensures all { HasTakenAll self.new.wire }
         ensures unsent { S.gone self.new.stream ≡ S.gone self.old.stream }
         ensures stage { self.new.stage ≡ self.old.stage }
         ensures room { IsRoom room.new }

@@ -1,10 +1,11 @@
 //! One turn of the loop.
 
-ghost use Rattle.std.specs.Prelude.{◌≡◌, ◌⊎◌, ℕ, true, get_or, take, None, OnOk, IfOk, OnErr};
+ghost use Rattle.std.specs.Prelude.{◌≡◌, ◌⊎◌, ℕ, true, get_or, take, None, IfOk, OnErr};
 ghost use Rattle.commands.specs.Requests.{Request};
 ghost use Rattle.player.specs.Shared.{TurnLog};
 ghost use Rattle.event_server.specs.Rooms.{IsRoom};
-ghost use Rattle.event_server.specs.Seats.{seats_of, CallsSome, EachIs, SeatIs, TurnsTaken, RepliesSent, NoneSent, SeatTurn, SeatSent, LoopTurn};
+ghost use Rattle.event_server.specs.Wires.{HasTakenAll};
+ghost use Rattle.event_server.specs.Seats.{seats_of, CallsSome, EachIs, SeatIs, Served, TurnsTaken, RepliesSent, NoneSent, SeatTurn, SeatSent, ServedTurn};
 
 use crate::connection::{Connection, Stage};
 use crate::keep::Keep;
@@ -26,6 +27,7 @@ fn take_at<R, D: Service<R>, S: Stream, A: Allocator, B: Allocator>(
     ensures took { ((service.new ≡ service.old) × (seats.new ≡ seats.old)) ⊎
         SeatTurn (seats_of S.left S.gone) D.may (λ c. c.stage ≡ Stage.Queued) key service.old seats.old service.new seats.new }
     ensures done { SeatIs (λ c. c.stage ≡ Stage.Queued → ⊥) (get_or seats.new key None) }
+    ensures all { (seats.new ≡ seats.old) ⊎ SeatIs (λ c. HasTakenAll c.wire) (get_or seats.new key None) }
     ensures others { (i : ℕ) → (i ≡ key → ⊥) → get_or seats.new i None ≡ get_or seats.old i None }
     ensures room { IsRoom room.new }
 {
@@ -53,6 +55,7 @@ pub fn take_turns<R, D: Service<R>, K: Keep<D>, S: Stream, A: Allocator, B: Allo
     ensures taken { (log : TurnLog) × TurnsTaken (seats_of S.left S.gone) D.may service.old seats.old log service.new seats.new }
     ensures called { CallsSome ready.now result }
     ensures done { EachIs (λ c. c.stage ≡ Stage.Queued → ⊥) (take result ready.now) seats.new }
+    ensures served { Served (seats_of S.left S.gone) (λ c. c.stage ≡ Stage.Queued) (take result ready.now) seats.old seats.new }
     ensures room { IsRoom room.new }
 {
     let mut called = 0;
@@ -107,7 +110,8 @@ pub fn turn<R, D: Service<R>, K: Keep<D>, S: Stream, A: Allocator, B: Allocator>
 ) -> Result<usize, K::Fault>
     requires knows { (q : Request) → D.knows q ≡ true }
     requires room { IsRoom room.old }
-    ensures turned { OnOk result (LoopTurn (seats_of S.left S.gone) D.may K.keeps keep.old service.old seats.old keep.new service.new seats.new) }
+    ensures turned { IfOk result (λ called. ServedTurn (seats_of S.left S.gone) D.may K.keeps (λ c. c.stage ≡ Stage.Queued) (take called ready.now)
+        keep.old service.old seats.old keep.new service.new seats.new) }
     ensures unsent { OnErr result (NoneSent (seats_of S.left S.gone) seats.old seats.new) }
     ensures called { IfOk result (λ called. CallsSome ready.now called) }
     ensures rest { IfOk result (λ called. EachIs (λ c. c.stage ≡ Stage.Idle) (take called ready.now) seats.new) }

@@ -5,7 +5,7 @@ ghost use Rattle.player.specs.Knows.{Knows};
 ghost use Rattle.player.specs.Runs.{Runs};
 ghost use Rattle.player.specs.Turns.{Turn};
 ghost use Rattle.player.specs.declared.form.TheConstants.{TURN_ROOM};
-ghost use Rattle.event_server.specs.Wires.{IsNewWire, Takes, TakesFirst};
+ghost use Rattle.event_server.specs.Wires.{IsFull, IsNewWire, Takes, TakesFirst};
 
 use commands::WorldKind;
 use player::{AsReplies, Replies, Service, TURN_ROOM, Talker};
@@ -123,6 +123,7 @@ impl<A: Allocator> Wire<A> {
     pub fn has_room(&self) -> bool
         ensures room { IsTrue result → length self.now.outbox + TURN_ROOM ≤ UNSENT_ROOM }
         ensures count { IsTrue result → self.now.talker.summary.lines ≤ MOST_LINES }
+        ensures full { result ≡ false → IsFull self.now }
         ensures none { self.now.outbox ≡ [] → self.now.talker.summary.lines ≤ MOST_LINES → IsTrue result }
     {
         self.outbox.len() <= UNSENT_ROOM - TURN_ROOM && self.talker.summary().lines <= MOST_LINES

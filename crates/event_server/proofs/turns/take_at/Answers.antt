@@ -4,6 +4,7 @@ use Rattle.std.proofs.Common.{◌≡◌, ◌∙◌, inr, Some, None, sym, inl, r
 use Rattle.event_server.proofs.Common.{get_or_default, get_or-set_same, get_or-set_other, SeatIs, seats_of}
 use Rattle.event_server.specs.declared.connection.Stage.TheVariants as stage
 use Rattle.event_server.proofs.SeatLemmas.{seat_took}
+use Rattle.event_server.specs.Wires.{HasTakenAll}
 use Rattle.event_server.proofs.turns.take_at.Goals as goal
 
 pub returns-in-Queued-clause-took : goal.returns-in-Queued-clause-took
@@ -17,6 +18,10 @@ pub returns-in-Queued-clause-done : goal.returns-in-Queued-clause-done
 returns-in-Queued-clause-done g c =
     subst (λ x. SeatIs (λ q. q.stage ≡ stage.Queued → ⊥) x) (sym (get_or-set_same c.args.seats.now c.args.key (Some c.take.new.self) None c.if-key-seats.true))
     (λ again. (let e : stage.Taken ≡ stage.Queued = sym c.take.ensures.stage ∙ again in absurd cc))
+
+pub returns-in-Queued-clause-all : goal.returns-in-Queued-clause-all
+returns-in-Queued-clause-all g c =
+    inr (subst (λ x. SeatIs (λ q. HasTakenAll q.wire) x) (sym (get_or-set_same c.args.seats.now c.args.key (Some c.take.new.self) None c.if-key-seats.true)) c.take.ensures.all)
 
 pub returns-in-Queued-clause-others : goal.returns-in-Queued-clause-others
 returns-in-Queued-clause-others g c = λ i other. get_or-set_other c.args.seats.now c.args.key i (Some c.take.new.self) None other
@@ -36,6 +41,7 @@ returns-in-Queued-clause-room g c = c.take.ensures.room
 pub returns-else-key-seats : goal.returns-else-key-seats
 returns-else-key-seats g c = record {
   took = inl (refl, refl);
+  all = inl refl;
   done = subst (λ x. SeatIs (λ q. q.stage ≡ stage.Queued → ⊥) x) (sym (get_or_past c.args.seats.now c.args.key None c.if-key-seats.false)) tt;
   others = λ i other. refl;
   room = c.requires.room;
@@ -47,6 +53,7 @@ returns-in_default g c =
     let there = get_or_default c.args.seats.now c.args.key None c.index-seats-key.result c.if-key-seats.true ∙ c.in_default.is in
     record {
       took = inl (refl, back);
+      all = inl back;
       done = subst (λ x. SeatIs (λ q. q.stage ≡ stage.Queued → ⊥) x) (sym (ap (λ x. get_or x c.args.key None) back ∙ there)) tt;
       others = λ i other. ap (λ x. get_or x i None) back;
       room = c.requires.room;
@@ -58,6 +65,7 @@ returns-in_default-stage g c =
     let there = get_or_default c.args.seats.now c.args.key None c.index-seats-key.result c.if-key-seats.true ∙ c.in-Some.is in
     record {
       took = inl (refl, back);
+      all = inl back;
       done = subst (λ x. SeatIs (λ q. q.stage ≡ stage.Queued → ⊥) x) (sym (ap (λ x. get_or x c.args.key None) back ∙ there)) c.in_default-stage.not-Queued;
       others = λ i other. ap (λ x. get_or x i None) back;
       room = c.requires.room;

@@ -7,3 +7,11 @@ slice_bounds-send_replies-end g c = sym (length-take-le c.take_turns-called.resu
 
 pub take_turns-called-requires : goal.take_turns-called-requires
 take_turns-called-requires g c = record { knows = c.requires.knows; room = c.requires.room }
+
+pub returns-clause-turned : goal.returns-clause-turned
+returns-clause-turned g c =
+    let t = c.take_turns-called.ensures.taken in
+    record {
+      turn = record { log = t.0; told = c.take_turns-called.new.service; between = c.take_turns-called.new.seats; taken = t.1; kept = c.in_ok-keep.ensures; sent = c.send_replies.ensures.sent };
+      served = c.take_turns-called.ensures.served;
+    }

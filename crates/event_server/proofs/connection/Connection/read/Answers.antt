@@ -1,8 +1,25 @@
-use Rattle.std.proofs.Common.{rules, ◌≤◌, [], length, take, refl, ap}
+use Rattle.std.proofs.Common.{◌≡◌, ◌||◌, rules, Bool, ◌≤◌, [], true, false, inl, length, take, refl, ap, sym, ◌∙◌, arith}
 use Rattle.std.specs.Io.KnownBytes.{Consumes, IsAtEnd}
 use Rattle.event_server.specs.WireState.{WireState}
 use Rattle.event_server.proofs.WireLemmas.{takes_at_end, takes_none, takes_some, consumes_kept}
 use Rattle.event_server.proofs.connection.Connection.read.Goals as goal
+
+or_true : (b : Bool) → (b || true) ≡ true
+or_true true = refl
+or_true false = refl
+
+pub returns-in-Err-clause-all : goal.returns-in-Err-clause-all
+returns-in-Err-clause-all g c = λ whole on some.
+    let none = ap (λ (q : WireState). length q.inbox) c.note_fault.ensures.wire ∙ ap (λ l. length l) c.requires.none in
+    absurd (omega (arith, some, none))
+
+pub returns-after-self-clause-all : goal.returns-after-self-clause-all
+returns-after-self-clause-all g c = λ whole on some. inl (c.take.ensures.full whole some)
+
+pub returns-in-Ok-eq0-clause-all : goal.returns-in-Ok-eq0-clause-all
+returns-in-Ok-eq0-clause-all g c = λ whole on some.
+    let ends : true ≡ false = sym (or_true c.args.self.now.wire.ended) ∙ sym c.finish.ensures.takes.2.ended_is ∙ on in
+    absurd cc
 
 pub returns-in-Err-clause-takes : goal.returns-in-Err-clause-takes
 returns-in-Err-clause-takes g c =

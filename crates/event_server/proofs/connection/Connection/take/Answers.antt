@@ -1,4 +1,4 @@
-use Rattle.std.proofs.Common.{[], arith, refl}
+use Rattle.std.proofs.Common.{[], inl, arith, refl}
 use Rattle.std.proofs.KnownBytes.{Consumes-nil}
 use Rattle.event_server.proofs.WireLemmas.{takes_idle, takes_some}
 use Rattle.event_server.proofs.connection.Connection.take.Goals as goal
@@ -6,6 +6,7 @@ use Rattle.event_server.proofs.connection.Connection.take.Goals as goal
 pub returns-then-not-may_take : goal.returns-then-not-may_take
 returns-then-not-may_take g c = record {
   takes = ([], refl, takes_idle _ _ c.args.self.now.wire (Consumes-nil (g.S.Stream.left c.args.self.now.stream)));
+  all = c.if-not-may_take.ensures.none refl;
   unsent = refl;
   stage = refl;
   room = c.requires.room;
@@ -17,17 +18,19 @@ returns-then-has_input g c =
     let t = c.take.ensures.takes in
     record {
       takes = (t.0, t.1, takes_some t.0 left left [] c.args.self.now.wire c.take.new.self (omega arith) (Consumes-nil left) t.2);
+      all = λ whole on some. inl (c.take.ensures.full whole some);
       unsent = refl;
       stage = refl;
       room = (c.requires.room.0, c.take.ensures.empty);
     }
 
 pub returns-then-self : goal.returns-then-self
-returns-then-self g c = record { takes = c.read.ensures.takes; unsent = c.read.ensures.unsent; stage = c.read.ensures.stage; room = c.read.ensures.room }
+returns-then-self g c = record { takes = c.read.ensures.takes; all = c.read.ensures.all; unsent = c.read.ensures.unsent; stage = c.read.ensures.stage; room = c.read.ensures.room }
 
 pub returns-else-self : goal.returns-else-self
 returns-else-self g c = record {
   takes = ([], refl, takes_idle _ _ c.args.self.now.wire (Consumes-nil (g.S.Stream.left c.args.self.now.stream)));
+  all = λ whole on some. absurd (let t = c.if-has_input.ensures.some.1 some in cc);
   unsent = refl;
   stage = refl;
   room = c.requires.room;
