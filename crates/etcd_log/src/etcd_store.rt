@@ -122,6 +122,8 @@ impl<D: Dial> EtcdStore<D> {
 impl<D: Dial> Store for EtcdStore<D> {
     ghost stands = { λ store place entry. ⊤ };
 
+    ghost lacks = { λ store place. ⊤ };
+
     ghost fails = { IsOverNetwork };
 
     fn put(&mut self, place: u64, entry: &[u8]) -> Result<Put, StoreFault> {

@@ -1,6 +1,6 @@
 -- What stands at the places of a log that grows.
-use Rattle.std.proofs.Common.{◌≡◌, ℕ, zero, suc, List, [], ◌∷◌, ◌++◌, length, ◌⊎◌, inl, inr, refl, arith}
-use Rattle.one_log.specs.Places.{Adds, stands_in}
+use Rattle.std.proofs.Common.{◌≡◌, ◌<◌, ℕ, zero, suc, List, [], ◌∷◌, ◌++◌, length, ◌⊎◌, inl, inr, refl, arith}
+use Rattle.one_log.specs.Places.{Adds, IsTaken, stands_in}
 
 -- the entry that was added stands behind all others
 pub stands_last : (log : List (List ℕ)) (entry : List ℕ) → stands_in (log ++ entry ∷ []) (length log) entry
@@ -26,3 +26,9 @@ adds_last log entry = record {
   keeps = stands_still log entry;
   only = stands_of_added log entry;
 }
+
+-- something stands at each place before the end
+pub taken_below : (log : List (List ℕ)) (place : ℕ) → place < length log → IsTaken (stands_in log) place
+taken_below [] place within = absurd (omega (arith, within))
+taken_below (first ∷ log) zero within = (first, refl)
+taken_below (first ∷ log) (suc place) within = taken_below log place (omega (arith, within))

@@ -5,6 +5,10 @@ use Rattle.std.specs.Prelude.{◌≡◌, ℕ, List, Some, slice_get, ◌⊎◌}
 abbrev pub stands_in : List (List ℕ) → ℕ → List ℕ → Type 0
 stands_in log place entry = slice_get log place ≡ Some entry
 
+-- something stands at a place
+abbrev pub IsTaken : (ℕ → List ℕ → Type 0) → ℕ → Type 0
+IsTaken stands place = (entry : List ℕ) × stands place entry
+
 -- all that stood stands
 abbrev pub Keeps : (ℕ → List ℕ → Type 0) → (ℕ → List ℕ → Type 0) → Type 0
 Keeps before after = (place : ℕ) (entry : List ℕ) → before place entry → after place entry

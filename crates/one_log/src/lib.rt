@@ -5,7 +5,7 @@
 //! the log, behind all that stands there, and gives the replies that are due there. So each reply is told at one place of one
 //! history, whichever replica told it (state machine replication).
 //!
-//! What a store over a network holds no contract can say. So `Store::stands` says what the store's own value tells: of a `MemoryStore`
+//! What a store over a network holds no contract can say. So `Store::stands` and `Store::lacks` say what the store's own value tells: of a `MemoryStore`
 //! everything, and of a store that is reached over sockets nothing. A replica is proved once, for every store.
 //!
 //! At a fault nothing is answered, and the fate of the batch is not known (`ServeFault::Unknown`). The same replica can be asked to

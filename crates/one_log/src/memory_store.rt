@@ -71,6 +71,8 @@ impl MemoryStore {
 impl Store for MemoryStore {
     ghost stands = { stands_in };
 
+    ghost lacks = { λ log place. length log ≤ place };
+
     ghost fails = { FailsInMemory };
 
     #[tactic(auto, using(crate::proofs::LogPlaces::adds_last, crate::proofs::LogPlaces::stands_last))]

@@ -1,9 +1,10 @@
 //! A machine that follows a log.
 
-ghost use Rattle.std.specs.Prelude.{◌≡◌, ◌≢◌, ◌<◌, ◌≤◌, length, true, false, Ok, Err, OnOk, OnErr, IfOk, IfErr, ◌+◌};
-ghost use Rattle.one_log.specs.Places.{Adds, Same};
-ghost use Rattle.one_log.specs.Replicas.{AddsOnce, EndsBy, FaultLeaves, GoesOn, IsAnswered, IsApplied, IsReplica, OneMore, ServeLeaves};
+ghost use Rattle.std.specs.Prelude.{◌≡◌, ◌≢◌, ◌<◌, ◌≤◌, length, true, false, Ok, Err, OnOk, OnErr, IfOk, IfErr, ◌+◌, ◌⊎◌};
+ghost use Rattle.one_log.specs.Places.{Adds, IsTaken, Same};
+ghost use Rattle.one_log.specs.Replicas.{AddsOnce, EndsBy, FaultLeaves, GoesOn, IsAnswered, IsApplied, IsReplica, IsToldOf, OneMore, ServeLeaves};
 ghost use Rattle.one_log.specs.Causes.{MayCause, MayFail};
+ghost use Rattle.one_log.specs.declared.store.TheConstants.{MOST_PLACES};
 ghost use Rattle.one_log.specs.declared.replica.Step.TheVariants.{Nothing, Answered, Passed};
 ghost use Rattle.one_log.specs.declared.serve_fault.Cause.TheVariants.{Spoiled};
 ghost use Rattle.one_log.specs.declared.serve_fault.ServeFault.TheVariants.{TooLong, Unknown};
@@ -99,6 +100,7 @@ impl<M: Machine> Replica<M> {
         ensures answered { result ≡ Ok Answered → IsApplied M.applies (S.stands store.new) self.old batch.now replies.new self.new }
         ensures passed { result ≡ Ok Passed → OneMore M.applies (S.stands store.new) self.old self.new }
         ensures nothing { result ≡ Ok Nothing → self.new ≡ self.old }
+        ensures missed { result ≡ Ok Nothing → S.lacks store.new self.old.place }
         ensures fault { IfErr result (λ cause. FaultLeaves self.old cause self.new) }
         ensures cause { IfErr result (MayCause S.fails) }
         ensures same { Same (S.stands store.old) (S.stands store.new) }
@@ -135,6 +137,7 @@ impl<M: Machine> Replica<M> {
         ensures answered { result ≡ Ok Answered → IsApplied M.applies (S.stands store.new) self.old batch.now replies.new self.new }
         ensures passed { result ≢ Ok Passed }
         ensures nothing { result ≡ Ok Nothing → (self.new ≡ self.old) × Same (S.stands store.old) (S.stands store.new) }
+        ensures stood { result ≡ Ok Nothing → IsTaken (S.stands store.new) self.old.place }
         ensures fault { IfErr result (λ cause. FaultLeaves self.old cause self.new) }
         ensures cause { IfErr result (MayCause S.fails) }
         ensures adds { Adds (S.stands store.old) self.old.place batch.now (S.stands store.new) }
@@ -159,6 +162,7 @@ impl<M: Machine> Replica<M> {
         requires well { self.old.spoiled ≡ false }
         ensures passed { result ≡ Ok true → OneMore M.applies (S.stands store.new) self.old self.new }
         ensures nothing { result ≡ Ok false → self.new ≡ self.old }
+        ensures missed { result ≡ Ok false → (MOST_PLACES ≤ self.old.place) ⊎ S.lacks store.new self.old.place }
         ensures fault { IfErr result (λ cause. FaultLeaves self.old cause self.new) }
         ensures cause { IfErr result (MayCause S.fails) }
         ensures same { Same (S.stands store.old) (S.stands store.new) }
@@ -179,6 +183,7 @@ impl<M: Machine> Replica<M> {
         ensures answered { result ≡ Ok Answered → IsApplied M.applies (S.stands store.new) self.old batch.now replies.new self.new }
         ensures passed { result ≡ Ok Passed → OneMore M.applies (S.stands store.new) self.old self.new }
         ensures nothing { result ≡ Ok Nothing → (self.new ≡ self.old) × (self.old.spoiled ≡ false) }
+        ensures told { result ≡ Ok Nothing → IsToldOf (S.stands store.new) (S.lacks store.new) self.old.place }
         ensures unwritten { IfOk result (λ step. step ≢ Answered → Same (S.stands store.old) (S.stands store.new)) }
         ensures fault { IfErr result (λ cause. FaultLeaves self.old cause self.new) }
         ensures cause { IfErr result (MayCause S.fails) }
@@ -211,6 +216,7 @@ impl<M: Machine> Replica<M> {
         ensures unanswered { result ≢ Ok Answered → M.silent replies.new }
         ensures passed { result ≡ Ok Passed → OneMore M.applies (S.stands store.new) self.old self.new }
         ensures nothing { result ≡ Ok Nothing → (self.new ≡ self.old) × (self.old.spoiled ≡ false) }
+        ensures told { result ≡ Ok Nothing → IsToldOf (S.stands store.new) (S.lacks store.new) self.old.place }
         ensures unwritten { IfOk result (λ step. step ≢ Answered → Same (S.stands store.old) (S.stands store.new)) }
         ensures fault { IfErr result (λ cause. FaultLeaves self.old cause self.new) }
         ensures cause { IfErr result (MayCause S.fails) }
@@ -274,6 +280,7 @@ impl<M: Machine> Replica<M> {
     ) -> Result<u64, Cause>
         ensures count { IfOk result (λ n. self.new.place ≡ self.old.place + n) }
         ensures most { IfOk result (λ n. n ≤ most) }
+        ensures stopped { IfOk result (λ n. n < most → (MOST_PLACES ≤ self.new.place) ⊎ S.lacks store.new self.new.place) }
         ensures fault { IfErr result (λ cause. EndsBy self.old cause self.new) }
         ensures well { OnOk result (self.new.spoiled ≡ false) }
         ensures spoiled { self.old.spoiled ≡ true → (result ≡ Err Spoiled) × (self.new ≡ self.old) }
@@ -303,6 +310,7 @@ impl<M: Machine> Replica<M> {
     ) -> Result<u64, Cause>
         ensures count { IfOk result (λ n. self.new.place ≡ self.old.place + n) }
         ensures most { IfOk result (λ n. n ≤ most) }
+        ensures stopped { IfOk result (λ n. n < most → (MOST_PLACES ≤ self.new.place) ⊎ S.lacks store.new self.new.place) }
         ensures fault { IfErr result (λ cause. EndsBy self.old cause self.new) }
         ensures well { OnOk result (self.new.spoiled ≡ false) }
         ensures unanswered { M.silent replies.new }

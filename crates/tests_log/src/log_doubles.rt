@@ -74,10 +74,12 @@ impl Lossy {
 }
 
 impl Store for Lossy {
-    ghost use Rattle.std.specs.Prelude.{⊤};
+    ghost use Rattle.std.specs.Prelude.{⊤, ◌≤◌, length};
     ghost use Rattle.one_log.specs.Places.{stands_in};
 
     ghost stands = { λ s. stands_in s.store };
+
+    ghost lacks = { λ s place. length s.store ≤ place };
 
     ghost fails = { λ fault. ⊤ };
 

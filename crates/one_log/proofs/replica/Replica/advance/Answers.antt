@@ -1,5 +1,5 @@
 -- A step is one of the two, and neither is taken where it is spoiled or full.
-use Rattle.std.proofs.Common.{◌≡◌, ap, sym, refl, ◌∙◌, false}
+use Rattle.std.proofs.Common.{◌≡◌, ap, sym, refl, ◌∙◌, false, inl, inr}
 use mathlib.Core.Bool.{false≢true}
 use Rattle.one_log.specs.Places.{Same}
 use Rattle.one_log.proofs.Chains.{adds_none, offered_unwritten, read_unwritten, same_self}
@@ -32,6 +32,9 @@ returns-then-self-2-clause-passed g c = c.follow.ensures.passed
 pub returns-then-self-2-clause-nothing : goal.returns-then-self-2-clause-nothing
 returns-then-self-2-clause-nothing g c = λ none. (c.follow.ensures.nothing none, ap (λ r. r.spoiled) (sym c.self.view_is) ∙ c.if-self.false)
 
+pub returns-then-self-2-clause-told : goal.returns-then-self-2-clause-told
+returns-then-self-2-clause-told g c = λ none. inl (c.follow.ensures.missed none)
+
 pub returns-then-self-2-clause-unwritten : goal.returns-then-self-2-clause-unwritten
 returns-then-self-2-clause-unwritten g c =
     let stands = g.S.Store.stands in
@@ -61,6 +64,9 @@ returns-else-self-2-clause-passed g c = λ passed. absurd (c.offer.ensures.passe
 
 pub returns-else-self-2-clause-nothing : goal.returns-else-self-2-clause-nothing
 returns-else-self-2-clause-nothing g c = λ none. ((c.offer.ensures.nothing none).0, ap (λ r. r.spoiled) (sym c.self.view_is) ∙ c.if-self.false)
+
+pub returns-else-self-2-clause-told : goal.returns-else-self-2-clause-told
+returns-else-self-2-clause-told g c = λ none. inr (c.offer.ensures.stood none)
 
 pub returns-else-self-2-clause-unwritten : goal.returns-else-self-2-clause-unwritten
 returns-else-self-2-clause-unwritten g c =
