@@ -1,5 +1,5 @@
 -- Entries that are applied in a row.
-use Rattle.std.proofs.Common.{append_assoc, ◌≡◌, ◌≤◌, ℕ, ◌+◌, List, [], ◌∷◌, ◌++◌, length, true, false, inl, inr, refl, ap, sym, subst, ◌∙◌, arith, add-zero}
+use Rattle.std.proofs.Common.{append_assoc, Bool, not, ◌≡◌, ◌≤◌, ℕ, ◌+◌, List, [], ◌∷◌, ◌++◌, length, true, false, inl, inr, refl, ap, sym, subst, ◌∙◌, arith, add-zero}
 use Rattle.std.proofs.Common.{length-append, Result, Ok, Err, IfOk, IfErr, ◌≢◌}
 use Rattle.one_log.specs.declared.replica.Step.{Step}
 use Rattle.one_log.specs.declared.replica.Step.TheVariants.{Nothing, Answered, Passed}
@@ -65,6 +65,10 @@ stands_append stands place (e ∷ es) fs h g =
     let p : place + length (e ∷ es) ≡ (place + 1) + length es = omega arith in
     (h.0, stands_append stands (place + 1) es fs h.1 (subst (λ (k : ℕ). StandsFrom stands k fs) p g))
 
+-- it is behind now just where it was not
+pub turned : {M : Type 0} (old new : ReplicaState M) (behind : Bool) → old.behind ≡ behind → new ≡ record old { behind = not behind } → new ≡ record old { behind = not old.behind }
+turned {M = M} old new behind was is = subst (λ (b : Bool). new ≡ record old { behind = not b }) (sym was) is
+
 module _ {M R : Type 0} (applies : M → List ℕ → R → M → Type 0) where
   -- entries that lead on behind others
   pub leads_append : (a b c : M) (es fs : List (List ℕ)) → Leads applies a es b → Leads applies b fs c → Leads applies a (es ++ fs) c
@@ -73,6 +77,10 @@ module _ {M R : Type 0} (applies : M → List ℕ → R → M → Type 0) where
 
   pub none_goes_on : (stands : ℕ → List ℕ → Type 0) (r : ReplicaState M) → r.spoiled ≡ false → GoesOn applies stands r r
   none_goes_on stands r well = record { more = []; led = refl; stood = tt; count = sym (add-zero r.place); was_well = well }
+
+  -- nothing was applied, and it may be behind now or not
+  pub same_goes_on : (stands : ℕ → List ℕ → Type 0) (old new : ReplicaState M) (behind : Bool) → new ≡ record old { behind = behind } → old.spoiled ≡ false → GoesOn applies stands old new
+  same_goes_on stands old new behind is well = subst (GoesOn applies stands old) (sym is) (record { more = []; led = refl; stood = tt; count = sym (add-zero old.place); was_well = well })
 
   pub one_goes_on : (stands : ℕ → List ℕ → Type 0) (old : ReplicaState M) (entry : List ℕ) (said : R) (new : ReplicaState M) → IsApplied applies stands old entry said new → GoesOn applies stands old new
   one_goes_on stands old entry said new h = record {
@@ -117,7 +125,7 @@ module _ {M R : Type 0} (applies : M → List ℕ → R → M → Type 0) where
 
   -- where a fault left it unspoiled it is as it was
   pub fault_goes_on : (stands : ℕ → List ℕ → Type 0) (old new : ReplicaState M) (cause : Cause) → FaultLeaves old cause new → new.spoiled ≡ false → GoesOn applies stands old new
-  fault_goes_on stands old new (Store fault) is well = subst (GoesOn applies stands old) (sym is) (none_goes_on stands old (ap (λ (r : ReplicaState M). r.spoiled) (sym is) ∙ well))
+  fault_goes_on stands old new (Store fault) is well = same_goes_on stands old new new.behind is (ap (λ (r : ReplicaState M). r.spoiled) (sym is) ∙ well)
   fault_goes_on stands old new Memory is well = absurd (let bad : true ≡ false = sym is ∙ well in cc)
   fault_goes_on stands old new Spoiled is well = absurd (let bad : true ≡ false = sym is.0 ∙ (ap (λ (r : ReplicaState M). r.spoiled) (sym is.1) ∙ well) in cc)
   fault_goes_on stands old new Full is well = subst (GoesOn applies stands old) (sym is.1) (none_goes_on stands old (ap (λ (r : ReplicaState M). r.spoiled) (sym is.1) ∙ well))
@@ -134,22 +142,19 @@ module _ {M R : Type 0} (applies : M → List ℕ → R → M → Type 0) where
   pub more_goes_on : (stands : ℕ → List ℕ → Type 0) (old new : ReplicaState M) → OneMore applies stands old new → GoesOn applies stands old new
   more_goes_on stands old new h = one_goes_on stands old h.entry h.said new h.more
 
-  pub same_goes_on : (stands : ℕ → List ℕ → Type 0) (old new : ReplicaState M) → new ≡ old → old.spoiled ≡ false → GoesOn applies stands old new
-  same_goes_on stands old new is well = subst (GoesOn applies stands old) (sym is) (none_goes_on stands old well)
-
   -- each step goes on, but where it spoils
   pub step_goes_on : (stands : ℕ → List ℕ → Type 0) (old : ReplicaState M) (batch : List ℕ) (replies : R) (new : ReplicaState M) (result : Result Step Cause) →
       (result ≡ Ok Answered → IsApplied applies stands old batch replies new) → (result ≡ Ok Passed → OneMore applies stands old new) →
-      (result ≡ Ok Nothing → (new ≡ old) × (old.spoiled ≡ false)) → IfErr result (λ cause. FaultLeaves old cause new) → new.spoiled ≡ false → GoesOn applies stands old new
+      (result ≡ Ok Nothing → (new ≡ record old { behind = not old.behind }) × (old.spoiled ≡ false)) → IfErr result (λ cause. FaultLeaves old cause new) → new.spoiled ≡ false → GoesOn applies stands old new
   step_goes_on stands old batch replies new (Ok Answered) answered passed nothing fault well = one_goes_on stands old batch replies new (answered refl)
   step_goes_on stands old batch replies new (Ok Passed) answered passed nothing fault well = more_goes_on stands old new (passed refl)
-  step_goes_on stands old batch replies new (Ok Nothing) answered passed nothing fault well = same_goes_on stands old new (nothing refl).0 (nothing refl).1
+  step_goes_on stands old batch replies new (Ok Nothing) answered passed nothing fault well = same_goes_on stands old new (not old.behind) (nothing refl).0 (nothing refl).1
   step_goes_on stands old batch replies new (Err cause) answered passed nothing fault well = fault_goes_on stands old new cause fault well
 
   -- and is not spoiled, but by a fault
   pub step_is_well : (stands : ℕ → List ℕ → Type 0) (old : ReplicaState M) (batch : List ℕ) (replies : R) (new : ReplicaState M) (step : Step) (result : Result Step Cause) → result ≡ Ok step →
       (result ≡ Ok Answered → IsApplied applies stands old batch replies new) → (result ≡ Ok Passed → OneMore applies stands old new) →
-      (result ≡ Ok Nothing → (new ≡ old) × (old.spoiled ≡ false)) → new.spoiled ≡ false
+      (result ≡ Ok Nothing → (new ≡ record old { behind = not old.behind }) × (old.spoiled ≡ false)) → new.spoiled ≡ false
   step_is_well stands old batch replies new Answered result is answered passed nothing = (answered is).is_well
   step_is_well stands old batch replies new Passed result is answered passed nothing = (passed is).more.is_well
   step_is_well stands old batch replies new Nothing result is answered passed nothing = let h = nothing is in ap (λ (r : ReplicaState M). r.spoiled) h.0 ∙ h.1

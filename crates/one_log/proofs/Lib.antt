@@ -1,3 +1,4 @@
 mod Chains
 mod LogPlaces
+mod Paces
 mod Shared

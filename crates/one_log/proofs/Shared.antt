@@ -1,5 +1,5 @@
 -- Replicas that share one log, of which one takes a step.
-use Rattle.std.proofs.Common.{◌≡◌, Bool, true, false, cond, ℕ, zero, suc, ◌+◌, List, [], ◌∷◌, ◌++◌, length, Some, None, slice_get, slice_set, get_or, ◌⊎◌, inl, inr, refl, ap, sym, subst, ◌∙◌, arith, append-nil, add-zero, add-one, append_assoc, length-append}
+use Rattle.std.proofs.Common.{◌≡◌, Bool, true, false, cond, ℕ, zero, suc, ◌+◌, ◌-◌, ◌≤◌, List, [], ◌∷◌, ◌++◌, length, Some, None, slice_get, slice_set, get_or, ◌⊎◌, inl, inr, refl, ap, sym, subst, ◌∙◌, arith, append-nil, add-zero, add-one, append_assoc, length-append}
 use mathlib.Core.List.{IsPrefix}
 use Rattle.std.specs.List.{All}
 use Rattle.std.proofs.lemmas.List.Elements.{All-append, All-cons, All-nil}
@@ -51,6 +51,11 @@ stands_within [] more entry h = cc h
 stands_within (first ∷ log) more entry h =
     let e : length (first ∷ log) + more ≡ suc (length log + more) = omega arith in
     stands_within log more entry (subst (λ (k : ℕ). stands_in (first ∷ log) k entry) e h)
+
+pub never_both : (log : List (List ℕ)) (place : ℕ) (entry : List ℕ) → length log ≤ place → stands_in log place entry → ⊥
+never_both log place entry behind h =
+    let at : place ≡ length log + (place - length log) = omega (arith, behind) in
+    stands_within log (place - length log) entry (subst (λ (k : ℕ). stands_in log k entry) at h)
 
 -- what stands first behind a beginning
 pub stands_behind : (log : List (List ℕ)) (entry : List ℕ) (more : List (List ℕ)) → stands_in (log ++ entry ∷ more) (length log) entry
@@ -133,16 +138,16 @@ module _ {M R : Type 0} (applies : M → List ℕ → R → M → Type 0) (start
   }
 
   -- who joins has applied nothing
-  pub joined : (log : List (List ℕ)) (replicas : List (ReplicaState M)) (told : List (Told R)) → IsOneHistory applies start log replicas told → IsOneHistory applies start log (replicas ++ record { machine = start; place = 0; spoiled = false } ∷ []) told
+  pub joined : (log : List (List ℕ)) (replicas : List (ReplicaState M)) (told : List (Told R)) → IsOneHistory applies start log replicas told → IsOneHistory applies start log (replicas ++ record { machine = start; place = 0; spoiled = false; behind = false } ∷ []) told
   joined log replicas told h =
       let P : ReplicaState M → Type 0 = IsReplica applies (stands_in log) start in
-      let new : ReplicaState M = record { machine = start; place = 0; spoiled = false } in
+      let new : ReplicaState M = record { machine = start; place = 0; spoiled = false; behind = false } in
       record {
         prefixes = All-append P replicas (new ∷ []) h.prefixes (All-cons P new [] (λ well. record { entries = []; led = refl; stood = tt; count = refl }) (All-nil P));
         answers = h.answers;
       }
 
-  pub pushed : (done : Bool) (log : List (List ℕ)) (replicas now : List (ReplicaState M)) (added : ReplicaState M) → added ≡ record { machine = start; place = 0; spoiled = false } → now ≡ cond done (replicas ++ added ∷ []) replicas →
+  pub pushed : (done : Bool) (log : List (List ℕ)) (replicas now : List (ReplicaState M)) (added : ReplicaState M) → added ≡ record { machine = start; place = 0; spoiled = false; behind = false } → now ≡ cond done (replicas ++ added ∷ []) replicas →
       (told : List (Told R)) → IsOneHistory applies start log replicas told → IsOneHistory applies start log now told
   pushed true log replicas now added new is told h =
       subst (λ (rs : List (ReplicaState M)). IsOneHistory applies start log rs told) (sym (is ∙ ap (λ r. replicas ++ r ∷ []) new)) (joined log replicas told h)

@@ -9,6 +9,10 @@ stands_in log place entry = slice_get log place ≡ Some entry
 abbrev pub IsTaken : (ℕ → List ℕ → Type 0) → ℕ → Type 0
 IsTaken stands place = (entry : List ℕ) × stands place entry
 
+-- a store tells of one place both that something stands there and that nothing does
+abbrev pub Contradicts : {S : Type 0} → (S → ℕ → List ℕ → Type 0) → (S → ℕ → Type 0) → Type 0
+Contradicts {S = S} stands lacks = (s : S) × (place : ℕ) × IsTaken (stands s) place × lacks s place
+
 -- all that stood stands
 abbrev pub Keeps : (ℕ → List ℕ → Type 0) → (ℕ → List ℕ → Type 0) → Type 0
 Keeps before after = (place : ℕ) (entry : List ℕ) → before place entry → after place entry

@@ -1,11 +1,11 @@
 -- Replicas of a machine that apply the entries of one log (state machine replication: Schneider 1990).
-use Rattle.std.specs.Prelude.{◌≡◌, ◌≤◌, ◌⊎◌, ℕ, ◌+◌, List, [], ◌∷◌, ◌++◌, length, false, true}
+use Rattle.std.specs.Prelude.{◌≡◌, ◌≤◌, ℕ, ◌+◌, List, [], ◌∷◌, ◌++◌, length, false, true}
 use Rattle.one_log.specs.declared.serve_fault.Cause.{Cause}
 use Rattle.one_log.specs.declared.serve_fault.Cause.TheVariants.{Store, Memory, Spoiled, Full, Busy}
 use Rattle.one_log.specs.declared.serve_fault.ServeFault.{ServeFault}
 use Rattle.one_log.specs.declared.serve_fault.ServeFault.TheVariants.{TooLong, Unknown}
 use Rattle.one_log.specs.declared.store.TheConstants.{MOST_PLACES}
-use Rattle.one_log.specs.Places.{Adds, IsTaken}
+use Rattle.one_log.specs.Places.{Adds}
 use Rattle.one_log.specs.ReplicaState.{ReplicaState}
 
 -- these entries stand in order at the places from this one on
@@ -18,14 +18,10 @@ pub record AddsOnce (before : ℕ → List ℕ → Type 0) (batch : List ℕ) (a
   pub at : ℕ
   pub adds : Adds before at batch after
 
--- a store told of a place that nothing stands there, or that something does
-abbrev pub IsToldOf : (ℕ → List ℕ → Type 0) → (ℕ → Type 0) → ℕ → Type 0
-IsToldOf stands lacks place = lacks place ⊎ IsTaken stands place
-
--- so a fault of a step leaves a replica: where an entry was to be applied and memory was refused it is spoiled, and else as it was. No
--- place is left where all were applied, and no step is told that others came first
+-- so a fault of a step leaves a replica: where an entry was to be applied and memory was refused it is spoiled, and else as it was, but that
+-- it may be behind now. No place is left where all were applied, and no step is told that others came first
 abbrev pub FaultLeaves : {M : Type 0} → ReplicaState M → Cause → ReplicaState M → Type 0
-FaultLeaves old (Store fault) new = new ≡ old
+FaultLeaves old (Store fault) new = new ≡ record old { behind = new.behind }
 FaultLeaves old Memory new = new.spoiled ≡ true
 FaultLeaves old Spoiled new = (old.spoiled ≡ true) × (new ≡ old)
 FaultLeaves old Full new = (MOST_PLACES ≤ old.place) × (new ≡ old)

@@ -59,7 +59,7 @@ impl<M: Machine + Drop> Group<M> {
     /// same at their start. An error where a growth was refused.
     pub fn join(&mut self, machine: M) -> Result<(), AllocError>
         ensures log { self.new.log ≡ self.old.log }
-        ensures joined { OnOk result (self.new.replicas ≡ self.old.replicas ++ record { machine = machine; place = 0; spoiled = false } ∷ []) }
+        ensures joined { OnOk result (self.new.replicas ≡ self.old.replicas ++ record { machine = machine; place = 0; spoiled = false; behind = false } ∷ []) }
         ensures refused { OnErr result (self.new.replicas ≡ self.old.replicas) }
         ensures history { StaysOneHistory M.applies machine self.old self.new }
     {

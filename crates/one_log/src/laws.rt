@@ -1,8 +1,8 @@
 //! What follows from what replicas promise.
 
-ghost use Rattle.std.specs.Prelude.{◌≡◌, ℕ, List, length, false};
+ghost use Rattle.std.specs.Prelude.{◌≡◌, ◌≤◌, ℕ, List, length, false};
 ghost use Rattle.one_log.specs.Groups.{IsDetermined, IsDueIn, Told};
-ghost use Rattle.one_log.specs.Places.{Keeps, stands_in};
+ghost use Rattle.one_log.specs.Places.{Contradicts, Keeps, stands_in};
 ghost use Rattle.one_log.specs.Replicas.{IsAnswered, IsDueAt, IsReplica};
 ghost use Rattle.one_log.specs.ReplicaState.{ReplicaState};
 
@@ -27,4 +27,9 @@ pub fn law_of_following<M: Machine, S: Store>()
     ensures due { (start : M) (old new : ReplicaState M) (batch : List ℕ) (replies : M.Replies) (s t : S) → Keeps (S.stands s) (S.stands t) →
         IsReplica M.applies (S.stands s) start old → IsAnswered M.applies (S.stands t) old batch new replies →
         IsDueAt M.applies (S.stands t) start batch replies new }
+{}
+
+/// A law, which runs nothing: a log in memory never tells of one place both that something stands there and that nothing does.
+pub fn law_of_memory()
+    ensures { Contradicts stands_in (λ log place. length log ≤ place) → ⊥ }
 {}

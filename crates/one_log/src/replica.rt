@@ -1,13 +1,15 @@
 //! A machine that follows a log.
 
-ghost use Rattle.std.specs.Prelude.{◌≡◌, ◌≢◌, ◌<◌, ◌≤◌, length, true, false, Ok, Err, OnOk, OnErr, IfOk, IfErr, ◌+◌, ◌⊎◌};
-ghost use Rattle.one_log.specs.Places.{Adds, IsTaken, Same};
-ghost use Rattle.one_log.specs.Replicas.{AddsOnce, EndsBy, FaultLeaves, GoesOn, IsAnswered, IsApplied, IsReplica, IsToldOf, OneMore, ServeLeaves};
+ghost use Rattle.std.specs.Prelude.{◌≡◌, ◌≢◌, ◌<◌, ◌≤◌, length, true, false, Ok, Err, OnOk, OnErr, IfOk, IfErr, ◌+◌, ◌⊎◌, not};
+ghost use Rattle.one_log.specs.Places.{Adds, Contradicts, IsTaken, Same};
+ghost use Rattle.one_log.specs.Replicas.{AddsOnce, EndsBy, FaultLeaves, GoesOn, IsAnswered, IsApplied, IsReplica, OneMore, ServeLeaves};
 ghost use Rattle.one_log.specs.Causes.{MayCause, MayFail};
 ghost use Rattle.one_log.specs.declared.store.TheConstants.{MOST_PLACES};
 ghost use Rattle.one_log.specs.declared.replica.Step.TheVariants.{Nothing, Answered, Passed};
-ghost use Rattle.one_log.specs.declared.serve_fault.Cause.TheVariants.{Spoiled};
+ghost use Rattle.one_log.specs.declared.serve_fault.Cause.TheVariants.{Busy, Spoiled};
+ghost use Rattle.one_log.specs.declared.serve_fault.Cause.TheVariants as cause;
 ghost use Rattle.one_log.specs.declared.serve_fault.ServeFault.TheVariants.{TooLong, Unknown};
+ghost use Rattle.one_log.specs.declared.store_fault.StoreFault.{StoreFault};
 
 use crate::machine::Machine;
 use crate::serve_fault::{Cause, ServeFault};
@@ -49,13 +51,13 @@ impl<M: Machine> Model for Replica<M> {
 
     ghost Value = { ReplicaState M };
 
-    ghost view = { λ r. record { machine = r.machine; place = r.place; spoiled = r.spoiled } };
+    ghost view = { λ r. record { machine = r.machine; place = r.place; spoiled = r.spoiled; behind = r.behind } };
 }
 
 impl<M: Machine> Replica<M> {
     /// A replica of a machine, to which no entry of the log was applied.
     pub fn new(alloc: Global, machine: M) -> Replica<M>
-        ensures { result ≡ record { machine = machine; place = 0; spoiled = false } }
+        ensures { result ≡ record { machine = machine; place = 0; spoiled = false; behind = false } }
     {
         Replica {
             alloc,
@@ -99,8 +101,9 @@ impl<M: Machine> Replica<M> {
         requires well { self.old.spoiled ≡ false }
         ensures answered { result ≡ Ok Answered → IsApplied M.applies (S.stands store.new) self.old batch.now replies.new self.new }
         ensures passed { result ≡ Ok Passed → OneMore M.applies (S.stands store.new) self.old self.new }
-        ensures nothing { result ≡ Ok Nothing → self.new ≡ self.old }
+        ensures nothing { result ≡ Ok Nothing → self.new ≡ record self.old { behind = false } }
         ensures missed { result ≡ Ok Nothing → S.lacks store.new self.old.place }
+        ensures lost { (fault : StoreFault) → result ≡ Err (cause.Store fault) → self.new ≡ self.old }
         ensures fault { IfErr result (λ cause. FaultLeaves self.old cause self.new) }
         ensures cause { IfErr result (MayCause S.fails) }
         ensures same { Same (S.stands store.old) (S.stands store.new) }
@@ -136,8 +139,9 @@ impl<M: Machine> Replica<M> {
         requires well { self.old.spoiled ≡ false }
         ensures answered { result ≡ Ok Answered → IsApplied M.applies (S.stands store.new) self.old batch.now replies.new self.new }
         ensures passed { result ≢ Ok Passed }
-        ensures nothing { result ≡ Ok Nothing → (self.new ≡ self.old) × Same (S.stands store.old) (S.stands store.new) }
+        ensures nothing { result ≡ Ok Nothing → (self.new ≡ record self.old { behind = true }) × Same (S.stands store.old) (S.stands store.new) }
         ensures stood { result ≡ Ok Nothing → IsTaken (S.stands store.new) self.old.place }
+        ensures lost { (fault : StoreFault) → result ≡ Err (cause.Store fault) → self.new.behind ≡ true }
         ensures fault { IfErr result (λ cause. FaultLeaves self.old cause self.new) }
         ensures cause { IfErr result (MayCause S.fails) }
         ensures adds { Adds (S.stands store.old) self.old.place batch.now (S.stands store.new) }
@@ -161,7 +165,7 @@ impl<M: Machine> Replica<M> {
     fn pass<S: Store>(&mut self, store: &mut S, replies: &mut M::Replies) -> Result<bool, Cause>
         requires well { self.old.spoiled ≡ false }
         ensures passed { result ≡ Ok true → OneMore M.applies (S.stands store.new) self.old self.new }
-        ensures nothing { result ≡ Ok false → self.new ≡ self.old }
+        ensures nothing { result ≡ Ok false → self.new ≡ record self.old { behind = self.new.behind } }
         ensures missed { result ≡ Ok false → (MOST_PLACES ≤ self.old.place) ⊎ S.lacks store.new self.old.place }
         ensures fault { IfErr result (λ cause. FaultLeaves self.old cause self.new) }
         ensures cause { IfErr result (MayCause S.fails) }
@@ -182,8 +186,11 @@ impl<M: Machine> Replica<M> {
     ) -> Result<Step, Cause>
         ensures answered { result ≡ Ok Answered → IsApplied M.applies (S.stands store.new) self.old batch.now replies.new self.new }
         ensures passed { result ≡ Ok Passed → OneMore M.applies (S.stands store.new) self.old self.new }
-        ensures nothing { result ≡ Ok Nothing → (self.new ≡ self.old) × (self.old.spoiled ≡ false) }
-        ensures told { result ≡ Ok Nothing → IsToldOf (S.stands store.new) (S.lacks store.new) self.old.place }
+        ensures nothing { result ≡ Ok Nothing → (self.new ≡ record self.old { behind = not self.old.behind }) × (self.old.spoiled ≡ false) }
+        ensures missed { result ≡ Ok Nothing → self.old.behind ≡ true → S.lacks store.new self.old.place }
+        ensures stood { result ≡ Ok Nothing → self.old.behind ≡ false → IsTaken (S.stands store.new) self.old.place }
+        ensures lost { (fault : StoreFault) → result ≡ Err (cause.Store fault) → self.new.behind ≡ true }
+        ensures reads { self.old.behind ≡ true → Same (S.stands store.old) (S.stands store.new) }
         ensures unwritten { IfOk result (λ step. step ≢ Answered → Same (S.stands store.old) (S.stands store.new)) }
         ensures fault { IfErr result (λ cause. FaultLeaves self.old cause self.new) }
         ensures cause { IfErr result (MayCause S.fails) }
@@ -215,8 +222,11 @@ impl<M: Machine> Replica<M> {
         ensures answered { result ≡ Ok Answered → IsApplied M.applies (S.stands store.new) self.old batch.now replies.new self.new }
         ensures unanswered { result ≢ Ok Answered → M.silent replies.new }
         ensures passed { result ≡ Ok Passed → OneMore M.applies (S.stands store.new) self.old self.new }
-        ensures nothing { result ≡ Ok Nothing → (self.new ≡ self.old) × (self.old.spoiled ≡ false) }
-        ensures told { result ≡ Ok Nothing → IsToldOf (S.stands store.new) (S.lacks store.new) self.old.place }
+        ensures nothing { result ≡ Ok Nothing → (self.new ≡ record self.old { behind = not self.old.behind }) × (self.old.spoiled ≡ false) }
+        ensures missed { result ≡ Ok Nothing → self.old.behind ≡ true → S.lacks store.new self.old.place }
+        ensures stood { result ≡ Ok Nothing → self.old.behind ≡ false → IsTaken (S.stands store.new) self.old.place }
+        ensures lost { (fault : StoreFault) → result ≡ Err (cause.Store fault) → self.new.behind ≡ true }
+        ensures reads { self.old.behind ≡ true → Same (S.stands store.old) (S.stands store.new) }
         ensures unwritten { IfOk result (λ step. step ≢ Answered → Same (S.stands store.old) (S.stands store.new)) }
         ensures fault { IfErr result (λ cause. FaultLeaves self.old cause self.new) }
         ensures cause { IfErr result (MayCause S.fails) }
@@ -245,6 +255,7 @@ impl<M: Machine> Replica<M> {
         ensures too_long { 65536 < length batch.now → result ≡ Err TooLong }
         ensures refused { result ≡ Err TooLong → (65536 < length batch.now) × (self.new ≡ self.old) × (store.new ≡ store.old) }
         ensures fault { IfErr result (MayFail S.fails) }
+        ensures busy { result ≡ Err (Unknown Busy) → (self.old.place + 333333 ≤ self.new.place) ⊎ Contradicts S.stands S.lacks }
         ensures leaves { IfErr result (λ fault. ServeLeaves self.old fault self.new) }
         ensures spoiled { self.old.spoiled ≡ true → length batch.now ≤ 65536 →
             (result ≡ Err (Unknown Spoiled)) × (self.new ≡ self.old) × (store.new ≡ store.old) }

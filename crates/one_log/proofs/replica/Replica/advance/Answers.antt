@@ -1,12 +1,18 @@
 -- A step is one of the two, and neither is taken where it is spoiled or full.
-use Rattle.std.proofs.Common.{◌≡◌, ap, sym, refl, ◌∙◌, false, inl, inr}
+use Rattle.std.proofs.Common.{◌≡◌, ap, sym, refl, ◌∙◌, false, true}
 use mathlib.Core.Bool.{false≢true}
 use Rattle.one_log.specs.Places.{Same}
-use Rattle.one_log.proofs.Chains.{adds_none, offered_unwritten, read_unwritten, same_self}
+use Rattle.one_log.proofs.Chains.{adds_none, offered_unwritten, read_unwritten, same_self, turned}
 use Rattle.one_log.proofs.replica.Replica.advance.Goals as goal
 
 pub returns-then-self-clause-fault : goal.returns-then-self-clause-fault
 returns-then-self-clause-fault g c = (ap (λ r. r.spoiled) (sym c.self.view_is) ∙ c.if-self.true, refl)
+
+pub returns-then-self-clause-reads : goal.returns-then-self-clause-reads
+returns-then-self-clause-reads g c = λ behind. same_self (g.S.Store.stands c.args.store.now)
+
+pub returns-then-self-ge-MOST_PLACES-clause-reads : goal.returns-then-self-ge-MOST_PLACES-clause-reads
+returns-then-self-ge-MOST_PLACES-clause-reads g c = λ behind. same_self (g.S.Store.stands c.args.store.now)
 
 pub returns-then-self-clause-adds : goal.returns-then-self-clause-adds
 returns-then-self-clause-adds g c =
@@ -30,10 +36,25 @@ pub returns-then-self-2-clause-passed : goal.returns-then-self-2-clause-passed
 returns-then-self-2-clause-passed g c = c.follow.ensures.passed
 
 pub returns-then-self-2-clause-nothing : goal.returns-then-self-2-clause-nothing
-returns-then-self-2-clause-nothing g c = λ none. (c.follow.ensures.nothing none, ap (λ r. r.spoiled) (sym c.self.view_is) ∙ c.if-self.false)
+returns-then-self-2-clause-nothing g c =
+    let was : c.args.self.now.behind ≡ true = ap (λ r. r.behind) (sym c.self.view_is) ∙ c.if-self-2.true in
+    λ none. (turned c.args.self.now c.follow.new.self true was (c.follow.ensures.nothing none), ap (λ r. r.spoiled) (sym c.self.view_is) ∙ c.if-self.false)
 
-pub returns-then-self-2-clause-told : goal.returns-then-self-2-clause-told
-returns-then-self-2-clause-told g c = λ none. inl (c.follow.ensures.missed none)
+pub returns-then-self-2-clause-missed : goal.returns-then-self-2-clause-missed
+returns-then-self-2-clause-missed g c = λ none behind. c.follow.ensures.missed none
+
+pub returns-then-self-2-clause-stood : goal.returns-then-self-2-clause-stood
+returns-then-self-2-clause-stood g c =
+    let was : c.args.self.now.behind ≡ true = ap (λ r. r.behind) (sym c.self.view_is) ∙ c.if-self-2.true in
+    λ none not_behind. absurd (false≢true (sym not_behind ∙ was))
+
+pub returns-then-self-2-clause-lost : goal.returns-then-self-2-clause-lost
+returns-then-self-2-clause-lost g c =
+    let was : c.args.self.now.behind ≡ true = ap (λ r. r.behind) (sym c.self.view_is) ∙ c.if-self-2.true in
+    λ fault is. ap (λ r. r.behind) (c.follow.ensures.lost fault is) ∙ was
+
+pub returns-then-self-2-clause-reads : goal.returns-then-self-2-clause-reads
+returns-then-self-2-clause-reads g c = λ behind. c.follow.ensures.same
 
 pub returns-then-self-2-clause-unwritten : goal.returns-then-self-2-clause-unwritten
 returns-then-self-2-clause-unwritten g c =
@@ -63,10 +84,25 @@ pub returns-else-self-2-clause-passed : goal.returns-else-self-2-clause-passed
 returns-else-self-2-clause-passed g c = λ passed. absurd (c.offer.ensures.passed passed)
 
 pub returns-else-self-2-clause-nothing : goal.returns-else-self-2-clause-nothing
-returns-else-self-2-clause-nothing g c = λ none. ((c.offer.ensures.nothing none).0, ap (λ r. r.spoiled) (sym c.self.view_is) ∙ c.if-self.false)
+returns-else-self-2-clause-nothing g c =
+    let was : c.args.self.now.behind ≡ false = ap (λ r. r.behind) (sym c.self.view_is) ∙ c.if-self-2.false in
+    λ none. (turned c.args.self.now c.offer.new.self false was (c.offer.ensures.nothing none).0, ap (λ r. r.spoiled) (sym c.self.view_is) ∙ c.if-self.false)
 
-pub returns-else-self-2-clause-told : goal.returns-else-self-2-clause-told
-returns-else-self-2-clause-told g c = λ none. inr (c.offer.ensures.stood none)
+pub returns-else-self-2-clause-stood : goal.returns-else-self-2-clause-stood
+returns-else-self-2-clause-stood g c = λ none not_behind. c.offer.ensures.stood none
+
+pub returns-else-self-2-clause-missed : goal.returns-else-self-2-clause-missed
+returns-else-self-2-clause-missed g c =
+    let was : c.args.self.now.behind ≡ false = ap (λ r. r.behind) (sym c.self.view_is) ∙ c.if-self-2.false in
+    λ none behind. absurd (false≢true (sym was ∙ behind))
+
+pub returns-else-self-2-clause-lost : goal.returns-else-self-2-clause-lost
+returns-else-self-2-clause-lost g c = c.offer.ensures.lost
+
+pub returns-else-self-2-clause-reads : goal.returns-else-self-2-clause-reads
+returns-else-self-2-clause-reads g c =
+    let was : c.args.self.now.behind ≡ false = ap (λ r. r.behind) (sym c.self.view_is) ∙ c.if-self-2.false in
+    λ behind. absurd (false≢true (sym was ∙ behind))
 
 pub returns-else-self-2-clause-unwritten : goal.returns-else-self-2-clause-unwritten
 returns-else-self-2-clause-unwritten g c =

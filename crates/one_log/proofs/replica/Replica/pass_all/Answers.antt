@@ -8,7 +8,7 @@ returns-then-not-stood-clause-goes_on g c =
     let stands = g.S.Store.stands in
     let applies = g.M.Machine.applies in
     λ well. goes_on_trans applies (stands c.loop-passed.store) (stands c.pass.new.store) c.pass.ensures.same.keeps c.args.self.now c.loop-passed.self c.pass.new.self c.loop-passed.invariant.goes_on
-    (same_goes_on applies (stands c.pass.new.store) c.loop-passed.self c.pass.new.self (c.pass.ensures.nothing (search rules)) c.loop-passed.invariant.well)
+    (same_goes_on applies (stands c.pass.new.store) c.loop-passed.self c.pass.new.self c.pass.new.self.behind (c.pass.ensures.nothing (search rules)) c.loop-passed.invariant.well)
 
 pub returns-in_err-stood-clause-goes_on : goal.returns-in_err-stood-clause-goes_on
 returns-in_err-stood-clause-goes_on g c =

@@ -1,7 +1,8 @@
 -- What did not answer the batch wrote nothing, and what answered it wrote it at most once.
-use Rattle.std.proofs.Common.{◌≡◌, ap, arith, rules, sym, ◌∙◌, false}
+use Rattle.std.proofs.Common.{◌≡◌, ◌≤◌, ap, arith, rules, sym, ◌∙◌, false}
 use mathlib.Core.Bool.{false≢true}
 use Rattle.one_log.proofs.Chains.{adds_none, adds_once, answered, follows, goes_on_trans, later_follows, none_goes_on, not_done, not_long, same_self, same_trans, step_is_well}
+use Rattle.one_log.proofs.Paces.{got_on, paced_step}
 use Rattle.one_log.specs.declared.serve_fault.Cause.TheVariants.{Busy, Spoiled}
 use Rattle.one_log.proofs.replica.Replica.serve.Goals as goal
 
@@ -15,8 +16,15 @@ loop-preserved g c =
     record {
       well = well;
       goes_on = goes_on_trans applies (stands c.loop.store) (stands c.step.new.store) same.keeps c.args.self.now c.loop.self c.step.new.self c.loop.invariant.goes_on (e.goes_on well);
+      pace = paced_step stands g.S.Store.lacks applies c.loop.store c.step.new.store c.args.self.now.place c.loop.counter c.loop.self c.args.batch.now c.step.new.replies c.step.new.self c.in-Ok-Passed.field-0 c.step.result c.in-Ok-Passed.is same
+          e.answered e.passed e.nothing e.missed e.stood c.loop.invariant.pace;
       same = same_trans (stands c.args.store.now) (stands c.loop.store) (stands c.step.new.store) c.loop.invariant.same same;
     }
+
+pub returns-clause-busy : goal.returns-clause-busy
+returns-clause-busy g c =
+    let all : 1000000 ≤ c.loop.counter = search rules in
+    λ busy. got_on g.S.Store.stands g.S.Store.lacks c.loop.store c.args.self.now.place c.loop.counter c.loop.self all c.loop.invariant.pace
 
 pub returns-in-Ok-Answered-clause-answered : goal.returns-in-Ok-Answered-clause-answered
 returns-in-Ok-Answered-clause-answered g c =
