@@ -1,6 +1,6 @@
 //! What was said to requests, and is said again.
 
-ghost use Rattle.std.specs.Prelude.{◌≡◌, [], true, refl, map};
+ghost use Rattle.std.specs.Prelude.{◌≡◌, ◌↔◌, [], true, refl, map};
 ghost use Rattle.std.proofs.Common.{inr};
 ghost use Rattle.step_memory.specs.declared.refusal.Refusal.TheVariants as refusal;
 ghost use Rattle.commands.specs.declared.reply.Reply.TheVariants as reply;
@@ -49,7 +49,7 @@ impl Tape {
 
     /// Whether all that was on it was said again, to just those who asked for it.
     pub fn is_used_up(&self) -> bool
-        ensures { result ≡ true → self.now ≡ tape_of [] }
+        ensures { result ≡ true ↔ self.now ≡ tape_of [] }
     {
         !self.spoiled && self.next >= self.notes.len()
     }
