@@ -1,8 +1,9 @@
 -- a turn of the loop over a tape that was learnt of a log
-use Rattle.std.specs.Prelude.{◌≡◌, ◌≤◌, ◌<◌, ℕ, List, [], ◌∷◌, ◌++◌, length, false, Option}
+use Rattle.std.specs.Prelude.{◌≡◌, ◌≤◌, ◌<◌, ◌⊎◌, ℕ, List, [], ◌∷◌, ◌++◌, length, false, Option}
 use Rattle.commands.specs.declared.config.Config.{Config}
 use Rattle.one_log.specs.Replicas.{IsDueAt, Leads, StandsFrom}
 use Rattle.one_log.specs.ReplicaState.{ReplicaState}
+use Rattle.one_log.specs.declared.store.TheConstants.{MOST_PLACES}
 use Rattle.player.specs.Shared.{TurnLog}
 use Rattle.hall.specs.HallState.{HallState}
 use Rattle.hall.specs.Halls.{hall_of}
@@ -10,6 +11,10 @@ use Rattle.hall.specs.Serving.{HallServes}
 use Rattle.event_server.specs.Seats.{RepliesSent, Seating, TurnsTaken}
 use Rattle.hall_log.specs.Entries.{HallApplies, behind_first_line}
 use Rattle.hall_log.specs.TapeState.{TapeState}
+
+-- nothing stands at the place behind all that was applied, as a store tells, or there is none
+abbrev pub IsAtEnd : (ℕ → Type 0) → ℕ → Type 0
+IsAtEnd lacks place = (MOST_PLACES ≤ place) ⊎ lacks place
 
 -- Where entries stand so in a log: the answers to these lines are on the tape, as they are due at the place of an entry of just them, to a
 -- hall to which all entries before it were applied and nothing else. It stands behind all that had been applied before, up to this place

@@ -1,10 +1,13 @@
 //! A hall that follows a log.
 
-ghost use Rattle.std.specs.Prelude.{◌≡◌, ◌<◌, ◌≤◌, true, false, Ok, OnOk, OnErr, IfOk, []};
-ghost use Rattle.one_log.specs.Places.{Keeps};
+ghost use Rattle.std.specs.Prelude.{◌≡◌, ◌<◌, ◌≤◌, ◌+◌, ◌⊎◌, true, false, Ok, Err, OnOk, OnErr, IfOk, []};
+ghost use Rattle.one_log.specs.Places.{Contradicts, Keeps};
 ghost use Rattle.one_log.specs.Replicas.{IsDueAt};
+ghost use Rattle.one_log.specs.declared.serve_fault.Cause.TheVariants.{Busy};
+ghost use Rattle.one_log.specs.declared.serve_fault.ServeFault.TheVariants.{Unknown};
 ghost use Rattle.hall.specs.Halls.{hall_of};
 ghost use Rattle.hall_log.specs.Entries.{HallApplies};
+ghost use Rattle.hall_log.specs.Hosted.{IsAtEnd};
 ghost use Rattle.hall_log.specs.Said.{tape_of};
 
 use crate::machine::HallMachine;
@@ -101,6 +104,7 @@ impl<S: Store> LogHall<S> {
         ensures later { self.new.replica.spoiled ≡ false → (self.old.replica.spoiled ≡ false) × (self.old.replica.place ≤ self.new.replica.place) }
         ensures at_last { OnOk result ((self.old.replica.spoiled ≡ false) × (self.old.replica.place < self.new.replica.place)) }
         ensures unanswered { OnErr result (tape.new ≡ tape_of []) }
+        ensures busy { result ≡ Err (Unknown Busy) → (self.old.replica.place + 333333 ≤ self.new.replica.place) ⊎ Contradicts S.stands S.lacks }
         ensures keeps { Keeps (S.stands self.old.store) (S.stands self.new.store) }
         ensures config { self.new.config ≡ self.old.config }
     {
@@ -113,6 +117,8 @@ impl<S: Store> LogHall<S> {
         ensures unanswered { tape.new ≡ tape_of [] }
         ensures keeps { Keeps (S.stands self.old.store) (S.stands self.new.store) }
         ensures config { self.new.config ≡ self.old.config }
+        ensures count { IfOk result (λ n. self.new.replica.place ≡ self.old.replica.place + n) }
+        ensures stopped { IfOk result (λ n. n < most → IsAtEnd (S.lacks self.new.store) self.new.replica.place) }
     {
         law_of_following::<HallMachine, S>();
         self.replica.catch_up(&mut self.store, most, tape)

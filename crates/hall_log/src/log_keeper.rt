@@ -4,7 +4,7 @@ ghost use Rattle.std.specs.Prelude.{◌≡◌, ◌≢◌, ◌+◌, ◌<◌, [], 
 ghost use Rattle.std.specs.String.{string_bytes};
 ghost use Rattle.one_log.specs.Places.{Keeps};
 ghost use Rattle.hall_log.specs.Entries.{behind_first_line, first_line_of};
-ghost use Rattle.hall_log.specs.Hosted.{IsServed};
+ghost use Rattle.hall_log.specs.Hosted.{IsAtEnd, IsServed};
 ghost use Rattle.hall_log.specs.Said.{tape_of};
 
 use crate::log_fault::LogFault;
@@ -123,6 +123,7 @@ impl<S: Store + Drop, T: Pause + Drop> LogKeeper<S, T> {
     ) -> Result<LogKeeper<S, T>, LogFault>
         ensures config { IfOk result (λ k. k.log.config ≡ config) }
         ensures begins { IfOk result (λ k. S.stands k.log.store 0 (first_line_of config)) }
+        ensures all { IfOk result (λ k. IsAtEnd (S.lacks k.log.store) k.log.replica.place) }
     {
         if token.contains(&LF) {
             return Err(LogFault::Token);
@@ -165,6 +166,7 @@ impl<S: Store, T: Pause> LogKeeper<S, T> {
     // way out.
     fn start(&mut self, line: &[u8]) -> Result<(), LogFault>
         ensures begins { OnOk result (S.stands self.new.log.store 0 line.now) }
+        ensures all { OnOk result (IsAtEnd (S.lacks self.new.log.store) self.new.log.replica.place) }
         ensures config { self.new.log.config ≡ self.old.log.config }
     {
         self.begin(line)?;
@@ -195,6 +197,7 @@ impl<S: Store, T: Pause> LogKeeper<S, T> {
     // Applies all that stands in the log, as soon as the store answers.
     fn apply_all(&mut self) -> Result<(), LogFault>
         ensures keeps { Keeps (S.stands self.old.log.store) (S.stands self.new.log.store) }
+        ensures all { OnOk result (IsAtEnd (S.lacks self.new.log.store) self.new.log.replica.place) }
         ensures config { self.new.log.config ≡ self.old.log.config }
     {
         let mut tape = Tape::new(self.alloc);
