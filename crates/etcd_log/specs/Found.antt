@@ -1,10 +1,10 @@
 -- What was read of an answer.
-use Rattle.std.specs.Prelude.{◌≡◌, ℕ, zero, suc, ◌+◌, Bool, true, false, List, [], ◌∷◌, Option, Some, None, Ok}
+use Rattle.std.specs.Prelude.{◌≡◌, ◌⊎◌, ℕ, zero, suc, ◌+◌, Bool, true, false, List, [], ◌∷◌, Option, Some, None, Ok}
 use Rattle.std.specs.declared.vec.Vec.{Vec}
 use Rattle.std.specs.declared.alloc.Global.{Global}
 use Rattle.json.specs.Json.{Json, document}
 use Rattle.base64.specs.Engines.{standard}
-use Rattle.base64.specs.GeneralPurpose.{decode_of}
+use Rattle.base64.specs.GeneralPurpose.{decode_of, encode_of}
 use Rattle.one_log.specs.declared.store.Put.{Put}
 use Rattle.one_log.specs.declared.store.Put.TheVariants.{Written, Taken}
 use Rattle.etcd_log.specs.Answers.{get_said}
@@ -24,6 +24,15 @@ pub record SaysFound (answer : Json) (index : ℕ) (prefix : List ℕ) (place : 
   pub key : List ℕ
   pub says : SaysAt answer index key found
   pub at : decode_of standard key ≡ Ok (key_of prefix place)
+
+-- the entry of this index is none of the place under the prefix, of another key or with a value that is no base64; or this is no answer
+abbrev pub IsUnread : Json → ℕ → List ℕ → ℕ → Type 0
+IsUnread answer index prefix place = (found : Option (Vec ℕ Global)) → SaysAt answer index (encode_of standard (key_of prefix place)) found → ⊥
+
+-- of so many entries from this index on, one for each place from this one on, one is so
+abbrev pub HasUnread : ℕ → Json → ℕ → List ℕ → ℕ → Type 0
+HasUnread zero answer index prefix place = ⊥
+HasUnread (suc most) answer index prefix place = IsUnread answer index prefix place ⊎ HasUnread most answer (index + 1) prefix (place + 1)
 
 -- an answer says from this index on, of so many entries at most, what stands at the places from this one on: these entries, and none behind
 -- them

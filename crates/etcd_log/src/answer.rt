@@ -1,15 +1,15 @@
 //! What etcd answers.
 
-ghost use Rattle.std.specs.Prelude.{◌≡◌, ◌⊎◌, ◌+◌, ◌<◌, ◌^◌, ◌++◌, ℕ, List, Some, None, Ok, Err, IfOk, IfErr, OnOk, IsUtf8, option_map, option_and_then};
+ghost use Rattle.std.specs.Prelude.{◌≡◌, ◌≢◌, ◌⊎◌, ◌+◌, ◌<◌, ◌≤◌, ◌^◌, ◌++◌, ℕ, List, Some, None, Ok, Err, IfOk, IfErr, OnOk, IsUtf8, option_map, option_and_then};
 ghost use Rattle.std.specs.declared.vec.Vec.{Vec};
 ghost use Rattle.std.specs.declared.alloc.Global.{Global};
-ghost use Rattle.json.specs.Json.{document};
+ghost use Rattle.json.specs.Json.{Json, document};
 ghost use Rattle.json.specs.Value.{value_view};
 ghost use Rattle.base64.specs.Engines.{standard};
 ghost use Rattle.base64.specs.GeneralPurpose.{decode_of};
 ghost use Rattle.etcd_log.specs.Answers.{put_said, entry_said, get_said};
 ghost use Rattle.etcd_log.specs.Faults.{IsOverNetwork};
-ghost use Rattle.etcd_log.specs.Found.{SaysAll, SaysFound, SaysFrom, is_written};
+ghost use Rattle.etcd_log.specs.Found.{HasUnread, IsUnread, SaysAll, SaysFound, SaysFrom, is_written};
 
 use crate::key::key64;
 use base64::DecodeAllocError;
@@ -93,6 +93,7 @@ pub fn read_put(alloc: Global, body: &[u8]) -> Result<Put, StoreFault>
 fn decoded(alloc: Global, text: &str) -> Result<Vec<u8>, StoreFault>
     ensures bytes { IfOk result (λ bytes. decode_of standard text.now ≡ Ok bytes.items) }
     ensures fault { IfErr result IsOverNetwork }
+    ensures wrong { result ≡ Err StoreFault.Wrong → (bytes : List ℕ) → decode_of standard text.now ≢ Ok bytes }
 {
     match STANDARD.decode(alloc, text.as_bytes()) {
         Ok(bytes) => Ok(bytes),
@@ -111,6 +112,7 @@ fn found_at(
 ) -> Result<Option<Vec<u8>>, StoreFault>
     ensures said { IfOk result (SaysFound (value_view answer.now) index prefix.now place) }
     ensures fault { IfErr result IsOverNetwork }
+    ensures wrong { result ≡ Err StoreFault.Wrong → IsUnread (value_view answer.now) index prefix.now place }
 {
     let Ok(key) = key64(alloc, prefix, place) else {
         return Err(StoreFault::Memory);
@@ -136,6 +138,7 @@ fn read_from(
     ensures said { OnOk result ((more : List (Vec ℕ Global)) × (found.new.items ≡ found.old.items ++ more) ×
         SaysFrom most (value_view answer.now) index prefix.now place more) }
     ensures fault { IfErr result IsOverNetwork }
+    ensures wrong { result ≡ Err StoreFault.Wrong → place + most ≤ 2 ^ 64 → HasUnread most (value_view answer.now) index prefix.now place }
 {
     if most == 0 {
         return Ok(());
@@ -166,6 +169,7 @@ fn read_all(
 ) -> Result<Vec<Vec<u8>>, StoreFault>
     ensures said { IfOk result (λ found. SaysFrom most (value_view answer.now) 0 prefix.now place found.items) }
     ensures fault { IfErr result IsOverNetwork }
+    ensures wrong { result ≡ Err StoreFault.Wrong → place + most ≤ 2 ^ 64 → HasUnread most (value_view answer.now) 0 prefix.now place }
 {
     let mut found = Vec::new(alloc);
     read_from(alloc, answer, 0, most, prefix, place, &mut found)?;
@@ -183,6 +187,8 @@ pub fn read_get(
 ) -> Result<Vec<Vec<u8>>, StoreFault>
     ensures said { IfOk result (λ found. SaysAll most body.now prefix.now place found.items) }
     ensures fault { IfErr result IsOverNetwork }
+    ensures wrong { result ≡ Err StoreFault.Wrong → IsUtf8 body.now → place + most ≤ 2 ^ 64 →
+        (answer : Json) → document body.now ≡ Some answer → HasUnread most answer 0 prefix.now place }
 {
     let mut scratch = Scratch::new(alloc);
     let answer = parsed(alloc, body, &mut scratch)?;

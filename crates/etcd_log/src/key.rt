@@ -2,7 +2,7 @@
 
 ghost use Rattle.std.specs.Prelude.{◌≡◌, ◌<◌, ◌^◌, ◌++◌, ℕ, List, Ok, IfOk, OnOk, string_bytes};
 ghost use Rattle.base64.specs.Engines.{standard};
-ghost use Rattle.base64.specs.GeneralPurpose.{decode_of};
+ghost use Rattle.base64.specs.GeneralPurpose.{decode_of, encode_of};
 ghost use Rattle.etcd_log.specs.Keys.{digits, key_of};
 
 use base64::engine::general_purpose::STANDARD;
@@ -33,7 +33,8 @@ pub fn key(alloc: Global, prefix: &str, place: u64) -> Result<Vec<u8>, AllocErro
 
 /// The key of a place under a prefix in base64, as etcd's gateway has it.
 pub fn key64(alloc: Global, prefix: &str, place: u64) -> Result<String, AllocError>
-    ensures { IfOk result (λ text. decode_of standard (string_bytes text) ≡ Ok (key_of prefix.now place)) }
+    ensures reads { IfOk result (λ text. decode_of standard (string_bytes text) ≡ Ok (key_of prefix.now place)) }
+    ensures text { IfOk result (λ text. string_bytes text ≡ encode_of standard (key_of prefix.now place)) }
 {
     STANDARD.encode(alloc, &key(alloc, prefix, place)?)
 }
