@@ -3,3 +3,4 @@ pub mod Copies
 pub mod DeskParts
 pub mod Compactions
 pub mod Rebuilt
+pub mod Dues

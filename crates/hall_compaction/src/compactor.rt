@@ -1,7 +1,8 @@
 //! When a history is compacted.
 
-ghost use Rattle.std.specs.Prelude.{IfSome};
+ghost use Rattle.std.specs.Prelude.{◌≡◌, ◌↔◌, ◌≤◌, true, length, IfSome, IfNone};
 ghost use Rattle.hall_compaction.specs.Compactions.{IsCompacted};
+ghost use Rattle.hall_compaction.specs.Dues.{due_after};
 
 use crate::compacting::compacted;
 use hall::Hall;
@@ -22,7 +23,9 @@ pub struct Compactor {
 }
 
 /// At how many events the next compaction is due after one that left so many.
-fn due_after(left: usize) -> usize {
+fn due_after(left: usize) -> usize
+    ensures { result ≡ due_after left }
+{
     let room = MOST_EVENTS.saturating_sub(left) / 2;
     if room < 10_000 {
         return usize::MAX;
@@ -32,20 +35,26 @@ fn due_after(left: usize) -> usize {
 
 impl Compactor {
     /// Of a hall that was just opened.
-    pub fn new() -> Compactor {
+    pub fn new() -> Compactor
+        ensures { result.due ≡ 450001 }
+    {
         Compactor {
             due: DUE_EVENTS / 2 + 1,
         }
     }
 
     /// Whether a hall's history is to be compacted.
-    pub fn is_due(&self, hall: &Hall) -> bool {
+    pub fn is_due(&self, hall: &Hall) -> bool
+        ensures { result ≡ true ↔ (self.now.due ≤ length hall.now.history) }
+    {
         self.due <= hall.len()
     }
 
-    /// What `compacted` makes of a hall.
+    /// What `compacted` makes of a hall; the next one is due so long after what that left.
     pub fn compacted(&mut self, alloc: Global, hall: &Hall) -> Option<Hall>
-        ensures { IfSome result (λ new. IsCompacted hall.now new) }
+        ensures compacted { IfSome result (λ new. IsCompacted hall.now new) }
+        ensures next { IfSome result (λ new. self.new.due ≡ due_after (length new.history)) }
+        ensures none { IfNone result (self.new.due ≡ due_after (length hall.now.history)) }
     {
         let new = compacted(alloc, hall);
         let left = match &new {

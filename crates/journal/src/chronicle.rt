@@ -1,6 +1,6 @@
 //! A hall, and the lines of its journal that are not written yet.
 
-ghost use Rattle.std.specs.Prelude.{◌≡◌, ◌≤◌, ◌+◌, ◌++◌, [], ◌∷◌, true, false, length, IfOk, vec_len, vec_capacity};
+ghost use Rattle.std.specs.Prelude.{◌≡◌, ◌↔◌, ◌≤◌, ◌<◌, ◌+◌, ◌-◌, ◌++◌, [], ◌∷◌, true, false, length, IfOk, vec_len, vec_capacity};
 ghost use Rattle.commands.specs.Replies.{is_refusal, with_view};
 ghost use Rattle.desk.specs.DeskCalls.{exchange};
 ghost use Rattle.hall.specs.Halls.{HallMay};
@@ -103,6 +103,7 @@ impl Chronicle {
 
     /// Whether lines wait.
     pub fn has_waiting(&self) -> bool
+        ensures some { result ≡ true ↔ (self.now.told < length self.now.hall.history) }
         ensures none { result ≡ false → self.now.told ≡ length self.now.hall.history }
         ensures few { self.now.told ≤ length self.now.hall.history }
     {
@@ -110,7 +111,9 @@ impl Chronicle {
     }
 
     /// Whether so many bytes wait that an event would be refused for want of room: those that wait are to be handed on first.
-    pub fn is_full(&self) -> bool {
+    pub fn is_full(&self) -> bool
+        ensures { result ≡ true ↔ (MOST_WAITING - TURN_ROOM < length (waiting_of self.now)) }
+    {
         MOST_WAITING - TURN_ROOM < self.lines.len()
     }
 
