@@ -9,3 +9,4 @@ pub mod OpeningLemmas
 pub mod Replays
 pub mod Restarts
 pub mod Compacts
+mod FaultLemmas

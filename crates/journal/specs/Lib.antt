@@ -4,3 +4,4 @@ pub mod ChronicleProofs
 pub mod Journals
 pub mod Compactings
 pub mod Openings
+pub mod OpenFaults

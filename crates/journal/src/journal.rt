@@ -1,11 +1,12 @@
 //! The journal of a chronicle, on a disk.
 
-ghost use Rattle.std.specs.Prelude.{◌≡◌, ◌≢◌, true, false, length, Err, Some, OnOk, OnErr, IfOk};
+ghost use Rattle.std.specs.Prelude.{◌≡◌, ◌≢◌, true, false, length, Err, Some, OnOk, OnErr, IfOk, IfErr};
 ghost use Rattle.journal_disk.specs.Disks.{Changes};
 ghost use Rattle.journal_disk.specs.DiskState.{DiskState};
 ghost use Rattle.hall_compaction.specs.Compactions.{IsCompacted};
 ghost use Rattle.journal.specs.Chronicles.{chronicle_of};
 ghost use Rattle.journal.specs.Compactings.{KeepsEither, KeepsWhenCompacted, MayCompact, TakesHall};
+ghost use Rattle.journal.specs.OpenFaults.{IsOpenFault};
 ghost use Rattle.journal.specs.Journals.{Stands, KeepsAtAnyMoment, IsHallOf, IsMended, IsWritten, missing_in};
 
 use crate::chronicle::Chronicle;
@@ -187,6 +188,9 @@ impl<D: Disk> Journal<D> {
 
         // The hall is that of the record that was there, once its torn line is cut.
         ensures hall { IfOk result (λ o. (s : DiskState) → D.state disk ≡ Some s → IsHallOf o.chronicle.hall s.contents) }
+
+        // Each fault is told of bytes alone that have it.
+        ensures refused { IfErr result (λ why. (s : DiskState) → D.state disk ≡ Some s → IsOpenFault config s.contents why) }
     {
         law_of_lines();
         let mut disk = disk;

@@ -1,18 +1,23 @@
 //! From the bytes of a journal to the hall whose record they are.
 
-ghost use Rattle.std.specs.Prelude.{◌≡◌, ◌≤◌, ◌++◌, [], length, drop, true, IfOk, IfSome, OnOk};
+ghost use Rattle.std.specs.Prelude.{◌≡◌, ◌≢◌, ◌⊎◌, ◌+◌, ◌≤◌, ◌++◌, [], ℕ, List, length, take, drop, true, false, IfOk, IfErr, IfSome, IfNone, OnOk};
+ghost use Rattle.commands.specs.Config.{gives_names};
 ghost use Rattle.command_lines.specs.Lines.{has_no_lf};
 ghost use Rattle.player.specs.Records.{header_line};
 ghost use Rattle.hall.specs.Halls.{hall_of};
 ghost use Rattle.journal.specs.Chronicles.{record_of_hall};
+ghost use Rattle.journal.specs.declared.opening.OpenFault.TheVariants as fault;
+ghost use Rattle.journal.specs.Journals.{without_torn};
 ghost use Rattle.journal.specs.Openings.{GoesOnBy, HasFollowed, IsRecovered};
+ghost use Rattle.journal.specs.OpenFaults.{IsFaultOf, IsOpenFault};
+ghost use Rattle.run_checker.specs.Verdict.{IsVerdict};
 
 use crate::chronicle::applied;
-use commands::{Config, Event, WorldKind};
+use commands::{Config, Event, Reply, WorldKind};
 use hall::Hall;
 use journal_disk::DiskFault;
 use memchr::memchr;
-use player::{AsRecord, Form, Replies, after_front, print_header};
+use player::{AsRecord, Form, Replies, after_front, law_of_lines, print_header};
 use record_lines::{Version, read_line};
 use run_checker::{Verdict, check};
 use std::alloc::{AllocError, Global};
@@ -37,18 +42,24 @@ pub enum OpenFault {
 }
 
 impl From<AllocError> for OpenFault {
+    ghost from_gives = { λ _ f. f ≡ fault.NoMemory };
+
     fn from(_refused: AllocError) -> OpenFault {
         OpenFault::NoMemory
     }
 }
 
 impl From<NoMemory> for OpenFault {
+    ghost from_gives = { λ _ f. f ≡ fault.NoMemory };
+
     fn from(_refused: NoMemory) -> OpenFault {
         OpenFault::NoMemory
     }
 }
 
 impl From<DiskFault> for OpenFault {
+    ghost from_gives = { λ why f. f ≡ fault.Disk why };
+
     fn from(fault: DiskFault) -> OpenFault {
         OpenFault::Disk(fault)
     }
@@ -58,7 +69,9 @@ impl From<DiskFault> for OpenFault {
 fn whole_length(bytes: &[u8]) -> usize
     ensures within { result ≤ length bytes.now }
     ensures torn { has_no_lf (drop result bytes.now) ≡ true }
+    ensures whole { take result bytes.now ≡ without_torn bytes.now }
 {
+    law_of_lines();
     let mut end = bytes.len();
     while 0 < end && bytes[end - 1] != b'\n' {
         end -= 1;
@@ -85,7 +98,8 @@ fn follow<'a>(
     line: &mut Replies<Global>,
     lines: &'a [u8],
 ) -> Result<&'a [u8], OpenFault>
-    ensures { IfOk result (λ rest. GoesOnBy hall.old hall.new lines.entry.now rest.now) }
+    ensures on { IfOk result (λ rest. GoesOnBy hall.old hall.new lines.entry.now rest.now) }
+    ensures refused { IfErr result (λ why. (why ≡ OpenFault.NoMemory) ⊎ (why ≡ OpenFault.OtherLine (length hall.old.history + 2))) }
 {
     let number = (hall.len() as u64).saturating_add(2);
     let kind = hall.config().world;
@@ -93,8 +107,11 @@ fn follow<'a>(
         return Err(OpenFault::OtherLine(number));
     };
     let reply = applied(hall, event, view);
-    if reply.is_refusal() {
-        return Err(OpenFault::OtherLine(number));
+    if let Reply::Refused(why) = reply {
+        return Err(match why {
+            Refusal::NoMemory => OpenFault::NoMemory,
+            _ => OpenFault::OtherLine(number),
+        });
     }
     line.clear();
     AsRecord::put_answered(event, reply, view, line);
@@ -107,7 +124,8 @@ fn follow<'a>(
 /// Applies the events of these lines, each of which has to be the line that the hall's answer writes.
 fn replay(alloc: Global, hall: &mut Hall, lines: &[u8]) -> Result<(), OpenFault>
     requires { hall.old.history ≡ [] }
-    ensures { OnOk result (HasFollowed hall.old.config hall.new lines.now) }
+    ensures all { OnOk result (HasFollowed hall.old.config hall.new lines.now) }
+    ensures refused { IfErr result (λ why. (why ≡ OpenFault.NoMemory) ⊎ ((number : ℕ) × (why ≡ OpenFault.OtherLine number))) }
 {
     let mut view = View::new();
     let mut line = Replies::new(alloc)?;
@@ -120,7 +138,8 @@ fn replay(alloc: Global, hall: &mut Hall, lines: &[u8]) -> Result<(), OpenFault>
 
 /// The hall with no event.
 fn fresh(alloc: Global, config: Config) -> Result<Hall, OpenFault>
-    ensures { IfOk result (λ h. h ≡ hall_of config []) }
+    ensures none { IfOk result (λ h. h ≡ hall_of config []) }
+    ensures refused { IfErr result (λ why. (why ≡ OpenFault.NoMemory) ⊎ ((why ≡ OpenFault.NoNames) × (gives_names config.world ≡ false))) }
 {
     match Hall::new(alloc, config) {
         Ok(hall) => Ok(hall),
@@ -132,7 +151,9 @@ fn fresh(alloc: Global, config: Config) -> Result<Hall, OpenFault>
 /// The hall whose record stands in these whole lines, with this header.
 fn replayed(alloc: Global, config: Config, header: &[u8], whole: &[u8]) -> Result<Hall, OpenFault>
     requires { header.now ≡ header_line config }
-    ensures { IfOk result (λ h. (h.config ≡ config) × (whole.now ≡ record_of_hall h)) }
+    ensures hall { IfOk result (λ h. (h.config ≡ config) × (whole.now ≡ record_of_hall h)) }
+    ensures yes { OnOk result (IsVerdict whole.now Verdict.Yes) }
+    ensures refused { IfErr result (IsFaultOf config whole.now) }
 {
     match check(alloc, whole) {
         Verdict::Yes => {}
@@ -156,7 +177,8 @@ pub fn recovered(
     bytes: &[u8],
 ) -> Result<(Hall, usize), OpenFault>
     requires { header.now ≡ header_line config }
-    ensures { IfOk result (λ r. IsRecovered config bytes.now r.0 r.1) }
+    ensures hall { IfOk result (λ r. IsRecovered config bytes.now r.0 r.1) }
+    ensures refused { IfErr result (IsOpenFault config bytes.now) }
 {
     let end = whole_length(bytes);
     if end == 0 && after_front(header, bytes).is_some() {

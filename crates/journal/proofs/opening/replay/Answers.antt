@@ -1,9 +1,14 @@
-use Rattle.std.proofs.Common.{◌∙◌, ap}
+use Rattle.std.proofs.Common.{◌≡◌, ◌∙◌, ap, inl}
 use Rattle.hall.specs.HallState.{HallState}
+use Rattle.journal.specs.declared.opening.OpenFault.TheVariants.{NoMemory}
+use Rattle.journal.proofs.FaultLemmas.{on_err}
 use Rattle.journal.proofs.Replays.{one_more}
 use Rattle.journal.proofs.opening.replay.Goals as goal
 
 pub loop-left-preserved : goal.loop-left-preserved
 loop-left-preserved c =
-    let on = c.in_ok-left.ensures in
+    let on = c.in_ok-left.ensures.on in
     (ap (λ (h : HallState). h.config) on.after ∙ c.loop-left.invariant.0, one_more c.loop-left.hall c.follow.new.hall c.args.lines.now c.loop-left.left.now c.in_ok-left.left.now c.loop-left.invariant.1 on)
+
+pub returns-in_err-line-clause-refused : goal.returns-in_err-line-clause-refused
+returns-in_err-line-clause-refused c = on_err (λ f. f ≡ NoMemory) _ c.from_residual.result c.from_residual.ensures.1 (λ e is. inl is)
