@@ -6,12 +6,12 @@ ghost use Rattle.slot_server.specs.declared.server_fault.ServerFault.TheVariants
 use crate::server_fault::ServerFault;
 use std::net::OpenListener;
 
-/// How many connections were accepted, of how many, and whether one could not be.
+/// How many connections were accepted, of how many, and whether one could not be. Only a listener that gives one more adds to them.
 #[derive(Drop)]
-pub(crate) struct Connections {
-    pub(crate) accepted: u64,
-    pub(crate) count: u64,
-    pub(crate) fault: Option<ServerFault>,
+pub struct Connections {
+    accepted: u64,
+    count: u64,
+    fault: Option<ServerFault>,
     ghost few: { accepted ≤ count },
 }
 
@@ -25,6 +25,13 @@ impl Connections {
             count,
             fault: None,
         }
+    }
+
+    /// How many were accepted.
+    pub fn accepted(&self) -> u64
+        ensures { result ≡ self.now.accepted }
+    {
+        self.accepted
     }
 
     /// Why not all of so many were accepted: one could not be, or nobody was there to accept it. None where all were.

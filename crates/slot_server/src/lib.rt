@@ -29,7 +29,7 @@
 //! clerks.push(lock.clerk(rt, alloc)?)?;                           // a worker
 //! clerks.push(lock.clerk(rt, alloc)?)?;                           // and another
 //! let served = serve_many(rt, alloc, &listener, &lock, &OpenGate, clerks, 10);
-//! served.served;                                                  // 10, where no fault is told
+//! served.connections.accepted();                                  // 10, where no fault is told
 //! lock.close(Vec::new(alloc), served.clerks)?;                    // the history of what all clients did
 //! ```
 #![tactic(auto)]
@@ -42,6 +42,7 @@ pub mod serving;
 pub mod watched;
 pub mod workers;
 
+pub use connections::Connections;
 pub use gate::{Gate, OpenGate};
 pub use server::{Plan, serve};
 pub use server_fault::{ServeFault, ServerFault};

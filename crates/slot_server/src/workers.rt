@@ -22,8 +22,8 @@ use std::time::Duration;
 /// What was served.
 #[derive(Drop)]
 pub struct Served<L: LockName> {
-    /// How many connections were served, those that ended by a fault of their own among them.
-    pub served: u64,
+    /// The connections that were accepted, of which each was served, those that ended by a fault of their own among them.
+    pub connections: Connections,
     /// The clerks, with all that they have kept.
     pub clerks: Vec<Clerk<L>>,
     /// Why not all connections were served.
@@ -114,7 +114,7 @@ fn work<R: Wait, L: LockName, G: Gate<R>>(
 ///
 /// All clerks come back, each with what it had kept and what it answered since, but at `ServerFault::Memory`;
 /// `ServerFault::Network` where no further connection could be accepted, or no clerk was there to serve it. With no fault as
-/// many were served as were asked for.
+/// many were accepted as were asked for.
 pub fn serve_many<L, R, G>(
     rt: &R,
     alloc: Global,
@@ -129,7 +129,7 @@ where
     R: Threads + Wait + Sync,
     G: Gate<R> + Sync,
     ensures clerks { result.fault ≢ Some ServerFault.Memory → vec_len result.clerks ≡ vec_len clerks }
-    ensures all { IfNone result.fault (result.served ≡ count) }
+    ensures all { IfNone result.fault (result.connections.accepted ≡ count) }
     ensures kept { result.fault ≢ Some ServerFault.Memory → ClerksGoOn L.config clerks.items result.clerks.items }
 {
     let connections = Mutex::new(Connections::new(count));
@@ -142,14 +142,15 @@ where
         { work(rt, alloc, listener, lock, gate, shared, clerk) },
     );
     let connections = connections.into_inner();
+    let lack = connections.lack(count);
     match back {
         Ok(clerks) => Served {
-            served: connections.accepted,
+            connections,
             clerks,
-            fault: connections.lack(count),
+            fault: lack,
         },
         Err(_) => Served {
-            served: connections.accepted,
+            connections,
             clerks: Vec::new(alloc),
             fault: Some(ServerFault::Memory),
         },
