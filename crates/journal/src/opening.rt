@@ -1,6 +1,6 @@
 //! From the bytes of a journal to the hall whose record they are.
 
-ghost use Rattle.std.specs.Prelude.{◌≡◌, ◌≢◌, ◌⊎◌, ◌+◌, ◌≤◌, ◌++◌, [], ℕ, List, length, take, drop, true, false, IfOk, IfErr, IfSome, IfNone, OnOk};
+ghost use Rattle.std.specs.Prelude.{◌≡◌, ◌⊎◌, ◌+◌, ◌≤◌, [], ℕ, length, take, drop, true, false, IfOk, IfErr, OnOk};
 ghost use Rattle.commands.specs.Config.{gives_names};
 ghost use Rattle.command_lines.specs.Lines.{has_no_lf};
 ghost use Rattle.player.specs.Records.{header_line};
