@@ -108,7 +108,7 @@ impl<T> PerThread<T> {
     ///
     /// # Errors
     /// [`Full`] where as many other threads have a place as there are, where this thread is about to end and has given its own
-    /// back, and where memory was refused at its first use.
+    /// back, where memory was refused at its first use, and in an allocator that this thread's first use calls.
     #[inline]
     pub fn get_or(&self, make: impl FnOnce() -> T) -> Result<&T, Full> {
         let place = self.place()?;
@@ -152,7 +152,8 @@ impl<T> PerThread<T> {
     fn find_place(&self, key: u64) -> Result<usize, Full> {
         let full = Full { most: self.most() };
         let found = PLACES.try_with(|places| {
-            let places = &mut places.borrow_mut().0;
+            // The push below allocates: an allocator that counts by thread comes here again from there, and is told `Full`.
+            let places = &mut places.try_borrow_mut().ok()?.0;
             if let Some(place) = places.iter().find(|place| place.key == key) {
                 return Some(place.slot.index());
             }

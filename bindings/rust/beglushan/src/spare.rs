@@ -54,9 +54,9 @@ pub(crate) fn take(key: u64) -> Option<Member> {
 #[cold]
 fn take_from_list(key: u64) -> Option<Member> {
     let found = SPARE.try_with(|spare| {
-        let spare = &mut spare.borrow_mut().0;
+        let spare = &mut spare.try_borrow_mut().ok()?.0;
         let place = spare.iter().rposition(|(kept, _)| *kept == key)?;
-        Some(spare.swap_remove(place).1)
+        Some(spare.remove(place).1)
     });
     found.ok().flatten()
 }
@@ -73,18 +73,20 @@ pub(crate) fn keep(key: u64, member: Member) {
 /// What was kept before goes to the list; where the thread ends, nothing is kept.
 #[cold]
 fn keep_beside(before: Last) {
-    let mut oldest = None;
-    let is_set_up = SPARE.try_with(|spare| {
-        let spare = &mut spare.borrow_mut().0;
-        if let Last::Kept(key, member) = before {
-            if spare.len() == MOST_SPARE {
-                oldest = Some(spare.remove(0));
-            }
-            spare.push((key, member));
-        }
+    let surplus = SPARE.try_with(|spare| {
+        let Last::Kept(key, member) = before else {
+            return None;
+        };
+        // The push allocates: an allocator that has a pool of its own comes here again from there, and keeps no more.
+        let Ok(mut spare) = spare.try_borrow_mut() else {
+            return Some(member);
+        };
+        let spare = &mut spare.0;
+        let oldest = (spare.len() == MOST_SPARE).then(|| spare.remove(0).1);
+        spare.push((key, member));
+        oldest
     });
-    drop(oldest);
-    if is_set_up.is_err() {
+    if surplus.is_err() {
         drop(replace(Last::Over));
     }
 }
@@ -95,5 +97,9 @@ pub(crate) fn forget(key: u64) {
         Last::Kept(kept, member) if kept == key => drop(member),
         other => drop(replace(other)),
     }
-    let _ = SPARE.try_with(|spare| spare.borrow_mut().0.retain(|(kept, _)| *kept != key));
+    let _ = SPARE.try_with(|spare| {
+        if let Ok(mut spare) = spare.try_borrow_mut() {
+            spare.0.retain(|(kept, _)| *kept != key);
+        }
+    });
 }
