@@ -1,5 +1,6 @@
 #![doc = include_str!("../README.md")]
-#![deny(missing_docs, unsafe_op_in_unsafe_fn)]
+#![deny(missing_docs, missing_debug_implementations, unsafe_op_in_unsafe_fn)]
+#![deny(clippy::undocumented_unsafe_blocks)]
 
 mod error;
 mod member;
@@ -16,7 +17,7 @@ mod waiting;
 pub use error::{Error, Full};
 pub use names::{Names, Seat};
 pub use per_thread::PerThread;
-pub use pool::{Pool, MOST_NUMBERS};
+pub use pool::{Lent, Pool, MOST_NUMBERS};
 pub use shared_slots::SharedSlots;
 pub use slot::{OwnedSlot, Slot, SlotOf};
 pub use slots::Slots;

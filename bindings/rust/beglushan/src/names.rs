@@ -1,6 +1,7 @@
 //! Names for good, by splitters.
 
 use crate::error::Error;
+use std::fmt;
 use std::ptr;
 
 /// The most seats of a grid.
@@ -88,6 +89,12 @@ impl Names {
     }
 }
 
+impl fmt::Debug for Names {
+    fn fmt(&self, f: &mut fmt::Formatter<'_>) -> fmt::Result {
+        f.debug_struct("Names").field("left", &self.left()).finish()
+    }
+}
+
 fn join(first: &mut GridMember) -> Option<GridMember> {
     let mut at = ptr::null_mut::<u8>();
     // SAFETY: `first` is what `word_grid_new` made, and the other holds no grid.
@@ -95,8 +102,21 @@ fn join(first: &mut GridMember) -> Option<GridMember> {
     made.then_some(GridMember { at })
 }
 
-/// What lets one thread take a name.
+/// What lets one thread take a name, once:
+///
+/// ```compile_fail,E0382
+/// let seat = beglushan::Names::new(1).unwrap().deal().unwrap();
+/// let name = seat.enter();
+/// let another = seat.enter();
+/// ```
+#[must_use = "a seat that is dropped is lost"]
 pub struct Seat(GridMember);
+
+impl fmt::Debug for Seat {
+    fn fmt(&self, f: &mut fmt::Formatter<'_>) -> fmt::Result {
+        f.debug_struct("Seat").finish_non_exhaustive()
+    }
+}
 
 impl Seat {
     /// A name, from 1, that no other seat of the grid has or will have.

@@ -77,6 +77,24 @@ thread_local! {
 /// assert_eq!(hits.sum(|counter| counter.load(Relaxed)), 8);
 /// # Ok::<(), beglushan::Error>(())
 /// ```
+///
+/// One for the whole program is a `static`:
+///
+/// ```
+/// use beglushan::PerThread;
+/// use std::sync::atomic::{AtomicU64, Ordering::Relaxed};
+/// use std::sync::LazyLock;
+///
+/// static HITS: LazyLock<PerThread<AtomicU64>> = LazyLock::new(|| PerThread::new(64).expect("a size that there is"));
+///
+/// // A thread that is one too many is not counted.
+/// let _ = HITS.with(|mine| mine.store(mine.load(Relaxed) + 1, Relaxed));
+/// assert_eq!(HITS.sum(|counter| counter.load(Relaxed)), 1);
+/// ```
+///
+/// Values are read by `iter` while their threads write to them, so `T` has atomics or a lock of its own; a value that its thread
+/// has as `&mut` stands in [`Slots`](crate::Slots). What a thread keeps of a `PerThread` that was dropped goes when the thread
+/// ends or first uses another one.
 pub struct PerThread<T> {
     pool: Arc<Pool>,
     admitted: Arc<AtomicUsize>,
@@ -104,7 +122,7 @@ impl<T> PerThread<T> {
         self.values.len()
     }
 
-    /// This thread's value. `make` is called where no thread with this number has made one.
+    /// This thread's value. `make` is called where no thread with this number has made one; it may not ask for the same value.
     ///
     /// # Errors
     /// [`Full`] where as many other threads have a place as there are, where this thread is about to end and has given its own
@@ -128,8 +146,20 @@ impl<T> PerThread<T> {
     }
 
     /// All values that were made, those of threads that ended too.
-    pub fn iter(&self) -> impl Iterator<Item = &T> {
+    pub fn iter(&self) -> impl DoubleEndedIterator<Item = &T> {
         self.values.iter().filter_map(|value| value.0.get())
+    }
+
+    /// The same, with nobody using one: to set counters back.
+    pub fn iter_mut(&mut self) -> impl DoubleEndedIterator<Item = &mut T> {
+        self.values.iter_mut().filter_map(|value| value.0.get_mut())
+    }
+
+    /// The values that were made.
+    #[must_use]
+    pub fn into_inner(self) -> Vec<T> {
+        let values = self.values.into_vec().into_iter();
+        values.filter_map(|value| value.0.into_inner()).collect()
     }
 
     /// The sum over all values that were made.

@@ -21,9 +21,32 @@ static NEXT_KEY: AtomicU64 = AtomicU64::new(1);
 
 /// Numbers from 1 to the pool's size, each held by one at a time, which any threads share with no lock.
 ///
-/// A call walks over at most `size` words and never waits for another thread, but for [`acquire_timeout`](Pool::acquire_timeout).
-/// A thread's first call of a pool, and a call while it holds a number of the pool already, makes a *member*: that takes a
-/// little memory and, for that moment, a mutex that only such calls take. Later calls use the thread's member again.
+/// ```
+/// use beglushan::Pool;
+///
+/// let pool = Pool::new(2)?;
+/// let (one, other) = (pool.acquire().expect("two are free"), pool.acquire().expect("one is free"));
+/// assert_eq!((one.number(), other.number()), (1, 2));
+/// assert!(pool.acquire().is_none()); // each is held
+/// drop(one);
+/// assert_eq!(pool.acquire().map(|slot| slot.number()), Some(1));
+/// # Ok::<(), beglushan::Error>(())
+/// ```
+///
+/// # What waits
+/// A call walks over at most `size` words and waits for no other thread, with these exceptions:
+///
+/// - [`acquire_timeout`](Pool::acquire_timeout) waits, and while some thread is in it, each slot that is dropped takes a mutex, to
+///   wake one.
+/// - A call that finds no *member* of the pool in its thread makes one, which takes a little memory and, for that moment, a mutex
+///   that only such calls take: so a thread's first call of a pool, and one for more numbers than the thread has had at once. A
+///   slot leaves its member with the thread that drops it, for that thread's next call; a thread keeps nine, of all pools
+///   together.
+///
+/// # What is left behind
+/// Members that threads kept hold the words of a pool that was dropped, 64 bytes a number, until those threads end or use other
+/// pools. After a `fork` the child has a copy of the pool, in which what other threads had stays taken, mutexes too: it makes a
+/// pool of its own.
 pub struct Pool {
     first: Mutex<Member>,
     held: Box<[Padded<AtomicBool>]>,
@@ -32,7 +55,8 @@ pub struct Pool {
 }
 
 impl Pool {
-    /// A pool of `size` numbers, from 1 to [`MOST_NUMBERS`], of which none is held.
+    /// A pool of `size` numbers, from 1 to [`MOST_NUMBERS`], of which none is held. It has to be as many as are held at once; twice
+    /// as many where [`acquire`](Pool::acquire) is not to miss one.
     ///
     /// # Errors
     /// [`Error::Size`] outside that range, [`Error::NoMemory`] where the library was refused memory.
@@ -83,6 +107,19 @@ impl Pool {
 
     /// The same, but the number `hint` is tried first: a thread that asks for the number it had last touches no word that others
     /// use. Any hint is taken; one that is no number of the pool is as good as 1.
+    ///
+    /// ```
+    /// use beglushan::Pool;
+    ///
+    /// let pool = Pool::new(8)?;
+    /// let mut last = 5;
+    /// for _ in 0..3 {
+    ///     let slot = pool.acquire_near(last).expect("nobody else is here");
+    ///     last = slot.number(); // a number, from 1, and no index
+    /// }
+    /// assert_eq!(last, 5);
+    /// # Ok::<(), beglushan::Error>(())
+    /// ```
     #[must_use]
     #[inline]
     pub fn acquire_near(&self, hint: usize) -> Option<Slot<'_>> {
@@ -90,18 +127,57 @@ impl Pool {
     }
 
     /// [`acquire`](Pool::acquire) with a slot that keeps the pool, for threads that outlive the place where the pool was made.
+    ///
+    /// ```
+    /// use beglushan::Pool;
+    /// use std::sync::Arc;
+    ///
+    /// let pool = Arc::new(Pool::new(4)?);
+    /// let slot = pool.acquire_owned().expect("four are free");
+    /// drop(pool); // the slot has it still
+    /// let number = std::thread::spawn(move || slot.number()).join().expect("nothing panics");
+    /// assert_eq!(number, 1);
+    /// # Ok::<(), beglushan::Error>(())
+    /// ```
     #[must_use]
     #[inline]
     pub fn acquire_owned(self: &Arc<Self>) -> Option<OwnedSlot> {
         SlotOf::take(Arc::clone(self), Member::acquire).ok()
     }
 
-    /// [`acquire`](Pool::acquire), which waits where all numbers are held, for at most so long. **The one call that waits.** Each
-    /// slot that is dropped wakes one that waits.
+    /// [`acquire_near`](Pool::acquire_near) with a slot that keeps the pool.
+    #[must_use]
+    #[inline]
+    pub fn acquire_near_owned(self: &Arc<Self>, hint: usize) -> Option<OwnedSlot> {
+        SlotOf::take(Arc::clone(self), |member| member.acquire_near(hint)).ok()
+    }
+
+    /// [`acquire`](Pool::acquire), which waits where all numbers are held, for at most so long. **The one call that waits**, with
+    /// [`acquire_timeout_owned`](Pool::acquire_timeout_owned). Each slot that is dropped wakes one that waits.
+    ///
+    /// ```
+    /// use beglushan::Pool;
+    /// use std::time::Duration;
+    ///
+    /// let pool = Pool::new(1)?;
+    /// std::thread::scope(|threads| {
+    ///     for _ in 0..4 {
+    ///         threads.spawn(|| assert!(pool.acquire_timeout(Duration::from_secs(60)).is_some())); // one after another
+    ///     }
+    /// });
+    /// # Ok::<(), beglushan::Error>(())
+    /// ```
     #[must_use]
     pub fn acquire_timeout(&self, most: Duration) -> Option<Slot<'_>> {
         self.acquire()
             .or_else(|| self.waiting.until(most, || self.acquire()))
+    }
+
+    /// [`acquire_timeout`](Pool::acquire_timeout) with a slot that keeps the pool.
+    #[must_use]
+    pub fn acquire_timeout_owned(self: &Arc<Self>, most: Duration) -> Option<OwnedSlot> {
+        self.acquire_owned()
+            .or_else(|| self.waiting.until(most, || self.acquire_owned()))
     }
 
     /// Which pool this is.
@@ -162,8 +238,24 @@ impl fmt::Debug for Pool {
     }
 }
 
-/// How a slot has its pool: by reference or by a count.
-pub trait Lent: Deref<Target = Pool> {}
+/// How a slot has its pool: by reference or by a count, which show one pool for as long as the slot has them. That `Slots` lends
+/// each element once stands on it, so no other type can have this.
+///
+/// ```
+/// use beglushan::{Lent, SlotOf};
+///
+/// /// Of either kind of slot.
+/// fn is_first<P: Lent>(slot: &SlotOf<P>) -> bool {
+///     slot.number() == 1
+/// }
+/// ```
+pub trait Lent: Deref<Target = Pool> + sealed::Sealed {}
 
 impl Lent for &Pool {}
 impl Lent for Arc<Pool> {}
+
+mod sealed {
+    pub trait Sealed {}
+    impl Sealed for &super::Pool {}
+    impl Sealed for std::sync::Arc<super::Pool> {}
+}

@@ -6,7 +6,7 @@ use crate::slot::SlotOf;
 use std::fmt;
 
 /// One element for each number of a pool, which all threads may read: counters that are summed, epochs that are scanned.
-/// A slot names the element that its holder alone writes to, by what `T` has of atomics.
+/// A slot names the element that its holder alone writes to, by what `T` has of atomics. Each element has a cache line of its own.
 ///
 /// ```
 /// use beglushan::{Pool, SharedSlots};
@@ -35,7 +35,15 @@ impl<T> SharedSlots<T> {
         }
     }
 
-    /// The element of a slot.
+    /// How many elements there are: as many as the pool has numbers.
+    #[must_use]
+    #[allow(clippy::len_without_is_empty)] // no pool has no numbers
+    pub fn len(&self) -> usize {
+        self.elements.len()
+    }
+
+    /// The element of a slot, to be written to while the slot is held. It may be kept longer: then the next holder writes to it too,
+    /// and a load and a store may lose what that one wrote.
     ///
     /// # Panics
     /// Where the slot is of another pool than the array was made for.
@@ -47,7 +55,7 @@ impl<T> SharedSlots<T> {
     }
 
     /// All elements, by rising number.
-    pub fn iter(&self) -> impl Iterator<Item = &T> {
+    pub fn iter(&self) -> impl DoubleEndedIterator<Item = &T> + ExactSizeIterator {
         self.elements.iter().map(|element| &element.0)
     }
 

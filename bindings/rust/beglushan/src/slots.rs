@@ -7,7 +7,9 @@ use std::cell::UnsafeCell;
 use std::fmt;
 
 /// One element for each number of a pool. Who holds a slot has its element alone, with no lock and no atomic on the way; each
-/// element has a cache line of its own.
+/// element has a cache line of its own. A holder finds it as the last one left it, in a panic too: nothing is poisoned.
+///
+/// A slot lends one element at a time, so what a holder needs at once stands in one `T`, as a tuple or a struct.
 ///
 /// ```
 /// use beglushan::{Pool, Slots};
@@ -26,12 +28,28 @@ use std::fmt;
 /// assert_eq!(arenas.iter_mut().map(|arena| arena.len()).sum::<usize>(), 4);
 /// # Ok::<(), beglushan::Error>(())
 /// ```
+///
+/// The element is the slot's for as long as it is used, and the array goes to other threads only where its elements may:
+///
+/// ```compile_fail,E0505
+/// # use beglushan::{Pool, Slots};
+/// # let pool = Pool::new(1).unwrap();
+/// # let arenas = Slots::new(&pool, |_| 0);
+/// let mut slot = pool.acquire().unwrap();
+/// let mine = arenas.get(&mut slot);
+/// drop(slot);
+/// *mine = 1;
+/// ```
+/// ```compile_fail,E0277
+/// fn shares<T: Sync>() {}
+/// shares::<beglushan::Slots<std::rc::Rc<u64>>>();
+/// ```
 pub struct Slots<T> {
     key: u64,
     elements: Box<[Padded<UnsafeCell<T>>]>,
 }
 
-// SAFETY: an element is reached through the slot of its number alone, which one thread has at a time, or through `&mut self`;
+// SAFETY: an element is reached through `&mut` of the slot of its number, which one thread has at a time, or through `&mut self`;
 // so sharing the array lends an element to one thread after another, which is what `Send` allows.
 unsafe impl<T: Send> Sync for Slots<T> {}
 
@@ -47,6 +65,13 @@ impl<T> Slots<T> {
         }
     }
 
+    /// How many elements there are: as many as the pool has numbers.
+    #[must_use]
+    #[allow(clippy::len_without_is_empty)] // no pool has no numbers
+    pub fn len(&self) -> usize {
+        self.elements.len()
+    }
+
     /// The element of a slot.
     ///
     /// # Panics
@@ -56,13 +81,14 @@ impl<T> Slots<T> {
         assert_eq!(slot.pool().key(), self.key, "a slot of another pool");
         let element = self.elements[slot.index()].0.get();
         // SAFETY: two slots of one pool have two numbers while both live (proved of the library: a number that is held is
-        // nobody else's), the pool's key is no other pool's, the slot is borrowed alone for as long as the element is, and
-        // the last holder's writes come before this (the word of the number was written when its slot was dropped).
+        // nobody else's; a slot that is forgotten keeps its own). A slot shows one pool all its life (`Lent` is sealed), whose
+        // key is no other pool's. The slot is borrowed alone for as long as the element is. The last holder's writes come before
+        // this: dropping its slot stored 0 in the number's word, which this slot's taking swapped, both sequentially consistent.
         unsafe { &mut *element }
     }
 
-    /// All elements, with nobody holding one.
-    pub fn iter_mut(&mut self) -> impl Iterator<Item = &mut T> {
+    /// All elements, by rising number, with nobody holding one.
+    pub fn iter_mut(&mut self) -> impl DoubleEndedIterator<Item = &mut T> + ExactSizeIterator {
         self.elements.iter_mut().map(|element| element.0.get_mut())
     }
 
