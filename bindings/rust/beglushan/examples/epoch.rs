@@ -1,98 +1,126 @@
-//! A small epoch scheme: what is retired is freed only when no pinned thread can hold it. Its list of participants is the
-//! pool's array, so it is as long as the threads that are pinned at once.
+//! A small epoch scheme round one value: what is replaced is freed only when no reader can have it. Its list of readers is the
+//! pool's array, so it is as long as the readers that there are at once.
 
-use beglushan::{Pool, SharedSlots};
+use beglushan::{Pool, SharedSlots, Slot};
 use std::sync::atomic::{AtomicPtr, AtomicU64, AtomicUsize, Ordering::SeqCst};
-use std::sync::Mutex;
+use std::sync::{Mutex, PoisonError};
 use std::thread;
 
-/// No epoch: the slot's holder is not pinned.
+/// No epoch: the slot's holder does not read.
 const OUTSIDE: u64 = 0;
 
-struct Node {
-    value: u64,
-    freed: bool,
-}
-
-struct Epochs {
-    now: AtomicU64,
-    pinned: SharedSlots<AtomicU64>,
-    retired: Mutex<Vec<(u64, *mut Node)>>,
+/// A value that many read while it is replaced.
+struct Latest<T> {
+    now: AtomicPtr<T>,
+    epoch: AtomicU64,
+    readers: Pool,
+    /// The epoch that each reader began in.
+    began: SharedSlots<AtomicU64>,
+    /// What was replaced, and the last epoch in which it was in reach.
+    retired: Mutex<Vec<(u64, *mut T)>>,
     freed: AtomicUsize,
 }
 
-// SAFETY: a retired node is reached under the lock alone.
-unsafe impl Sync for Epochs {}
+// SAFETY: values are lent to many threads, and freed by any.
+unsafe impl<T: Send + Sync> Sync for Latest<T> {}
 
-impl Epochs {
-    /// Hands in what no new reader can find, and frees what was retired before the epoch of every reader.
-    fn retire(&self, node: *mut Node) {
-        let mut retired = self.retired.lock().expect("nobody panics with it");
-        retired.push((self.now.fetch_add(1, SeqCst), node));
-        let oldest = self
-            .pinned
-            .iter()
-            .map(|epoch| epoch.load(SeqCst))
-            .filter(|epoch| *epoch != OUTSIDE)
-            .min();
-        retired.retain(|&(epoch, node)| {
-            let is_held = oldest.is_some_and(|oldest| oldest <= epoch);
-            if !is_held {
-                // SAFETY: it was taken out of reach in `epoch`, and every reader that is pinned began later.
-                let mut node = unsafe { Box::from_raw(node) };
-                node.freed = true;
+/// A thread that reads, until this is dropped: then it is outside, and after that its number is given back.
+struct Reader<'a, T> {
+    latest: &'a Latest<T>,
+    slot: Slot<'a>,
+}
+
+impl<T> Latest<T> {
+    fn new(value: T, most_readers: usize) -> Result<Latest<T>, beglushan::Error> {
+        let readers = Pool::new(most_readers)?;
+        Ok(Latest {
+            now: AtomicPtr::new(Box::into_raw(Box::new(value))),
+            epoch: AtomicU64::new(OUTSIDE + 1),
+            began: SharedSlots::new(&readers, |_| AtomicU64::new(OUTSIDE)),
+            readers,
+            retired: Mutex::default(),
+            freed: AtomicUsize::new(0),
+        })
+    }
+
+    /// A reader that begins now. The number that this thread had last is tried first.
+    fn reader(&self, last: usize) -> Option<Reader<'_, T>> {
+        let slot = self.readers.acquire_near(last)?;
+        let epoch = self.epoch.load(SeqCst);
+        self.began.get(&slot).store(epoch, SeqCst);
+        Some(Reader { latest: self, slot })
+    }
+
+    /// Puts a new value in reach, and frees what was out of reach before the oldest reader began.
+    fn replace(&self, value: T) {
+        let old = self.now.swap(Box::into_raw(Box::new(value)), SeqCst);
+        let epoch = self.epoch.fetch_add(1, SeqCst);
+        let mut retired = self.retired.lock().unwrap_or_else(PoisonError::into_inner);
+        retired.push((epoch, old));
+        let began = self.began.iter().map(|epoch| epoch.load(SeqCst));
+        let oldest = began.filter(|epoch| *epoch != OUTSIDE).min();
+        retired.retain(|&(epoch, value)| {
+            let is_read = oldest.is_some_and(|oldest| oldest <= epoch);
+            if !is_read {
+                // SAFETY: it was swapped out in `epoch` and is in the list once, and each reader that there is began later.
+                drop(unsafe { Box::from_raw(value) });
                 self.freed.fetch_add(1, SeqCst);
             }
-            is_held
+            is_read
         });
     }
 }
 
+impl<T> Reader<'_, T> {
+    fn get(&self) -> &T {
+        // SAFETY: it is in reach after this reader's epoch was told to all, so it stays until the reader is outside.
+        unsafe { &*self.latest.now.load(SeqCst) }
+    }
+}
+
+impl<T> Drop for Reader<'_, T> {
+    fn drop(&mut self) {
+        self.latest.began.get(&self.slot).store(OUTSIDE, SeqCst);
+    }
+}
+
+impl<T> Drop for Latest<T> {
+    fn drop(&mut self) {
+        let retired = self
+            .retired
+            .get_mut()
+            .unwrap_or_else(PoisonError::into_inner);
+        let all = retired
+            .drain(..)
+            .map(|(_, value)| value)
+            .chain([*self.now.get_mut()]);
+        // SAFETY: each stands here once, and nobody reads.
+        all.for_each(|value| drop(unsafe { Box::from_raw(value) }));
+    }
+}
+
 fn main() -> Result<(), beglushan::Error> {
-    const THREADS: usize = 4;
+    const READERS: usize = 4;
     const ROUNDS: u64 = 10_000;
-    let pool = Pool::new(THREADS)?;
-    let epochs = Epochs {
-        now: AtomicU64::new(1),
-        pinned: SharedSlots::new(&pool, |_| AtomicU64::new(OUTSIDE)),
-        retired: Mutex::new(Vec::new()),
-        freed: AtomicUsize::new(0),
-    };
-    let newest = AtomicPtr::new(Box::into_raw(Box::new(Node {
-        value: 0,
-        freed: false,
-    })));
+    let latest = Latest::new([0; 8], READERS)?;
     thread::scope(|threads| {
-        for writer in 0..THREADS {
-            let (pool, epochs, newest) = (&pool, &epochs, &newest);
+        for id in 1..=READERS {
+            let latest = &latest;
             threads.spawn(move || {
-                for round in 0..ROUNDS {
-                    let slot = pool
-                        .acquire_near(writer + 1)
-                        .expect("as many numbers as threads");
-                    let mine = epochs.pinned.get(&slot);
-                    mine.store(epochs.now.load(SeqCst), SeqCst);
-                    // SAFETY: it was in reach after this thread pinned its epoch, so nobody frees it before the thread is outside.
-                    let node = unsafe { &*newest.load(SeqCst) };
+                for _ in 0..ROUNDS {
+                    let reader = latest.reader(id).expect("as many numbers as readers");
+                    let value = reader.get();
                     assert!(
-                        !node.freed && node.value <= ROUNDS,
+                        value.iter().all(|word| *word == value[0]),
                         "read after it was freed"
                     );
-                    mine.store(OUTSIDE, SeqCst);
-                    drop(slot);
-                    if writer == 0 {
-                        let fresh = Box::into_raw(Box::new(Node {
-                            value: round,
-                            freed: false,
-                        }));
-                        epochs.retire(newest.swap(fresh, SeqCst));
-                    }
                 }
             });
         }
+        (1..=ROUNDS).for_each(|round| latest.replace([round; 8]));
     });
-    epochs.retire(newest.into_inner());
-    println!("{ROUNDS} nodes replaced under {THREADS} readers");
-    println!("freed: {} of {}", epochs.freed.load(SeqCst), ROUNDS + 1);
+    latest.replace([0; 8]);
+    println!("{} values replaced under {READERS} readers", ROUNDS + 1);
+    println!("freed: {}", latest.freed.load(SeqCst));
     Ok(())
 }

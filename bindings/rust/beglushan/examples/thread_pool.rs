@@ -1,34 +1,54 @@
-//! Workers that come and go, each with the arena of its slot, which the next worker with that number finds as it was left.
+//! A pool of workers that take jobs from one channel. A worker has a slot, and by it a buffer that nobody else has, which it hands
+//! to each of its jobs; a worker that comes later finds the buffer of its slot as it was left.
 
 use beglushan::{Pool, Slots};
-use std::sync::atomic::{AtomicUsize, Ordering::Relaxed};
+use std::sync::{mpsc, Mutex, PoisonError};
 use std::thread;
+use std::time::Duration;
+
+const WORKERS: usize = 3;
+const JOBS: usize = 300;
+
+type Job = Box<dyn FnOnce(&mut Vec<u8>) + Send>;
+
+/// Takes jobs until there are no more senders.
+fn work(pool: &Pool, buffers: &Slots<Vec<u8>>, jobs: &Mutex<mpsc::Receiver<Job>>) {
+    let slot = pool.acquire_timeout(Duration::from_secs(60));
+    let mut slot = slot.expect("a worker that ends gives its number back");
+    let buffer = buffers.get(&mut slot);
+    loop {
+        let job = jobs.lock().unwrap_or_else(PoisonError::into_inner).recv();
+        let Ok(job) = job else { return };
+        buffer.clear();
+        job(buffer);
+    }
+}
 
 fn main() -> Result<(), beglushan::Error> {
-    const WORKERS: usize = 3;
-    const JOBS: usize = 300;
     let pool = Pool::new(WORKERS)?;
-    let arenas = Slots::new(&pool, |_| Vec::<u8>::new());
-    let next = AtomicUsize::new(0);
-    for _ in 0..10 {
-        thread::scope(|threads| {
-            for _ in 0..WORKERS {
-                threads.spawn(|| {
-                    let mut slot = pool.acquire().expect("as many numbers as workers");
-                    let arena = arenas.get(&mut slot);
-                    for _ in 0..JOBS / 10 / WORKERS {
-                        let job = next.fetch_add(1, Relaxed);
-                        arena.extend_from_slice(&job.to_le_bytes());
-                    }
-                });
-            }
+    let buffers = Slots::new(&pool, |_| Vec::with_capacity(64));
+    let (send, receive) = mpsc::channel::<Job>();
+    let (done, results) = mpsc::channel();
+    for number in 0..JOBS {
+        let done = done.clone();
+        let job: Job = Box::new(move |buffer| {
+            buffer.extend_from_slice(number.to_string().as_bytes());
+            done.send(buffer.len()).expect("results are awaited");
         });
+        send.send(job).expect("workers are to come");
     }
-    let arenas = arenas.into_inner();
-    println!("30 workers, {WORKERS} at once: {} arenas", arenas.len());
+    drop((send, done));
+    let receive = Mutex::new(receive);
+    thread::scope(|threads| {
+        // Twice as many as there are numbers: the others wait for theirs.
+        for _ in 0..2 * WORKERS {
+            threads.spawn(|| work(&pool, &buffers, &receive));
+        }
+    });
+    println!("buffers: {}", buffers.len());
     println!(
-        "jobs done: {}",
-        arenas.iter().map(Vec::len).sum::<usize>() / size_of::<usize>()
+        "digits of {JOBS} numbers: {}",
+        results.iter().sum::<usize>()
     );
     Ok(())
 }
