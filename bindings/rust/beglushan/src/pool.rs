@@ -9,7 +9,8 @@ use crate::waiting::Waiting;
 use std::fmt;
 use std::num::NonZeroUsize;
 use std::ops::Deref;
-use std::sync::atomic::{AtomicBool, AtomicU64, Ordering::Relaxed};
+use std::sync::atomic::Ordering::{Acquire, Relaxed, Release};
+use std::sync::atomic::{AtomicBool, AtomicU64};
 use std::sync::{Arc, Mutex, PoisonError};
 use std::time::Duration;
 
@@ -207,15 +208,21 @@ impl Pool {
         spare::keep(self.key, member);
     }
 
+    /// Marks a number as held, by who was just given it.
     #[inline]
-    pub(crate) fn is_taken(&self, number: NonZeroUsize) {
-        self.held[number.get() - 1].0.store(true, Relaxed);
+    pub(crate) fn mark(&self, number: NonZeroUsize) {
+        let held = &self.held[number.get() - 1].0;
+        // It reads what the last holder stored, since the library's accesses order the two; so what that one wrote before is
+        // seen from here on, and tools that know nothing of the library, as ThreadSanitizer, see it too.
+        let was_held = held.load(Acquire);
+        debug_assert!(!was_held, "two hold {number}");
+        held.store(true, Relaxed);
     }
 
     /// Gives back what a member holds.
     #[inline]
     pub(crate) fn give_back(&self, mut member: Member, number: NonZeroUsize) {
-        self.held[number.get() - 1].0.store(false, Relaxed);
+        self.held[number.get() - 1].0.store(false, Release);
         member.release();
         self.keep(member);
         self.waiting.wake();

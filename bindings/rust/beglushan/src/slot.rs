@@ -56,7 +56,7 @@ impl<P: Lent> SlotOf<P> {
             pool.keep(member);
             return Err(Missed::AllHeld);
         };
-        pool.is_taken(number);
+        pool.mark(number);
         Ok(SlotOf {
             member: Some(member),
             number,

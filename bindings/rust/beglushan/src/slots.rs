@@ -83,7 +83,8 @@ impl<T> Slots<T> {
         // SAFETY: two slots of one pool have two numbers while both live (proved of the library: a number that is held is
         // nobody else's; a slot that is forgotten keeps its own). A slot shows one pool all its life (`Lent` is sealed), whose
         // key is no other pool's. The slot is borrowed alone for as long as the element is. The last holder's writes come before
-        // this: dropping its slot stored 0 in the number's word, which this slot's taking swapped, both sequentially consistent.
+        // this: dropping its slot stored 0 in the number's word, which this slot's taking swapped, both sequentially consistent;
+        // and the pool's mark of the number was stored and read in the same order.
         unsafe { &mut *element }
     }
 
