@@ -1,11 +1,28 @@
-/* Small numbers for threads, with no lock: the proved pool over raw words as a C library.
+/* Small numbers for threads, with no lock: the proved pool over raw words as a C library, for C99 and later and for C++.
  *
- * Link `libword_pool_c.a` and the kit's `liblibc_c.a`; `bindings/c/test` shows how.
+ * Link `libword_pool_c.a` and the kit's `liblibc_c.a`; `bindings/c/test` shows how. `bindings/c/counters.c` is a program with a
+ * counter for each thread. In short, with no answer looked at:
+ *
+ *     struct word_pool first = {0}, mine = {0};
+ *     word_pool_new(&first, 64);                      a pool, with a handle for the thread that makes it ...
+ *     word_pool_join(&first, &mine);                  ... and one for each other, made before that starts
+ *     uint64_t number = word_pool_acquire(&mine);     there: from here on counters[number - 1] is nobody else's ...
+ *     word_pool_release(&mine);                       ... until here
+ *     word_pool_free(&mine);                          and so for the first one, in any order
  *
  * Each thread has a handle of its own; those that were joined share one pool. A handle holds at most one number at a time,
- * and nobody else has that number until it is given back. What a caller owes: a handle is used by one call at a time; it is
- * made of zero bytes before `word_pool_new`, or before it is the second handle of `word_pool_join`; and it holds a pool
- * where any other call is given it. */
+ * and nobody else has that number until it is given back. What was written until then is seen by who gets the number next:
+ * each access of the library is sequentially consistent. (ThreadSanitizer doesn't see these accesses, and may take what they
+ * order for a race.)
+ *
+ * What a caller owes:
+ *
+ * - A handle is used by one call at a time, and `word_pool_join` is a call of both: so of handles that threads use already none
+ *   is joined, unless those threads do it, or a lock is round it.
+ * - It is made of zero bytes before `word_pool_new`, or before it is the second handle of `word_pool_join`, and holds a pool
+ *   where any other call is given it. No pointer is null. (The functions at the end answer null pointers and zero handles.)
+ * - It is not copied: the copy would be the same handle. To move it, zero the old one.
+ * - It is freed. A thread that ends without that leaves its number held, and the pool's memory taken. */
 #ifndef BEGLUSHAN_H
 #define BEGLUSHAN_H
 
@@ -21,24 +38,27 @@ struct word_pool {
     void *at;
 };
 
-/* Makes a pool of the numbers from 1 to `size`, which is from 1 to 4096. False, with nothing made, elsewhere and where
- * memory was refused. */
+/* Makes a pool of the numbers from 1 to `size`, which is from 1 to 4096, at a handle of zero bytes. False, with nothing made,
+ * elsewhere and where memory was refused. */
 bool word_pool_new(struct word_pool *pool, uint64_t size);
 
-/* A handle of the same pool for one more thread. False, with none made, where memory was refused. */
+/* Makes `other`, which is of zero bytes, a handle of the same pool for one more thread; it holds no number. False, with none
+ * made, where memory was refused. */
 bool word_pool_join(struct word_pool *pool, struct word_pool *other);
 
 /* Takes the least number that a walk from 1 upward finds free, by at most two accesses more than the number says. 0 where it
- * met each number held, by at most two accesses more than there are numbers, and where this handle holds one already. */
+ * met each number held, one after another, by at most two accesses more than there are numbers, and where this handle holds
+ * one already. Where others take and give back meanwhile, a walk may meet each held though never all were at one moment. */
 uint64_t word_pool_acquire(struct word_pool *pool);
 
-/* The same, but it tries the number of a hint first. */
+/* The same, but it tries the number of a hint first, as that which this handle had last. A hint that is no number is as good
+ * as 1. */
 uint64_t word_pool_acquire_near(struct word_pool *pool, uint64_t hint);
 
 /* Gives back the number that this handle holds, and tells it. 0 where it holds none. */
 uint64_t word_pool_release(struct word_pool *pool);
 
-/* Ends this handle: its number is given back, and with the last handle the pool's memory. */
+/* Ends this handle, which is of zero bytes then: its number is given back, and with the last handle the pool's memory. */
 void word_pool_free(struct word_pool *pool);
 
 /* A grid of splitters: each thread that enters gets a place of its own, by reads and writes alone, with no lock and no wait.
@@ -66,7 +86,7 @@ bool word_grid_join(struct word_grid *grid, struct word_grid *other);
  * handle has entered already. */
 uint64_t word_grid_enter(struct word_grid *grid);
 
-/* Ends this handle, and with the last one the grid's memory. */
+/* Ends this handle, which is of zero bytes then, and with the last one the grid's memory. Its place stays taken. */
 void word_grid_free(struct word_grid *grid);
 
 /* The same calls for who can't be sure of his handles: a null pointer, or a handle that holds nothing where one has to, is
