@@ -4,7 +4,7 @@ mod plain;
 mod timed;
 
 use beglushan::{PerThread, Pool};
-use plain::PlainWords;
+use plain::{PlainBits, PlainWords};
 use std::cmp::Reverse;
 use std::collections::BinaryHeap;
 use std::hint::black_box;
@@ -40,6 +40,11 @@ fn stays_near(threads: usize) {
         words.release(black_box(*mine));
     });
     println!("{:<52} {threads} threads  {:>8.2}", "ratio", ours / plain);
+    let bits = PlainBits::new(NUMBERS);
+    timed("bits of one word, near", threads, |thread| thread + 1, |mine| {
+        *mine = bits.acquire_near(*mine).unwrap_or(1);
+        bits.release(black_box(*mine));
+    });
 }
 
 /// As many numbers as threads, and no hint.
@@ -56,6 +61,15 @@ fn stays_from_one(threads: usize) {
         words.release(black_box(number));
     });
     println!("{:<52} {threads} threads  {:>8.2}", "ratio", ours / plain);
+    let bits = PlainBits::new(threads);
+    timed("bits of one word from 1, numbers as threads", threads, |_| (), |()| {
+        let number = loop {
+            if let Some(number) = bits.acquire_near(1) {
+                break number;
+            }
+        };
+        bits.release(black_box(number));
+    });
 }
 
 /// What other crates do instead.
