@@ -15,7 +15,7 @@ mod spare;
 mod waiting;
 
 pub use error::{Error, Full};
-pub use names::{Names, Seat};
+pub use names::{Names, Seat, MOST_SEATS};
 pub use per_thread::PerThread;
 pub use pool::{Lent, Pool, MOST_NUMBERS};
 pub use shared_slots::SharedSlots;

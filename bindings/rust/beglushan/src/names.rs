@@ -4,8 +4,8 @@ use crate::error::Error;
 use std::fmt;
 use std::ptr;
 
-/// The most seats of a grid.
-const MOST_SEATS: usize = 64;
+/// The most seats of [`Names`].
+pub const MOST_SEATS: usize = 64;
 
 /// A pointer to a seat of a grid, null where there is none.
 #[repr(C)]
@@ -52,7 +52,7 @@ pub struct Names {
 }
 
 impl Names {
-    /// Seats for so many threads, from 1 to 64.
+    /// Seats for so many threads, from 1 to [`MOST_SEATS`].
     ///
     /// # Errors
     /// [`Error::Size`] outside that range, [`Error::NoMemory`] where the library was refused memory.

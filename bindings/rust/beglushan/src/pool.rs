@@ -14,7 +14,7 @@ use std::sync::atomic::{AtomicBool, AtomicU64};
 use std::sync::{Arc, Mutex, PoisonError};
 use std::time::Duration;
 
-/// The most numbers of a pool.
+/// The most numbers of a [`Pool`].
 pub const MOST_NUMBERS: usize = 4096;
 
 /// Tells pools apart. No key is used twice.

@@ -1,6 +1,6 @@
 //! Names for good.
 
-use beglushan::{Error, Names};
+use beglushan::{Error, Names, MOST_SEATS};
 use std::collections::BTreeSet;
 use std::sync::Barrier;
 use std::thread;
@@ -13,7 +13,10 @@ fn sizes() {
     for asked in [0, 65, usize::MAX] {
         assert_eq!(
             Names::new(asked).err(),
-            Some(Error::Size { asked, most: 64 })
+            Some(Error::Size {
+                asked,
+                most: MOST_SEATS
+            })
         );
     }
 }
@@ -28,6 +31,7 @@ fn one_after_another() {
         assert!(name <= entered * (entered + 1) / 2 && taken.insert(name));
     }
     assert!(names.deal().is_none());
+    assert_eq!(format!("{names:?}"), "Names { left: 0 }");
 }
 
 /// Sixty-four threads at once, a hundred times: no two have one name, and few have small ones.

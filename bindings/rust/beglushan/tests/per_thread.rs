@@ -136,6 +136,23 @@ fn in_destructors() {
     assert!((100..=200).contains(&told), "{told}");
 }
 
+/// Values are set back, and taken out, when nobody uses them.
+#[test]
+fn set_back_and_taken_out() {
+    let mut counters = PerThread::<AtomicU64>::new(4).unwrap();
+    counters.with(add_one).unwrap();
+    counters
+        .iter_mut()
+        .for_each(|counter| *counter.get_mut() = 7);
+    counters.with(add_one).unwrap();
+    let all: Vec<u64> = counters
+        .into_inner()
+        .into_iter()
+        .map(AtomicU64::into_inner)
+        .collect();
+    assert_eq!(all, [8]);
+}
+
 /// Those that were dropped are forgotten, and a new one is not taken for an old one.
 #[test]
 fn made_and_dropped() {

@@ -173,6 +173,33 @@ fn owned_slots_outlive_the_pool() {
     assert_eq!(slots[0].pool().len(), 2);
 }
 
+/// Slots that keep the pool are got in each way.
+#[test]
+fn owned_slots_near_and_in_time() {
+    let pool = Arc::new(Pool::new(4).unwrap());
+    let near = pool.acquire_near_owned(3).unwrap();
+    assert_eq!(near.number(), 3);
+    let rest: Vec<OwnedSlot> = (0..3)
+        .map(|_| pool.acquire_timeout_owned(Duration::ZERO).unwrap())
+        .collect();
+    assert!(pool
+        .acquire_timeout_owned(Duration::from_millis(5))
+        .is_none());
+    let theirs = Arc::clone(&pool);
+    let waits = thread::spawn(move || {
+        theirs
+            .acquire_timeout_owned(Duration::from_secs(60))
+            .map(|slot| slot.number())
+    });
+    thread::sleep(Duration::from_millis(20));
+    drop(near);
+    assert_eq!(waits.join().unwrap(), Some(3));
+    assert_eq!(
+        rest.iter().map(OwnedSlot::number).collect::<Vec<_>>(),
+        [1, 2, 4]
+    );
+}
+
 #[test]
 fn two_pools_side_by_side() {
     let (one, other) = (Pool::new(2).unwrap(), Pool::new(3).unwrap());

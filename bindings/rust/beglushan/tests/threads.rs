@@ -2,7 +2,7 @@
 
 use beglushan::{Error, Full, Names, OwnedSlot, PerThread, Pool, Seat, SharedSlots, Slot, Slots};
 use std::cell::{Cell, RefCell};
-use std::panic::{RefUnwindSafe, UnwindSafe};
+use std::panic::{catch_unwind, AssertUnwindSafe, RefUnwindSafe, UnwindSafe};
 use std::rc::Rc;
 use std::sync::atomic::AtomicU64;
 use std::sync::{Arc, MutexGuard};
@@ -46,6 +46,21 @@ fn in_panics() {
     fn may_be_met_after<T: UnwindSafe + RefUnwindSafe>() {}
     may_be_met_after::<Pool>();
     may_be_met_after::<PerThread<AtomicU64>>();
+    let values = PerThread::<u64>::new(1).unwrap();
+    assert!(catch_unwind(|| values.get_or(|| panic!("no value")).copied()).is_err());
+    assert_eq!(values.get_or(|| 7), Ok(&7));
+    let pool = Pool::new(1).unwrap();
+    let elements = Slots::new(&pool, |_| 0);
+    let half_way = || {
+        *elements.get(&mut pool.acquire().unwrap()) += 1;
+        panic!("half way");
+    };
+    assert!(catch_unwind(AssertUnwindSafe(half_way)).is_err());
+    assert_eq!(
+        *elements.get(&mut pool.acquire().unwrap()),
+        1,
+        "as it was left"
+    );
 }
 
 thread_local!(static KEPT: RefCell<Vec<OwnedSlot>> = const { RefCell::new(Vec::new()) });
