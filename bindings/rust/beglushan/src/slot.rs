@@ -15,7 +15,7 @@ pub type Slot<'pool> = SlotOf<&'pool Pool>;
 pub type OwnedSlot = SlotOf<Arc<Pool>>;
 
 /// A number of a pool that nobody else holds, given back when this is dropped, in a panic too. What was written before it was dropped
-/// is seen by whoever holds the number next. A slot that is forgotten (`mem::forget`) keeps its number for good.
+/// is seen by whoever holds the number next. A slot that is forgotten (`mem::forget`) keeps its number, and the pool's words, for good.
 ///
 /// It may go to another thread, but two threads can't share one slot, so its place of an array is one thread's at a time:
 ///

@@ -84,13 +84,8 @@ fn a_thread_that_ends_gives_back_what_it_keeps() {
         thread::spawn(keep).join().unwrap();
         assert!(pool.is_empty());
     }
-    assert_eq!(
-        (0..4)
-            .filter_map(|_| pool.acquire_owned())
-            .map(std::mem::forget)
-            .count(),
-        4
-    );
+    let all: Vec<OwnedSlot> = (0..4).filter_map(|_| pool.acquire_owned()).collect();
+    assert_eq!(all.len(), 4);
 }
 
 /// A thread that only takes and one that only drops: members go one way, and numbers come back.
