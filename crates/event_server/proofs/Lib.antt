@@ -5,3 +5,4 @@ mod GatherLemmas
 mod LookLemmas
 mod ToldLemmas
 mod CallLemmas
+mod RoundLemmas

@@ -4,3 +4,4 @@ pub mod Rooms
 pub mod Seats
 pub mod Gathering
 pub mod Told
+pub mod Rounds

@@ -190,8 +190,9 @@ fn learn<D, K: Keep<D>, B: Allocator>(
     keep: &mut K,
     batch: &Batch<B>,
 ) -> Result<Ahead, K::Fault>
-    ensures { result ≡ Ok Ahead.Known → ((batch.now.lines.items ≡ []) × (keep.new ≡ keep.old) × (service.new ≡ service.old)) ⊎
+    ensures known { result ≡ Ok Ahead.Known → ((batch.now.lines.items ≡ []) × (keep.new ≡ keep.old) × (service.new ≡ service.old)) ⊎
         K.learns keep.old service.old batch.now.lines.items keep.new service.new }
+    ensures lost { result ≡ Ok Ahead.Lost → K.waits keep.old service.old keep.new service.new }
 {
     if batch.lines.is_empty() {
         return Ok(Ahead::Known);
@@ -220,6 +221,7 @@ pub fn turn_ahead<R, D: Service<R>, K: Keep<D>, S: Stream, A: Allocator, B: Allo
         TurnAhead (seats_of S.left S.gone) (λ c. c.look) (λ c. c.stage ≡ Stage.Queued) D.may K.learns K.keeps batch.old.kind
         keep.old service.old seats.old batch.new.lines.items keep.new service.new seats.new }
     ensures unserved { (called : ℕ) → result ≡ Ok (Called.Unserved called) → Unlearnt (seats_of S.left S.gone) seats.old batch.new.lines.items seats.new }
+    ensures lost { (called : ℕ) → result ≡ Ok (Called.Unserved called) → K.waits keep.old service.old keep.new service.new }
     ensures unsent { OnErr result (NoneSent (seats_of S.left S.gone) seats.old seats.new) }
     ensures called { IfOk result (λ called. CallsSome ready.now (count_of called)) }
     ensures rest { IfOk result (λ called. EachIs (λ c. c.stage ≡ Stage.Idle) (take (count_of called) ready.now) seats.new) }

@@ -1,8 +1,9 @@
 //! A server in one thread, by the readiness of its sockets.
 
-ghost use Rattle.std.specs.Prelude.{◌≡◌, true};
+ghost use Rattle.std.specs.Prelude.{◌≡◌, ◌⊎◌, true, OnOk};
 ghost use Rattle.commands.specs.Requests.{Request};
 ghost use Rattle.event_server.specs.Rooms.{IsRoom};
+ghost use Rattle.event_server.specs.Rounds.{WasServed};
 
 use crate::gathering::{Batch, Called, turn_ahead};
 use crate::host_fault::HostFault;
@@ -133,6 +134,7 @@ pub fn host<R, D: Service<R>, K: Keep<D>, W: Write, E: Write>(
 where
     R: Net + Wait + Clock,
     requires { (q : Request) → D.knows q ≡ true }
+    ensures { OnOk result (WasServed D.may K.learns K.keeps K.waits keep.old service.old keep.new service.new) }
 {
     let mut room = Room::new(alloc)?;
     let mut hosting = Hosting::new(rt, alloc, options, keep.most_ahead())?;
@@ -207,7 +209,8 @@ impl Hosting {
     ) -> Result<(), HostFault<K::Fault>>
         requires knows { (q : Request) → D.knows q ≡ true }
         requires room { IsRoom room.old }
-        ensures { IsRoom room.new }
+        ensures room { IsRoom room.new }
+        ensures served { OnOk result (WasServed D.may K.learns K.keeps K.waits keep.old service.old keep.new service.new) }
     {
         self.wait(rt)?;
         self.accept_all()?;
@@ -290,7 +293,8 @@ impl Hosting {
     ) -> Result<(), HostFault<K::Fault>>
         requires knows { (q : Request) → D.knows q ≡ true }
         requires room { IsRoom room.old }
-        ensures { IsRoom room.new }
+        ensures room { IsRoom room.new }
+        ensures served { OnOk result (WasServed D.may K.learns K.keeps K.waits keep.old service.old keep.new service.new) }
     {
         let House { seats, ready, .. } = &mut self.house;
         let called = match &mut self.batch {
@@ -318,7 +322,9 @@ impl Hosting {
         &mut self,
         service: &mut D,
         keep: &mut K,
-    ) -> Result<(), HostFault<K::Fault>> {
+    ) -> Result<(), HostFault<K::Fault>>
+        ensures { OnOk result (((keep.new ≡ keep.old) × (service.new ≡ service.old)) ⊎ K.waits keep.old service.old keep.new service.new) }
+    {
         if !self.ticked || self.batch.is_none() {
             return Ok(());
         }

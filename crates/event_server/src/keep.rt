@@ -31,6 +31,9 @@ pub trait Keep<D> {
     /// The keeper and the service were so, and are so once the answers to these lines are learnt.
     ghost learns: { Self → D → List ℕ → Self → D → Type 0 };
 
+    /// The keeper and the service were so, and are so once the keeper went on by itself, or answers were not learnt in time.
+    ghost waits: { Self → D → Self → D → Type 0 };
+
     /// Whether so much is told that it is to be kept before any other connection has its turn. It is not asked where `most_ahead` is some:
     /// then each connection has its turn whose lines were told.
     fn is_full(&self, service: &D) -> bool;
@@ -45,10 +48,12 @@ pub trait Keep<D> {
     /// Has the service learn the answers to these lines of requests, in their order; each ends in LF. `Lost` where they were not learnt in
     /// time: nothing is known of them then.
     fn learn(&mut self, service: &mut D, lines: &[u8]) -> Result<Ahead, Self::Fault>
-        ensures { result ≡ Ok Ahead.Known → learns self.old service.old lines.now self.new service.new };
+        ensures known { result ≡ Ok Ahead.Known → learns self.old service.old lines.now self.new service.new }
+        ensures lost { result ≡ Ok Ahead.Lost → waits self.old service.old self.new service.new };
 
     /// Is called about once a second where `most_ahead` is some.
-    fn tick(&mut self, service: &mut D) -> Result<(), Self::Fault>;
+    fn tick(&mut self, service: &mut D) -> Result<(), Self::Fault>
+        ensures { OnOk result (waits self.old service.old self.new service.new) };
 
     /// How much there is, for people.
     fn tally(&self, service: &D) -> Tally;

@@ -1,3 +1,4 @@
 mod HostingLemmas
 mod KeptLemmas
 mod ExportLemmas
+mod ServedLemmas

@@ -1,5 +1,5 @@
 -- a turn of the loop over a chronicle and its journal
-use Rattle.std.specs.Prelude.{◌≡◌, ℕ, List, ◌++◌, length, get_or, Bool, false, Option, Some, None}
+use Rattle.std.specs.Prelude.{◌≡◌, ◌≤◌, ℕ, List, ◌++◌, length, get_or, Bool, false, Option, Some, None}
 use Rattle.std.specs.Io.KnownBytes.{Appends, Consumes}
 use Rattle.journal_disk.specs.DiskState.{DiskState}
 use Rattle.player.specs.Progress.{Progress}
@@ -7,6 +7,7 @@ use Rattle.player.specs.Says.{Spoke}
 use Rattle.player.specs.Shared.{TurnLog, all_turns, turns_of}
 use Rattle.player.specs.Texts.{replies_of}
 use Rattle.player.specs.Turns.{Turn, exchanges}
+use Rattle.hall.specs.Halls.{IsLawful}
 use Rattle.hall.specs.HallState.{HallState}
 use Rattle.hall.specs.Serving.{accepted}
 use Rattle.journal.specs.declared.journal.Journal.{Journal}
@@ -31,6 +32,14 @@ pub record IsTold {C : Type 0} (on : Seating C) (turns : List Turn) (a d : C) : 
   pub goes_on : (before : List Turn) (p : Progress) → Spoke before (on.wire a).talker p → Spoke (before ++ turns) (on.wire d).talker (after_taken (on.wire a).talker.kind taken ends p)
   pub gained : Appends (on.gone a) (on.gone d) sent
   pub text : (on.wire d).broken ≡ false → sent ++ (on.wire d).outbox ≡ (on.wire a).outbox ++ replies_of turns
+
+-- A chronicle that was served for a while, turn after turn: its hall is lawful and of the same config, and header and journal are the record
+-- of what was handed on of it, and synced
+pub record WasHosted {D : Type 0} (state : D → Option DiskState) (c : ChronicleState) (j' : Journal D) (u : ChronicleState) : Type 0 where
+  pub lawful : IsLawful u.hall
+  pub config : u.hall.config ≡ c.hall.config
+  pub few : u.told ≤ length u.hall.history
+  pub stands : Stands state j' u
 
 -- The history gains the accepted events of all turns, in the one order of this log, and nothing else: that is the hall `full`. Header and
 -- journal are its record and are synced, at `committed`, and a crash before that leaves all that was handed on before. Then the hall may be

@@ -14,6 +14,10 @@ use Rattle.hall_host.specs.declared.keepers.Recorded.{Recorded}
 abbrev pub MayCompactHall : HallState → HallState → Type 0
 MayCompactHall h u = (u ≡ h) ⊎ IsCompacted h u
 
+-- a keeper that learns no answers leaves itself and what it keeps as they were
+abbrev pub Rests : {K T : Type 0} → K → T → K → T → Type 0
+Rests k w l u = (l ≡ k) × (u ≡ w)
+
 -- a chronicle of which all events were handed on
 abbrev pub all_told : ChronicleState → ChronicleState
 all_told c = chronicle_of c.hall (length c.hall.history)

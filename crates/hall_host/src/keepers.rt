@@ -3,7 +3,7 @@
 ghost use Rattle.std.specs.Prelude.{◌≡◌, OnOk};
 ghost use Rattle.journal.specs.Compactings.{KeepsWhenCompacted, MayCompact};
 ghost use Rattle.journal.specs.Journals.{Stands};
-ghost use Rattle.hall_host.specs.Kept.{KeptBy, MayCompactHall};
+ghost use Rattle.hall_host.specs.Kept.{KeptBy, MayCompactHall, Rests};
 
 use event_server::{Ahead, Keep, Tally};
 use hall::Hall;
@@ -31,7 +31,9 @@ impl Keep<Hall> for Unrecorded {
     ghost keeps = { λ k h l u. MayCompactHall h u };
 
     // The hall answers each request as it comes, and there is nothing to learn.
-    ghost learns = { λ k h lines l u. (l ≡ k) × (u ≡ h) };
+    ghost learns = { λ k h lines l u. Rests k h l u };
+
+    ghost waits = { λ k h l u. Rests k h l u };
 
     fn is_full(&self, _hall: &Hall) -> bool {
         false
@@ -96,7 +98,9 @@ impl<D: Disk> Keep<Chronicle> for Recorded<D> {
     ghost keeps = { KeptBy D.state };
 
     // The chronicle answers each request as it comes, and there is nothing to learn.
-    ghost learns = { λ k c lines l u. (l ≡ k) × (u ≡ c) };
+    ghost learns = { λ k c lines l u. Rests k c l u };
+
+    ghost waits = { λ k c l u. Rests k c l u };
 
     fn is_full(&self, chronicle: &Chronicle) -> bool {
         FULL_BYTES < chronicle.waiting().len()

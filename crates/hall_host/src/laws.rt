@@ -7,12 +7,24 @@ ghost use Rattle.journal.specs.Chronicles.{ChronicleServes};
 ghost use Rattle.journal.specs.Journals.{Stands};
 ghost use Rattle.event_server.specs.Seats.{LoopTurn, Seating};
 ghost use Rattle.hall_host.specs.declared.keepers.Recorded.{Recorded};
-ghost use Rattle.hall_host.specs.Hosting.{IsHosted};
-ghost use Rattle.hall_host.specs.Kept.{KeptBy};
+ghost use Rattle.event_server.specs.Rounds.{WasServed};
+ghost use Rattle.hall_host.specs.Hosting.{IsHosted, WasHosted};
+ghost use Rattle.hall_host.specs.Kept.{KeptBy, Rests};
 
-use hall::law_of_serving;
+use hall::{law_of_events, law_of_serving};
 use journal::law_of_crashes;
 use journal_disk::Disk;
+
+/// A law, which runs nothing, of what `event_server::host` does to a chronicle whose journal stands, kept by `Recorded`, as long as it runs: at
+/// its end header and journal are the record of what was handed on of a lawful hall of the same config, and synced.
+pub fn law_of_hosted_journals<D: Disk>()
+    ensures { (k l : Recorded D) (c u : ChronicleState) → IsLawful c.hall → c.told ≤ length c.hall.history → Stands D.state k.journal c →
+        WasServed ChronicleServes (λ j w lines i v. Rests j w i v) (KeptBy D.state) (λ j w i v. Rests j w i v) k c l u →
+        WasHosted D.state c l.journal u }
+{
+    law_of_events();
+    law_of_serving();
+}
 
 /// A law, which runs nothing, of what a turn of the loop (`event_server::turn`) is over a chronicle whose journal stands, kept by `Recorded`: the
 /// history has gained just the accepted events of the turn, and may have been compacted then; header and journal are its record, and synced,

@@ -21,6 +21,6 @@ pub mod start;
 pub use export::write_events;
 pub use failure::HostFailure;
 pub use keepers::{Recorded, Unrecorded};
-pub use laws::law_of_hosting;
+pub use laws::{law_of_hosted_journals, law_of_hosting};
 pub use log_plan::LogPlan;
 pub use start::{HostPlan, Keeping, export_hall, host_hall};

@@ -1,6 +1,7 @@
 -- a turn of the loop over a tape that was learnt of a log
 use Rattle.std.specs.Prelude.{◌≡◌, ◌≤◌, ◌<◌, ◌⊎◌, ℕ, List, [], ◌∷◌, ◌++◌, length, false, Option}
 use Rattle.commands.specs.declared.config.Config.{Config}
+use Rattle.one_log.specs.Places.{Keeps}
 use Rattle.one_log.specs.Replicas.{IsDueAt, Leads, StandsFrom}
 use Rattle.one_log.specs.ReplicaState.{ReplicaState}
 use Rattle.one_log.specs.declared.store.TheConstants.{MOST_PLACES}
@@ -10,6 +11,7 @@ use Rattle.hall.specs.Halls.{hall_of}
 use Rattle.hall.specs.Serving.{HallServes}
 use Rattle.event_server.specs.Seats.{RepliesSent, Seating, TurnsTaken}
 use Rattle.hall_log.specs.Entries.{HallApplies, behind_first_line}
+use Rattle.hall_log.specs.Said.{tape_of}
 use Rattle.hall_log.specs.TapeState.{TapeState}
 
 -- nothing stands at the place behind all that was applied, as a store tells, or there is none
@@ -27,6 +29,14 @@ pub record IsLearnt (stands : ℕ → List ℕ → Type 0) (config : Config) (pl
 -- the same, of the lines of a batch
 abbrev pub IsServed : (ℕ → List ℕ → Type 0) → Config → ℕ → List ℕ → TapeState → ReplicaState HallState → Type 0
 IsServed stands config place batch tape r = IsLearnt stands config place (behind_first_line batch) tape r
+
+-- A front end went on by itself, or waited in vain: all that stood in the log stands, its hall is of the same config and no earlier, and its
+-- tape tells nothing
+pub record HasGoneOn (stood stands : ℕ → List ℕ → Type 0) (config config' : Config) (r r' : ReplicaState HallState) (tape : TapeState) : Type 0 where
+  pub keeps : Keeps stood stands
+  pub config_is : config' ≡ config
+  pub later : r'.spoiled ≡ false → (r.spoiled ≡ false) × (r.place ≤ r'.place)
+  pub untold : tape ≡ tape_of []
 
 -- all that was on the tape was said again, to just those who asked for it, and keeper and tape are as they were
 pub record IsUsedUp {K : Type 0} (k : K) (w : TapeState) (l : K) (u : TapeState) : Type 0 where

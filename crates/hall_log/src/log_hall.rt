@@ -117,6 +117,7 @@ impl<S: Store> LogHall<S> {
         ensures unanswered { tape.new ≡ tape_of [] }
         ensures keeps { Keeps (S.stands self.old.store) (S.stands self.new.store) }
         ensures config { self.new.config ≡ self.old.config }
+        ensures later { self.new.replica.spoiled ≡ false → (self.old.replica.spoiled ≡ false) × (self.old.replica.place ≤ self.new.replica.place) }
         ensures count { IfOk result (λ n. self.new.replica.place ≡ self.old.replica.place + n) }
         ensures stopped { IfOk result (λ n. n < most → IsAtEnd (S.lacks self.new.store) self.new.replica.place) }
     {

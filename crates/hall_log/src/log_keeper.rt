@@ -1,6 +1,6 @@
 //! Serves the clients of one front end over a log.
 
-ghost use Rattle.std.specs.Prelude.{◌≡◌, ◌≢◌, ◌+◌, ◌<◌, [], true, false, Ok, OnOk, IfOk, All};
+ghost use Rattle.std.specs.Prelude.{◌≡◌, ◌≢◌, ◌+◌, ◌≤◌, ◌<◌, [], true, false, Ok, OnOk, IfOk, All};
 ghost use Rattle.std.specs.String.{string_bytes};
 ghost use Rattle.one_log.specs.Places.{Keeps};
 ghost use Rattle.hall_log.specs.Entries.{behind_first_line, first_line_of};
@@ -221,6 +221,9 @@ impl<S: Store, T: Pause> LogKeeper<S, T> {
         ensures learnt { result ≡ Ok Ahead.Known →
             IsServed (S.stands self.new.log.store) self.new.log.config self.old.log.replica.place self.old.batch.items tape.new self.new.log.replica }
         ensures lost { result ≢ Ok Ahead.Known → tape.new ≡ tape_of [] }
+        ensures keeps { Keeps (S.stands self.old.log.store) (S.stands self.new.log.store) }
+        ensures config { self.new.log.config ≡ self.old.log.config }
+        ensures later { self.new.log.replica.spoiled ≡ false → (self.old.log.replica.spoiled ≡ false) × (self.old.log.replica.place ≤ self.new.log.replica.place) }
     {
         tape.clear();
         self.pause.begin();
@@ -240,13 +243,15 @@ impl<S: Store, T: Pause> LogKeeper<S, T> {
 }
 
 impl<S: Store, T: Pause> Keep<Tape> for LogKeeper<S, T> {
-    ghost use Rattle.hall_log.specs.Hosted.{IsLearnt, IsUsedUp};
+    ghost use Rattle.hall_log.specs.Hosted.{HasGoneOn, IsLearnt, IsUsedUp};
 
     type Fault = LogFault;
 
     ghost keeps = { λ k w l u. IsUsedUp k w l u };
 
     ghost learns = { λ k w lines l u. IsLearnt (S.stands l.log.store) l.log.config k.log.replica.place lines u l.log.replica };
+
+    ghost waits = { λ k w l u. HasGoneOn (S.stands k.log.store) (S.stands l.log.store) k.log.config l.log.config k.log.replica l.log.replica u };
 
     fn is_full(&self, _tape: &Tape) -> bool {
         false

@@ -16,7 +16,7 @@ returns-in_ok-keep-in-Known-clause-served g c =
       learnt_by = c.learn.new.keep;
       ready = c.learn.new.service;
       gathered = c.gather-looked.ensures.gathered;
-      learnt = c.in_ok-learn.ensures (ap Ok c.in-Known.is);
+      learnt = c.in_ok-learn.ensures.known (ap Ok c.in-Known.is);
       turn = record { log = k.0; told = c.take_looked.new.service; between = c.take_looked.new.seats; taken = k.1; kept = c.in_ok-keep-in-Known.ensures; sent = c.send_replies.ensures.sent };
       told = t.0;
       told_is = t.1;

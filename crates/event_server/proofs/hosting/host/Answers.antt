@@ -1,5 +1,8 @@
 use Rattle.std.proofs.Common.{◌++◌, []}
+use Rattle.event_server.proofs.RoundLemmas.{always, served_none, served_then}
+use Rattle.event_server.specs.Rounds.{WasServed}
 use contract.BorrowLft.{⊑_meet, ⊑_refl, ⊑_static}
+use Rattle.event_server.proofs.hosting.host.Goals.{in-None, in-Some+in_ok-go_round+then-is_over}
 use Rattle.event_server.proofs.hosting.host.Goals as goal
 
 pub into_iter-iterator-requires : goal.into_iter-iterator-requires
@@ -9,3 +12,27 @@ into_iter-iterator-requires g c κs = λ within.
     let one = ⊑_meet κ lives [] within (⊑_static κ) in
     let two = ⊑_meet κ (κ ++ lives) [] (⊑_meet κ κ lives (⊑_refl κ) within) (⊑_static κ) in
     ((within, (within, tt)), (⊑_meet κ (lives ++ []) ((κ ++ lives) ++ []) one two, ⊑_static κs.1.0))
+
+pub loop-init : goal.loop-init
+loop-init g c = record {
+  room = c.in_ok-room.ensures;
+  served = served_none g.D.Service.may g.K.Keep.learns g.K.Keep.keeps g.K.Keep.waits c.args.keep.now c.args.service.now;
+}
+
+pub loop-preserved : goal.loop-preserved
+loop-preserved g c = record {
+  room = c.go_round.ensures.room;
+  served = served_then g.D.Service.may g.K.Keep.learns g.K.Keep.keeps g.K.Keep.waits _ _ _ _ _ _ c.loop.invariant.served c.in_ok-go_round.ensures.served;
+}
+
+pub returns : goal.returns
+returns g c =
+    let may = g.D.Service.may in
+    let learns = g.K.Keep.learns in
+    let keeps = g.K.Keep.keeps in
+    let waits = g.K.Keep.waits in
+    always c.tell_end.result (WasServed may learns keeps waits c.args.keep.now c.args.service.now c.match-next.keep c.match-next.service)
+    (elim c.match-next.branch as (λ _. WasServed may learns keeps waits c.args.keep.now c.args.service.now c.match-next.keep c.match-next.service) [
+      | in-None w ↦ rw (w.keep-is, w.service-is) c.loop.invariant.served
+      | in-Some+in_ok-go_round+then-is_over w ↦ rw (w.keep-is, w.service-is) (served_then may learns keeps waits _ _ _ _ _ _ c.loop.invariant.served w.in_ok-go_round.ensures.served)
+    ])

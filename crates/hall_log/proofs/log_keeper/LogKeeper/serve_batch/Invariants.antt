@@ -1,4 +1,5 @@
 use Rattle.std.proofs.Common.{◌≡◌, ◌≤◌, [], false}
+use Rattle.one_log.specs.Places.{Keeps}
 use Rattle.hall_log.specs.Said.{tape_of}
 use Rattle.hall_log.proofs.log_keeper.LogKeeper.serve_batch.Given as goal
 
@@ -6,6 +7,8 @@ use Rattle.hall_log.proofs.log_keeper.LogKeeper.serve_batch.Given as goal
 abbrev pub invariant-loop : goal.invariant-loop
 invariant-loop g l = record {
   batch : l.self.batch ≡ l.fn.self.batch;
-  later : l.self.log.replica.spoiled ≡ false → l.fn.self.log.replica.place ≤ l.self.log.replica.place;
+  later : l.self.log.replica.spoiled ≡ false → (l.fn.self.log.replica.spoiled ≡ false) × (l.fn.self.log.replica.place ≤ l.self.log.replica.place);
   silent : l.tape ≡ tape_of [];
+  keeps : Keeps (g.S.Store.stands l.fn.self.log.store) (g.S.Store.stands l.self.log.store);
+  config : l.self.log.config ≡ l.fn.self.log.config;
 }

@@ -1,0 +1,29 @@
+-- what a server does to its service and its keeper as long as it runs
+use Rattle.std.specs.Prelude.{◌≡◌, ℕ, List, [], ◌∷◌}
+use Rattle.commands.specs.Replies.{ShownReply}
+use Rattle.commands.specs.Requests.{Request}
+use Rattle.player.specs.Runs.{Runs}
+use Rattle.player.specs.Turns.{Turn}
+
+-- one thing that is done: the keeper goes on by itself; the answers to these lines are learnt; or these turns are taken, and what the service
+-- tells of them is kept
+pub data Deed : Type 0 where
+  Waits : Deed
+  Learns : List ℕ → Deed
+  Serves : List Turn → Deed
+
+module _ {T K : Type 0} (may : T → Request → ShownReply → T → Type 0) (learns : K → T → List ℕ → K → T → Type 0) (keeps waits : K → T → K → T → Type 0) where
+  -- it leads a keeper and a service from there to here
+  abbrev pub DoneBy : K → T → Deed → K → T → Type 0
+  DoneBy k w Waits l u = waits k w l u
+  DoneBy k w (Learns lines) l u = learns k w lines l u
+  DoneBy k w (Serves turns) l u = (told : T) × Runs may w turns told × keeps k told l u
+
+  -- all of these do, one after another
+  abbrev pub AllDone : K → T → List Deed → K → T → Type 0
+  AllDone k w [] l u = (l ≡ k) × (u ≡ w)
+  AllDone k w (deed ∷ deeds) l u = (mid : K) × (then : T) × DoneBy k w deed mid then × AllDone mid then deeds l u
+
+  -- nothing else was done to them
+  abbrev pub WasServed : K → T → K → T → Type 0
+  WasServed k w l u = (deeds : List Deed) × AllDone k w deeds l u
