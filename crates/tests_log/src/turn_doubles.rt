@@ -138,6 +138,8 @@ impl Keep<Told> for Teller {
 
     ghost learns = { λ k w lines l u. ⊤ };
 
+    ghost waits = { λ k w l u. ⊤ };
+
     fn is_full(&self, _service: &Told) -> bool {
         false
     }
