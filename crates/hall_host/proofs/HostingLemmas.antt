@@ -44,7 +44,7 @@ pub record Follows (c u : ChronicleState) (ts : List Turn) : Type 0 where
   pub config : u.hall.config ≡ c.hall.config
   pub told : u.told ≡ c.told
 
-follows : (c u : ChronicleState) (ts : List Turn) → Runs ChronicleServes c ts u → Follows c u ts
+pub follows : (c u : ChronicleState) (ts : List Turn) → Runs ChronicleServes c ts u → Follows c u ts
 follows c u [] run = record { run = ap (λ (x : ChronicleState). x.hall) run; config = ap (λ (x : ChronicleState). x.hall.config) (sym run); told = ap (λ (x : ChronicleState). x.told) (sym run) }
 follows c u (Answered x ∷ ts) run =
     let later = follows run.0 u ts run.2 in
@@ -56,20 +56,20 @@ follows c u (Ended ∷ ts) run = let later = follows c u ts run in record { run 
 follows c u (Misread bad ∷ ts) run = let later = follows c u ts run in record { run = later.run; config = later.config; told = later.told }
 
 -- what was handed on stays the same record where the history goes on
-same_told : (c u : ChronicleState) (more : List Exchange) → c.told ≤ length c.hall.history → u.hall.config ≡ c.hall.config → u.told ≡ c.told → u.hall.history ≡ c.hall.history ++ more → told_record u ≡ told_record c
+pub same_told : (c u : ChronicleState) (more : List Exchange) → c.told ≤ length c.hall.history → u.hall.config ≡ c.hall.config → u.told ≡ c.told → u.hall.history ≡ c.hall.history ++ more → told_record u ≡ told_record c
 same_told c u more few config told history =
     ap (λ (g : Config). record_text g (take u.told u.hall.history)) config ∙ ap (λ (n : ℕ). record_text c.hall.config (take n u.hall.history)) told
     ∙ ap (λ (l : List Exchange). record_text c.hall.config (take c.told l)) history ∙ ap (record_text c.hall.config) (take-append-le c.told c.hall.history more few)
 
 -- so a journal that stands for a chronicle stands for it later, before anything is handed on
-still_stands : {D : Type 0} (state : D → Option DiskState) (j : Journal D) (c u : ChronicleState) → told_record u ≡ told_record c → Stands state j c → Stands state j u
+pub still_stands : {D : Type 0} (state : D → Option DiskState) (j : Journal D) (c u : ChronicleState) → told_record u ≡ told_record c → Stands state j c → Stands state j u
 still_stands state j c u same stands = record {
   well = stands.well;
   known = λ s is. let synced = stands.known s is in record { contents = synced.contents ∙ sym same; synced = synced.synced };
 }
 
 -- all of a chronicle that may be compacted is handed on
-after_compacting : (c u : ChronicleState) → MayCompact (all_told c) u → MayCompactHall c.hall u.hall × (u.told ≡ length u.hall.history)
+pub after_compacting : (c u : ChronicleState) → MayCompact (all_told c) u → MayCompactHall c.hall u.hall × (u.told ≡ length u.hall.history)
 after_compacting c u (inl same) = (inl (ap (λ (x : ChronicleState). x.hall) same), ap (λ (x : ChronicleState). x.told) same ∙ ap (λ (x : ChronicleState). length x.hall.history) (sym same))
 after_compacting c u (inr done) = (inr done.compacted, done.told)
 

@@ -1,5 +1,5 @@
 -- what is kept of a turn
-use Rattle.std.proofs.Common.{◌≡◌, ◌⊎◌, ◌≤◌, length, Option, Result, Ok, Err, OnOk, inl, inr, refl, ap, sym, subst}
+use Rattle.std.proofs.Common.{◌≡◌, ◌≤◌, length, Option, Result, Ok, Err, OnOk, inl, inr, refl, ap, sym, subst}
 use Rattle.journal_disk.specs.DiskState.{DiskState}
 use Rattle.journal.specs.declared.journal.Journal.{Journal}
 use Rattle.journal.specs.ChronicleState.{ChronicleState}
