@@ -1,9 +1,12 @@
 //! Several replicas that share one log in memory.
 
-ghost use Rattle.std.specs.Prelude.{◌≡◌, ◌≢◌, ◌<◌, ℕ, [], ◌∷◌, ◌++◌, ◌⊎◌, length, slice_get, false, Ok, OnOk, OnErr, IfErr};
+ghost use Rattle.std.specs.Prelude.{◌≡◌, ◌≢◌, ◌<◌, ℕ, [], ◌∷◌, ◌++◌, ◌⊎◌, length, slice_get, false, Some, Ok, Err, OnOk, OnErr, IfErr};
 ghost use Rattle.one_log.specs.Causes.{FailsInMemory, MayCause, MayFail};
 ghost use Rattle.one_log.specs.Groups.{IsOneHistory, StaysOneHistory, TellsOneMore};
+ghost use Rattle.one_log.specs.Replicas.{FaultLeaves};
+ghost use Rattle.one_log.specs.ReplicaState.{ReplicaState};
 ghost use Rattle.one_log.specs.declared.replica.Step.TheVariants.{Answered};
+ghost use Rattle.one_log.specs.declared.serve_fault.ServeFault.TheVariants.{TooLong};
 
 use crate::machine::Machine;
 use crate::memory_store::MemoryStore;
@@ -77,6 +80,7 @@ impl<M: Machine + Drop> Group<M> {
         ensures unanswered { result ≢ Ok Answered → M.silent replies.new }
         ensures answered { result ≡ Ok Answered → (start : M) → TellsOneMore M.applies start self.old self.new batch.now replies.new }
         ensures history { (start : M) → StaysOneHistory M.applies start self.old self.new }
+        ensures leaves { (r s : ReplicaState M) → slice_get self.old.replicas at ≡ Some r → slice_get self.new.replicas at ≡ Some s → IfErr result (λ cause. FaultLeaves r cause s) }
         ensures fault { IfErr result (MayCause FailsInMemory) }
     {
         self.replicas[at].step(&mut self.store, batch, replies)
@@ -95,6 +99,8 @@ impl<M: Machine + Drop> Group<M> {
         ensures unanswered { OnErr result (M.silent replies.new) }
         ensures answered { OnOk result ((start : M) → TellsOneMore M.applies start self.old self.new batch.now replies.new) }
         ensures history { (start : M) → StaysOneHistory M.applies start self.old self.new }
+        ensures too_long { 65536 < length batch.now → result ≡ Err TooLong }
+        ensures refused { result ≡ Err TooLong → 65536 < length batch.now }
         ensures fault { IfErr result (MayFail FailsInMemory) }
     {
         self.replicas[at].serve(&mut self.store, batch, replies)

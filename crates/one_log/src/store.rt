@@ -1,8 +1,9 @@
 //! Places that are written once.
 
-ghost use Rattle.std.specs.Prelude.{◌≡◌, ℕ, List, true, false, Ok, IfErr};
+ghost use Rattle.std.specs.Prelude.{◌≡◌, ◌<◌, ℕ, List, true, false, Ok, Err, IfErr};
 ghost use Rattle.one_log.specs.Places.{Adds, IsTaken, Same};
 ghost use Rattle.one_log.specs.declared.store.Put.TheVariants.{Written, Taken};
+ghost use Rattle.one_log.specs.declared.store_fault.StoreFault.TheVariants.{Gap};
 
 use crate::store_fault::StoreFault;
 
@@ -34,12 +35,13 @@ pub trait Store {
     ghost fails: { StoreFault → Type 0 };
 
     /// Writes an entry at a place below `MOST_PLACES`, if nothing stands there. At a fault it may stand there, or come to stand there
-    /// later.
+    /// later. `Gap` only where nothing stands at a place before this one.
     fn put(&mut self, place: u64, entry: &[u8]) -> Result<Put, StoreFault>
         ensures written { result ≡ Ok Written → stands self.new place entry.now }
         ensures taken { result ≡ Ok Taken → Same (stands self.old) (stands self.new) }
         ensures stood { result ≡ Ok Taken → IsTaken (stands self.new) place }
         ensures adds { Adds (stands self.old) place entry.now (stands self.new) }
+        ensures gap { result ≡ Err Gap → (below : ℕ) × (below < place) × lacks self.new below }
         ensures fault { IfErr result fails };
 
     /// Puts what stands at a place over a list; false where nothing does.
