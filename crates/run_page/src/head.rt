@@ -78,6 +78,7 @@ table { border-collapse: collapse; width: 100%; font-variant-numeric: tabular-nu
 th, td { text-align: left; padding: .18rem .6rem .18rem 0; border-bottom: 1px solid var(--line); }
 #people { white-space: nowrap; }
 th { font-weight: 500; color: var(--soft); font-size: .85rem; }
+#people th[scope=col] { position: sticky; top: 0; background: var(--card); }
 .cells { display: flex; flex-wrap: wrap; gap: .3rem; margin-bottom: 1rem; }
 .cell {
   border: 1px solid var(--line); border-radius: 6px; padding: .1rem .45rem; min-width: 3.2rem;
@@ -85,6 +86,7 @@ th { font-weight: 500; color: var(--soft); font-size: .85rem; }
 }
 .cell small { display: block; color: var(--soft); }
 .cell.has { border-color: var(--ink); font-weight: 600; }
+.cell.far { border-style: dashed; opacity: .6; }
 .key { display: flex; flex-wrap: wrap; gap: .2rem 1.1rem; margin-top: .6rem; color: var(--soft); }
 .key span { display: inline-flex; align-items: center; gap: .3rem; }
 pre { overflow: auto; max-height: 24rem; font: 12px/1.45 ui-monospace, monospace; }
@@ -96,10 +98,27 @@ pre { overflow: auto; max-height: 24rem; font: 12px/1.45 ui-monospace, monospace
 .still b:empty { display: none; }
 .still ul { columns: 18rem; padding-left: 1.2rem; }
 @media (max-width: 52rem) { .stage { grid-template-columns: minmax(0, 1fr); } }
+@media (max-width: 30rem) {
+  #people { font-size: .82rem; }
+  #people th, #people td { font-size: inherit; padding-right: .3rem; }
+  #keys { display: none; }
+}
+@media screen {
+  .stage .wide { max-height: max(22rem, 100vh - 14rem); }
+  #state .wide { max-height: max(16rem, 100vh - 36rem); }
+  .cells { max-height: 13rem; overflow-y: auto; }
+}
+@media screen and (min-width: 52rem) and (min-height: 40rem) {
+  #player { position: sticky; top: 0; z-index: 1; }
+}
 @media print {
-  .controls, details { display: none; }
+  .controls button, .controls input, #keys, details { display: none; }
   body { max-width: none; }
   .card { break-inside: avoid; }
+  .stage { display: block; }
+  #space { min-width: 0 !important; max-height: 50vh; }
+  .whole #time, .whole #lanes { width: 100%; height: auto; }
+  .whole .lanes > * { flex: var(--part, 72) 1 0; min-width: 0; }
 }
 </style>
 <noscript><style>.stage, #timecard { display: none; }</style></noscript>
@@ -130,10 +149,12 @@ pre { overflow: auto; max-height: 24rem; font: 12px/1.45 ui-monospace, monospace
   </section>
   <section class="card" id="state">
     <h2>Participants</h2>
-    <div class="wide"><table id="people"><tbody></tbody></table></div>
+    <div class="wide"><table id="people" aria-label="Participants"><tbody></tbody></table></div>
     <h2 style="margin-top:1rem">Names</h2>
+    <p class="note" id="law"></p>
     <div class="cells" id="names"></div>
     <h2>Pool and slots</h2>
+    <p class="note" id="crowd"></p>
     <div class="cells" id="pool"></div>
   </section>
 </div>
@@ -144,6 +165,7 @@ pre { overflow: auto; max-height: 24rem; font: 12px/1.45 ui-monospace, monospace
     <div class="wide" id="scroll"><svg id="time" role="img" aria-labelledby="when"></svg></div>
   </div>
   <div class="key" id="key" aria-label="what the marks mean"></div>
+  <p class="note" id="keys">A click on a mark shows its event. The keys ← and → go one event back and forth, Home and End to the ends, Space plays.</p>
 </section>
 <details class="card" id="source">
 <summary>The events as data: event, reply, reply of a desk, access, and then what stands in its register, the next access, place, name,

@@ -323,6 +323,7 @@ function drawRoom(s, p, part, here) {
     : (home ? 'proposes –' : '');
   part.segment.setAttribute('class', near === 'segment' ? 'fresh' : 'strong');
   part.box.setAttribute('class', near ? 'room now' : 'room');
+  part.g.setAttribute('class', near || entered.has(p) ? '' : 'unentered');
   part.g.setAttribute('data-x', x);
   part.g.setAttribute('data-y', y);
   part.g.setAttribute('data-segment', written === undefined ? '' : written);
@@ -398,19 +399,42 @@ function cell(parent, number, text, small) {
   node.dataset.owner = text;
 }
 
+// how many have begun: each makes an access next, or has its name, or is spent
+function begunBy(s) {
+  return [...s.people.values()].filter((one) => one.next !== null || one.name !== '').length;
+}
+
+// what is proved of the names of every run, with the numbers of this moment
+function lawWords(begun) {
+  if (begun === 0) return 'Nobody has begun.';
+  return begun + (begun === 1 ? ' has' : ' have') + ' begun: distinct names up to 2 · ' + begun + ' − 1 = '
+    + (2 * begun - 1) + '.';
+}
+
+// the same of the numbers of the pool
+function crowdWords(s, size) {
+  const many = [...s.people.values()].filter((one) => one.pool !== '').length;
+  return many + ' of at most ' + size + (many === 1 ? ' competes' : ' compete') + ': no number has two holders.';
+}
+
 function drawCells(s) {
   const names = $('names');
   const pool = $('pool');
   const holders = new Map();
   for (const [id, one] of s.people) if (one.number !== '') holders.set(one.number, id);
   const size = Number(s.facts.get('size'));
-  const all = JSON.stringify([...s.facts, '', ...holders]);
+  const begun = begunBy(s);
+  const crowd = crowdWords(s, size);
+  const all = JSON.stringify([...s.facts, '', ...holders, begun, crowd]);
   if (pool.drawn === all) return;
   pool.drawn = all;
+  $('law').textContent = lawWords(begun);
+  $('crowd').textContent = crowd;
   names.replaceChildren();
   pool.replaceChildren();
   for (let n = 1; n < 2 * Number(config.m); n += 1) {
     cell(names, n, s.facts.get('name ' + n) || '', String(n));
+    if (n >= 2 * begun) names.lastChild.classList.add('far');
   }
   for (let n = 1; n <= size; n += 1) {
     const slot = value(s, 'slot', n);
@@ -517,6 +541,10 @@ function buildTime() {
   const lanes = $('lanes');
   lanes.setAttribute('width', 72);
   lanes.setAttribute('height', high);
+  lanes.setAttribute('viewBox', '0 0 72 ' + high);
+  // a short diagram is printed whole, and both its parts in one scale
+  $('scroll').style.setProperty('--part', wide);
+  $('timecard').classList.toggle('whole', rows.length <= 120);
   put(svg, 'title', {}, 'One lane a participant, one mark an event'
     + (offset > 0 ? ', from event ' + (offset + 1) + ' on' : ''));
   const behind = put(svg, 'g', {});
@@ -576,7 +604,9 @@ function buildKey(used) {
   if (used.has('saw') || used.has('named')) {
     say(key, 'span', '▭ a scan, and dashed in it a moment that its view shows');
   }
-  say(key, 'span', '│ from here on two propose the same, ring and diamond');
+  if ($('time').querySelector('path.clash')) {
+    say(key, 'span', '│ from here on two propose the same, ring and diamond');
+  }
 }
 
 // ---- moving
@@ -604,7 +634,7 @@ function show(count) {
   const x = shown ? across(shown - 1) : LEFT / 2;
   $('cursor').setAttribute('x1', x);
   $('cursor').setAttribute('x2', x);
-  requestAnimationFrame(() => keepInSight(x));
+  requestAnimationFrame(() => { keepInSight(x); keepRoomInSight(r); });
   slowest = Math.max(slowest, performance.now() - began);
   document.documentElement.dataset.shown = shown;
   document.documentElement.dataset.slowest = slowest.toFixed(1);
@@ -623,6 +653,23 @@ function keepInSight(x) {
   }
 }
 
+// scrolls the splitters, and nothing around them, so far that the one of this event is in sight
+function keepRoomInSight(r) {
+  const part = r && r.access && parts.get(r.access.place);
+  if (!part) return;
+  const box = $('space').parentNode;
+  const [all, one] = [box.getBoundingClientRect(), part.box.getBoundingClientRect()];
+  if (one.left < all.left || one.right > all.right) {
+    box.scrollLeft += (one.left + one.right - all.left - all.right) / 2;
+  }
+  if (one.top < all.top || one.bottom > all.bottom) {
+    box.scrollTop += (one.top + one.bottom - all.top - all.bottom) / 2;
+  }
+}
+
+// how many milliseconds an event is shown while the run is played
+const PACE = rows.length > 120 ? 100 : 500;
+
 function stop() {
   if (timer !== null) clearInterval(timer);
   timer = null;
@@ -638,7 +685,7 @@ function toggle() {
   timer = setInterval(() => {
     show(shown + 1);
     if (shown === rows.length) stop();
-  }, 500);
+  }, PACE);
 }
 
 function move(count) { stop(); show(count); }
@@ -649,7 +696,8 @@ function pressed(event) {
     ArrowLeft: () => move(shown - 1), ArrowRight: () => move(shown + 1),
     Home: () => move(0), End: () => move(rows.length), ' ': toggle,
   };
-  if (!keys[event.key] || (event.key === ' ' && event.target.tagName === 'BUTTON')) return;
+  const takesSpace = ['BUTTON', 'SUMMARY'].includes(event.target.tagName);
+  if (!keys[event.key] || (event.key === ' ' && takesSpace)) return;
   event.preventDefault();
   keys[event.key]();
 }
@@ -663,6 +711,7 @@ function about() {
   else if (rows.length < run.events) {
     text += ' Shown are events ' + (offset + 1) + ' to ' + last
       + (offset > 0 ? ', after what stood before them.' : '.');
+    if (last < run.events) text += ' More: slotctl show --from ' + (last + 1) + '.';
   }
   const end = stateAt(rows.length);
   if (end.differ > 0) {
