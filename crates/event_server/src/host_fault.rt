@@ -1,7 +1,7 @@
 //! Why a server did not come to its end.
 
 use std::alloc::{AllocError, AllocFailed};
-use std::io;
+use std::io::{self, ErrorKind};
 use step_memory::NoMemory;
 
 /// Why a host did not come to its end. A fault of one connection is none of these.
@@ -9,8 +9,8 @@ use step_memory::NoMemory;
 pub enum HostFault<F> {
     /// A growth was refused.
     Memory,
-    /// To listen or to wait failed.
-    Network,
+    /// To listen or to wait failed, so the system told.
+    Network(ErrorKind),
     /// What it tells was not taken.
     Output,
     /// What the service told could not be kept; no reply of that turn was sent.
@@ -30,7 +30,7 @@ impl<F> From<NoMemory> for HostFault<F> {
 }
 
 impl<F> From<io::Error> for HostFault<F> {
-    fn from(_error: io::Error) -> HostFault<F> {
-        HostFault::Network
+    fn from(error: io::Error) -> HostFault<F> {
+        HostFault::Network(error.kind())
     }
 }

@@ -15,9 +15,9 @@ pub enum HostFailure {
     /// A growth was refused.
     #[error("no memory")]
     Memory,
-    /// To listen or to wait failed.
-    #[error("network fault: is the port taken, or the address none of this machine?")]
-    Network,
+    /// To listen or to wait failed, so the system told.
+    #[error("network fault: {0}")]
+    Network(ErrorKind),
     /// What it tells was not taken.
     #[error("write fault")]
     Output,
@@ -118,7 +118,7 @@ impl From<HostFault<JournalFault>> for HostFailure {
     fn from(fault: HostFault<JournalFault>) -> HostFailure {
         match fault {
             HostFault::Memory => HostFailure::Memory,
-            HostFault::Network => HostFailure::Network,
+            HostFault::Network(kind) => HostFailure::Network(kind),
             HostFault::Output => HostFailure::Output,
             HostFault::Keep(fault) => HostFailure::from(fault),
         }
@@ -140,7 +140,7 @@ impl From<HostFault<LogFault>> for HostFailure {
     fn from(fault: HostFault<LogFault>) -> HostFailure {
         match fault {
             HostFault::Memory => HostFailure::Memory,
-            HostFault::Network => HostFailure::Network,
+            HostFault::Network(kind) => HostFailure::Network(kind),
             HostFault::Output => HostFailure::Output,
             HostFault::Keep(fault) => HostFailure::from(fault),
         }
