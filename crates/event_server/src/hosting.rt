@@ -35,7 +35,7 @@ const EVENTS: usize = 1024;
 /// The most connections that are accepted in one turn.
 const MOST_ACCEPTS: u32 = 1024;
 
-/// How many seconds pass from one report to the next.
+/// How many seconds pass from one report to the next; the first is due at once.
 const REPORT_TICKS: u64 = 60;
 
 /// How many rounds, each of which waits for a tenth of a second at most, are given at the end for replies to be taken, the one in which the
@@ -53,7 +53,7 @@ pub struct HostOptions {
     pub clients: usize,
     /// After how many seconds a client that says nothing is closed; never, where it is not given.
     pub idle: Option<u64>,
-    /// Whether a line a minute tells how much there is.
+    /// Whether a line at first and then one a minute tells how much there is.
     pub reports: bool,
 }
 
@@ -83,6 +83,9 @@ struct Hosting {
     full: bool,
     /// Whether it was said that one could not be accepted.
     said: bool,
+    /// Whether the answers that were wanted last were not learnt, and whether that was said.
+    lost: bool,
+    said_lost: bool,
     stop: bool,
     /// For how many rounds more what waits is sent, once it is to stop.
     last: u64,
@@ -108,6 +111,8 @@ impl Drop for Hosting {
             waiting: _,
             full: _,
             said: _,
+            lost: _,
+            said_lost: _,
             stop: _,
             last: _,
             batch: _,
@@ -187,10 +192,12 @@ impl Hosting {
             house: House::new(alloc),
             start,
             tick: 0,
-            report: REPORT_TICKS,
+            report: 0,
             waiting: false,
             full: false,
             said: false,
+            lost: false,
+            said_lost: false,
             stop: false,
             last: LAST_ROUNDS,
             batch,
@@ -217,6 +224,7 @@ impl Hosting {
         self.tell_full(errors);
         self.tell_tick(service, keep)?;
         self.serve(rt, service, keep, room)?;
+        self.tell_lost(errors);
         if self.is_report_due() {
             self.tell_tally(keep.tally(service), errors);
         }
@@ -299,9 +307,15 @@ impl Hosting {
         let House { seats, ready, .. } = &mut self.house;
         let called = match &mut self.batch {
             None => turn(rt, service, keep, room, seats, ready),
-            Some(batch) => {
-                turn_ahead(rt, service, keep, batch, room, seats, ready).map(Called::count)
-            }
+            Some(batch) => match turn_ahead(rt, service, keep, batch, room, seats, ready) {
+                Ok(called) => {
+                    if !batch.lines.is_empty() {
+                        self.lost = matches!(called, Called::Unserved(_));
+                    }
+                    Ok(called.count())
+                }
+                Err(fault) => Err(fault),
+            },
         };
         match called {
             Ok(called) => self.settle(called),
@@ -360,7 +374,21 @@ impl Hosting {
         }
     }
 
-    // Whether it is time to tell how much there is: once a minute where that is wanted.
+    // Says that answers are not learnt, and that they are again, once each.
+    fn tell_lost<E: Write>(&mut self, errors: &mut E) {
+        if self.lost == self.said_lost {
+            return;
+        }
+        self.said_lost = self.lost;
+        let text = if self.lost {
+            "slotctl: the log does not answer; clients that asked are closed\n"
+        } else {
+            "slotctl: the log answers again\n"
+        };
+        let _ = errors.write_all(text.as_bytes());
+    }
+
+    // Whether it is time to tell how much there is: at first and once a minute where that is wanted.
     fn is_report_due(&self) -> bool {
         self.options.reports && self.report <= self.tick
     }

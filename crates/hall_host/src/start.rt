@@ -47,7 +47,7 @@ pub struct HostPlan<'a> {
     pub idle: Option<u64>,
     /// Where the history is kept.
     pub keeping: Keeping<'a>,
-    /// Whether a line a minute tells how much there is.
+    /// Whether a line at first and then one a minute tells how much there is.
     pub reports: bool,
 }
 
