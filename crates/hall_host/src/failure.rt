@@ -27,6 +27,9 @@ pub enum HostFailure {
     /// Another server has the journal.
     #[error("journal in use")]
     InUse,
+    /// The path of the journal names a device, a pipe or a socket.
+    #[error("journal fault: no regular file, but a device, a pipe or a socket")]
+    NotRegular,
     /// The file of the journal failed. What was not synced was not answered.
     #[error("journal fault: {0}")]
     Journal(ErrorKind),
@@ -60,6 +63,7 @@ impl From<FileFault> for HostFailure {
     fn from(fault: FileFault) -> HostFailure {
         match fault {
             FileFault::InUse => HostFailure::InUse,
+            FileFault::NotRegular => HostFailure::NotRegular,
             FileFault::Failed(kind) => HostFailure::Journal(kind),
         }
     }

@@ -15,6 +15,8 @@ use std::{fs, io};
 pub enum FileFault {
     /// Another program has it open as its journal.
     InUse,
+    /// It is a device, a pipe or a socket: what is read of it is not what was written, and may have no end.
+    NotRegular,
     /// The system failed, so it was told.
     Failed(ErrorKind),
 }
@@ -76,9 +78,12 @@ fn lock<R: Files<File = File>>(rt: &R, path: &str, file: &File) -> Result<(), Fi
     Ok(())
 }
 
-/// Opens and locks a file; one that is missing is made, and its folder is synced.
+/// Opens and locks a regular file; one that is missing is made, and its folder is synced.
 fn locked<R: Files<File = File>>(rt: &R, path: &str) -> Result<File, FileFault> {
     let file = opened(rt, path)?;
+    if !File::metadata(&file)?.is_file() {
+        return Err(FileFault::NotRegular);
+    }
     lock(rt, path, &file)?;
     sync_folder(rt, path)?;
     Ok(file)
