@@ -1,6 +1,5 @@
 -- what a server does, one thing after another
 use Rattle.std.proofs.Common.{◌≡◌, ◌⊎◌, inl, inr, ℕ, List, [], ◌∷◌, ◌++◌, Option, Result, Ok, Err, IfOk, OnOk, is_ok, true, take, refl, subst}
-use Rattle.std.proofs.lemmas.Result.{IfOk-at_ok}
 use Rattle.event_server.proofs.Common.{Request, ShownReply, Look, WorldKind}
 use Rattle.player.specs.Shared.{all_turns}
 use Rattle.event_server.specs.Gathering.{TurnAhead}
@@ -52,11 +51,10 @@ module _ {T K : Type 0} (may : T → Request → ShownReply → T → Type 0) (l
         ]
 
     -- the same of a turn by its result, where it went well
-    pub served_turned : {E : Type 0} (Due : C → Type 0) (r : Result ℕ E) (n : ℕ) (ready : List ℕ) (k l : K) (w u : T) (seats seats' : List (Option C)) → r ≡ Ok n →
+    pub served_turned : {E : Type 0} (Due : C → Type 0) (r : Result ℕ E) (ready : List ℕ) (k l : K) (w u : T) (seats seats' : List (Option C)) → is_ok r ≡ true →
         IfOk r (λ called. ServedTurn on may keeps Due (take called ready) k w seats l u seats') → WasServed may learns keeps waits k w l u
-    served_turned Due r n ready k l w u seats seats' is given =
-        let served = IfOk-at_ok (λ called. ServedTurn on may keeps Due (take called ready) k w seats l u seats') is given in
-        served_turn k l w u seats seats' served.turn
+    served_turned Due (Ok n) ready k l w u seats seats' is served = served_turn k l w u seats seats' served.turn
+    served_turned Due (Err fault) ready k l w u seats seats' is served = absurd (cc is)
 
     pub served_called : {E : Type 0} (look : C → Option Look) (Due : C → Type 0) (kind : WorldKind) (r : Result Called E) (k l : K) (w u : T) (lines : List ℕ) (seats seats' : List (Option C)) → is_ok r ≡ true →
         ((n : ℕ) → r ≡ Ok (called.Served n) → TurnAhead on look Due may learns keeps kind k w seats lines l u seats') → ((n : ℕ) → r ≡ Ok (called.Unserved n) → waits k w l u) → WasServed may learns keeps waits k w l u

@@ -306,19 +306,14 @@ impl Hosting {
     {
         let House { seats, ready, .. } = &mut self.house;
         let called = match &mut self.batch {
-            None => turn(rt, service, keep, room, seats, ready),
-            Some(batch) => match turn_ahead(rt, service, keep, batch, room, seats, ready) {
-                Ok(called) => {
-                    if !batch.lines.is_empty() {
-                        self.lost = matches!(called, Called::Unserved(_));
-                    }
-                    Ok(called.count())
-                }
-                Err(fault) => Err(fault),
-            },
+            None => turn(rt, service, keep, room, seats, ready).map(Called::Served),
+            Some(batch) => turn_ahead(rt, service, keep, batch, room, seats, ready),
         };
         match called {
-            Ok(called) => self.settle(called),
+            Ok(called) => {
+                self.note_lost(called);
+                self.settle(called.count())
+            }
             Err(fault) => Err(HostFault::Keep(fault)),
         }
     }
@@ -371,6 +366,15 @@ impl Hosting {
             let _ = errors.write_all(
                 b"slotctl: no room for more connections; those that wait are accepted as others leave\n",
             );
+        }
+    }
+
+    // Notes whether the answers that were wanted in a turn were learnt, where any were.
+    fn note_lost(&mut self, called: Called) {
+        if let Some(batch) = &self.batch {
+            if !batch.lines.is_empty() {
+                self.lost = matches!(called, Called::Unserved(_));
+            }
         }
     }
 

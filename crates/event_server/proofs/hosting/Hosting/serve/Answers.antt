@@ -15,8 +15,8 @@ returns-in-Ok-clause-served g c =
     always c.settle.result (WasServed may learns keeps waits c.args.keep.now c.args.service.now c.match-self.keep c.match-self.service)
     (elim c.match-self.branch as (λ _. WasServed may learns keeps waits c.args.keep.now c.args.service.now c.match-self.keep c.match-self.service) [
       | in-None w ↦ rw (w.keep-is, w.service-is)
-          (served_turned may learns keeps waits _ (λ x. x.stage ≡ stage.Queued) w.turn-called.result c.in-Ok.called _ _ _ _ _ _ _ (sym w.called-is ∙ c.in-Ok.is) w.turn-called.ensures.turned)
+          (served_turned may learns keeps waits _ (λ x. x.stage ≡ stage.Queued) w.turn.result _ _ _ _ _ _ _ (sym w.map-called.ensures.variant ∙ ap is_ok (sym w.called-is ∙ c.in-Ok.is)) w.turn.ensures.turned)
       | in-Some w ↦ rw (w.keep-is, w.service-is)
-          (served_called may learns keeps waits _ (λ x. x.look) (λ x. x.stage ≡ stage.Queued) _ w.turn_ahead.result _ _ _ _ _ _ _ (sym w.map-called.ensures.variant ∙ ap is_ok (sym w.called-is ∙ c.in-Ok.is))
-          w.turn_ahead.ensures.served w.turn_ahead.ensures.lost)
+          (served_called may learns keeps waits _ (λ x. x.look) (λ x. x.stage ≡ stage.Queued) _ w.turn_ahead-called.result _ _ _ _ _ _ _ (ap is_ok (sym w.called-is ∙ c.in-Ok.is))
+          w.turn_ahead-called.ensures.served w.turn_ahead-called.ensures.lost)
     ])
