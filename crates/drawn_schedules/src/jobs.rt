@@ -7,6 +7,7 @@ ghost use Rattle.drawn_schedules.specs.Runs.{HasDrawn, HasDrawnPart, IsToldOf};
 ghost use Rattle.drawn_schedules.specs.declared.tally.Tally.{Tally};
 
 use crate::runs::{play_drawn, play_share, write_tallies};
+use crate::schedule::Schedule;
 use crate::tally::Tally;
 use commands::Config;
 use player::{Fault, Sink};
@@ -36,26 +37,22 @@ fn play_shares<R: Threads + Sync>(
     rt: &R,
     alloc: Global,
     share: usize,
-    seed: u64,
-    ids: u64,
-    n: u64,
+    plan: Schedule,
     config: Config,
     tallies: &mut [Option<Tally>],
 )
     requires share { 0 < share }
     requires names { gives_names config.world ≡ true }
-    requires some { 1 ≤ ids }
-    requires few { ids ≤ 64 }
-    requires steps { n + 64 < 2 ^ 64 }
+    requires steps { plan.steps + 64 < 2 ^ 64 }
     requires long { length tallies.old < 2 ^ 64 }
-    ensures told { (i : ℕ) (d : Option Tally) → i < length tallies.old → IsToldOf config seed ids n i (slice_index_or tallies.new i d) }
+    ensures told { (i : ℕ) (d : Option Tally) → i < length tallies.old → IsToldOf config plan.seed plan.ids plan.steps i (slice_index_or tallies.new i d) }
     ensures len { length tallies.new ≡ length tallies.old }
 {
     thread::for_each_chunk_mut(
         rt,
         tallies,
         share,
-        &|first, part| play_share(alloc, seed, ids, n, config, first as u64, part),
+        &|first, part| play_share(alloc, plan, config, first as u64, part),
     );
 }
 
@@ -68,20 +65,16 @@ pub fn play_drawn_by<R: Threads + Sync, W: Sink>(
     rt: &R,
     alloc: Global,
     jobs: u64,
-    seed: u64,
-    ids: u64,
-    n: u64,
+    plan: Schedule,
     runs: u64,
     config: Config,
     writer: &mut W,
 ) -> Result<(), Fault>
     requires names { gives_names config.world ≡ true }
-    requires some { 1 ≤ ids }
-    requires few { ids ≤ 64 }
-    requires steps { n + 64 < 2 ^ 64 }
+    requires steps { plan.steps + 64 < 2 ^ 64 }
     requires writes { W.calls writer.old < 2 ^ 64 }
-    ensures ok { OnOk result (HasDrawn config seed ids n runs (Appends (W.contents writer.old) (W.contents writer.new))) }
-    ensures part { OnErr result (HasDrawnPart config seed ids n runs (W.contents writer.old) (W.contents writer.new)) }
+    ensures ok { OnOk result (HasDrawn config plan.seed plan.ids plan.steps runs (Appends (W.contents writer.old) (W.contents writer.new))) }
+    ensures part { OnErr result (HasDrawnPart config plan.seed plan.ids plan.steps runs (W.contents writer.old) (W.contents writer.new)) }
     ensures only { IfErr result (λ fault. (fault ≡ Fault.Write) ⊎ (fault ≡ Fault.Memory)) }
     ensures failed { result ≡ Err Fault.Write → W.failed writer.old < W.failed writer.new }
     ensures memory { result ≡ Err Fault.Memory → W.failed writer.new ≡ W.failed writer.old }
@@ -89,21 +82,12 @@ pub fn play_drawn_by<R: Threads + Sync, W: Sink>(
 {
     let jobs = jobs_for(rt, jobs);
     if jobs == 1 {
-        return play_drawn(alloc, seed, ids, n, runs, config, writer);
+        return play_drawn(alloc, plan, runs, config, writer);
     }
     let Ok(mut tallies) = Vec::from_elem(alloc, None, runs as usize) else {
         return Err(Fault::Memory);
     };
     let share = (runs.saturating_sub(1) / jobs) as usize + 1;
-    play_shares(
-        rt,
-        alloc,
-        share,
-        seed,
-        ids,
-        n,
-        config,
-        tallies.as_mut_slice(),
-    );
+    play_shares(rt, alloc, share, plan, config, tallies.as_mut_slice());
     write_tallies(alloc, tallies.as_slice(), writer)
 }

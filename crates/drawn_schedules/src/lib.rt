@@ -1,7 +1,7 @@
 //! Schedules that are drawn by the words of a generator, and what becomes of their participants.
 //!
-//! A drawn schedule is that the identities from 1 begin, and then so many steps, each of the identity that the next word of the
-//! generator `Lcg64Xsh32` gives. `draw` writes its lines. `play_drawn` plays the schedules of consecutive seeds, each on a fresh
+//! A drawn schedule (`Schedule`) is that the identities from 1 begin, and then so many steps, each of the identity that the next word of
+//! the generator `Lcg64Xsh32` gives. `draw` writes its lines. `play_drawn` plays the schedules of consecutive seeds, each on a fresh
 //! desk, and writes a line for each run: how many have begun, were named and were spent. `play_drawn_by` does so with the runs shared among
 //! threads: its contract is that of `play_drawn`, and how many threads there were, and that they ran at once, no clause says.
 //!
@@ -14,8 +14,9 @@
 //! ```text
 //! let config = Config::new(WorldKind::Rename, 4, 4, 1000)?;
 //! let mut writer = Tried::new(rt.stdout());
-//! draw(alloc, 7, 4, 200, &mut writer)?;                       // begin 1, .., begin 4, step 2, ..
-//! play_drawn(alloc, 7, 4, 200, 2, config, &mut writer)?;      // run 0 begun 4 named 4 spent 0, run 1 ..
+//! let plan = Schedule { seed: 7, ids: 4, steps: 200 };
+//! draw(alloc, plan, &mut writer)?;                            // begin 1, .., begin 4, step 2, ..
+//! play_drawn(alloc, plan, 2, config, &mut writer)?;           // run 0 begun 4 named 4 spent 0, run 1 ..
 //! ```
 #![tactic(auto)]
 
@@ -26,5 +27,5 @@ pub mod tally;
 
 pub use jobs::play_drawn_by;
 pub use runs::play_drawn;
-pub use schedule::draw;
+pub use schedule::{Schedule, draw};
 pub use tally::Tally;

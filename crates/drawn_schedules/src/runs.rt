@@ -6,22 +6,21 @@ ghost use Rattle.commands.specs.declared.config.Config.{Config};
 ghost use Rattle.commands.specs.declared.exchange.Exchange.{Exchange};
 ghost use Rattle.commands.specs.Config.{gives_names};
 ghost use Rattle.desk.specs.Desk.{IsFreshDesk};
-ghost use Rattle.drawn_schedules.specs.Schedule.{begins_from, steps_drawn};
+ghost use Rattle.drawn_schedules.specs.Schedule.{begins_from, opened, steps_drawn};
 ghost use Rattle.drawn_schedules.specs.Runs.{AreTold, HasDrawn, HasDrawnPart, IsDrawnRun, IsToldOf, PlaysFrom, numbers_line};
 ghost use Rattle.drawn_schedules.specs.Tally.{IsTallyOf};
 ghost use Rattle.drawn_schedules.specs.declared.tally.Tally.{Tally};
 
-use crate::schedule::{draw_one, generator};
+use crate::schedule::{Schedule, draw_one, generator};
 use crate::tally::Tally;
 use bumpalo::Bump;
 use commands::{Config, Event, Reply};
 use desk::Desk;
 use player::{Fault, HELD_REPLIES, Replies, Sink, put_word};
-use rand_pcg::Lcg64Xsh32;
 use std::alloc::Allocator;
 use step_memory::{Refusal, View};
 
-/// The line of no run has more bytes.
+/// The most bytes that the line of a run takes, its LF included.
 const LINE_ROOM: usize = 106;
 
 /// Takes one event and counts it; `Fault::Memory` where the desk was refused memory.
@@ -76,25 +75,21 @@ fn take_begins<A: Allocator + Clone>(
 /// So many steps are taken, as the generator's words say.
 fn take_steps<A: Allocator + Clone>(
     desk: &mut Desk<A>,
-    words: Lcg64Xsh32,
-    ids: u64,
-    n: u64,
+    plan: Schedule,
     tally: &mut Tally,
 ) -> Result<(), Fault>
-    requires some { 1 ≤ ids }
-    requires few { ids ≤ 64 }
-    requires begun { tally.old.begun + n < 2 ^ 64 }
-    requires named { tally.old.named + n < 2 ^ 64 }
-    requires spent { tally.old.spent + n < 2 ^ 64 }
-    ensures on { OnOk result (PlaysFrom (steps_drawn ids n words) desk.old tally.old [] desk.new tally.new) }
+    requires begun { tally.old.begun + plan.steps < 2 ^ 64 }
+    requires named { tally.old.named + plan.steps < 2 ^ 64 }
+    requires spent { tally.old.spent + plan.steps < 2 ^ 64 }
+    ensures on { OnOk result (PlaysFrom (steps_drawn plan.ids plan.steps (opened plan.seed)) desk.old tally.old [] desk.new tally.new) }
     ensures only { IfErr result (λ fault. fault ≡ Fault.Memory) }
 {
-    let mut words = words;
+    let mut words = generator(plan.seed);
     let mut view = View::new();
-    for _done in 0..n {
+    for _done in 0..plan.steps {
         take(
             desk,
-            Event::Step(draw_one(&mut words, ids)),
+            Event::Step(draw_one(&mut words, plan.ids)),
             &mut view,
             tally,
         )?;
@@ -102,45 +97,30 @@ fn take_steps<A: Allocator + Clone>(
     Ok(())
 }
 
-/// Plays the schedule of a seed on a desk that is fresh. A function of its own, since a desk is taken apart at each way out of what owns it.
-fn play_on<A: Allocator + Clone>(
-    desk: &mut Desk<A>,
-    seed: u64,
-    ids: u64,
-    n: u64,
-) -> Result<Tally, Fault>
-    requires some { 1 ≤ ids }
-    requires few { ids ≤ 64 }
-    requires steps { n + 64 < 2 ^ 64 }
+/// Plays a schedule on a desk that is fresh. A function of its own, since a desk is taken apart at each way out of what owns it.
+fn play_on<A: Allocator + Clone>(desk: &mut Desk<A>, plan: Schedule) -> Result<Tally, Fault>
+    requires steps { plan.steps + 64 < 2 ^ 64 }
     ensures drawn { (config : Config) → IsFreshDesk config desk.old →
-        IfOk result (λ t. (r : List Exchange) × IsDrawnRun config seed ids n r × IsTallyOf r t) }
+        IfOk result (λ t. (r : List Exchange) × IsDrawnRun config plan.seed plan.ids plan.steps r × IsTallyOf r t) }
     ensures only { IfErr result (λ fault. fault ≡ Fault.Memory) }
 {
     let mut tally = Tally::new();
-    take_begins(desk, ids, &mut tally)?;
-    take_steps(desk, generator(seed), ids, n, &mut tally)?;
+    take_begins(desk, plan.ids, &mut tally)?;
+    take_steps(desk, plan, &mut tally)?;
     Ok(tally)
 }
 
-/// Plays the schedule of a seed on a fresh desk in this memory.
-fn play_one<A: Allocator + Clone>(
-    alloc: A,
-    seed: u64,
-    ids: u64,
-    n: u64,
-    config: Config,
-) -> Result<Tally, Fault>
+/// Plays a schedule on a fresh desk in this memory.
+fn play_one<A: Allocator + Clone>(alloc: A, plan: Schedule, config: Config) -> Result<Tally, Fault>
     requires names { gives_names config.world ≡ true }
-    requires some { 1 ≤ ids }
-    requires few { ids ≤ 64 }
-    requires steps { n + 64 < 2 ^ 64 }
-    ensures drawn { IfOk result (λ t. (r : List Exchange) × IsDrawnRun config seed ids n r × IsTallyOf r t) }
+    requires steps { plan.steps + 64 < 2 ^ 64 }
+    ensures drawn { IfOk result (λ t. (r : List Exchange) × IsDrawnRun config plan.seed plan.ids plan.steps r × IsTallyOf r t) }
     ensures only { IfErr result (λ fault. fault ≡ Fault.Memory) }
 {
     let Ok(mut desk) = Desk::new(alloc, config) else {
         return Err(Fault::Memory);
     };
-    let tally = play_on(&mut desk, seed, ids, n);
+    let tally = play_on(&mut desk, plan);
     drop(desk);
     tally
 }
@@ -148,19 +128,15 @@ fn play_one<A: Allocator + Clone>(
 /// As `play_one`, in an arena, which is reset after it.
 fn play_in_arena<A: Allocator>(
     arena: &mut Bump<A>,
-    seed: u64,
-    ids: u64,
-    n: u64,
+    plan: Schedule,
     config: Config,
 ) -> Result<Tally, Fault>
     requires names { gives_names config.world ≡ true }
-    requires some { 1 ≤ ids }
-    requires few { ids ≤ 64 }
-    requires steps { n + 64 < 2 ^ 64 }
-    ensures drawn { IfOk result (λ t. (r : List Exchange) × IsDrawnRun config seed ids n r × IsTallyOf r t) }
+    requires steps { plan.steps + 64 < 2 ^ 64 }
+    ensures drawn { IfOk result (λ t. (r : List Exchange) × IsDrawnRun config plan.seed plan.ids plan.steps r × IsTallyOf r t) }
     ensures only { IfErr result (λ fault. fault ≡ Fault.Memory) }
 {
-    let tally = play_one(&*arena, seed, ids, n, config)?;
+    let tally = play_one(&*arena, plan, config)?;
     match arena.reset() {
         Ok(()) => Ok(tally),
         Err(_) => Err(Fault::Memory),
@@ -180,28 +156,24 @@ fn put_run<A: Allocator>(run: u64, tally: Tally, held: &mut Replies<A>)
     held.put(b"\n");
 }
 
-/// Plays drawn schedules (this project's profile), the run of number j that of the seed `seed + j`, modulo 2^64, each on a fresh
-/// desk of this config, and writes a line for each: `run J begun B named N spent S`, with how many have begun, were named and
+/// Plays drawn schedules (this project's profile), the run of number j that of this plan with the seed `seed + j`, modulo 2^64, each on
+/// a fresh desk of this config, and writes a line for each: `run J begun B named N spent S`, with how many have begun, were named and
 /// were spent. The memory of a run is given back before the next.
 ///
 /// `Fault::Memory` where memory was refused and no write failed, `Fault::Write` where the writer failed or took nothing: then a
 /// beginning of the lines of the runs so far is written.
 pub fn play_drawn<A: Allocator + Clone, W: Sink>(
     alloc: A,
-    seed: u64,
-    ids: u64,
-    n: u64,
+    plan: Schedule,
     runs: u64,
     config: Config,
     writer: &mut W,
 ) -> Result<(), Fault>
     requires names { gives_names config.world ≡ true }
-    requires some { 1 ≤ ids }
-    requires few { ids ≤ 64 }
-    requires steps { n + 64 < 2 ^ 64 }
+    requires steps { plan.steps + 64 < 2 ^ 64 }
     requires writes { W.calls writer.old < 2 ^ 64 }
-    ensures ok { OnOk result (HasDrawn config seed ids n runs (Appends (W.contents writer.old) (W.contents writer.new))) }
-    ensures part { OnErr result (HasDrawnPart config seed ids n runs (W.contents writer.old) (W.contents writer.new)) }
+    ensures ok { OnOk result (HasDrawn config plan.seed plan.ids plan.steps runs (Appends (W.contents writer.old) (W.contents writer.new))) }
+    ensures part { OnErr result (HasDrawnPart config plan.seed plan.ids plan.steps runs (W.contents writer.old) (W.contents writer.new)) }
     ensures only { IfErr result (λ fault. (fault ≡ Fault.Write) ⊎ (fault ≡ Fault.Memory)) }
     ensures failed { result ≡ Err Fault.Write → W.failed writer.old < W.failed writer.new }
     ensures memory { result ≡ Err Fault.Memory → W.failed writer.new ≡ W.failed writer.old }
@@ -215,7 +187,12 @@ pub fn play_drawn<A: Allocator + Clone, W: Sink>(
     };
     let mut arena = Bump::new(alloc);
     for run in 0..runs {
-        let tally = play_in_arena(&mut arena, seed.wrapping_add(run), ids, n, config)?;
+        let next = Schedule {
+            seed: plan.seed.wrapping_add(run),
+            ids: plan.ids,
+            steps: plan.steps,
+        };
+        let tally = play_in_arena(&mut arena, next, config)?;
         held.make_room(LINE_ROOM, writer)?;
         put_run(run, tally, &mut held);
     }
@@ -226,24 +203,24 @@ pub fn play_drawn<A: Allocator + Clone, W: Sink>(
 /// each into its own; none where memory was refused. Runs do not depend on each other, so that many can share them.
 pub(crate) fn play_share<A: Allocator + Clone>(
     alloc: A,
-    seed: u64,
-    ids: u64,
-    n: u64,
+    plan: Schedule,
     config: Config,
     first: u64,
     tallies: &mut [Option<Tally>],
 )
     requires names { gives_names config.world ≡ true }
-    requires some { 1 ≤ ids }
-    requires few { ids ≤ 64 }
-    requires steps { n + 64 < 2 ^ 64 }
+    requires steps { plan.steps + 64 < 2 ^ 64 }
     requires last { first + length tallies.old < 2 ^ 64 }
-    ensures { (i : ℕ) (d : Option Tally) → i < length tallies.old → IsToldOf config seed ids n (first + i) (slice_index_or tallies.new i d) }
+    ensures { (i : ℕ) (d : Option Tally) → i < length tallies.old → IsToldOf config plan.seed plan.ids plan.steps (first + i) (slice_index_or tallies.new i d) }
 {
     let mut arena = Bump::new(alloc);
     for i in 0..tallies.len() {
-        let run = seed.wrapping_add(first + i as u64);
-        tallies[i] = play_in_arena(&mut arena, run, ids, n, config).ok();
+        let next = Schedule {
+            seed: plan.seed.wrapping_add(first + i as u64),
+            ids: plan.ids,
+            steps: plan.steps,
+        };
+        tallies[i] = play_in_arena(&mut arena, next, config).ok();
     }
 }
 

@@ -15,8 +15,22 @@ use rand_core::utils::NextWord;
 use rand_pcg::Lcg64Xsh32;
 use std::alloc::Allocator;
 
-/// The line of no event has more bytes.
+/// The most bytes that the line of an event takes, its LF included.
 const LINE_ROOM: usize = EVENT_ROOM + 1;
+
+/// Which schedule is drawn: the identities from 1 begin, and then so many steps are taken, each by the one of them that the next word of
+/// the generator of the seed gives.
+#[derive(Clone, Copy, Debug, Drop, PartialEq, Eq)]
+pub struct Schedule {
+    /// The seed of the generator.
+    pub seed: u64,
+    /// How many begin, from 1 to 64.
+    pub ids: u64,
+    /// How many steps are taken.
+    pub steps: u64,
+    ghost some: { 1 ≤ ids },
+    ghost few: { ids ≤ 64 },
+}
 
 /// The generator of a seed.
 pub(crate) fn generator(seed: u64) -> Lcg64Xsh32
@@ -79,47 +93,35 @@ fn draw_begins<A: Allocator, W: Sink>(
 
 /// The lines of the steps.
 fn draw_steps<A: Allocator, W: Sink>(
-    words: Lcg64Xsh32,
-    ids: u64,
-    n: u64,
+    plan: Schedule,
     held: &mut Replies<A>,
     writer: &mut W,
 ) -> Result<(), Fault>
-    requires some { 1 ≤ ids }
-    requires few { ids ≤ 64 }
-    requires calls { W.calls writer.old + length held.old + LINE_ROOM * n ≤ 2 ^ 100 }
-    ensures on { OnOk result (GoesPast (event_lines (steps_drawn ids n words)) (W.contents writer.old) held.old (W.contents writer.new) held.new) }
-    ensures within { OnErr result (StopsWithin (event_lines (steps_drawn ids n words)) (W.contents writer.old) held.old (W.contents writer.new)) }
+    requires calls { W.calls writer.old + length held.old + LINE_ROOM * plan.steps ≤ 2 ^ 100 }
+    ensures on { OnOk result (GoesPast (event_lines (steps_drawn plan.ids plan.steps (opened plan.seed))) (W.contents writer.old) held.old (W.contents writer.new) held.new) }
+    ensures within { OnErr result (StopsWithin (event_lines (steps_drawn plan.ids plan.steps (opened plan.seed))) (W.contents writer.old) held.old (W.contents writer.new)) }
     ensures only { IfErr result (λ fault. fault ≡ Fault.Write) }
     ensures failed { OnErr result (W.failed writer.old < W.failed writer.new) }
     ensures unfailed { OnOk result (W.failed writer.new ≡ W.failed writer.old) }
-    ensures calls { OnOk result (W.calls writer.new + length held.new ≤ W.calls writer.old + length held.old + LINE_ROOM * n) }
+    ensures calls { OnOk result (W.calls writer.new + length held.new ≤ W.calls writer.old + length held.old + LINE_ROOM * plan.steps) }
 {
-    let mut words = words;
-    for _done in 0..n {
-        put_line(Event::Step(draw_one(&mut words, ids)), held, writer)?;
+    let mut words = generator(plan.seed);
+    for _done in 0..plan.steps {
+        put_line(Event::Step(draw_one(&mut words, plan.ids)), held, writer)?;
     }
     Ok(())
 }
 
-/// Writes the schedule of a seed: `begin 1` to `begin ids`, and then `n` lines `step I`, where I is one more than the next word
-/// of the generator `Lcg64Xsh32` of that seed modulo `ids` (this project's profile).
+/// Writes a schedule: `begin 1` to `begin ids`, and then `steps` lines `step I`, where I is one more than the next word of the
+/// generator `Lcg64Xsh32` of the seed modulo `ids` (this project's profile).
 ///
 /// `Fault::Memory` where its buffer was refused, with nothing written; `Fault::Write` where the writer failed or took nothing,
 /// with a beginning of the text written.
-pub fn draw<A: Allocator, W: Sink>(
-    alloc: A,
-    seed: u64,
-    ids: u64,
-    n: u64,
-    writer: &mut W,
-) -> Result<(), Fault>
-    requires some { 1 ≤ ids }
-    requires few { ids ≤ 64 }
+pub fn draw<A: Allocator, W: Sink>(alloc: A, plan: Schedule, writer: &mut W) -> Result<(), Fault>
     requires writes { W.calls writer.old < 2 ^ 64 }
-    ensures ok { OnOk result (Appends (W.contents writer.old) (W.contents writer.new) (event_lines (schedule seed ids n))) }
+    ensures ok { OnOk result (Appends (W.contents writer.old) (W.contents writer.new) (event_lines (schedule plan.seed plan.ids plan.steps))) }
     ensures unfailed { OnOk result (W.failed writer.new ≡ W.failed writer.old) }
-    ensures part { result ≡ Err Fault.Write → HasPartOf (W.contents writer.old) (W.contents writer.new) (event_lines (schedule seed ids n)) }
+    ensures part { result ≡ Err Fault.Write → HasPartOf (W.contents writer.old) (W.contents writer.new) (event_lines (schedule plan.seed plan.ids plan.steps)) }
     ensures failed { result ≡ Err Fault.Write → W.failed writer.old < W.failed writer.new }
     ensures memory { result ≡ Err Fault.Memory → writer.new ≡ writer.old }
     ensures only { IfErr result (λ fault. (fault ≡ Fault.Write) ⊎ (fault ≡ Fault.Memory)) }
@@ -127,7 +129,7 @@ pub fn draw<A: Allocator, W: Sink>(
     let Ok(mut held) = Replies::new(alloc) else {
         return Err(Fault::Memory);
     };
-    draw_begins(ids, &mut held, writer)?;
-    draw_steps(generator(seed), ids, n, &mut held, writer)?;
+    draw_begins(plan.ids, &mut held, writer)?;
+    draw_steps(plan, &mut held, writer)?;
     held.send(writer)
 }

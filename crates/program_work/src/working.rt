@@ -6,7 +6,7 @@ ghost use Rattle.program_work.specs.Done.{IsWorked, IsDrawnBy, IsPlayedBy, is_wo
 
 use crate::checking::check_for;
 use crate::migrating::migrate_for;
-use drawn_schedules::{draw, play_drawn_by};
+use drawn_schedules::{Schedule, draw, play_drawn_by};
 use player::{Fault, Sink, Source};
 use program_args::{Ask, Drawing, Playing};
 use schedule_player::{play_any, record};
@@ -31,10 +31,11 @@ fn draw_for<T: Threads + Sync, W: Sink>(
         jobs,
         config,
     } = drawing;
+    let plan = Schedule { seed, ids, steps };
     if runs == 0 {
-        draw(alloc, seed, ids, steps, writer)?;
+        draw(alloc, plan, writer)?;
     } else {
-        play_drawn_by(rt, alloc, jobs, seed, ids, steps, runs, config, writer)?;
+        play_drawn_by(rt, alloc, jobs, plan, runs, config, writer)?;
     }
     Ok(0)
 }

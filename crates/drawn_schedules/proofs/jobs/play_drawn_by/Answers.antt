@@ -15,22 +15,22 @@ pub returns-in_default-clause-part : goal.returns-in_default-clause-part
 returns-in_default-clause-part g c = (0, omega arith, record { runs = []; drawn = tt; count_is = refl; told = (0, omega arith, Appends-nil (g.W.Write.contents c.args.writer.now)) })
 
 -- the numbers that were put into their places are those that are written
-told : (g : _) (c : After-drop-tallies g) → AreTold c.args.config c.args.seed c.args.ids c.args.n c.as_slice.result.now
+told : (g : _) (c : After-drop-tallies g) → AreTold c.args.config c.args.plan.seed c.args.plan.ids c.args.plan.steps c.as_slice.result.now
 told g c =
     let many = c.play_shares.ensures.len in
     let all = c.as_slice.ensures.value ∙ written_all c.in-Ok.tallies.len c.play_shares.new.tallies _ (many ∙ c.as_mut_slice.ensures.len) in
-    subst (AreTold c.args.config c.args.seed c.args.ids c.args.n) (sym all) (λ i d low. c.play_shares.ensures.told i d (omega (arith, low, many)))
+    subst (AreTold c.args.config c.args.plan.seed c.args.plan.ids c.args.plan.steps) (sym all) (λ i d low. c.play_shares.ensures.told i d (omega (arith, low, many)))
 
 pub returns-clause-ok : goal.returns-clause-ok
 returns-clause-ok g c = on_ok_weaker c.write_tallies.result
-    (λ all. subst (λ (k : ℕ). HasDrawn c.args.config c.args.seed c.args.ids c.args.n k (Appends (g.W.Write.contents c.args.writer.now) (g.W.Write.contents c.write_tallies.new.writer)))
-    (c.as_slice.ensures.len ∙ c.in-Ok.ensures.len) (all c.args.config c.args.seed c.args.ids c.args.n (told g (goal.at.returns-clause-ok g c).After-drop-tallies)))
+    (λ all. subst (λ (k : ℕ). HasDrawn c.args.config c.args.plan.seed c.args.plan.ids c.args.plan.steps k (Appends (g.W.Write.contents c.args.writer.now) (g.W.Write.contents c.write_tallies.new.writer)))
+    (c.as_slice.ensures.len ∙ c.in-Ok.ensures.len) (all c.args.config c.args.plan.seed c.args.plan.ids c.args.plan.steps (told g (goal.at.returns-clause-ok g c).After-drop-tallies)))
     c.write_tallies.ensures.ok
 
 pub returns-clause-part : goal.returns-clause-part
 returns-clause-part g c = on_err_weaker c.write_tallies.result
-    (λ part. subst (λ (k : ℕ). HasDrawnPart c.args.config c.args.seed c.args.ids c.args.n k (g.W.Write.contents c.args.writer.now) (g.W.Write.contents c.write_tallies.new.writer))
-    (c.as_slice.ensures.len ∙ c.in-Ok.ensures.len) (part c.args.config c.args.seed c.args.ids c.args.n (told g (goal.at.returns-clause-part g c).After-drop-tallies)))
+    (λ part. subst (λ (k : ℕ). HasDrawnPart c.args.config c.args.plan.seed c.args.plan.ids c.args.plan.steps k (g.W.Write.contents c.args.writer.now) (g.W.Write.contents c.write_tallies.new.writer))
+    (c.as_slice.ensures.len ∙ c.in-Ok.ensures.len) (part c.args.config c.args.plan.seed c.args.plan.ids c.args.plan.steps (told g (goal.at.returns-clause-part g c).After-drop-tallies)))
     c.write_tallies.ensures.part
 
 pub returns-clause-only : goal.returns-clause-only

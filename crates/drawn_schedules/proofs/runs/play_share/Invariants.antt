@@ -5,5 +5,5 @@ use Rattle.drawn_schedules.proofs.runs.play_share.Given as goal
 abbrev pub invariant-loop-i : goal.invariant-loop-i
 invariant-loop-i g l = record {
   long : length l.tallies ≡ length l.fn.tallies;
-  told : (k : ℕ) (d : Option Tally) → k < l.i → IsToldOf l.config l.seed l.ids l.n (l.first + k) (get_or l.tallies k d);
+  told : (k : ℕ) (d : Option Tally) → k < l.i → IsToldOf l.config l.plan.seed l.plan.ids l.plan.steps (l.first + k) (get_or l.tallies k d);
 }

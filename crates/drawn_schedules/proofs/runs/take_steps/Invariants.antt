@@ -1,10 +1,10 @@
 use Rattle.std.proofs.Common.{◌+◌, ◌-◌, ◌≤◌}
-use Rattle.drawn_schedules.proofs.Common.{steps_drawn, PlaysFrom}
+use Rattle.drawn_schedules.proofs.Common.{opened, steps_drawn, PlaysFrom}
 use Rattle.drawn_schedules.proofs.runs.take_steps.Given as goal
 
 abbrev pub invariant-loop-done : goal.invariant-loop-done
 invariant-loop-done g l = record {
-  on : PlaysFrom (steps_drawn l.ids l.n l.fn.words) l.fn.desk l.fn.tally (steps_drawn l.ids (l.n - l._done) l.words) l.desk l.tally;
+  on : PlaysFrom (steps_drawn l.plan.ids l.plan.steps (opened l.plan.seed)) l.fn.desk l.fn.tally (steps_drawn l.plan.ids (l.plan.steps - l._done) l.words) l.desk l.tally;
   begun : l.tally.begun ≤ l.fn.tally.begun + l._done;
   named : l.tally.named ≤ l.fn.tally.named + l._done;
   spent : l.tally.spent ≤ l.fn.tally.spent + l._done;
