@@ -22,12 +22,10 @@ impl Version {
     pub fn of_number(number: u64) -> Option<Version>
         ensures { result ≡ version_of number }
     {
-        if number == 1 {
-            Some(Version::One)
-        } else if number == 2 {
-            Some(Version::Two)
-        } else {
-            None
+        match number {
+            1 => Some(Version::One),
+            2 => Some(Version::Two),
+            _ => None,
         }
     }
 

@@ -44,26 +44,18 @@ fn split_plain(bytes: &[u8]) -> (&[u8], &[u8])
     bytes.split_at(plain_length(bytes))
 }
 
-/// What follows these bytes at the beginning.
-#[inline(always)]
-pub fn after<'a>(bytes: &'a [u8], front: &[u8]) -> Option<&'a [u8]>
-    ensures { IfSome result (λ rest. bytes.now ≡ front.now ++ rest.now) }
-{
-    after_front(bytes, front)
-}
-
 /// The event with which a line begins, in the world of this kind, and what stands from its reply on, where it takes one look at each
 /// byte. `None` says nothing of the bytes. A function of its own, so that what reads a line is short enough to stand in the loop over lines.
 #[inline(never)]
 fn plain_event(kind: WorldKind, bytes: &[u8]) -> Option<(Event, &[u8])>
     ensures { IfSome result (λ r. SpellsEvent kind bytes.now r.0 r.1.now) }
 {
-    let text = after(bytes, b"{\"command\":\"")?;
+    let text = after_front(bytes, b"{\"command\":\"")?;
     let (command, end) = quick_command(text, kind, b'"')?;
     let Command::Event(event) = command else {
         return None;
     };
-    Some((event, after(&text[end..], b"\",\"reply\":\"")?))
+    Some((event, after_front(&text[end..], b"\",\"reply\":\"")?))
 }
 
 /// The reply with which a line ends, and the view beside it, where both are texts in which each byte stands for itself.
@@ -74,7 +66,7 @@ fn plain_end(text: &[u8]) -> Option<(&[u8], Option<&[u8]>)>
     if is_word(rest, b"\"}") {
         return Some((reply, None));
     }
-    let (view, rest) = split_plain(after(rest, b"\",\"view\":\"")?);
+    let (view, rest) = split_plain(after_front(rest, b"\",\"view\":\"")?);
     if !is_word(rest, b"\"}") {
         return None;
     }

@@ -3,10 +3,9 @@
 ghost use Rattle.std.specs.Prelude.{IfSome};
 ghost use Rattle.record_lines.specs.PlainLine.{SpellsReply, SpellsLastNumber, SpellsNumberAfter};
 
-use crate::plain_line::after;
 use crate::told::Told;
 use command_lines::words::is_word;
-use player::quick_number;
+use player::{after_front, quick_number};
 
 /// What the reply tells with which a line ends, where its word is common and told alike in each version. `None` says nothing of the
 /// bytes.
@@ -53,7 +52,7 @@ fn quick_number_told(text: &[u8]) -> Option<Told>
 fn number_after(text: &[u8], word: &[u8]) -> Option<u64>
     ensures { IfSome result (SpellsNumberAfter text.now word.now) }
 {
-    last_number(after(text, word)?)
+    last_number(after_front(text, word)?)
 }
 
 /// The number with which a line ends.

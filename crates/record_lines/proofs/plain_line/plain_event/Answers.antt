@@ -11,11 +11,11 @@ returns c =
     let asked = take end text in
     let before = c.in_ok-command.ensures in
     let inside = before.inside in
-    let past : drop end text ≡ to_reply ++ c.in_ok-after.field-0.now = sym (rest_of-slice text end (omega arith)) ∙ c.in_ok-after.ensures in
-    let all : text ≡ asked ++ (to_reply ++ c.in_ok-after.field-0.now) = sym (take-append-drop end text) ∙ ap (λ (l : List ℕ). asked ++ l) past in
+    let past : drop end text ≡ to_reply ++ c.in_ok-after_front.field-0.now = sym (rest_of-slice text end (omega arith)) ∙ c.in_ok-after_front.ensures.rest in
+    let all : text ≡ asked ++ (to_reply ++ c.in_ok-after_front.field-0.now) = sym (take-append-drop end text) ∙ ap (λ (l : List ℕ). asked ++ l) past in
     record {
       asked = asked;
-      written = c.in_ok-text.ensures ∙ ap (λ (l : List ℕ). front ++ l) all;
+      written = c.in_ok-text.ensures.rest ∙ ap (λ (l : List ℕ). front ++ l) all;
       plain = words_plain asked before.of_words;
       means = before.means ∙ ap Ok c.in-Event.is;
     }
