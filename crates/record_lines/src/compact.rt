@@ -64,8 +64,8 @@ pub fn put_view(pairs: &[(u64, u64)], out: &mut Text) -> Result<(), AllocError>
     put_pairs(pairs, out)
 }
 
-/// Appends who has a name.
-fn put_owner(owner: Option<u64>, out: &mut Text) -> Result<(), AllocError>
+/// Appends the words of who has a name, or that nobody has it. An error where a growth was refused.
+pub fn put_owner(owner: Option<u64>, out: &mut Text) -> Result<(), AllocError>
     ensures { OnOk result (out.new ≡ out.old ++ owner_words owner) }
 {
     match owner {

@@ -34,7 +34,7 @@ pub mod rows;
 pub mod text;
 pub mod told;
 
-pub use compact::{put_event, put_header, put_line, put_told, put_view};
+pub use compact::{put_event, put_header, put_line, put_owner, put_told, put_view};
 pub use header::{Header, Version};
 pub use laws::{law_of_lines, law_of_written_records};
 pub use line::Line;

@@ -64,10 +64,7 @@ fn register_at(access: Option<Coming>) -> Option<Register>
 pub(crate) fn held_at(desk: &Desk<Global>, access: Option<Coming>) -> Option<u64>
     ensures { result ≡ held_at desk.now access }
 {
-    match register_at(access) {
-        None => None,
-        Some(register) => desk.held(register),
-    }
+    desk.held(register_at(access)?)
 }
 
 /// The place of a register.

@@ -47,24 +47,7 @@ pub(crate) fn identity_of(event: Event) -> u64
 pub(crate) fn is_refused(told: &Told) -> bool
     ensures { result ≡ is_refused told.now }
 {
-    match told {
-        Told::Ok => false,
-        Told::Quiet => false,
-        Told::Stop => false,
-        Told::Right => false,
-        Told::Down => false,
-        Told::Place(_) => false,
-        Told::Proposed(_) => false,
-        Told::Saw(_) => false,
-        Told::Named(_, _) => false,
-        Told::Spent => false,
-        Told::Missed => false,
-        Told::Got(_) => false,
-        Told::Left(_) => false,
-        Told::Value(_) => false,
-        Told::Owner(_) => false,
-        Told::Refused(_) => true,
-    }
+    matches!(told, Told::Refused(_))
 }
 
 /// The access that an event makes to a register of splitters or segments: a step alone makes one.

@@ -1,7 +1,7 @@
 //! The rows of a page.
 
 ghost use Rattle.std.specs.Prelude.{◌≡◌, ◌++◌, [], OnOk, if◌then◌else◌};
-ghost use Rattle.command_lines.specs.Replies.{owner_words, reply_words};
+ghost use Rattle.command_lines.specs.Replies.{reply_words};
 ghost use Rattle.run_page.specs.Row.{done_words, held_words, row_of, words_of};
 
 use crate::access::{put_access, put_word_of_place};
@@ -9,19 +9,9 @@ use crate::done::Done;
 use crate::form::Form;
 use crate::standing::put_standing;
 use desk::Reply;
-use record_lines::{Line, Text, put_event, put_told, put_view};
+use record_lines::{Line, Text, put_event, put_owner, put_told, put_view};
 use std::alloc::AllocError;
 use step_memory::View;
-
-/// Appends who has a name.
-fn put_owner(owner: Option<u64>, out: &mut Text) -> Result<(), AllocError>
-    ensures { OnOk result (out.new ≡ out.old ++ owner_words owner) }
-{
-    match owner {
-        Some(id) => out.put_word(b"owner ", id),
-        None => out.put(b"owner none"),
-    }
-}
 
 /// Appends the words of a reply.
 fn put_reply(reply: &Reply<View>, out: &mut Text) -> Result<(), AllocError>

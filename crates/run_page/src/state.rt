@@ -137,22 +137,7 @@ fn put_name(form: Form, number: u64, reply: &Reply<View>, out: &mut Text) -> Res
 {
     match reply {
         Reply::Owner(Some(id)) => put_fact(form, b"name ", number, *id, out),
-        Reply::Owner(None) => Ok(()),
-        Reply::Ok => Ok(()),
-        Reply::Quiet => Ok(()),
-        Reply::Stop => Ok(()),
-        Reply::Right => Ok(()),
-        Reply::Down => Ok(()),
-        Reply::Place(_) => Ok(()),
-        Reply::Proposed(_) => Ok(()),
-        Reply::Saw(_) => Ok(()),
-        Reply::Named(_, _) => Ok(()),
-        Reply::Spent => Ok(()),
-        Reply::Missed => Ok(()),
-        Reply::Got(_) => Ok(()),
-        Reply::Left(_) => Ok(()),
-        Reply::Value(_) => Ok(()),
-        Reply::Refused(_) => Ok(()),
+        _ => Ok(()),
     }
 }
 
