@@ -45,7 +45,7 @@ fn is_told_rightly(due: Option<Refusal>, lacks: bool, number: u64) -> bool
 {
     match due {
         Some(refusal) => u64::from(refusal.number()) == number,
-        None => lacks && number == 12,
+        None => lacks && u64::from(Refusal::NoMemory.number()) == number,
     }
 }
 
@@ -182,13 +182,13 @@ impl Checker {
     }
 
     /// An identity that may probe is told a number.
-    fn get(&mut self, id: u64, number: u64) -> Result<(), Fault>
+    fn gain(&mut self, id: u64, number: u64) -> Result<(), Fault>
         ensures { Judges (MayProbe id) self.old (line (event.Probe id) (told.Got number)) result self.new }
     {
         if !self.stays.is_free(number) {
             return Err(Fault::Unlawful(Reason::Pool));
         }
-        self.stays.get(id, number);
+        self.stays.gain(id, number);
         Ok(())
     }
 
@@ -218,7 +218,7 @@ impl Checker {
     }
 
     /// The holder of a number is told the value in its slot.
-    fn fetch(&self, id: u64, value: u64) -> Result<(), Fault>
+    fn get(&self, id: u64, value: u64) -> Result<(), Fault>
         ensures { Judges (HoldsNumber id) self.now (line (event.Get id) (told.Value value)) result self.now }
     {
         let Ok(held) = self.stays.number_of(id) else {
@@ -258,7 +258,7 @@ impl Checker {
     {
         match told {
             Told::Missed => self.miss(id),
-            Told::Got(number) => self.get(id, *number),
+            Told::Got(number) => self.gain(id, *number),
             _ => Ok(()),
         }
     }
@@ -287,7 +287,7 @@ impl Checker {
                 _ => Ok(()),
             },
             Event::Get(id) => match told {
-                Told::Value(value) => self.fetch(id, *value),
+                Told::Value(value) => self.get(id, *value),
                 _ => Ok(()),
             },
             Event::Widen(more) => match told {

@@ -278,9 +278,7 @@ impl Names {
     fn seat_for(&self, id: u64, number: u64) -> Option<usize>
         ensures { MatchOption result (LacksPair (turns_in self.now.participants.items) id number) (HasPair (turns_in self.now.participants.items) id number) }
     {
-        let Some(standing) = find(&self.participants, id) else {
-            return None;
-        };
+        let standing = find(&self.participants, id)?;
         if number < 1 || NUMBERS as u64 <= number {
             return None;
         }

@@ -161,8 +161,8 @@ impl Stays {
         !is_taken(&self.competitors, number)
     }
 
-    /// An identity that may probe gets a free number.
-    pub fn get(&mut self, id: u64, number: u64)
+    /// An identity that may probe gains a free number.
+    pub fn gain(&mut self, id: u64, number: u64)
         ensures { OfSlots self.old (λ o. no_probe o.pool id ≡ None → IsFree o.pool number → HoldsSlots self.new (got_by id number o)) }
     {
         let Some(stay) = find(&self.competitors, id) else {

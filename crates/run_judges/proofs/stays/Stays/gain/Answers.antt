@@ -1,7 +1,7 @@
 use Rattle.std.proofs.Common.{refl, arith}
 use Rattle.run_judges.proofs.StayLemmas.{got}
 use Rattle.run_judges.proofs.seats.People.{there}
-use Rattle.run_judges.proofs.stays.Stays.get.Goals as goal
+use Rattle.run_judges.proofs.stays.Stays.gain.Goals as goal
 
 pub returns : goal.returns
 returns c = λ o h none free.
