@@ -88,19 +88,12 @@ impl<A: Allocator + Clone> SplitterWorld<A> {
     }
 }
 
-// A splitter that no one has entered.
+/// A splitter that no one has entered; `NoMemory` where its room was refused.
 fn open<A: Allocator + Clone>(alloc: A, most: usize) -> Result<SplitterWorld<A>, Refusal>
     ensures fresh { IfOk result (λ w. w ≡ fresh most) }
     ensures only { IfErr result (λ r. r ≡ Refusal.NoMemory) }
 {
-    let Ok(other) = alloc.clone() else {
-        return Err(Refusal::NoMemory);
-    };
-    let Ok(memory) = Memory::new(other, 0, 2, 0) else {
-        return Err(Refusal::NoMemory);
-    };
-    match World::new(alloc, memory, most) {
-        Ok(world) => Ok(SplitterWorld { world }),
-        Err(_) => Err(Refusal::NoMemory),
-    }
+    let memory = Memory::new(alloc.clone()?, 0, 2, 0)?;
+    let world = World::new(alloc, memory, most)?;
+    Ok(SplitterWorld { world })
 }

@@ -99,10 +99,7 @@ impl<A: Allocator + Clone> GridWorld<A> {
         ensures value { result ≡ place_in self.now id }
         ensures answered { Always grid (λ most r. result ≡ outcome_of id r) self.now }
     {
-        let Some(walker) = self.world.program(id) else {
-            return None;
-        };
-        walker.place()
+        self.world.program(id)?.place()
     }
 
     /// How many doors were entered: those at which anyone has made an access. It makes none itself.
@@ -126,24 +123,17 @@ impl<A: Allocator + Clone> GridWorld<A> {
     }
 }
 
-// A grid that no one has entered.
+/// A grid that no one has entered; `NoMemory` where its room was refused.
 fn open<A: Allocator + Clone>(alloc: A, most: usize) -> Result<GridWorld<A>, Refusal>
     requires { most ≤ 16 }
     ensures fresh { IfOk result (λ w. w ≡ fresh most) }
     ensures only { IfErr result (λ r. r ≡ Refusal.NoMemory) }
 {
-    let Ok(other) = alloc.clone() else {
-        return Err(Refusal::NoMemory);
-    };
     let registers = most * (most + 1);
-    let Ok(memory) = Memory::new(other, 0, registers, 0) else {
-        return Err(Refusal::NoMemory);
-    };
-    match World::new(alloc, memory, most) {
-        Ok(world) => Ok(GridWorld {
-            world,
-            doors: registers / 2,
-        }),
-        Err(_) => Err(Refusal::NoMemory),
-    }
+    let memory = Memory::new(alloc.clone()?, 0, registers, 0)?;
+    let world = World::new(alloc, memory, most)?;
+    Ok(GridWorld {
+        world,
+        doors: registers / 2,
+    })
 }

@@ -58,13 +58,9 @@ impl<A: Allocator + Clone> TreeWorld<A> {
         if most < 1 || 64 < most {
             return Err(Refusal::OutOfRange);
         }
-        let Ok(other) = alloc.clone() else {
-            return Err(Refusal::NoMemory);
-        };
-        match World::new(alloc, Tree::new(other), most) {
-            Ok(world) => Ok(TreeWorld { world }),
-            Err(_) => Err(Refusal::NoMemory),
-        }
+        let tree = Tree::new(alloc.clone()?);
+        let world = World::new(alloc, tree, most)?;
+        Ok(TreeWorld { world })
     }
 
     /// A participant begins: its walk has made no access. Refused where the identity is 0, then where it has begun, then
@@ -199,10 +195,7 @@ impl<A: Allocator + Clone> TreeWorld<A> {
         ensures value { result ≡ option_and_then (λ c. place_of c.walker) (program_of id self.now.participants) }
         ensures answered { Always tree (λ first r. result ≡ outcome_of id (way_calls r)) self.now }
     {
-        let Some(client) = self.world.program(id) else {
-            return None;
-        };
-        client.walker.place()
+        self.world.program(id)?.walker.place()
     }
 
     /// The tree, for what watches from outside.

@@ -1,11 +1,11 @@
-use Rattle.std.proofs.Common.{rules, ◌≡◌, None, ◌∙◌}
+use Rattle.std.proofs.Common.{rules, ◌≡◌, ◌∙◌}
 use Rattle.splitter_grid.specs.Machine.{place_in}
 use Rattle.splitter_grid.proofs.GridTied.{place_always}
 use Rattle.splitter_grid.proofs.world.GridWorld.place_of.Goals as goal
 
-pub returns-in_default-clause-answered : goal.returns-in_default-clause-answered
-returns-in_default-clause-answered g c = λ most r a.
-    let value : None ≡ place_in c.args.self.now c.args.id = search rules in
+pub returns-in_err-program-clause-answered : goal.returns-in_err-program-clause-answered
+returns-in_err-program-clause-answered g c = λ most r a.
+    let value : c.from_residual.result ≡ place_in c.args.self.now c.args.id = search rules in
     value ∙ place_always c.args.self.now c.args.id most r a
 
 pub returns-clause-answered : goal.returns-clause-answered
