@@ -61,20 +61,9 @@ impl<A: Allocator + Clone> Grid<A> {
         ensures empty { IfOk result (λ g. g ≡ fresh_grid most) }
         ensures no_memory { IfErr result (λ why. why ≡ Refusal.NoMemory) }
     {
-        let Ok(other) = alloc.clone() else {
-            return Err(Refusal::NoMemory);
-        };
         let registers = most * (most + 1);
-        let Ok(doors) = Memory::new(other, 0, registers, 0) else {
-            return Err(Refusal::NoMemory);
-        };
-        let many = registers / 2;
-        let Ok(mut segments) = Vec::with_capacity(alloc, many) else {
-            return Err(Refusal::NoMemory);
-        };
-        for _i in 0..many {
-            segments.push_reserved(GridValue::Contents(None));
-        }
+        let doors = Memory::new(alloc.clone()?, 0, registers, 0)?;
+        let segments = Vec::from_elem(alloc, GridValue::Contents(None), registers / 2)?;
         Ok(Grid {
             doors,
             segments,

@@ -44,12 +44,7 @@ impl<A: Allocator> Fixed<A> {
         if most < 1 || 16 < most {
             return Err(Refusal::OutOfRange);
         }
-        let Ok(mut segments) = Vec::with_capacity(alloc, most) else {
-            return Err(Refusal::NoMemory);
-        };
-        for _i in 0..most {
-            segments.push_reserved(None);
-        }
+        let segments = Vec::from_elem(alloc, None, most)?;
         Ok(Fixed { segments })
     }
 
@@ -110,6 +105,7 @@ impl<A: Allocator> StepMemory for Fixed<A> {
 /// One who has its place from the beginning.
 #[derive(Clone, Copy, Debug, Drop, PartialEq, Eq)]
 pub struct FixedWalker {
+    /// The place.
     pub place: Place,
 }
 
@@ -147,7 +143,9 @@ impl PlaceWalker for FixedWalker {
 /// A walk over segments in a row, by rising place: the next place, and how many segments there are.
 #[derive(Clone, Copy, Debug, Drop, PartialEq, Eq)]
 pub struct FixedWalk {
+    /// The place whose segment is read next.
     pub at: Place,
+    /// How many segments there are.
     pub most: Place,
 }
 

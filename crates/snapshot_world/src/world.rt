@@ -57,10 +57,7 @@ impl<W: Places, A: Allocator> SnapWorld<W, A> {
         ensures distinct { HasDistinctPlaces ⟦<W as Known>⟧.places self.now }
         ensures told { KeepsTold ⟦<W as Known>⟧.places self.now id }
     {
-        let Some(client) = self.world.program(id) else {
-            return None;
-        };
-        client.walker.place()
+        self.world.program(id)?.walker.place()
     }
 
     /// A participant, for what watches from outside: `next` says which register it accesses next, and how.
