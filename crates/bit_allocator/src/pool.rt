@@ -101,20 +101,13 @@ impl<A: Allocator + Clone> Pool<A> {
         if size < 1 || size > MOST_NUMBERS as u64 {
             return Err(Refusal::OutOfRange);
         }
-        let Ok(other) = alloc.clone() else {
-            return Err(Refusal::NoMemory);
-        };
-        let Ok(bits) = Memory::new(other, (), 0, MOST_NUMBERS + 1) else {
-            return Err(Refusal::NoMemory);
-        };
-        match Roster::new(alloc) {
-            Ok(competitors) => Ok(Pool {
-                size: size as u8,
-                bits,
-                competitors,
-            }),
-            Err(_) => Err(Refusal::NoMemory),
-        }
+        let bits = Memory::new(alloc.clone()?, (), 0, MOST_NUMBERS + 1)?;
+        let competitors = Roster::new(alloc)?;
+        Ok(Pool {
+            size: size as u8,
+            bits,
+            competitors,
+        })
     }
 }
 
