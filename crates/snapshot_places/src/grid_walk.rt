@@ -9,7 +9,9 @@ use step_memory::{Place, Record, Segment};
 /// A walk over the segments of a grid, by rising place: the next place, and how many segments there are.
 #[derive(Clone, Copy, Debug, Drop, PartialEq, Eq)]
 pub struct GridWalk {
+    /// The place whose segment is read next.
     pub at: Place,
+    /// How many segments there are.
     pub most: Place,
 }
 

@@ -12,6 +12,7 @@ use step_memory::{Access, Answer, Note, Place, StepProgram};
 /// A walk through the doors of a grid.
 #[derive(Clone, Copy, Debug, Drop, PartialEq, Eq)]
 pub struct GridWalker {
+    /// The walk, over the registers of the doors alone.
     pub walker: Walker,
 }
 

@@ -10,6 +10,7 @@ use step_memory::{Place, Record, Segment};
 /// node, and where that is set the node's segment and what lies below.
 #[derive(Clone, Copy, Debug, Drop, PartialEq, Eq)]
 pub struct TreeWalk {
+    /// The walk, as the tree knows it.
     pub walk: CollectWalk,
 }
 

@@ -11,6 +11,7 @@ use step_memory::{Access, Answer, Note, Place, StepProgram};
 /// A walk down a tree: the node at which it stops is the place.
 #[derive(Clone, Copy, Debug, Drop, PartialEq, Eq)]
 pub struct TreeWalker {
+    /// The walk, as the tree knows it.
     pub walker: Walker,
 }
 

@@ -7,7 +7,9 @@ ghost use Rattle.splitter_grid.specs.Door.{corner, number_of, right_of, down_of}
 /// a walk has passed before it. The column is at most the depth.
 #[derive(Clone, Copy, Debug, Drop, PartialEq, Eq)]
 pub struct Door {
+    /// How many doors a walk has passed before it.
     pub depth: u8,
+    /// How many of these it left down.
     pub column: u8,
 }
 

@@ -12,7 +12,9 @@ use step_memory::{Access, Answer, Note, Place, StepProgram};
 /// access; one that stops ends the walk (Moir and Anderson 1995).
 #[derive(Clone, Copy, Debug, Drop, PartialEq, Eq)]
 pub struct Walker {
+    /// Its visit to that door.
     pub visitor: Visitor<usize>,
+    /// The door before which it stands.
     pub door: Door,
 }
 

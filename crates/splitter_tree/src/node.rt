@@ -17,6 +17,7 @@ pub type Link<A> = Option<Box<Node<A>, A>>;
 /// A node of the tree: what it holds, and its children. Their numbers follow from the way to them.
 #[derive(Drop)]
 pub struct Node<A: Allocator> {
+    /// Its splitter's X and Y, and its segment.
     pub registers: NodeRegisters,
     /// Where down leads to: the node with twice the number of this one.
     pub left: Link<A>,

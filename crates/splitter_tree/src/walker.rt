@@ -54,7 +54,9 @@ fn told(got: Answer<TreeValue>) -> Answer<u64>
 /// which the next step marks the one reached; one that stops ends the walk, and the node is its place.
 #[derive(Clone, Copy, Debug, Drop, PartialEq, Eq)]
 pub struct Walker {
+    /// Its visit to that node.
     pub visitor: Visitor<TreeRegister>,
+    /// The number of the node before which it stands.
     pub place: Place,
     /// Whether the next access is that to the mark.
     pub is_marking: bool,

@@ -60,7 +60,9 @@ pub enum Task {
 /// A participant: its way to its place, and what it has still to do.
 #[derive(Clone, Copy, Debug, Drop)]
 pub struct Client {
+    /// Its way to its place.
     pub walker: Walker,
+    /// What it has still to do.
     pub task: Task,
 }
 

@@ -10,7 +10,9 @@ use step_memory::{Record, View};
 /// has room for as many pairs as there may ever be participants.
 #[derive(Clone, Copy, Debug, Drop)]
 pub struct Collect {
+    /// Its walk over the nodes.
     pub walk: CollectWalk,
+    /// The identities and values that it has read.
     pub view: View,
 }
 
