@@ -137,10 +137,7 @@ impl<A: Allocator + Clone> Board<A> {
         if names < 1 || MOST_NAMES < names {
             return Err(Refusal::OutOfRange);
         }
-        match Board::open(alloc, names) {
-            Ok(opened) => Ok(opened),
-            Err(AllocError) => Err(Refusal::NoMemory),
-        }
+        Ok(Board::open(alloc, names)?)
     }
 
     /// A board on which nothing was posted, with a seat.
@@ -164,9 +161,7 @@ impl<A: Allocator + Clone> Board<A> {
         ensures range { (1 ≤ grant.name) × (grant.name ≤ self.words) }
         ensures only { IfErr result (λ r. r ≡ Refusal.NoMemory) }
     {
-        let Ok(alloc) = self.alloc.clone() else {
-            return Err(Refusal::NoMemory);
-        };
+        let alloc = self.alloc.clone()?;
         let (_, mut seat) = self.table.shared.load_new_seat::<Begin>(0);
         gather(&self.table.shared, &mut seat, grant);
         match read_all(

@@ -4,7 +4,9 @@ use std::collections::LinkedList;
 
 /// A word, from 0, and the identity that stands in it for good.
 pub struct Claim {
+    /// The number of the word.
     pub word: u64,
+    /// The identity that stands in it.
     pub identity: u64,
 }
 

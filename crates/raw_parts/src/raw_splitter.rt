@@ -115,15 +115,9 @@ impl<A: Allocator + Clone> RawSplitter<A> {
         if seats < 1 || MOST_SEATS < seats {
             return Err(Refusal::OutOfRange);
         }
-        let Ok(other) = alloc.clone() else {
-            return Err(Refusal::NoMemory);
-        };
-        let Ok((splitter, mut rest)) = RawSplitter::open(alloc, seats) else {
-            return Err(Refusal::NoMemory);
-        };
-        let Ok(mut dealt) = Vec::with_capacity(other, seats as usize) else {
-            return Err(Refusal::NoMemory);
-        };
+        let other = alloc.clone()?;
+        let (splitter, mut rest) = RawSplitter::open(alloc, seats)?;
+        let mut dealt = Vec::with_capacity(other, seats as usize)?;
         for number in 0..seats {
             dealt.push_reserved(splitter.deal(&mut rest, number));
         }
@@ -138,9 +132,7 @@ impl<A: Allocator> RawSplitter<A> {
         ensures seats { IfOk result (λ r. (r.1 ≡ seat_of r.0 0) × (r.2 ≡ seat_of r.0 1)) }
         ensures only { IfErr result (λ r. r ≡ Refusal.NoMemory) }
     {
-        let Ok((splitter, mut rest)) = RawSplitter::open(alloc, 2) else {
-            return Err(Refusal::NoMemory);
-        };
+        let (splitter, mut rest) = RawSplitter::open(alloc, 2)?;
         let first = splitter.deal(&mut rest, 0);
         let second = splitter.deal(&mut rest, 1);
         Ok((splitter, first, second))

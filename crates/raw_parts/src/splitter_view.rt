@@ -5,6 +5,7 @@ use std::collections::LinkedList;
 
 /// The visit of a number.
 pub struct Visit {
+    /// The number of its seat.
     pub number: u64,
     /// How far it has come.
     pub stage: Stage,
@@ -20,6 +21,8 @@ pub struct Visit {
 /// How many seats the splitter has, and the visits that are this seat's to make: one, but where seats are still to be
 /// dealt out or while two of them meet.
 pub struct SplitterView {
+    /// How many seats the splitter has.
     pub seats: u64,
+    /// The visits that are this seat's to make.
     pub visits: LinkedList<Visit>,
 }

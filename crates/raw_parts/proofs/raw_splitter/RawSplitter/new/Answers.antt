@@ -22,7 +22,7 @@ pub loop-number-preserved : goal.loop-number-preserved
 loop-number-preserved g c =
     let i = c.loop-number.invariant in
     let number = c.loop-number.number in
-    let splitter : SplitterId = c.in-Ok-open.splitter in
+    let splitter : SplitterId = c.in_ok-splitter.splitter in
     record {
       seats = i.seats;
       few = i.few;
@@ -39,4 +39,4 @@ returns-clause-splitter g c = c.loop-number.invariant.seats
 pub returns-clause-seats : goal.returns-clause-seats
 returns-clause-seats g c =
     let all : c.loop-number.number ≡ c.args.seats = omega (arith, c.loop-number-test.false, c.loop-number.auto.number-end) in
-    c.loop-number.invariant.dealt ∙ ap (first_seats c.in-Ok-open.splitter) all
+    c.loop-number.invariant.dealt ∙ ap (first_seats c.in_ok-splitter.splitter) all
