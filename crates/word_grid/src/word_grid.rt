@@ -14,7 +14,7 @@ use crate::seats::{Claim, Dealer, EnteredSeat, FreshSeat};
 use atomic_table::{Badge, Seat};
 use splitter::Way;
 use splitter_grid::Door;
-use std::alloc::{AllocError, Allocator};
+use std::alloc::Allocator;
 use std::marker::Model;
 use std::mem;
 use step_memory::{Place, Refusal};
@@ -49,16 +49,9 @@ impl<A: Allocator + Clone> WordGrid<A> {
         if most < 1 || MOST_SEATS < most {
             return Err(Refusal::OutOfRange);
         }
-        match Doors::open(alloc, most) {
-            Ok((doors, rest)) => Ok((
-                WordGrid { doors },
-                Dealer {
-                    dealt: 0,
-                    badge: rest.into_badge(),
-                },
-            )),
-            Err(AllocError) => Err(Refusal::NoMemory),
-        }
+        let (doors, rest) = Doors::open(alloc, most)?;
+        let badge = rest.into_badge();
+        Ok((WordGrid { doors }, Dealer { dealt: 0, badge }))
     }
 }
 

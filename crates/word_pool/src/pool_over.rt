@@ -60,10 +60,7 @@ impl<R: TableRule<u8, PoolView, u64>, A: Allocator + Clone> PoolOver<R, A> {
         if numbers < 1 || MOST_NUMBERS < numbers {
             return Err(Refusal::OutOfRange);
         }
-        match PoolOver::open(alloc, numbers) {
-            Ok(opened) => Ok(opened),
-            Err(AllocError) => Err(Refusal::NoMemory),
-        }
+        Ok(PoolOver::open(alloc, numbers)?)
     }
 
     fn open(alloc: A, numbers: u64) -> Result<(PoolOver<R, A>, Seat<u8, PoolView>), AllocError>

@@ -16,6 +16,7 @@ pub enum Stage {
 
 /// One stay in the pool: from the first access that seeks a number to the one that gives it back.
 pub struct Call {
+    /// How far it has come.
     pub stage: Stage,
     /// The place that it tries next, or that it holds: the number less one.
     pub place: u64,
@@ -31,18 +32,21 @@ pub struct Call {
     pub sighted: bool,
     /// How many races its walk has lost: how often a swap met held what the look just before it had found free.
     pub lost: u64,
-    /// After how many comings and goings of calls it came, took its number, and went.
+    /// After how many comings and goings of calls it came.
     pub came: u64,
+    /// And took its number.
     pub took: u64,
+    /// And went.
     pub went: u64,
     /// In a line, of a call that has got its number: how many competed at each moment from its coming to its taking, the
     /// newest first.
     pub crowds: LinkedList<u64>,
 }
 
-/// The calls that are this seat's to make: none, one, two while two holders meet, or more where tickets are dealt out. And
-/// the calls that have ended.
+/// What a seat of a pool knows.
 pub struct PoolView {
+    /// The calls that are this seat's to make: none, one, two while two holders meet, or more where tickets are dealt out.
     pub calls: LinkedList<Call>,
+    /// The calls that have ended.
     pub past: LinkedList<Call>,
 }
