@@ -1,5 +1,5 @@
 -- one who enters and gets a number by the probes of its bits makes the calls of a stay
-use Rattle.std.proofs.Common.{◌≡◌, ℕ, zero, suc, ◌+◌, ◌==◌, List, [], ◌∷◌, ◌++◌, replicate, Some, None, Ok, refl, sym, ap, ◌∙◌, arith, is_some}
+use Rattle.std.proofs.Common.{◌≡◌, ℕ, zero, suc, ◌+◌, List, [], ◌∷◌, ◌++◌, replicate, Some, None, Ok, refl, sym, ap, ◌∙◌, arith, is_some}
 use Rattle.bit_allocator.proofs.Common.{nat_tests, Registers, after_access, set_at-same, Competitor, Missed, Got, Stay, Seeking, Settled, probe_access, probe_reply, stay_of, with_stay, PoolState, fresh_pool, enter_refusal, Call, Probed, next, IsReply, pool}
 use Rattle.step_memory.specs.Runs.{Run}
 use Rattle.step_memory.proofs.RunLemmas.{run_more, run_keeps}

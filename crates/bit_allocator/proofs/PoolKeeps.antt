@@ -1,5 +1,5 @@
 -- each call of a pool keeps the law
-use Rattle.std.proofs.Common.{◌≡◌, ◌≢◌, ℕ, suc, ◌+◌, ◌≤◌, ◌<◌, Bool, true, false, cond, ◌==◌, List, [], ◌∷◌, ◌++◌, Option, Some, None, Ok, Err, length, get_or, set, inl, inr, refl, sym, ap, subst, ◌∙◌, arith, MatchOption, is_some}
+use Rattle.std.proofs.Common.{◌≡◌, ◌≢◌, ℕ, suc, ◌+◌, ◌≤◌, ◌<◌, Bool, true, false, cond, List, [], ◌∷◌, ◌++◌, Option, Some, None, Ok, Err, length, get_or, set, inl, inr, refl, sym, ap, subst, ◌∙◌, arith, MatchOption, is_some}
 use Rattle.bit_allocator.proofs.Common.{eqb_tells, leb_tells, Decides-eqb, nat_tests, NotCompeting, Holding, NotHolding, TestAndSet, Nothing, after_access, Competitor, Missed, Got, Stay, Seeking, Settled, held_at, stay_of, with_stay, without, held_in, holder_in, holds_at, PoolState, Call, Entered, Probed, Left, Widened, next, IsReply, pool, set_at-other}
 use Rattle.std.proofs.lemmas.Bool.{cases_Bool}
 use Rattle.std.proofs.lemmas.List.{get_or-set_same, get_or-set_other, length-set}

@@ -1,5 +1,5 @@
 -- competitors whose identities are distinct, and what is noted of them
-use Rattle.std.proofs.Common.{◌≡◌, ◌≢◌, ◌<◌, ◌%◌, ℕ, zero, suc, ◌==◌, true, List, [], ◌∷◌, ◌++◌, Some, None, length, get_or, set, inl, inr, refl, sym, ap, subst, ◌∙◌, arith, add-one, is_some}
+use Rattle.std.proofs.Common.{◌≡◌, ◌≢◌, ◌<◌, ◌%◌, ℕ, zero, suc, true, List, [], ◌∷◌, ◌++◌, Some, None, length, get_or, set, inl, inr, refl, sym, ap, subst, ◌∙◌, arith, add-one, is_some}
 use Rattle.bit_allocator.proofs.Common.{eqb_tells, nat_tests, Competitor, Stay, index_of, stay_of, with_stay, without, set_at-other}
 use Rattle.std.proofs.lemmas.List.{get_or_default, get_or-set_other}
 use Rattle.std.proofs.lemmas.Grind.{get_or-set_at}

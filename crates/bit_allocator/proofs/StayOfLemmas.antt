@@ -1,5 +1,5 @@
 -- where each identity stands, after a call
-use Rattle.std.proofs.Common.{◌≡◌, ℕ, true, not, ◌==◌, List, [], ◌∷◌, ◌++◌, Some, None, length, filter, cond, inl, inr, refl, ◌∙◌, arith, is_some}
+use Rattle.std.proofs.Common.{◌≡◌, ℕ, true, not, ◌==◌, List, [], ◌∷◌, ◌++◌, Some, None, length, filter, cond, inl, inr, refl, arith, is_some}
 use Rattle.bit_allocator.proofs.Common.{eqb_tells, nat_tests, set_at, Competitor, Stay, identities, stay_of, with_stay, without}
 use Rattle.std.specs.List.{list_any}
 use Rattle.std.proofs.lemmas.List.{map-append, length-map}

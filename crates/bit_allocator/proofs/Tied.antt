@@ -1,5 +1,5 @@
 -- a pool and the object after the same calls
-use Rattle.std.proofs.Common.{◌≡◌, ◌≢◌, ℕ, ◌+◌, ◌≤◌, true, not, ◌==◌, List, [], ◌∷◌, ◌++◌, Option, Some, None, length, filter, inl, inr, refl, sym, ap, ◌∙◌, arith, is_some}
+use Rattle.std.proofs.Common.{◌≡◌, ◌≢◌, ℕ, ◌+◌, true, not, ◌==◌, List, [], ◌∷◌, ◌++◌, Option, Some, None, length, filter, inl, inr, refl, sym, ap, ◌∙◌, arith, is_some}
 use Rattle.bit_allocator.proofs.Common.{Decides-eqb, set_at, Competitor, Stay, Seeking, Settled, PoolState, enter_refusal, number_by, probe_refusal_by}
 use Rattle.std.proofs.Math.Path.{fun_ext}
 use Rattle.bit_allocator.specs.Competitors.{identities, stay_of, with_stay, without, held_in, held_by_stay}

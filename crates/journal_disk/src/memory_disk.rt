@@ -44,12 +44,16 @@ impl MemoryDisk {
     }
 
     /// What was written.
-    pub fn as_slice(&self) -> &[u8] {
+    pub fn as_slice(&self) -> &[u8]
+        ensures { result.now ≡ self.now.bytes.items }
+    {
         &self.bytes
     }
 
     /// How many bytes a crash leaves for sure.
-    pub fn synced(&self) -> usize {
+    pub fn synced(&self) -> usize
+        ensures { result ≡ self.now.synced }
+    {
         self.synced
     }
 
