@@ -34,10 +34,10 @@ pub enum HostFailure {
     #[error("journal fault: {0}")]
     Journal(ErrorKind),
     /// The journal is no record of a run: the number of its first line at fault, and of the reason.
-    #[error("journal: no {0} {1}")]
+    #[error("journal: line {0} follows in no run from those before it, by reason {1}; the file was not changed")]
     No(u64, u8),
     /// The line of this number of the journal is none of a record.
-    #[error("journal: bad record {0}")]
+    #[error("journal: line {0} is none of a record, as host and play --record write it; the file was not changed")]
     BadRecord(u64),
     /// The journal is one of another config, or of an older version.
     #[error("journal of another config: its first line says of which")]

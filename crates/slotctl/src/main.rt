@@ -125,7 +125,19 @@ fn host_plan_of<'a>(hosting: Hosting<'a>, seen: bool) -> HostPlan<'a> {
     }
 }
 
-// Tells why no hall is hosted, and answers the status: of a journal that is no record, the line of `check` is told.
+// Tells that a journal is no record, by the line of `check` and then in words, and answers the status.
+fn report_judged<W: Write, E: Write>(
+    judged: Failure,
+    failure: HostFailure,
+    output: &mut W,
+    errors: &mut E,
+) -> u8 {
+    let status = report(judged, output, errors);
+    let _ = tell(&failure, errors);
+    status
+}
+
+// Tells why no hall is hosted, and answers the status.
 fn report_hosted<W: Write, E: Write>(
     alloc: Global,
     failure: HostFailure,
@@ -134,8 +146,12 @@ fn report_hosted<W: Write, E: Write>(
 ) -> u8 {
     let failure = match failure {
         HostFailure::NoMembers => { Failure::Misuse(refused(alloc, MEMBERS_WANTED)) }
-        HostFailure::No(line, reason) => Failure::No(line, reason),
-        HostFailure::BadRecord(line) => Failure::BadRecord(line),
+        HostFailure::No(line, reason) => {
+            return report_judged(Failure::No(line, reason), failure, output, errors);
+        }
+        HostFailure::BadRecord(line) => {
+            return report_judged(Failure::BadRecord(line), failure, output, errors);
+        }
         HostFailure::Output => Failure::Fault(Fault::Write),
         HostFailure::Memory => Failure::Fault(Fault::Memory),
         other => return tell(&other, errors),
