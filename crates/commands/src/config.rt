@@ -1,7 +1,8 @@
 //! What a run is of.
 
-ghost use Rattle.std.specs.Prelude.{◌≡◌, ◌↔◌, IfOk, IfErr, IsOk};
+ghost use Rattle.std.specs.Prelude.{◌≡◌, ◌<◌, ◌↔◌, true, IfOk, IfErr, IsOk};
 ghost use Rattle.commands.specs.Ranges.{IsConfigRange};
+ghost use Rattle.proposal_rounds.specs.Rounds.{most_proposals};
 
 use crate::kind::WorldKind;
 use step_memory::Refusal;
@@ -31,5 +32,22 @@ impl Config {
             return Err(Refusal::OutOfRange);
         }
         Ok(Config { world, m, k, limit })
+    }
+
+    /// Whether no participant can use up its rounds: where the round limit is above `3(5^m - 1)/4`, the most proposals that `m`
+    /// participants make, all together. That is 3, 18, 93, 468, 2,343, 11,718, 58,593 and 292,968 for `m` from 1 to 8, and above
+    /// every round limit from 9 on.
+    pub fn cannot_spend(&self) -> bool
+        ensures { (result ≡ true) ↔ (most_proposals self.now.m < self.now.limit) }
+    {
+        let mut most = 0;
+        for begun in 0..self.m {
+            let _ = begun;
+            most = 5 * most + 3;
+            if self.limit <= most {
+                return false;
+            }
+        }
+        true
     }
 }

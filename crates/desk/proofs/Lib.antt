@@ -2,5 +2,6 @@ mod Common
 mod DeskKeeps
 mod NamesGiven
 mod NamedAlone
+pub mod NamedAmong
 mod Refusing
 pub mod DeskLaws

@@ -13,14 +13,14 @@ use Rattle.desk.specs.Replies.{shown_step}
 use Rattle.desk.proofs.NamesGiven.{was_given, shown_by, has_named}
 
 -- where a list of calls is shown as two parts of exchanges, it has two parts
-record AreParts (calls : List DeskCall) (before more : List Exchange) : Type 0 where
-  first : List DeskCall
-  second : List DeskCall
-  is : first ++ second ≡ calls
-  shows : map exchange_of first ≡ before
-  goes_on : map exchange_of second ≡ more
+pub record AreParts (calls : List DeskCall) (before more : List Exchange) : Type 0 where
+  pub first : List DeskCall
+  pub second : List DeskCall
+  pub is : first ++ second ≡ calls
+  pub shows : map exchange_of first ≡ before
+  pub goes_on : map exchange_of second ≡ more
 
-parts_of : (calls : List DeskCall) (before more : List Exchange) → map exchange_of calls ≡ before ++ more → AreParts calls before more
+pub parts_of : (calls : List DeskCall) (before more : List Exchange) → map exchange_of calls ≡ before ++ more → AreParts calls before more
 parts_of calls [] more e = record { first = []; second = calls; is = refl; shows = refl; goes_on = e }
 parts_of [] (x ∷ before) more e = absurd (cc)
 parts_of (h ∷ calls) (x ∷ before) more e =
@@ -29,13 +29,13 @@ parts_of (h ∷ calls) (x ∷ before) more e =
     let k = parts_of calls before more rest in
     record { first = h ∷ k.first; second = k.second; is = ap (λ z. h ∷ z) k.is; shows = rw (here, k.shows) refl; goes_on = k.goes_on }
 
-rename_parts : (first second : List DeskCall) → rename_calls (first ++ second) ≡ rename_calls first ++ rename_calls second
+pub rename_parts : (first second : List DeskCall) → rename_calls (first ++ second) ≡ rename_calls first ++ rename_calls second
 rename_parts [] second = refl
 rename_parts (Renamed h ∷ first) second = ap (λ z. h ∷ z) (rename_parts first second)
 rename_parts (Slotted h ∷ first) second = rename_parts first second
 
 -- whether an event is one of renaming
-abbrev is_of_names : Event → Bool
+abbrev pub is_of_names : Event → Bool
 is_of_names (event.Begin q) = true
 is_of_names (event.Step q) = true
 is_of_names e = false
@@ -45,12 +45,12 @@ of_names (Began q a) = refl
 of_names (Stepped q a) = refl
 
 -- one of the slots is not: it is no proposal and no step
-record IsOfSlots (x : Exchange) : Type 0 where
-  event : is_of_names x.event ≡ false
-  proposed : (p n : ℕ) → proposed_more p x.event x.reply n ≡ n
-  stepped : (p n : ℕ) → stepped_more p x.event x.reply n ≡ n
+pub record IsOfSlots (x : Exchange) : Type 0 where
+  pub event : is_of_names x.event ≡ false
+  pub proposed : (p n : ℕ) → proposed_more p x.event x.reply n ≡ n
+  pub stepped : (p n : ℕ) → stepped_more p x.event x.reply n ≡ n
 
-of_slots : (h : SlotCall ℕ) → IsOfSlots (exchange_of (Slotted h))
+pub of_slots : (h : SlotCall ℕ) → IsOfSlots (exchange_of (Slotted h))
 of_slots (Pooled (Entered q a)) = record { event = refl; proposed = λ p n. refl; stepped = λ p n. refl }
 of_slots h = record { event = refl; proposed = λ p n. refl; stepped = λ p n. refl }
 
@@ -76,7 +76,7 @@ spent_call p (Stepped q (Err why)) x = absurd (let e : reply.Refused why ≡ rep
 
 -- what a call of renaming makes true, and no call makes false, holds after calls among whose exchanges is its
 module _ (terms : RenameTerms) (Holds : RenameObject → Type 0) (stays : (o : RenameObject) (h : Call StepReply) → Holds o → Holds (after o h)) where
-  still_holds : (o o' : RenameObject) (r : List (Call StepReply)) → Run after (Allows terms) o r o' → Holds o → Holds o'
+  pub still_holds : (o o' : RenameObject) (r : List (Call StepReply)) → Run after (Allows terms) o r o' → Holds o → Holds o'
   still_holds o o' [] run k = subst Holds (sym run) k
   still_holds o o' (h ∷ r) run k = still_holds (after o h) o' r run.1 (stays o h k)
 
@@ -94,7 +94,7 @@ begun_stays p o (Began q (Ok done)) e = elim (eqb_tells p q) [ inl k ↦ rw k.0 
 begun_stays p o (Stepped q (Ok Quiet)) e = e
 begun_stays p o h e = e
 
-spent_stays : (p : ℕ) (o : RenameObject) (h : Call StepReply) → o.spent p ≡ true → (after o h).spent p ≡ true
+pub spent_stays : (p : ℕ) (o : RenameObject) (h : Call StepReply) → o.spent p ≡ true → (after o h).spent p ≡ true
 spent_stays p o (Began q (Ok done)) e = e
 spent_stays p o (Stepped q (Ok Spent)) e = elim (eqb_tells p q) [ inl k ↦ rw k.0 refl | inr k ↦ rw k.0 e ]
 spent_stays p o h e = e
@@ -102,10 +102,10 @@ spent_stays p o h e = e
 same_is : (p : ℕ) → (p == p) ≡ true
 same_is p = (Decides-eqb p p).1 refl
 
-has_begun : (terms : RenameTerms) (o o' : RenameObject) (p : ℕ) (calls : List DeskCall) → Run after (Allows terms) o (rename_calls calls) o' → HasBegun p (map exchange_of calls) → o'.begun p ≡ true
+pub has_begun : (terms : RenameTerms) (o o' : RenameObject) (p : ℕ) (calls : List DeskCall) → Run after (Allows terms) o (rename_calls calls) o' → HasBegun p (map exchange_of calls) → o'.begun p ≡ true
 has_begun terms o o' p calls = holds_then terms (λ x. x.begun p ≡ true) (begun_stays p) (Began p (Ok tt)) (begun_call p) (λ x. rw (same_is p) refl) o o' calls
 
-has_spent : (terms : RenameTerms) (o o' : RenameObject) (p : ℕ) (calls : List DeskCall) → Run after (Allows terms) o (rename_calls calls) o' → WasSpent p (map exchange_of calls) → o'.spent p ≡ true
+pub has_spent : (terms : RenameTerms) (o o' : RenameObject) (p : ℕ) (calls : List DeskCall) → Run after (Allows terms) o (rename_calls calls) o' → WasSpent p (map exchange_of calls) → o'.spent p ≡ true
 has_spent terms o o' p calls = holds_then terms (λ x. x.spent p ≡ true) (spent_stays p) (Stepped p (Ok Spent)) (spent_call p) (λ x. rw (same_is p) refl) o o' calls
 
 -- one call spends who is spent after it and was not before
@@ -115,7 +115,7 @@ spent_now o p (Stepped q (Ok Spent)) e = elim (eqb_tells p q) [ inl k ↦ inr (r
 spent_now o p h e = inl e
 
 -- so who is spent was told so, or was spent at first
-was_spent : (terms : RenameTerms) (o o' : RenameObject) (p : ℕ) (calls : List DeskCall) → Run after (Allows terms) o (rename_calls calls) o' → o'.spent p ≡ true → (o.spent p ≡ true) ⊎ WasSpent p (map exchange_of calls)
+pub was_spent : (terms : RenameTerms) (o o' : RenameObject) (p : ℕ) (calls : List DeskCall) → Run after (Allows terms) o (rename_calls calls) o' → o'.spent p ≡ true → (o.spent p ≡ true) ⊎ WasSpent p (map exchange_of calls)
 was_spent terms o o' p [] run e = inl (rw run at e)
 was_spent terms o o' p (Slotted h ∷ calls) run e = elim (was_spent terms o o' p calls run e) [ inl first ↦ inl first | inr later ↦ inr (inr later) ]
 was_spent terms o o' p (Renamed h ∷ calls) run e = elim (was_spent terms (after o h) o' p calls run.1 e) [
@@ -146,7 +146,7 @@ count_is terms o o' p (Renamed (Stepped q (Ok Spent)) ∷ calls) run = count_is 
 count_is terms o o' p (Renamed (Stepped q (Err why)) ∷ calls) run = count_is terms o o' p calls run.1
 count_is terms o o' p (Slotted h ∷ calls) run = rw ((of_slots h).proposed p (proposals_of p (map exchange_of calls))) (count_is terms o o' p calls run)
 
-accepted : (said : StepReply) → is_refusal (shown_step said) ≡ false
+pub accepted : (said : StepReply) → is_refusal (shown_step said) ≡ false
 accepted Quiet = refl
 accepted said = refl
 
@@ -159,7 +159,7 @@ calls_alone p (Renamed (Stepped q (Err why)) ∷ calls) a = (tt, calls_alone p c
 calls_alone p (Slotted h ∷ calls) a = calls_alone p calls a.1
 
 -- and makes as many steps
-steps_are : (p : ℕ) (calls : List DeskCall) → steps_of p (map exchange_of calls) ≡ call_steps p (rename_calls calls)
+pub steps_are : (p : ℕ) (calls : List DeskCall) → steps_of p (map exchange_of calls) ≡ call_steps p (rename_calls calls)
 steps_are p [] = refl
 steps_are p (Renamed (Began q answer) ∷ calls) = let rest = steps_are p calls in omega arith
 steps_are p (Renamed (Stepped q (Ok said)) ∷ calls) =

@@ -180,14 +180,15 @@ module _ (terms : RenameTerms) (bounds : SnapBounds) (size : ℕ) (r : List Exch
   pub never_two : (p q n : ℕ) → WasNamed p n r → WasNamed q n r → p ≡ q
   never_two p q n one other = run.names.one_to_one p q n (named_has p n one) (named_has q n other)
 
+  -- as many have begun in the object
+  pub many_is : run.names.object.many ≡ begun_in r
+  many_is =
+      many_after terms new_object run.names.object (rename_calls run.calls) run.names.run
+      ∙ zero-add (begun_calls (rename_calls run.calls)) ∙ sym (begun_shown run.calls) ∙ ap begun_in run.spelled
+
   -- and each name is from 1 to 2b - 1, where b have begun
   pub small_names : (p n : ℕ) → WasNamed p n r → (1 ≤ n) × (n ≤ 2 * begun_in r - 1)
-  small_names p n one =
-      let range = run.names.in_range p n (named_has p n one) in
-      let many : run.names.object.many ≡ begun_in r =
-      many_after terms new_object run.names.object (rename_calls run.calls) run.names.run
-      ∙ zero-add (begun_calls (rename_calls run.calls)) ∙ sym (begun_shown run.calls) ∙ ap begun_in run.spelled in
-      (range.0, rw (← many) range.1)
+  small_names p n one = let range = run.names.in_range p n (named_has p n one) in rw (← many_is) range
 
   -- who owns a name was given it
   pub owner_is : (n : ℕ) (owner : Option ℕ) → IsOwner run.names.object n owner → IsOwnerIn r n owner

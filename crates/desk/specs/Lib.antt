@@ -7,6 +7,7 @@ pub mod DeskRun
 pub mod DeskRules
 pub mod Names
 pub mod NamedAlone
+pub mod NamedAmong
 pub mod Desk
 pub mod DeskParts
 pub mod Coming

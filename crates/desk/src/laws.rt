@@ -3,6 +3,7 @@
 ghost use Rattle.std.specs.Prelude.{◌≡◌, ℕ, ◌-◌, ◌*◌, ◌≤◌};
 ghost use Rattle.desk.specs.Laws.{BeginsDesk, HasFreshDesk, IsOneFreshDesk, DeskGoesOn, DeskKeepsRuns, DeskTellsOwners, DeskRefusesAsSaid, IsDeskDetermined, InEachRun};
 ghost use Rattle.desk.specs.NamedAlone.{NamesSoonAlone};
+ghost use Rattle.desk.specs.NamedAmong.{NamesSoonAmong};
 ghost use Rattle.desk.specs.Names.{WasNamed, begun_in};
 
 /// A law, which runs nothing. A fresh desk is after no calls, and there is one for each config; whatever a desk may answer to
@@ -24,10 +25,12 @@ pub fn law_of_desk()
 /// one, and each name is from 1 to 2b - 1, where b have begun. Wherever a run is cut in two, one who has begun, is neither
 /// named nor spent and has two proposals left is named once it has made `steps_alone` accepted steps after the cut, or
 /// earlier, and is not spent until then, if no other has made one there: wherever the others stopped. Others may begin, and
-/// compete for the pool.
+/// compete for the pool. And rounds end, whoever steps: all together make at most 3(5^b - 1)/4 proposals; whoever has made
+/// `steps_among` accepted steps has a name or is spent; and where the round limit is above that number nobody is spent.
 pub fn law_of_names()
     ensures one_each { InEachRun (λ r. (p n m : ℕ) → WasNamed p n r → WasNamed p m r → n ≡ m) }
     ensures small { InEachRun (λ r. (p n : ℕ) → WasNamed p n r → (1 ≤ n) × (n ≤ 2 * begun_in r - 1)) }
     ensures soon_alone { NamesSoonAlone }
+    ensures soon_among { NamesSoonAmong }
     ensures never_two { InEachRun (λ r. (p q n : ℕ) → WasNamed p n r → WasNamed q n r → p ≡ q) }
 {}

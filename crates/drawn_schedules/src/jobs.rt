@@ -6,7 +6,7 @@ ghost use Rattle.commands.specs.Config.{gives_names};
 ghost use Rattle.drawn_schedules.specs.Runs.{HasDrawn, HasDrawnPart, IsToldOf};
 ghost use Rattle.drawn_schedules.specs.declared.tally.Tally.{Tally};
 
-use crate::runs::{play_drawn, play_share, write_tallies};
+use crate::runs::{play_schedules, play_share, write_tallies};
 use crate::schedule::Schedule;
 use crate::tally::Tally;
 use commands::Config;
@@ -56,7 +56,7 @@ fn play_shares<R: Threads + Sync>(
     );
 }
 
-/// Plays drawn schedules as `play_drawn` does, and writes the same lines, with the runs shared among so many threads, at most 64, or
+/// Plays drawn schedules as `play_schedules` does, and writes the same lines, with the runs shared among so many threads, at most 64, or
 /// where 0 are asked for as many as there are processors: each plays runs that follow one another, in memory of its own.
 ///
 /// `Fault::Memory` where memory was refused and no write failed, `Fault::Write` where the writer failed or took nothing: then a
@@ -82,7 +82,7 @@ pub fn play_drawn_by<R: Threads + Sync, W: Sink>(
 {
     let jobs = jobs_for(rt, jobs);
     if jobs == 1 {
-        return play_drawn(alloc, plan, runs, config, writer);
+        return play_schedules(alloc, plan, runs, config, writer);
     }
     let Ok(mut tallies) = Vec::from_elem(alloc, None, runs as usize) else {
         return Err(Fault::Memory);

@@ -162,7 +162,7 @@ fn put_run<A: Allocator>(run: u64, tally: Tally, held: &mut Replies<A>)
 ///
 /// `Fault::Memory` where memory was refused and no write failed, `Fault::Write` where the writer failed or took nothing: then a
 /// beginning of the lines of the runs so far is written.
-pub fn play_drawn<A: Allocator + Clone, W: Sink>(
+pub fn play_schedules<A: Allocator + Clone, W: Sink>(
     alloc: A,
     plan: Schedule,
     runs: u64,
@@ -199,7 +199,7 @@ pub fn play_drawn<A: Allocator + Clone, W: Sink>(
     held.send(writer)
 }
 
-/// Plays drawn schedules as `play_drawn` does, from that of number `first` on, one for each of these places, and puts the numbers of
+/// Plays drawn schedules as `play_schedules` does, from that of number `first` on, one for each of these places, and puts the numbers of
 /// each into its own; none where memory was refused. Runs do not depend on each other, so that many can share them.
 pub(crate) fn play_share<A: Allocator + Clone>(
     alloc: A,
@@ -224,7 +224,7 @@ pub(crate) fn play_share<A: Allocator + Clone>(
     }
 }
 
-/// Writes the line of each run as `play_drawn` does, from that of number 0 on, by its numbers.
+/// Writes the line of each run as `play_schedules` does, from that of number 0 on, by its numbers.
 ///
 /// `Fault::Memory` where there are none of a run and no write failed, `Fault::Write` where the writer failed or took nothing: then a
 /// beginning of the lines is written.

@@ -117,7 +117,11 @@ fn draw_steps<A: Allocator, W: Sink>(
 ///
 /// `Fault::Memory` where its buffer was refused, with nothing written; `Fault::Write` where the writer failed or took nothing,
 /// with a beginning of the text written.
-pub fn draw<A: Allocator, W: Sink>(alloc: A, plan: Schedule, writer: &mut W) -> Result<(), Fault>
+pub fn draw_schedule<A: Allocator, W: Sink>(
+    alloc: A,
+    plan: Schedule,
+    writer: &mut W,
+) -> Result<(), Fault>
     requires writes { W.calls writer.old < 2 ^ 64 }
     ensures ok { OnOk result (Appends (W.contents writer.old) (W.contents writer.new) (event_lines (schedule plan.seed plan.ids plan.steps))) }
     ensures unfailed { OnOk result (W.failed writer.new ≡ W.failed writer.old) }

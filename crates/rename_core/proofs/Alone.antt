@@ -6,7 +6,7 @@ use Rattle.snapshot_core.proofs.Alone.{ends_alike}
 use Rattle.snapshot_core.specs.Snapshot.Task.{Absent, Placing as ToPlace, Scanning as ToScan, Updating as ToUpdate}
 use Rattle.rename_core.specs.Alone.{LeavesAlone, HasTwoLeft, steps_alone}
 use Rattle.rename_core.proofs.LocalSteps.{wish_becomes}
-use Rattle.rename_core.proofs.rounds.Numbers.{next_free}
+use Rattle.proposal_rounds.proofs.Numbers.{next_free}
 use Rattle.rename_core.proofs.rounds.Standing.{others_stand}
 use Rattle.rename_core.proofs.rounds.StepCases.{begun_own, no_round, told_answer, told_state, refusal_here, closed_answer, step_refused}
 use Rattle.rename_core.proofs.rounds.Stepping.{HasGone, placing_gone, proposing_gone, looking_gone, standing_made}
@@ -125,7 +125,7 @@ module _ {S R V U K : Type 0} (W : KnownPlaces S R V U K) (terms : RenameTerms) 
         on_way : IsPlacing o t i.object w.snap p r → (reply : SnapReply) → IsInTime bounds t p (followed r p reply w.limit).reply → t.steps p + 1 ≤ bounds.placing bounds.most
         on_way h Silent timed = placing_within (let e : most_steps bounds t.begun (t.phase p) ≡ bounds.placing t.begun = ap (most_steps bounds t.begun) h.phase in omega arith)
         on_way h (HasPlace x) timed = placing_within timed.within
-        on_way h Written timed = absurd (let two : ToGo ≡ ToPropose = sym h.phase ∙ timed.is in cc)
+        on_way h Written timed = absurd (let two : ToGo ≡ ToPropose (number_of r.stage) = sym h.phase ∙ timed.is in cc)
         on_way h (Viewed view) timed = absurd (let two : ToGo ≡ ToLook = sym h.phase ∙ view_phase bounds t p r view w.limit timed in cc)
 
         -- who has no step left is named
@@ -192,7 +192,7 @@ module _ {S R V U K : Type 0} (W : KnownPlaces S R V U K) (terms : RenameTerms) 
           let was = left.1 in
           let one = on_way w o t i p v here h (HasPlace x) gone.timed in
           (2 * bounds.collecting + 1, update_put (followed v.program p (HasPlace x) w.limit) gone 1 refl (set_at-same t.steps p 0), inr (left.0, omega arith))
-      placing_on h stage left Written gone = absurd (let two : ToGo ≡ ToPropose = sym h.phase ∙ gone.timed.is in cc)
+      placing_on h stage left Written gone = absurd (let two : ToGo ≡ ToPropose (number_of v.program.stage) = sym h.phase ∙ gone.timed.is in cc)
       placing_on h stage left (Viewed view) gone = absurd (let two : ToGo ≡ ToLook = sym h.phase ∙ view_phase bounds t p v.program view w.limit gone.timed in cc)
 
       -- a round counts one more at most
@@ -212,7 +212,7 @@ module _ {S R V U K : Type 0} (W : KnownPlaces S R V U K) (terms : RenameTerms) 
               | inr a ↦ let l = a.1 in inr (a.0, omega arith)
             ],
           )
-      proposing_on number h stage left (HasPlace x) answer gone = absurd (let two : ToPropose ≡ ToGo = sym h.phase ∙ gone.timed.is in cc)
+      proposing_on number h stage left (HasPlace x) answer gone = absurd (let two : ToPropose number ≡ ToGo = sym h.phase ∙ gone.timed.is in cc)
       proposing_on number h stage left Written answer gone =
           let some = some_steps w.snap p left.0 left.1 in
           let last = set_at-same o.since p (o.last + 1) in
@@ -229,7 +229,7 @@ module _ {S R V U K : Type 0} (W : KnownPlaces S R V U K) (terms : RenameTerms) 
                   inr (inl (last, omega arith, omega arith))
             ],
           )
-      proposing_on number h stage left (Viewed view) answer gone = absurd (let two : ToPropose ≡ ToLook = sym h.phase ∙ view_phase bounds t p v.program view w.limit gone.timed in cc)
+      proposing_on number h stage left (Viewed view) answer gone = absurd (let two : ToPropose number ≡ ToLook = sym h.phase ∙ view_phase bounds t p v.program view w.limit gone.timed in cc)
 
       -- a view of a moment since the last one, which is p's own
       last_is : (index : ℕ) → IsRecent o p index → o.since p ≡ o.last → index ≡ o.last
@@ -295,7 +295,7 @@ module _ {S R V U K : Type 0} (W : KnownPlaces S R V U K) (terms : RenameTerms) 
             ],
           )
       looking_on h stage left (HasPlace x) answer gone = absurd (let two : ToLook ≡ ToGo = sym h.phase ∙ gone.timed.is in cc)
-      looking_on h stage left Written answer gone = absurd (let two : ToLook ≡ ToPropose = sym h.phase ∙ gone.timed.is in cc)
+      looking_on h stage left Written answer gone = absurd (let two : ToLook ≡ ToPropose (number_of v.program.stage) = sym h.phase ∙ gone.timed.is in cc)
       looking_on h stage left (Viewed view) answer gone = view_on h left view gone
 
       module _ (said : StepReply) (is : IsReply W w (Stepped p (Ok said))) where

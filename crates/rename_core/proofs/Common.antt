@@ -42,7 +42,7 @@ pub use Rattle.rename_core.specs.declared.round.Stage.{Stage}
 pub use Rattle.rename_core.specs.declared.round.Stage.TheVariants.{Placing, Proposing, Looking, Settled, Over}
 pub use Rattle.rename_core.specs.Pace.{Pace, IsInTime, most_steps, paced, paced_step, InTime}
 pub use Rattle.rename_core.specs.Pace.Phase.{ToPlace as ToGo, ToPropose, ToLook}
-pub use Rattle.rename_core.specs.Proposals.{is_taken, next_proposal}
+pub use Rattle.proposal_rounds.specs.Proposals.{is_taken, next_proposal}
 pub use Rattle.rename_core.specs.RenameObject.{RenameTerms, RenameObject, IsRecent, IsConflict, Allows, after, after_step, no_step, new_object, IsRun, IsSole, MayPropose, ShowsSole}
 pub use Rattle.rename_core.specs.Round.{stage_refusal, followed, decided, named_by, spent_by, saw_by, number_of, written_round, first_round, first_wish, name_at, standing_by}
 pub use Rattle.rename_core.specs.declared.round.Wish.{Wish}

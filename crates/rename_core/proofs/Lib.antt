@@ -6,6 +6,8 @@ pub mod Sizes
 mod LocalSteps
 mod Alone
 mod AloneRuns
+mod Ruled
+mod Clocked
 mod Names
 pub mod NamedPlaces
 mod FreshWorlds

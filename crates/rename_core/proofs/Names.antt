@@ -1,5 +1,5 @@
 -- every renaming world keeps the law of renaming
-use Rattle.std.proofs.Common.{None, is_some, IsOk, ◌≡◌, ◌+◌, false, ℕ, ◌==◌, Bool, true, List, [], ◌∷◌, ◌++◌, Option, Some, refl, sym, ap, ◌∙◌, arith, option_map, option_and_then}
+use Rattle.std.proofs.Common.{◌≤◌, None, is_some, IsOk, ◌≡◌, ◌+◌, false, ℕ, ◌==◌, Bool, true, List, [], ◌∷◌, ◌++◌, Option, Some, refl, sym, ap, ◌∙◌, arith, option_map, option_and_then}
 use Rattle.rename_core.proofs.Common.{Call, Began, Stepped, Participant, NotBegun, participant_of, Run, PlacesLaws, BoundsScans, KnownPlaces, Client, StandsAt, GoesBusy, goes_busy, client_of, access_of, snapshot, SnapCall, snap_next, IsSnapReply, is_tree, WorldKind, StepReply, Round, Stage, Placing, Proposing, Looking, Settled, Over, After, RenameState, name_in, name_by, owner_by, shown_by, step_refusal, rename_answer, may_lack, name_at, stage_refusal, standing_by}
 use Rattle.step_memory.proofs.RunLemmas.{run_more, run_keeps, run_one}
 use Rattle.snapshot_core.specs.SnapWorld.{SnapState, IsAccessFor}
@@ -12,6 +12,8 @@ use Rattle.rename_core.specs.RenameObject.{RenameTerms, RenameObject, new_object
 use Rattle.snapshot_core.proofs.Alone.{ends_soon_alone}
 use Rattle.rename_core.proofs.Alone.{Grounds}
 use Rattle.rename_core.proofs.AloneRuns.{KeepsAlone, alone_fresh, alone_more, alone_named}
+use Rattle.rename_core.proofs.Ruled.{IsRuled, ruled_fresh, ruled_more}
+use Rattle.rename_core.proofs.Clocked.{AreRising, IsClocked, are_rising, clocked_fresh, clocked_more, ends_among}
 use Rattle.rename_core.proofs.rounds.Beginning.{begin_goes}
 use Rattle.rename_core.proofs.rounds.Keeping.{Goes, step_goes}
 use Rattle.rename_core.proofs.rounds.Shown.{standing_of, shown_rising, shown_is, Owns, owner_is}
@@ -26,6 +28,7 @@ pub record MayBeNamed {S R V U K : Type 0} (W : KnownPlaces S R V U K) (grows : 
   pub fits : BoundsScans W most scanning
   pub may_grow : (s : RenameState S U K) (p : ℕ) → may_lack W s p ≡ true → grows ≡ true
   pub at_once : (b q : ℕ) → is_some (W.place_of (W.walker_from b q)) ≡ (W.ties.placing 1 == 0)
+  pub longer : (b : ℕ) → scanning b ≤ scanning (b + 1)
 
 module _ {S R V U K : Type 0} (W : KnownPlaces S R V U K) (kind : WorldKind) (scanning : ℕ → ℕ) (first : S × ℕ) (named : MayBeNamed W (is_tree kind) (W.most_of first.0) scanning) (start : IsRenameStart W first) where
   abbrev terms : RenameTerms
@@ -48,6 +51,9 @@ module _ {S R V U K : Type 0} (W : KnownPlaces S R V U K) (kind : WorldKind) (sc
     farther = named.laws.farther;
   }
 
+  pub rising : AreRising bounds
+  rising = are_rising bounds named.laws.farther named.longer
+
   abbrev Tied : RenameState S U K → RenameObject → Pace → Type 0
   Tied = IsTied terms Tie
 
@@ -58,6 +64,8 @@ module _ {S R V U K : Type 0} (W : KnownPlaces S R V U K) (kind : WorldKind) (sc
     pub paces : IsPaced bounds r
     pub tied : Tied w object paces.0
     pub alone : KeepsAlone W terms bounds Tie tie_goes grounds w r object paces.0
+    pub ruled : IsRuled object paces.0
+    pub clocked : IsClocked terms bounds r object paces.0
 
   fresh_tied : Tied (fresh_over W first) new_object new_pace
   fresh_tied = record {
@@ -97,10 +105,12 @@ module _ {S R V U K : Type 0} (W : KnownPlaces S R V U K) (kind : WorldKind) (sc
         paces = (paced bounds k.paces.0 h, run_more (paced bounds) (InTime bounds) new_pace r k.paces.0 h k.paces.1 g.timed);
         tied = g.tied;
         alone = alone_more W terms bounds Tie tie_goes grounds w r k.object k.paces.0 k.tied k.run k.alone h is g;
+        ruled = ruled_more terms bounds k.object k.paces.0 k.ruled h g.allowed g.timed;
+        clocked = clocked_more terms bounds rising r k.object k.paces.0 k.clocked h g.allowed g.timed;
       }
 
   pub holds : (w : RenameState S U K) (r : List (Call StepReply)) → Run (next W) (IsReply W) (fresh_over W first) r w → Holds w r
-  holds w r a = run_keeps (next W) (IsReply W) Holds keeps (fresh_over W first) [] r w (record { object = new_object; run = refl; paces = (new_pace, refl); tied = fresh_tied; alone = alone_fresh W terms bounds Tie tie_goes grounds (fresh_over W first) new_pace }) a
+  holds w r a = run_keeps (next W) (IsReply W) Holds keeps (fresh_over W first) [] r w (record { object = new_object; run = refl; paces = (new_pace, refl); tied = fresh_tied; alone = alone_fresh W terms bounds Tie tie_goes grounds (fresh_over W first) new_pace; ruled = ruled_fresh; clocked = clocked_fresh terms bounds rising }) a
 
 -- every world after some calls keeps the law
 module _ {S R V U K : Type 0} (W : KnownPlaces S R V U K) (kind : WorldKind) (scanning : ℕ → ℕ) (first : S × ℕ) (named : MayBeNamed W (is_tree kind) (W.most_of first.0) scanning)
@@ -120,6 +130,7 @@ module _ {S R V U K : Type 0} (W : KnownPlaces S R V U K) (kind : WorldKind) (sc
     in_range = λ p n e. let h = k.tied.standing.held p n e in name_small k.object k.tied.standing p n h.index h.recent.no_later h.sole;
     paced = k.paces;
     alone = alone_named W (terms_of W kind first) (bounds_over W first.0 scanning) (Tie W kind scanning first named a.started) (tie_goes W kind scanning first named a.started) (grounds W kind scanning first named a.started) w r k.object k.paces.0 k.tied k.run k.alone;
+    ends = ends_among (terms_of W kind first) (bounds_over W first.0 scanning) (rising W kind scanning first named a.started) r k.object k.paces.0 k.ruled k.clocked k.tied.roomy;
   }
 
   -- the object is the one that may answer so

@@ -1,8 +1,9 @@
 -- the law of renaming over a grid, over a tree and over segments in a row
-use Rattle.std.proofs.Common.{◌≡◌, ℕ, ◌≤◌, true, false, List, Option, refl, ap, subst, ◌∙◌}
+use Rattle.std.proofs.lemmas.Nat.{mul-le}
+use Rattle.std.proofs.Common.{arith, ◌+◌, ◌-◌, ◌*◌, ◌≡◌, ℕ, ◌≤◌, true, false, List, Option, refl, ap, subst, ◌∙◌}
 use Rattle.rename_core.proofs.Common.{After, snapshot, RenameState}
-use Rattle.snapshot_world.specs.FixedTies.{fixed_places, fixed_bounds}
-use Rattle.snapshot_world.specs.FixedProofs.{fixed_laws}
+use Rattle.snapshot_core.specs.FixedTies.{fixed_places, fixed_bounds}
+use Rattle.snapshot_core.specs.FixedProofs.{fixed_laws}
 use Rattle.snapshot_places.specs.Bounds.{grid_bounds, tree_bounds}
 use Rattle.snapshot_places.specs.GridProofs.{grid_laws}
 use Rattle.snapshot_places.specs.GridState.{GridState}
@@ -15,11 +16,11 @@ use Rattle.snapshot_places.specs.declared.grid_walk.GridWalk.{GridWalk}
 use Rattle.snapshot_places.specs.declared.grid_walker.GridWalker.{GridWalker}
 use Rattle.snapshot_places.specs.declared.tree_walk.TreeWalk.{TreeWalk}
 use Rattle.snapshot_places.specs.declared.tree_walker.TreeWalker.{TreeWalker}
-use Rattle.snapshot_world.proofs.FixedLaw.{fits_row}
+use Rattle.snapshot_core.proofs.FixedLaw.{fits_row}
 use Rattle.snapshot_places.proofs.GridLaw.{fits_grid, grid_alike}
 use Rattle.snapshot_places.proofs.TreeLaw.{fits_tree, tree_alike, tree_makes}
-use Rattle.snapshot_world.specs.declared.fixed.FixedWalk.{FixedWalk}
-use Rattle.snapshot_world.specs.declared.fixed.FixedWalker.{FixedWalker}
+use Rattle.snapshot_core.specs.declared.fixed.FixedWalk.{FixedWalk}
+use Rattle.snapshot_core.specs.declared.fixed.FixedWalker.{FixedWalker}
 use Rattle.step_memory.specs.declared.record.Record.{Record}
 use Rattle.rename_core.specs.Ample.{fixed_ample, grid_ample}
 use Rattle.commands.specs.declared.kind.WorldKind.TheVariants.{Rename, Tree}
@@ -28,7 +29,7 @@ use Rattle.rename_core.proofs.rounds.Beginners.{begins_alike}
 use Rattle.rename_core.proofs.Names.{MayBeNamed, rename_law, most_is, snap_after}
 
 grid_named : (most : ℕ) → MayBeNamed grid_places false most (grid_bounds most).scanning
-grid_named most = record { laws = grid_laws; fits = fits_grid most; may_grow = λ s p h. grid_ample s.snap p h; at_once = λ b q. refl }
+grid_named most = record { laws = grid_laws; fits = fits_grid most; may_grow = λ s p h. grid_ample s.snap p h; at_once = λ b q. refl; longer = λ b. omega arith }
 
 pub grid_lawful : (w : RenameState GridState GridWalker GridWalk) → IsLawfulWithin grid_places Rename grid_bounds w
 grid_lawful w first r a = rename_law grid_places Rename (grid_bounds (grid_places.most_of first.0)).scanning first (grid_named (grid_places.most_of first.0)) w r a
@@ -37,7 +38,7 @@ pub grid_begins_alike : (p : ℕ) → BeginsTheSame grid_places Rename p
 grid_begins_alike = begins_alike grid_places grid_laws Rename (λ m. (grid_bounds m).scanning) grid_named grid_alike
 
 tree_named : (most : ℕ) → MayBeNamed tree_places true most (tree_bounds most).scanning
-tree_named most = record { laws = tree_laws; fits = fits_tree most; may_grow = λ s p h. refl; at_once = λ b q. refl }
+tree_named most = record { laws = tree_laws; fits = fits_tree most; may_grow = λ s p h. refl; at_once = λ b q. refl; longer = λ b. mul-le (b + 1) (6 * b - 2) (b + 1 + 1) (6 * (b + 1) - 2) (omega arith) (omega arith) }
 
 pub tree_lawful : (w : RenameState TreeState TreeWalker TreeWalk) → IsLawfulWithin tree_places Tree tree_bounds w
 tree_lawful w first r a = rename_law tree_places Tree (tree_bounds (tree_places.most_of first.0)).scanning first (tree_named (tree_places.most_of first.0)) w r a
@@ -46,7 +47,7 @@ pub tree_begins_alike : (p : ℕ) → BeginsTheSame tree_places Tree p
 tree_begins_alike = begins_alike tree_places tree_laws Tree (λ m. (tree_bounds m).scanning) tree_named tree_alike
 
 fixed_named : (most : ℕ) → MayBeNamed fixed_places false most (fixed_bounds most).scanning
-fixed_named most = record { laws = fixed_laws; fits = fits_row most; may_grow = λ s p h. fixed_ample s.snap p h; at_once = λ b q. refl }
+fixed_named most = record { laws = fixed_laws; fits = fits_row most; may_grow = λ s p h. fixed_ample s.snap p h; at_once = λ b q. refl; longer = λ b. omega arith }
 
 pub fixed_lawful : (w : RenameState (List (Option Record)) FixedWalker FixedWalk) → IsLawfulWithin fixed_places Rename fixed_bounds w
 fixed_lawful w first r a = rename_law fixed_places Rename (fixed_bounds (fixed_places.most_of first.0)).scanning first (fixed_named (fixed_places.most_of first.0)) w r a

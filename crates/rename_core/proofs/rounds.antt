@@ -1,5 +1,4 @@
 -- rounds over the snapshot object, step by step
-pub mod Numbers
 pub mod Views
 pub mod Standing
 pub mod Snapping

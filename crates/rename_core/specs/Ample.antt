@@ -3,11 +3,11 @@ use Rattle.std.proofs.Common.{◌≡◌, ℕ, true, false, Some, None, refl, sym
 use Rattle.step_memory.specs.declared.access.Access.{Access}
 use Rattle.step_memory.specs.Participant.{participant_of}
 use Rattle.step_memory.specs.World.{may_refuse_by}
-use Rattle.snapshot_world.specs.FixedTies.{fixed_places}
+use Rattle.snapshot_core.specs.FixedTies.{fixed_places}
 use Rattle.snapshot_core.specs.Places.{KnownPlaces}
 use Rattle.snapshot_core.specs.SnapWorld.{SnapState, clients_over, may_lack_memory}
-use Rattle.snapshot_world.specs.declared.fixed.FixedWalk.{FixedWalk}
-use Rattle.snapshot_world.specs.declared.fixed.FixedWalker.{FixedWalker}
+use Rattle.snapshot_core.specs.declared.fixed.FixedWalk.{FixedWalk}
+use Rattle.snapshot_core.specs.declared.fixed.FixedWalker.{FixedWalker}
 use Rattle.snapshot_places.specs.GridState.{GridState}
 use Rattle.snapshot_places.specs.GridTies.{grid_places}
 use Rattle.snapshot_places.specs.declared.grid_walk.GridWalk.{GridWalk}

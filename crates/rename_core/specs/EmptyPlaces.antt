@@ -3,9 +3,9 @@
 use Rattle.std.proofs.Common.{◌≡◌, ℕ, ◌≤◌, Option, None, refl}
 use Rattle.std.proofs.Math.ListN.{length-replicate}
 use Rattle.step_memory.specs.declared.record.Record.{Record}
-use Rattle.snapshot_world.specs.FixedTies.{fixed_places, fresh_row}
+use Rattle.snapshot_core.specs.FixedTies.{fixed_places, fresh_row}
 use Rattle.snapshot_core.specs.Places.{KnownPlaces}
-use Rattle.snapshot_world.proofs.FixedLaw.{empty_row}
+use Rattle.snapshot_core.proofs.FixedLaw.{empty_row}
 use Rattle.snapshot_places.specs.Grid.{fresh_grid}
 use Rattle.snapshot_places.specs.GridTies.{grid_places}
 use Rattle.snapshot_places.specs.Tree.{new_tree}

@@ -7,10 +7,11 @@ use Rattle.rename_core.specs.Reply.{StepReply}
 use Rattle.rename_core.specs.RenameObject.{RenameTerms, RenameObject, IsRun}
 use Rattle.rename_core.specs.Pace.{IsPaced}
 use Rattle.rename_core.specs.Alone.{IsNamedAlone}
+use Rattle.rename_core.specs.Ends.{EndsAmong}
 
 -- The replies are those of the renaming object, in order. No two have one name, and where b have begun, each name is from
 -- 1 to 2b - 1. One identity's replies come in their order, and in time; and who
--- steps alone is soon named
+-- steps alone is soon named; and rounds end, whoever steps
 pub record KeepsRenameLaw (terms : RenameTerms) (bounds : SnapBounds) (r : List (Call StepReply)) : Type 0 where
   pub object : RenameObject
   pub run : IsRun terms r object
@@ -18,3 +19,4 @@ pub record KeepsRenameLaw (terms : RenameTerms) (bounds : SnapBounds) (r : List 
   pub in_range : (p n : ℕ) → object.name p ≡ Some n → (1 ≤ n) × (n ≤ 2 * object.many - 1)
   pub paced : IsPaced bounds r
   pub alone : IsNamedAlone terms bounds r
+  pub ends : EndsAmong terms bounds object r

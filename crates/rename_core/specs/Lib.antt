@@ -1,7 +1,7 @@
-pub mod Proposals
 pub mod RenameObject
 pub mod Pace
 pub mod Alone
+pub mod Ends
 pub mod Law
 pub mod Round
 pub mod Reply

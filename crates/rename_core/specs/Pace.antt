@@ -6,12 +6,14 @@ use Rattle.step_memory.specs.Calls.{Call}
 use Rattle.step_memory.specs.Calls.Call.{Began, Stepped}
 use Rattle.snapshot_core.specs.Snapshot.{SnapBounds}
 use Rattle.rename_core.specs.Reply.{StepReply}
+use Rattle.proposal_rounds.specs.Proposals.{next_proposal}
 use Rattle.rename_core.specs.declared.reply.Reply.TheVariants.{Quiet, Placed, Proposed, Saw, Named, Spent}
 
--- what an identity does next: it goes to its place, proposes, or looks at what the others propose; or it has ended
+-- what an identity does next: it goes to its place, proposes this number, or looks at what the others propose; or it has
+-- ended
 pub data Phase : Type 0 where
   ToPlace : Phase
-  ToPropose : Phase
+  ToPropose : ℕ → Phase
   ToLook : Phase
   AtEnd : Phase
 
@@ -24,15 +26,15 @@ pub record Pace : Type 0 where
 abbrev pub new_pace : Pace
 new_pace = record { begun = 0; phase = λ p. AtEnd; steps = λ p. 0 }
 
--- who needs no step to its place proposes at once
+-- who needs no step to its place proposes at once, 1 at first
 abbrev pub first_phase : SnapBounds → Phase
-first_phase bounds = if bounds.placing 1 == 0 then ToPropose else ToPlace
+first_phase bounds = if bounds.placing 1 == 0 then ToPropose 1 else ToPlace
 
 -- the most steps of what is done next, where so many have begun. Whoever proposes makes one step more than a scan, the
 -- one that writes its proposal
 abbrev pub most_steps : SnapBounds → ℕ → Phase → ℕ
 most_steps bounds begun ToPlace = bounds.placing begun
-most_steps bounds begun ToPropose = bounds.scanning begun + 1
+most_steps bounds begun (ToPropose n) = bounds.scanning begun + 1
 most_steps bounds begun ToLook = bounds.scanning begun
 most_steps bounds begun AtEnd = 0
 
@@ -45,7 +47,7 @@ pub record IsStepOf (bounds : SnapBounds) (t : Pace) (p : ℕ) (phase : Phase) :
 abbrev pub IsInTime : SnapBounds → Pace → ℕ → StepReply → Type 0
 IsInTime bounds t p Quiet = t.steps p + 1 < most_steps bounds t.begun (t.phase p)
 IsInTime bounds t p (Placed place) = IsStepOf bounds t p ToPlace
-IsInTime bounds t p (Proposed n) = IsStepOf bounds t p ToPropose
+IsInTime bounds t p (Proposed n) = IsStepOf bounds t p (ToPropose n)
 IsInTime bounds t p (Saw view) = IsStepOf bounds t p ToLook
 IsInTime bounds t p (Named n view) = IsStepOf bounds t p ToLook
 IsInTime bounds t p Spent = IsStepOf bounds t p ToLook
@@ -61,9 +63,9 @@ turned t p phase = record t { phase = set_at t.phase p phase; steps = set_at t.s
 
 abbrev pub paced_step : Pace → ℕ → StepReply → Pace
 paced_step t p Quiet = record t { steps = set_at t.steps p (t.steps p + 1) }
-paced_step t p (Placed place) = turned t p ToPropose
+paced_step t p (Placed place) = turned t p (ToPropose 1)
 paced_step t p (Proposed n) = turned t p ToLook
-paced_step t p (Saw view) = turned t p ToPropose
+paced_step t p (Saw view) = turned t p (ToPropose (next_proposal p view))
 paced_step t p (Named n view) = turned t p AtEnd
 paced_step t p Spent = turned t p AtEnd
 
@@ -73,7 +75,7 @@ paced bounds t (Began p (Err why)) = t
 paced bounds t (Stepped p (Ok reply)) = paced_step t p reply
 paced bounds t (Stepped p (Err why)) = t
 
--- each identity is placed; then it proposes and looks by turns, until it is named or spent; and each of these within its
--- bound. Quiet and refusals aside, it answers nothing else
+-- each identity is placed; then it proposes, 1 at first and then what the rule says by the view shown last, and looks, by
+-- turns, until it is named or spent; and each of these within its bound. Quiet and refusals aside, it answers nothing else
 abbrev pub IsPaced : SnapBounds → List (Call StepReply) → Type 0
 IsPaced bounds r = (t : Pace) × Run (paced bounds) (InTime bounds) new_pace r t

@@ -11,7 +11,7 @@ use Rattle.rename_core.specs.declared.round.Wish.{Wish}
 use Rattle.rename_core.specs.declared.round.Wish.TheVariants.{Nothing, Update, Scan}
 use Rattle.rename_core.specs.declared.round.Stage.{Stage}
 use Rattle.rename_core.specs.declared.round.Stage.TheVariants.{Placing, Proposing, Looking, Settled, Over}
-use Rattle.rename_core.specs.Proposals.{is_taken, next_proposal}
+use Rattle.proposal_rounds.specs.Proposals.{is_taken, next_proposal}
 
 -- why there is no further step
 abbrev pub stage_refusal : Stage → Option Refusal

@@ -1,13 +1,15 @@
 //! Laws of renaming, which run nothing: of the calls of a world, and over a grid, over a tree and over segments in a row.
 
-ghost use Rattle.std.specs.Prelude.{◌≡◌, ℕ, ◌+◌, ◌-◌, ◌*◌, ◌≤◌, false};
-ghost use Rattle.snapshot_world.specs.FixedTies.{fixed_places, fixed_bounds};
+ghost use Rattle.std.specs.Prelude.{◌≡◌, ℕ, ◌+◌, ◌-◌, ◌*◌, ◌^◌, ◌<◌, ◌≤◌, false};
+ghost use Rattle.snapshot_core.specs.FixedTies.{fixed_places, fixed_bounds};
 ghost use Rattle.snapshot_places.specs.Bounds.{grid_bounds, tree_bounds};
 ghost use Rattle.snapshot_places.specs.Grid.{segments_for};
 ghost use Rattle.snapshot_places.specs.GridTies.{grid_places};
 ghost use Rattle.snapshot_places.specs.Made.{MakesNode};
 ghost use Rattle.snapshot_places.specs.TreeTies.{tree_places};
 ghost use Rattle.rename_core.specs.Alone.{steps_alone};
+ghost use Rattle.rename_core.specs.Ends.{steps_among};
+ghost use Rattle.proposal_rounds.specs.Rounds.{most_proposals};
 ghost use Rattle.rename_core.specs.Machine.{renaming, KeepsSizes, AnswersUnrefused, IsLawfulWithin, LacksOnly, BeginsTheSame};
 ghost use Rattle.step_memory.specs.Machine.{IsProved};
 ghost use Rattle.rename_core.specs.RenameState.{RenameState};
@@ -19,9 +21,8 @@ ghost use Rattle.step_memory.specs.Calls.{Call};
 
 use crate::places::RenamePlaces;
 use crate::world::RenameWorld;
-use snapshot_core::{Known, Places};
+use snapshot_core::{Fixed, Known, Places};
 use snapshot_places::{Grid, TreePlaces};
-use snapshot_world::Fixed;
 use std::alloc::Allocator;
 
 /// A law, which runs nothing: renaming is a machine whose calls lead on, whose lists of calls, with every prefix of them, keep
@@ -76,6 +77,17 @@ pub fn law_of_steps_alone()
     ensures tree { (m : ℕ) → 1 ≤ m → steps_alone (tree_bounds m) ≡ 5 * m + 11 * (6 * m - 2) + 1 }
     ensures few_on_grid { (steps_alone (grid_bounds 1) ≡ 16) × (steps_alone (grid_bounds 2) ≡ 42) × (steps_alone (grid_bounds 3) ≡ 79) }
     ensures few_in_tree { (steps_alone (tree_bounds 1) ≡ 50) × (steps_alone (tree_bounds 2) ≡ 121) × (steps_alone (tree_bounds 3) ≡ 192) }
+{}
+
+/// A law, which runs nothing: the most accepted steps that one makes until it is named, whatever the others do, where b of at
+/// most m have begun and the round limit is above 3(5^b - 1)/4, the most proposals of b. Where at most 4 take part the round
+/// limit 1000 is, and where at most 8 do 292,969 is.
+pub fn law_of_steps_among()
+    ensures grid { (m b : ℕ) → steps_among (grid_bounds m) b ≡ 4 * b + (most_proposals b + 1) * (2 * (segments_for m * (segments_for m + 1)) + 1) }
+    ensures tree { (m b : ℕ) → steps_among (tree_bounds m) b ≡ 5 * b + (most_proposals b + 1) * (2 * ((b + 1) * (6 * b - 2)) + 1) }
+    ensures proposals { (b : ℕ) → 4 * most_proposals b + 3 ≡ 3 * 5 ^ b }
+    ensures four { (b : ℕ) → b ≤ 4 → most_proposals b < 1000 }
+    ensures eight { (b : ℕ) → b ≤ 8 → most_proposals b < 292969 }
 {}
 
 /// A law, which runs nothing: under no config do more take part than a view has room for.

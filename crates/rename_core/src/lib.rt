@@ -20,10 +20,14 @@
 //! Names are given over the places of a grid, of a tree that grows, or of segments in a row (`RenamePlaces`), by the same
 //! functions, to at most 64 over a tree and to 16 elsewhere (`WorldKind::most`). Over a grid of G doors a place comes
 //! within 4b steps and a view within G(G + 1); over a tree within 5b and (b + 1)(6b - 2); a proposal takes one step more
-//! than a view (`grid_rename_law`, `tree_rename_law`). It is not promised that rounds end while others step. But who steps
-//! alone from any point on, with two proposals left, is named within 4m + 11G + 1 steps over a grid, and
-//! 5m + 11(6m - 2) + 1 over a tree, where at most m take part (`specs/Alone.antt`, `law_of_steps_alone`): wherever the
-//! others stopped.
+//! than a view (`grid_rename_law`, `tree_rename_law`).
+//!
+//! Renaming is wait-free where the round limit is above S(b) = 3(5^b - 1)/4 (`specs/Ends.antt`, `law_of_steps_among`). Participants of
+//! whom b have begun make at most S(b) proposals, all together, whatever the schedule is (`proposal_rounds`). So each participant is
+//! named or spent within `steps_among` accepted steps of its own, and where the limit is above S(b) nobody is spent
+//! (`Config::cannot_spend`). A participant that steps alone, with two proposals left, is named much sooner: within 4m + 11G + 1
+//! steps over a grid, and 5m + 11(6m - 2) + 1 over a tree, where at most m take part (`specs/Alone.antt`,
+//! `law_of_steps_alone`), wherever the others stopped.
 //!
 //! `step_short` is `step` with a reply of a few bytes: the view that it shows, which takes a kilobyte, is put beside it.
 //!
@@ -55,7 +59,7 @@ pub mod world;
 pub use commands::{Config, WorldKind};
 pub use laws::{
     fixed_rename_law, grid_rename_law, law_of_configs, law_of_renaming_calls, law_of_steps_alone,
-    tree_rename_law,
+    law_of_steps_among, tree_rename_law,
 };
 pub use places::RenamePlaces;
 pub use proposal::next_proposal;

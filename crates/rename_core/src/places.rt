@@ -7,14 +7,13 @@ ghost use Rattle.commands.specs.declared.kind.WorldKind.{WorldKind};
 ghost use Rattle.commands.specs.declared.kind.WorldKind.TheVariants as kind;
 ghost use Rattle.rename_core.specs.NamedPlaces.{PlacesAtOnce, GrowsAsTree};
 ghost use Rattle.commands.specs.Config.{most_in};
-ghost use Rattle.snapshot_world.specs.FixedTies.{fresh_row};
+ghost use Rattle.snapshot_core.specs.FixedTies.{fresh_row};
 ghost use Rattle.snapshot_places.specs.Grid.{fresh_grid};
 ghost use Rattle.snapshot_places.specs.Tree.{new_tree};
 
 use commands::WorldKind;
-use snapshot_core::{Known, Places};
+use snapshot_core::{Fixed, Known, Places};
 use snapshot_places::{Grid, TreePlaces};
-use snapshot_world::Fixed;
 use std::alloc::Allocator;
 use step_memory::Refusal;
 

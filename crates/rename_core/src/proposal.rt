@@ -1,7 +1,7 @@
 //! Which number is proposed next.
 
 ghost use Rattle.std.specs.Prelude.{◌≡◌, ℕ, ◌<◌, ◌≤◌, false, get_or, length};
-ghost use Rattle.rename_core.specs.Proposals.{is_taken, rank, nth_free, next_proposal};
+ghost use Rattle.proposal_rounds.specs.Proposals.{is_taken, rank, nth_free, next_proposal};
 
 use step_memory::View;
 

@@ -10,8 +10,7 @@ ghost use Rattle.rename_core.specs.Taken.{IsTaken};
 use crate::places::RenamePlaces;
 use crate::reply::Reply;
 use crate::round::{Round, Wish};
-use snapshot_core::{Known, SnapReply};
-use snapshot_world::SnapWorld;
+use snapshot_core::{Known, SnapReply, SnapWorld};
 use std::alloc::Allocator;
 use step_memory::{NoMemory, Participant, Refusal, View};
 

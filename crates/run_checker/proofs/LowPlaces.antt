@@ -41,7 +41,7 @@ use Rattle.rename_core.specs.Machine.{next, IsReply, renaming}
 use Rattle.rename_core.specs.RenameState.{RenameState}
 use Rattle.rename_core.specs.RenameWorld.{after_wish, begun_unless, snap_told, answer_told, answer_open, answer_by, rename_answer, after_told, after_open, after_by, after_rename_step}
 use Rattle.rename_core.specs.Round.{stage_refusal, followed, decided, spent_by, saw_by, named_by}
-use Rattle.rename_core.specs.Proposals.{is_taken}
+use Rattle.proposal_rounds.specs.Proposals.{is_taken}
 use Rattle.bit_allocator.specs.declared.probe.Probe.{Probe}
 use Rattle.bit_allocator.specs.declared.probe.Probe.TheVariants as probe
 use Rattle.bit_allocator.specs.Pool.{enter_answer, probe_answer, number_answer, widen_answer}
@@ -177,8 +177,8 @@ module _ {S R V U K : Type 0} (W : KnownPlaces S R V U K) (laws : PlacesLaws W) 
     over_low kind most limit size w calls a (event.Widen more) place e = absurd (done_other (widen_answer w.slots.pool more) place e)
 
 -- the doors of a grid, and the nodes of a tree
-few_doors : (b : ℕ) → b ≤ 16 → b * (b + 1) ≤ 272
-few_doors b h = let more : b + 1 ≤ 17 = omega arith in mul-le-mul h more
+few_doors : (b : ℕ) → b ≤ 64 → b * (b + 1) ≤ 4160
+few_doors b h = let more : b + 1 ≤ 65 = omega arith in mul-le-mul h more
 
 grid_low : (s : GridState) (b : ℕ) (ways : ℕ → Option GridWalker) → grid_places.ties.IsConsistent s b ways → (p : ℕ) (u : GridWalker) → ways p ≡ Some u → (place : ℕ) → grid_places.place_of u ≡ Some place → place < 2 ^ 64
 grid_low s b ways c p u is place at =

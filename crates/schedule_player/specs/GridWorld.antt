@@ -1,5 +1,5 @@
 -- the rules and the law of a grid's world
-use Rattle.std.proofs.Common.{◌≡◌, ◌∙◌, ℕ, List, Option, Some, None, sym}
+use Rattle.std.proofs.Common.{◌≡◌, ◌≤◌, ◌∙◌, ℕ, List, Option, Some, None, sym, arith}
 use Rattle.splitter_grid.specs.Law.{KeepsGridLaw}
 use Rattle.splitter_grid.specs.Machine.{GridState, fresh, grid_parts}
 use Rattle.commands.specs.declared.config.Config.{Config}
@@ -9,6 +9,7 @@ use Rattle.commands.specs.Replies.{ShownReply}
 use Rattle.commands.specs.declared.reply.Reply.TheVariants as reply
 use Rattle.schedule_player.specs.Talks.{IsTalkOf}
 use Rattle.player.specs.Turns.{Turn}
+use Rattle.schedule_player.specs.WorldRuns.{fits_in}
 use Rattle.schedule_player.specs.Visits.{IsCallRun, VisitRules, visit_may, world_rules}
 
 -- what a step of a walk is shown as
@@ -32,3 +33,7 @@ IsGridTalk c ts = IsTalkOf IsGridRun c.m (grid_fresh c) (visit_may grid_rules) t
 
 pub one_grid_fresh : (c : Config) (w v : GridState) → grid_fresh c w → grid_fresh c v → w ≡ v
 one_grid_fresh c w v a b = a.1 ∙ sym b.1
+
+-- a grid's config lets no more take part than its machine does
+pub fits_grid : (c : Config) → c.world ≡ Grid → c.m ≤ 64
+fits_grid c is = let few : c.m ≤ 16 = fits_in Grid c is in omega arith

@@ -5,10 +5,10 @@ ghost use Rattle.commands.specs.Config.{is_kind};
 ghost use Rattle.commands.specs.declared.kind.WorldKind.TheVariants.{Grid};
 ghost use Rattle.splitter_grid.proofs.GridTied.{grid_proved};
 ghost use Rattle.splitter_grid.specs.Machine.{grid_parts};
-ghost use Rattle.schedule_player.specs.WorldRuns.{fits_in, world_lawful};
+ghost use Rattle.schedule_player.specs.WorldRuns.{world_lawful};
 ghost use Rattle.schedule_player.specs.Visits.{visit_may, knows_visits};
 ghost use Rattle.schedule_player.specs.VisitProofs.{kind_meant, visit_answers, one_visit, visits_tell};
-ghost use Rattle.schedule_player.specs.GridWorld.{grid_rules, place_reply, IsGridRun, grid_fresh, one_grid_fresh};
+ghost use Rattle.schedule_player.specs.GridWorld.{grid_rules, place_reply, IsGridRun, grid_fresh, one_grid_fresh, fits_grid};
 
 use crate::outcomes::walk_reply;
 use crate::world::{Unshared, World};
@@ -59,7 +59,7 @@ impl<A: Allocator + Clone> World<A, Unshared> for GridWorld<A> {
 
     ghost meant = { kind_meant Grid refl };
 
-    ghost lawful = { λ c w u ts fresh. world_lawful grid_parts place_reply grid_proved c.m w u (fits_in Grid c fresh.0) fresh.1 ts };
+    ghost lawful = { λ c w u ts fresh. world_lawful grid_parts place_reply grid_proved c.m w u (fits_grid c fresh.0) fresh.1 ts };
 
     ghost tells = { λ c w u ts fresh. visits_tell grid_rules c.m w u ts };
 

@@ -17,3 +17,7 @@ pub mod Following
 mod ScanAlone
 pub mod Alone
 pub mod Clients
+mod WorldCommon
+mod CallLemmas
+mod AskedLemmas
+pub mod FixedLaw

@@ -9,3 +9,6 @@ pub mod Standing
 pub mod Snapshot
 pub mod Machine
 pub mod Alone
+pub mod Fixed
+pub mod FixedTies
+pub mod FixedProofs

@@ -16,22 +16,49 @@
 //! (Counting steps, the sequence numbers' beginning at 1 and the limit of updates are this project's profile.)
 //!
 //! Here are the participants, each a program of one access a step (`Client`), and the laws of the machine that their calls
-//! are; `snapshot_world` has the object itself, `SnapWorld`. What places promise stands in `specs/Places.antt`, and each
+//! are, and the object itself, `SnapWorld`. What places promise stands in `specs/Places.antt`, and each
 //! implementor of `Places` proves it. Contracts name it by one record, `⟦<W as Known>⟧.places`: what the ways to places, the
-//! walks and the memory do. `snapshot_world` has segments in a row, `snapshot_places` a grid and a tree. What structures above
+//! walks and the memory do. `Fixed` has segments in a row, `snapshot_places` a grid and a tree. What structures above
 //! stand on is stated by `law_of_snapshot_calls`, `law_of_clients` and `law_of_steps_alone`.
+//!
+//! `SnapWorld` is a world (`step_memory`) of such participants over any places, and keeps this law: each of its calls leads
+//! on in the machine, a step makes one access, and a read of a scan copies no segment. `Fixed`
+//! gives the j-th to begin the j-th segment, at once; over it the law has the numbers of `snapshot_law`. The crate
+//! `snapshot_places` has a grid and a tree.
+//!
+//! A caller, over three segments in a row:
+//!
+//! ```text
+//! let mut world = SnapWorld::new(alloc, Fixed::new(alloc, 3)?)?;
+//! world.begin(10)?;
+//! world.begin(20)?;
+//! world.update(10, 5)?;
+//! while !matches!(world.step(10)?, SnapReply::Written) {}
+//! world.scan(20)?;
+//! let view = loop {
+//!     if let Some(view) = world.step(20)?.view() {
+//!         break view;                // 10:5
+//!     }
+//! };
+//! ```
 #![tactic(auto)]
 
 pub mod client;
+pub mod fixed;
 pub mod laws;
 pub mod places;
 pub mod scan;
 pub mod sightings;
 pub mod walk;
+pub mod world;
+pub mod world_laws;
 
 pub use client::{Client, MOST_UPDATES, OnWay, Pending, SnapReply, ToScan, ToUpdate};
+pub use fixed::{Fixed, FixedWalk, FixedWalker};
 pub use laws::{law_of_clients, law_of_snapshot_calls, law_of_steps_alone};
 pub use places::{Known, PlaceWalker, Places};
 pub use scan::Scan;
 pub use sightings::{Met, Sighting, Sightings};
 pub use walk::SegmentWalk;
+pub use world::SnapWorld;
+pub use world_laws::snapshot_law;

@@ -13,7 +13,7 @@ use Rattle.snapshot_places.specs.GridProofs.{grid_laws}
 use Rattle.snapshot_core.specs.Places.{BeginsAlike, BoundsScans}
 use Rattle.snapshot_core.specs.SnapWorld.{SnapState}
 use Rattle.snapshot_core.specs.Machine.{IsLawfulFrom}
-use Rattle.snapshot_world.proofs.FixedLaw.{empty_at}
+use Rattle.snapshot_core.proofs.FixedLaw.{empty_at}
 use Rattle.snapshot_core.proofs.Following.{law_holds}
 
 pub empty_grid : (m : ℕ) → m ≤ 16 → IsEmptyGrid (fresh_grid m)

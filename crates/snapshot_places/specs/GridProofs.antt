@@ -142,7 +142,7 @@ grid_reads g k j h =
 pub grid_laws : PlacesLaws grid_places
 grid_laws = record {
   few = λ g b ways c. (c.doors.room, let few = c.doors.few in omega arith);
-  fresh = λ g new. record { doors = rw new.doors (kept.consistent_new g.most new.few); segments = new.segments };
+  fresh = λ g new. record { doors = rw new.doors (kept.consistent_new g.most (let few = new.few in omega arith)); segments = new.segments };
   empty = λ g new x. new.empty x;
   begun = grid_begun;
   distinct = λ g b ways c p q x u v here there at too.

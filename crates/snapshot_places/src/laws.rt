@@ -13,7 +13,7 @@ ghost use Rattle.snapshot_places.specs.TreeTies.{tree_places};
 
 use crate::grid::Grid;
 use crate::tree::TreePlaces;
-use snapshot_world::SnapWorld;
+use snapshot_core::SnapWorld;
 use std::alloc::Allocator;
 
 /// A law, which runs nothing. Over a grid with segments that no one had entered, for at most 16 participants, the calls

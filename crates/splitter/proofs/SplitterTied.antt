@@ -15,7 +15,7 @@ use Rattle.step_memory.proofs.ToldLemmas.{told_quiet, told_stepped}
 use Rattle.step_memory.specs.Due.{EndsOnce}
 use Rattle.step_memory.proofs.DueLemmas.{outcomes_tell, never_grows}
 use Rattle.step_memory.specs.Machine.{After, IsProved, IsLawful, RefusesWhereDue, LeadsOn}
-use Rattle.step_memory.proofs.WorldMachineLemmas.{world_proved, begin_leads_on, step_leads_on, never_lacks, new_after, stays_alike}
+use Rattle.step_memory.proofs.WorldMachineLemmas.{IsTie, tied_after, world_proved, begin_leads_on, step_leads_on, never_lacks, new_after, stays_alike}
 use Rattle.splitter.specs.Laws.{StaysAlike}
 use Rattle.step_memory.specs.World.{after_begin, begin_refusal, done_unless, may_refuse_step}
 use Rattle.step_memory.specs.declared.refusal.Refusal.{Refusal}
@@ -50,12 +50,12 @@ accesses (Gone Right) = 2
 accesses (Gone Down) = 4
 
 -- a visit of p to registers 0 and 1, which has ended where its stage says so
-record IsVisitOf (p : ℕ) (v : Participant (Visitor ℕ)) : Type 0 where
-  own : v.identity ≡ p
-  identity : v.program.identity ≡ p
-  x : v.program.x ≡ 0
-  y : v.program.y ≡ 1
-  ended : v.ended ≡ is_gone v.program.stage
+pub record IsVisitOf (p : ℕ) (v : Participant (Visitor ℕ)) : Type 0 where
+  pub own : v.identity ≡ p
+  pub identity : v.program.identity ≡ p
+  pub x : v.program.x ≡ 0
+  pub y : v.program.y ≡ 1
+  pub ended : v.ended ≡ is_gone v.program.stage
 
 pub record IsTied (w : SplitterState) (r : List (Call (Option Way))) : Type 0 where
   registers : length w.memory.values ≡ 2
@@ -275,9 +275,15 @@ tied_law w r t once =
       ends_once = once;
     }
 
--- so a splitter's world is proved
+tie : IsTie splitter_parts IsTied
+tie = record { tells = outcomes_tell; grows = never_grows; new = λ most may. tied_new most; kept = tie_kept; law = tied_law }
+
+-- so a splitter's world is proved, and each who has begun makes a visit to its two registers
 pub splitter_proved : IsProved splitter
-splitter_proved = world_proved splitter_parts IsTied (record { tells = outcomes_tell; grows = never_grows; new = λ most may. tied_new most; kept = tie_kept; law = tied_law })
+splitter_proved = world_proved splitter_parts IsTied tie
+
+pub visits_always : (most : ℕ) (w : SplitterState) (r : List (Call (Option Way))) → After splitter most w r → (p : ℕ) (v : Participant (Visitor ℕ)) → participant_of p w.participants ≡ Some v → IsVisitOf p v
+visits_always most w r a = (tied_after splitter_parts IsTied tie most w r a).visits
 
 pub splitter_law : (w : SplitterState) → IsLawful splitter w
 splitter_law w = splitter_proved.law w

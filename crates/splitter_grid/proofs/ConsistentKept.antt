@@ -124,7 +124,7 @@ get_or-replicate_same (suc n) zero x = refl
 get_or-replicate_same (suc n) (suc i) x = get_or-replicate_same n i x
 
 -- a grid that no one has entered
-pub consistent_new : (most : ℕ) → most ≤ 16 → IsConsistent most 0 (empty_doors most) (λ p. None)
+pub consistent_new : (most : ℕ) → most ≤ 64 → IsConsistent most 0 (empty_doors most) (λ p. None)
 consistent_new most few = record {
   few = few;
   room = omega arith;

@@ -101,7 +101,7 @@ going_kept w r id v here goes t =
     }
 
 -- each call keeps the tie
-tie_kept : IsKept walker_steps memory_steps outcome_in walk_of IsTied
+pub tie_kept : IsKept walker_steps memory_steps outcome_in walk_of IsTied
 tie_kept = record {
   refused_begin = λ w r id why t. refused w r (Began id (Err why)) (λ _. refl) (λ _. refl) refl t;
   refused_step = λ w r id why t. refused w r (Stepped id (Err why)) (λ _. refl) (λ _. refl) refl t;
@@ -110,7 +110,7 @@ tie_kept = record {
 }
 
 -- a grid that no one has entered
-tied_new : (most : ℕ) → most ≤ 16 → IsTied (fresh most) []
+pub tied_new : (most : ℕ) → most ≤ 64 → IsTied (fresh most) []
 tied_new most few = record {
   consistent = consistent_new most few;
   begun_is = refl;
@@ -160,7 +160,7 @@ grid_law_of w = grid_proved.law w
 pub grid_due : (w : GridState) → RefusesWhereDue grid w
 grid_due w = grid_proved.due w
 
-pub grid_opens : (most : ℕ) (r : Result GridState Refusal) → most ≤ 16 → IfOk r (λ w. w ≡ fresh most) → IfOk r (λ w. After grid most w [])
+pub grid_opens : (most : ℕ) (r : Result GridState Refusal) → most ≤ 64 → IfOk r (λ w. w ≡ fresh most) → IfOk r (λ w. After grid most w [])
 grid_opens most r few = new_after grid_parts most few r
 
 -- no step lacks memory

@@ -76,7 +76,7 @@ pub record DoorsAgree (limit b : ℕ) (x_of y_of : ℕ → ℕ) (walker : ℕ �
 
 -- of at most `most` participants, b have begun, and the doors in these registers and the walks agree
 pub record IsConsistent (most b : ℕ) (m : Registers ℕ) (walker : ℕ → Option Walker) : Type 0 where
-  pub few : most ≤ 16
+  pub few : most ≤ 64
   pub room : b ≤ most
   pub registers : length m.values ≡ most * (most + 1)
   pub agree : DoorsAgree b b (x_in m) (y_in m) walker

@@ -33,7 +33,7 @@ step_reply w id = reply_of outcome_in (step_answer walker_steps memory_steps w i
 abbrev pub world_after_step : GridState → ℕ → GridState
 world_after_step w id = after_step walker_steps memory_steps w id
 
--- a grid's world, of at most 16 participants, and what it keeps
+-- a grid's world, of at most 64 participants, and what it keeps
 abbrev pub grid_parts : WorldParts Walker (Registers ℕ) ℕ ℕ ℕ (Option ℕ)
 grid_parts = record {
   program = walker_steps;
@@ -42,7 +42,7 @@ grid_parts = record {
   start = walk_of;
   last = is_some;
   grows = false;
-  MayStart = λ most. most ≤ 16;
+  MayStart = λ most. most ≤ 64;
   empty = empty_doors;
   KeepsLaw = KeepsGridLaw;
 }

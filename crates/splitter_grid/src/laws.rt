@@ -21,7 +21,7 @@ ghost use Rattle.step_memory.specs.declared.note.Note.TheVariants.{Ended};
 /// diagonals has one of the lowest b(b + 1)/2 numbers.
 /// Structures over the places of a grid stand on this.
 pub fn law_of_doors_and_walks()
-    ensures fresh { (most : ℕ) → most ≤ 16 → IsConsistent most 0 (empty_doors most) (λ p. None) }
+    ensures fresh { (most : ℕ) → most ≤ 64 → IsConsistent most 0 (empty_doors most) (λ p. None) }
     ensures begun { AgreesWithBeginner }
     ensures gone_on { AgreesAfterAccess }
     ensures elsewhere { AgreesElsewhere }

@@ -9,3 +9,14 @@ pub mod TreeSteps
 pub mod Nodes
 pub mod TreeProofs
 pub mod Laws
+pub mod Law
+pub mod Collect
+pub mod Client
+pub mod TreeWorld
+pub mod TreeCalls
+pub mod PlacesLaw
+pub mod TreeDue
+pub mod CollectLaw
+pub mod Machine
+pub mod Made
+pub mod WorldLaws

@@ -9,10 +9,32 @@
 //!
 //! A *collect walk* (`CollectWalk`) reads, from the root on, a node's mark, and where it is set the node's segment and then
 //! what lies below, left before right: at most `6b - 2` reads. Walks, places and collect walks are laws here, over any memory
-//! that is a tree; `tree_world` has participants that walk, store and collect. (Mark, order and counts are this project's
-//! profile.)
+//! that is a tree. (Mark, order and counts are this project's profile.)
+//!
+//! A `TreeWorld` is a world (`step_memory`) over one tree: its participants get places, store values there, and collect what
+//! all have stored. A step that wants memory for a node has changed nothing, and may be asked again. What a collect shows of each identity is a value that was its last stored one at some moment of the
+//! collect, and it shows each who had stored before it began. It takes at most `6b - 2` steps.
+//!
+//! A caller:
+//!
+//! ```text
+//! let mut world = TreeWorld::new(alloc, 2)?;
+//! world.begin(10)?;
+//! for _ in 0..4 {
+//!     world.step(10)?;                               // None: the walk goes on
+//! }
+//! world.step(10)?;                                   // Some(1): 10 stops at the root
+//! world.store(10, 5)?;
+//! world.collect_begin(10)?;
+//! for _ in 0..3 {
+//!     world.collect_step(10)?;                       // None: mark 1, segment 1 and mark 2 are read
+//! }
+//! world.collect_step(10)?;                           // Some(10:5): mark 3 is not set
+//! ```
 #![tactic(auto)]
 
+pub mod client;
+pub mod collect;
 pub mod collect_walk;
 pub mod kept_segment;
 pub mod laws;
@@ -21,7 +43,11 @@ pub mod node_registers;
 pub mod register;
 pub mod tree;
 pub mod walker;
+pub mod world;
+pub mod world_laws;
 
+pub use client::{Client, Task, TreeReply};
+pub use collect::Collect;
 pub use collect_walk::CollectWalk;
 pub use kept_segment::KeptSegment;
 pub use laws::{
@@ -32,3 +58,5 @@ pub use node_registers::NodeRegisters;
 pub use register::{TreeRegister, TreeValue, WrittenValue};
 pub use tree::Tree;
 pub use walker::Walker;
+pub use world::TreeWorld;
+pub use world_laws::{law_of_collect_calls, law_of_own_accesses, law_of_places, law_of_tree_calls};

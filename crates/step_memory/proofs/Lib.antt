@@ -13,4 +13,5 @@ pub mod WorldKeeps
 pub mod ToldLemmas
 pub mod DueLemmas
 pub mod WorldMachineLemmas
+pub mod LocalWorldLemmas
 pub mod ViewLemmas

@@ -19,6 +19,8 @@ pub mod Told
 pub mod Taken
 pub mod Due
 pub mod WorldMachine
+pub mod LocalMachine
+pub mod LocalWorlds
 pub mod View
 pub mod ViewInside
 pub mod ViewEq

@@ -22,6 +22,7 @@
 pub mod access;
 pub mod hints;
 pub mod laws;
+pub mod local_worlds;
 pub mod memory;
 pub mod note;
 pub mod participant;
@@ -40,6 +41,7 @@ pub use laws::{
     law_of_participants, law_of_refusals, law_of_replies, law_of_rosters, law_of_steps,
     law_of_told_outcomes, law_of_views, law_of_what_is_seen, law_of_worlds,
 };
+pub use local_worlds::law_of_local_worlds;
 pub use memory::{Memory, StepMemory};
 pub use note::Note;
 pub use participant::Participant;

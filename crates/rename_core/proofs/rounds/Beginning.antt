@@ -56,8 +56,8 @@ module _ {S R V U K : Type 0} (W : KnownPlaces S R V U K) (terms : RenameTerms) 
     t' = paced bounds t (Began p (Ok tt))
 
     -- the phase in which it begins
-    phase_is : (b : Bool) → has_place W w p ≡ b → first_phase bounds ≡ cond b ToPropose ToGo
-    phase_is b e = ap (λ (c : Bool). cond c ToPropose ToGo) (sym (at_once (length w.snap.participants) p) ∙ sym (begun_placed W w p goes) ∙ e)
+    phase_is : (b : Bool) → has_place W w p ≡ b → first_phase bounds ≡ cond b (ToPropose 1) ToGo
+    phase_is b e = ap (λ (c : Bool). cond c (ToPropose 1) ToGo) (sym (at_once (length w.snap.participants) p) ∙ sym (begun_placed W w p goes) ∙ e)
 
     new_round : participant_of p w.rounds ≡ None
     new_round = no_round W w p goes (i.joined p)

@@ -11,7 +11,7 @@ use Rattle.rename_core.specs.Pace.{Phase, Pace, IsStepOf, IsInTime, most_steps, 
 use Rattle.rename_core.proofs.rounds.Standing.{nobody_has, standing_elsewhere, name_small, standing_named, standing_proposed}
 use Rattle.rename_core.proofs.Large.{both_large, snap_large, scan_large, update_large}
 use Rattle.rename_core.proofs.rounds.Views.{taken_by, taken_not}
-use Rattle.rename_core.proofs.rounds.Numbers.{next_small}
+use Rattle.proposal_rounds.proofs.Numbers.{next_small}
 use Rattle.rename_core.proofs.rounds.Tied.{IsPlacing, IsProposing, IsLooking, IsAtStage, IsCounted, IsTied, IsStepped, spares_task, spares_stepped, tied_next}
 
 same_moment : (m n : ℕ → ℕ → Option ℕ) (l k : ℕ) (t : Task) (p value : ℕ) → m ≡ n → l ≡ k → t ≡ ToUpdate value → set_at m (l + 1) (set_at (m l) p (Some value)) ≡ set_at n (k + 1) (set_at (n k) p (value_written t))
@@ -165,7 +165,7 @@ module _ {S R V U K : Type 0} (W : KnownPlaces S R V U K) (terms : RenameTerms) 
               small = (let b = many_some in omega arith);
               task = update_task (HasPlace x) 0 1 answer stands others placed_few;
               stands = subst (λ (m : ℕ). StandsAt (update_w (HasPlace x) 0 1 answer stands others placed_few) p false (m + 1)) (sym h.none) ((goes_idle W snap' p 0 stands).more placed_few 1).stands;
-              phase = set_at-same t.phase p ToPropose;
+              phase = set_at-same t.phase p (ToPropose 1);
               pace = set_at-same t.steps p 0 ∙ sym (set_at-same (set_at s.steps p (s.steps p + 1)) p 0);
             };
           });
@@ -217,7 +217,7 @@ module _ {S R V U K : Type 0} (W : KnownPlaces S R V U K) (terms : RenameTerms) 
 
     written_next : HasGone written_follow
     written_next = record {
-      timed = step_of ToPropose (ToUpdate number) h.phase h.task h.pace refl (tie_stepped Written answer).1.1;
+      timed = step_of (ToPropose number) (ToUpdate number) h.phase h.task h.pace refl (tie_stepped Written answer).1.1;
       allowed = may;
       tied = tied_next terms Tie w o t i p v here written_w written_r (Proposed number) written_s (record {
         stepped = record {
@@ -366,7 +366,7 @@ module _ {S R V U K : Type 0} (W : KnownPlaces S R V U K) (terms : RenameTerms) 
             small = (let a = next_is.1 in let b = pairs in omega arith);
             task = update_task (Viewed view) r.count number answer stands others few_updates;
             stands = ((goes_idle W snap' p r.count stands).more few_updates number).stands;
-            phase = set_at-same t.phase p ToPropose;
+            phase = set_at-same t.phase p (ToPropose number);
             pace = set_at-same t.steps p 0 ∙ sym (set_at-same (set_at s.steps p (s.steps p + 1)) p 0);
           };
         });
@@ -401,7 +401,7 @@ module _ {S R V U K : Type 0} (W : KnownPlaces S R V U K) (terms : RenameTerms) 
   pub proposing_gone : (number : ℕ) → IsProposing terms o t s w.snap p number r → r.stage ≡ Proposing number → (k : GoesBusy W w.snap p (r.count + 1)) → HasGone (followed r p k.reply w.limit)
   proposing_gone number h stage k = gone k.reply k.answer k.comes.stands k.comes.others where
     gone : (reply : SnapReply) → snap_told W w p ≡ Ok reply → StandsAt snap' p (not (is_quiet reply)) (r.count + 1) → Others → HasGone (followed r p reply w.limit)
-    gone Silent answer stands others = quiet_gone (r.count + 1) answer stands others (goes_on ToPropose (ToUpdate number) h.phase h.task h.pace refl (tie_stepped Silent answer).1) (subst AtQuiet (sym stage) (record { going = h.going; rounds = h.rounds; positive = h.positive; small = h.small; task = quiet_task (r.count + 1) answer stands others ∙ h.task; stands = stands; phase = h.phase; pace = quiet_pace h.pace }))
+    gone Silent answer stands others = quiet_gone (r.count + 1) answer stands others (goes_on (ToPropose number) (ToUpdate number) h.phase h.task h.pace refl (tie_stepped Silent answer).1) (subst AtQuiet (sym stage) (record { going = h.going; rounds = h.rounds; positive = h.positive; small = h.small; task = quiet_task (r.count + 1) answer stands others ∙ h.task; stands = stands; phase = h.phase; pace = quiet_pace h.pace }))
     gone (HasPlace x) answer stands others = absurd (let e : ToUpdate number ≡ ToPlace = sym h.task ∙ (tie_stepped (HasPlace x) answer).1.0 in cc)
     gone Written answer stands others = written_gone number answer stands others h stage
     gone (Viewed view) answer stands others = absurd (let e : ToUpdate number ≡ ToScan = sym h.task ∙ (tie_stepped (Viewed view) answer).1.0 in cc)

@@ -1,6 +1,6 @@
 -- a renaming world with the object and the pace of its law
 use Rattle.std.proofs.Common.{◌≡◌, ◌≢◌, ℕ, ◌+◌, ◌-◌, ◌*◌, ◌<◌, ◌≤◌, ◌==◌, Bool, true, false, cond, length, Some, None, inl, inr, refl, sym, ap, ◌∙◌, arith, is_some}
-use Rattle.rename_core.proofs.Common.{eqb_tells, set_at, set_at-same, set_at-other, Participant, AreDistinct, participant_of, with_participant, beginner, participant_of-put, length-with_participant, SnapState, SnapReply, Silent, ToPlace, ToScan, ToUpdate, Idle, Round, Stage, Placing, Proposing, Looking, Settled, Over, Pace, paced_step, StepReply, Quiet, Placed, Proposed, Saw, Named, Spent, RenameTerms, RenameObject, after_step, RenameState, world_with, standing_by, StandsAt}
+use Rattle.rename_core.proofs.Common.{eqb_tells, set_at, set_at-same, set_at-other, Participant, AreDistinct, participant_of, with_participant, beginner, participant_of-put, length-with_participant, SnapState, SnapReply, Silent, ToPlace, ToScan, ToUpdate, Idle, Round, Stage, Placing, Proposing, Looking, Settled, Over, Pace, paced_step, StepReply, Quiet, Placed, Proposed, Saw, Named, Spent, RenameTerms, RenameObject, after_step, next_proposal, RenameState, world_with, standing_by, StandsAt}
 use Rattle.snapshot_core.specs.Snapshot.{Task, SnapObject, since_of, with_task, observed_step}
 use Rattle.rename_core.specs.Pace.Phase.{ToPlace as ToGo, ToPropose, ToLook, AtEnd}
 use Rattle.rename_core.proofs.Large.{IsAsLarge}
@@ -33,7 +33,7 @@ pub record IsProposing {S U K : Type 0} (terms : RenameTerms) (o : RenameObject)
   pub small : n ≤ 2 * o.many - 1
   pub task : s.task p ≡ ToUpdate n
   pub stands : StandsAt w p false (r.count + 1)
-  pub phase : t.phase p ≡ ToPropose
+  pub phase : t.phase p ≡ ToPropose n
   pub pace : t.steps p ≡ s.steps p
 
 pub record IsLooking {S U K : Type 0} (terms : RenameTerms) (o : RenameObject) (t : Pace) (s : SnapObject) (w : SnapState S U K) (p : ℕ) (r : Round) : Type 0 where
@@ -145,9 +145,9 @@ record Leaves (o : RenameObject) (t : Pace) (p : ℕ) (reply : StepReply) : Type
 
 leaves : (o : RenameObject) (t : Pace) (p : ℕ) (reply : StepReply) → Leaves o t p reply
 leaves o t p Quiet = record { many = refl; begun = refl; paced = refl; place = λ q n. refl; name = λ q n. refl; spent = λ q n. refl; count = λ q n. refl; since = λ q n. refl; now = λ q n. refl; phase = λ q n. refl; steps = set_at-other t.steps p (t.steps p + 1); later = omega arith }
-leaves o t p (Placed x) = record { many = refl; begun = refl; paced = refl; place = set_at-other o.place p (Some x); name = λ q n. refl; spent = λ q n. refl; count = λ q n. refl; since = λ q n. refl; now = λ q n. refl; phase = set_at-other t.phase p ToPropose; steps = set_at-other t.steps p 0; later = omega arith }
+leaves o t p (Placed x) = record { many = refl; begun = refl; paced = refl; place = set_at-other o.place p (Some x); name = λ q n. refl; spent = λ q n. refl; count = λ q n. refl; since = λ q n. refl; now = λ q n. refl; phase = set_at-other t.phase p (ToPropose 1); steps = set_at-other t.steps p 0; later = omega arith }
 leaves o t p (Proposed m) = record { many = refl; begun = refl; paced = refl; place = λ q n. refl; name = λ q n. refl; spent = λ q n. refl; count = set_at-other o.count p (o.count p + 1); since = set_at-other o.since p (o.last + 1); now = others_stand o p m; phase = set_at-other t.phase p ToLook; steps = set_at-other t.steps p 0; later = omega arith }
-leaves o t p (Saw view) = record { many = refl; begun = refl; paced = refl; place = λ q n. refl; name = λ q n. refl; spent = λ q n. refl; count = λ q n. refl; since = λ q n. refl; now = λ q n. refl; phase = set_at-other t.phase p ToPropose; steps = set_at-other t.steps p 0; later = omega arith }
+leaves o t p (Saw view) = record { many = refl; begun = refl; paced = refl; place = λ q n. refl; name = λ q n. refl; spent = λ q n. refl; count = λ q n. refl; since = λ q n. refl; now = λ q n. refl; phase = set_at-other t.phase p (ToPropose (next_proposal p view)); steps = set_at-other t.steps p 0; later = omega arith }
 leaves o t p (Named m view) = record { many = refl; begun = refl; paced = refl; place = λ q n. refl; name = set_at-other o.name p (Some m); spent = λ q n. refl; count = λ q n. refl; since = λ q n. refl; now = λ q n. refl; phase = set_at-other t.phase p AtEnd; steps = set_at-other t.steps p 0; later = omega arith }
 leaves o t p Spent = record { many = refl; begun = refl; paced = refl; place = λ q n. refl; name = λ q n. refl; spent = set_at-other o.spent p true; count = λ q n. refl; since = λ q n. refl; now = λ q n. refl; phase = set_at-other t.phase p AtEnd; steps = set_at-other t.steps p 0; later = omega arith }
 

@@ -1,4 +1,5 @@
 use Rattle.desk.proofs.NamedAlone.{names_soon_alone}
+use Rattle.desk.proofs.NamedAmong.{names_soon_among}
 use Rattle.desk.proofs.NamesGiven.{one_each, never_two, small_names}
 use Rattle.desk.proofs.laws.law_of_names.Goals as goal
 
@@ -13,3 +14,6 @@ returns-clause-small c = small_names
 
 pub returns-clause-soon_alone : goal.returns-clause-soon_alone
 returns-clause-soon_alone c = names_soon_alone
+
+pub returns-clause-soon_among : goal.returns-clause-soon_among
+returns-clause-soon_among c = names_soon_among

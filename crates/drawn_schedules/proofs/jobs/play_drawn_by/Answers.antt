@@ -8,7 +8,7 @@ use Rattle.drawn_schedules.proofs.jobs.play_drawn_by.Goals.{After-drop-tallies}
 
 pub returns-then-jobs-eq1 : goal.returns-then-jobs-eq1
 returns-then-jobs-eq1 g c =
-    let e = c.play_drawn.ensures in
+    let e = c.play_schedules.ensures in
     record { ok = e.ok; part = e.part; only = e.only; failed = e.failed; memory = e.memory; unfailed = e.unfailed }
 
 pub returns-in_default-clause-part : goal.returns-in_default-clause-part

@@ -1,6 +1,6 @@
 use Rattle.std.proofs.Common.{rules, ◌≡◌, ◌≤◌, ◌<◌, ℕ, List, ◌+◌, true, false, length, sym, ◌∙◌, arith}
-use Rattle.rename_core.specs.Proposals.{is_taken, free_up_to}
-use Rattle.rename_core.proofs.rounds.Numbers.{free_or_taken, others_few, least_is}
+use Rattle.proposal_rounds.specs.Proposals.{is_taken, free_up_to}
+use Rattle.proposal_rounds.proofs.Numbers.{free_or_taken, others_few, least_is}
 use Rattle.rename_core.proofs.proposal.nth_free.Goals as goal
 
 -- the next number that is looked at has a mark

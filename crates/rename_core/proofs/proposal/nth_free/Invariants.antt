@@ -1,5 +1,5 @@
 use Rattle.std.proofs.Common.{◌≡◌, ◌+◌, ℕ, suc, ◌-◌, ◌<◌, ◌⊎◌, length}
-use Rattle.rename_core.specs.Proposals.{is_taken, free_up_to}
+use Rattle.proposal_rounds.specs.Proposals.{is_taken, free_up_to}
 use Rattle.rename_core.proofs.proposal.nth_free.Given as goal
 
 abbrev pub invariant-loop-left : goal.invariant-loop-left

@@ -1,5 +1,5 @@
 use Rattle.std.proofs.Common.{◌≡◌, ◌≤◌, ◌<◌, ℕ, false, length, drop, get_or}
-use Rattle.rename_core.specs.Proposals.{is_taken}
+use Rattle.proposal_rounds.specs.Proposals.{is_taken}
 use Rattle.rename_core.proofs.proposal.taken_numbers.Given as goal
 
 -- what the pairs from i on take is marked

@@ -1,4 +1,4 @@
-use Rattle.std.proofs.Common.{inl}
+use Rattle.std.proofs.Common.{inl, arith}
 use Rattle.std.proofs.lemmas.Result.{IfOk-weaker, IfErr-weaker}
 use Rattle.step_memory.proofs.WorldMachineLemmas.{within}
 use Rattle.splitter_grid.proofs.GridTied.{grid_law_of, grid_opens}
@@ -8,7 +8,7 @@ pub returns-clause-fresh : goal.returns-clause-fresh
 returns-clause-fresh g c = c.open.ensures.fresh
 
 pub returns-clause-after : goal.returns-clause-after
-returns-clause-after g c = grid_opens c.args.most c.open.result c.if-most-gt16.false c.open.ensures.fresh
+returns-clause-after g c = grid_opens c.args.most c.open.result (let few = c.if-most-gt16.false in omega arith) c.open.ensures.fresh
 
 pub returns-clause-law : goal.returns-clause-law
 returns-clause-law g c = IfOk-weaker c.open.result _ _ (λ w is. grid_law_of w) c.open.ensures.fresh

@@ -1,0 +1,67 @@
+//! Schedules and runs by plain numbers, for callers that have no `Schedule`.
+
+ghost use Rattle.std.specs.Prelude.{◌≡◌, ◌<◌, ◌≤◌, ◌+◌, ◌^◌, ◌⊎◌, true, Err, IfErr, OnOk, OnErr};
+ghost use Rattle.std.specs.Io.KnownBytes.{Appends};
+ghost use Rattle.commands.specs.Config.{gives_names};
+ghost use Rattle.command_lines.specs.Events.{event_lines};
+ghost use Rattle.command_lines.specs.Written.{HasPartOf};
+ghost use Rattle.drawn_schedules.specs.Runs.{HasDrawn, HasDrawnPart};
+ghost use Rattle.drawn_schedules.specs.Schedule.{schedule};
+
+use crate::runs::play_schedules;
+use crate::schedule::{Schedule, draw_schedule};
+use commands::Config;
+use player::{Fault, Sink};
+use std::alloc::Allocator;
+
+/// Writes the schedule of a seed as lines: so many identities begin, and then so many steps are taken (`draw_schedule`).
+///
+/// # Errors
+///
+/// `Write` where the writer failed, and `Memory` where an allocation failed: then nothing was written.
+pub fn draw<A: Allocator, W: Sink>(
+    alloc: A,
+    seed: u64,
+    ids: u64,
+    steps: u64,
+    writer: &mut W,
+) -> Result<(), Fault>
+    requires ids { (1 ≤ ids) × (ids ≤ 64) }
+    requires writes { W.calls writer.old < 2 ^ 64 }
+    ensures ok { OnOk result (Appends (W.contents writer.old) (W.contents writer.new) (event_lines (schedule seed ids steps))) }
+    ensures unfailed { OnOk result (W.failed writer.new ≡ W.failed writer.old) }
+    ensures part { result ≡ Err Fault.Write → HasPartOf (W.contents writer.old) (W.contents writer.new) (event_lines (schedule seed ids steps)) }
+    ensures failed { result ≡ Err Fault.Write → W.failed writer.old < W.failed writer.new }
+    ensures memory { result ≡ Err Fault.Memory → writer.new ≡ writer.old }
+    ensures only { IfErr result (λ fault. (fault ≡ Fault.Write) ⊎ (fault ≡ Fault.Memory)) }
+{
+    draw_schedule(alloc, Schedule { seed, ids, steps }, writer)
+}
+
+/// Plays the schedules of so many seeds, from this one on, and writes a line for each run (`play_schedules`).
+///
+/// # Errors
+///
+/// `Write` where the writer failed, and `Memory` where an allocation or the reset of an arena failed.
+pub fn play_drawn<A: Allocator + Clone, W: Sink>(
+    alloc: A,
+    seed: u64,
+    ids: u64,
+    steps: u64,
+    runs: u64,
+    config: Config,
+    writer: &mut W,
+) -> Result<(), Fault>
+    requires ids { (1 ≤ ids) × (ids ≤ 64) }
+    requires names { gives_names config.world ≡ true }
+    requires steps { steps + 64 < 2 ^ 64 }
+    requires writes { W.calls writer.old < 2 ^ 64 }
+    ensures ok { OnOk result (HasDrawn config seed ids steps runs (Appends (W.contents writer.old) (W.contents writer.new))) }
+    ensures part { OnErr result (HasDrawnPart config seed ids steps runs (W.contents writer.old) (W.contents writer.new)) }
+    ensures only { IfErr result (λ fault. (fault ≡ Fault.Write) ⊎ (fault ≡ Fault.Memory)) }
+    ensures failed { result ≡ Err Fault.Write → W.failed writer.old < W.failed writer.new }
+    ensures memory { result ≡ Err Fault.Memory → W.failed writer.new ≡ W.failed writer.old }
+    ensures unfailed { OnOk result (W.failed writer.new ≡ W.failed writer.old) }
+{
+    play_schedules(alloc, Schedule { seed, ids, steps }, runs, config, writer)
+}

@@ -1,0 +1,27 @@
+//! Rounds of proposals end.
+//!
+//! Identities choose small numbers over a snapshot object, in rounds. In a round an identity writes a *proposal*, then scans. Where
+//! another proposes the same number in its view, it goes on to a next round, and proposes the r-th number that no other
+//! proposes in that view; r is its rank among those of the view. Where no other does, it makes no more proposals.
+//!
+//! What is proved (`law_of_rounds`): `b` identities make at most `3(5^b - 1)/4` proposals, all together. Views may be stale, an identity
+//! may begin late, and any may stop for good; what it proposed then stands.
+//!
+//! Why. Take a stretch with no first proposal, and the least identity `p` that writes in it. Once each other that writes there has
+//! written twice, `p` writes at most twice more: what the others propose is then above what `p` chooses, since their ranks
+//! are higher. So a stretch of `k` writers is cut into five of `k - 1`, with four proposals between them.
+//!
+//! The algorithm is from Attiya et al. (1990), and Fouren (1999) shows that its proposals can grow exponentially. This bound and
+//! its proof are this project's own.
+#![tactic(auto)]
+
+ghost use Rattle.std.specs.Prelude.{◌≡◌, ℕ, ◌+◌, ◌*◌, ◌^◌};
+ghost use Rattle.proposal_rounds.specs.Rounds.{RoundsEnd, most_proposals};
+
+/// A law, which runs nothing: `b` identities that propose by the rule make at most `3(5^b - 1)/4` proposals, all together.
+pub fn law_of_rounds()
+    ensures end { RoundsEnd }
+    ensures closed { (b : ℕ) → 4 * most_proposals b + 3 ≡ 3 * 5 ^ b }
+    ensures few { (most_proposals 1 ≡ 3) × (most_proposals 2 ≡ 18) × (most_proposals 3 ≡ 93) × (most_proposals 4 ≡ 468) }
+    ensures many { (most_proposals 5 ≡ 2343) × (most_proposals 6 ≡ 11718) × (most_proposals 7 ≡ 58593) × (most_proposals 8 ≡ 292968) }
+{}

@@ -1,4 +1,0 @@
-mod Common
-mod CallLemmas
-mod AskedLemmas
-pub mod FixedLaw

@@ -1,3 +1,0 @@
-pub mod Fixed
-pub mod FixedTies
-pub mod FixedProofs

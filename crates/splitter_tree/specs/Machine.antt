@@ -1,0 +1,53 @@
+-- the world of a tree as a machine, and what is said of its nodes after its calls
+use Rattle.std.specs.Prelude.{ℕ, ◌≤◌, List, []}
+use Rattle.step_memory.specs.Machine.{Machine, Always}
+use Rattle.step_memory.specs.Steps.{MemorySteps}
+use Rattle.step_memory.specs.Calls.{begun_in}
+use Rattle.splitter_tree.specs.declared.register.TreeRegister.{TreeRegister}
+use Rattle.splitter_tree.specs.declared.register.TreeValue.{TreeValue}
+use Rattle.splitter_tree.specs.CollectLaw.{KeepsCollectLaw}
+use Rattle.splitter_tree.specs.Invariant.{IsTree}
+use Rattle.splitter_tree.specs.PlacesLaw.{KeepsPlacesLaw, way_calls, walkers}
+use Rattle.splitter_tree.specs.TreeDue.{TreeRefusesAsDue}
+use Rattle.splitter_tree.specs.TreeMemory.{IsTreeMemory, IsEmptyTree}
+use Rattle.splitter_tree.specs.TreeSteps.{NodeMap, tree_steps}
+use Rattle.splitter_tree.specs.TreeWorld.{TreeState}
+use Rattle.splitter_tree.specs.TreeCalls.{TreeCall, next, IsReply}
+
+-- a memory that is a tree, of no nodes at first, and room for so many, at most 64
+pub record IsTreeStart {S : Type 0} (memory : MemorySteps S TreeRegister TreeValue) (first : S) (most : ℕ) : Type 0 where
+  pub tree : IsTreeMemory memory
+  pub empty : IsEmptyTree memory first
+  pub few : most ≤ 64
+
+-- the law over calls and replies: that of the places, and that of the collects
+pub record KeepsTreeCallsLaw (r : List TreeCall) : Type 0 where
+  pub places : KeepsPlacesLaw r
+  pub collects : KeepsCollectLaw r
+
+module _ {S : Type 0} (memory : MemorySteps S TreeRegister TreeValue) where
+  -- a world over this memory in which nobody has begun
+  abbrev pub fresh_over : S × ℕ → TreeState S
+  fresh_over first = record { memory = first.0; most = first.1; participants = [] }
+
+  -- the world of a tree over this memory, and what it keeps
+  abbrev pub tree_over : Machine (S × ℕ) (TreeState S) TreeCall
+  tree_over = record {
+    MayStart = λ first. IsTreeStart memory first.0 first.1;
+    first = fresh_over;
+    next = next memory;
+    IsReply = IsReply memory;
+    KeepsLaw = λ first. KeepsTreeCallsLaw;
+    RefusesAsDue = λ first. TreeRefusesAsDue first.1;
+  }
+
+-- the nodes, the most participants, and the participants
+abbrev pub TreeWorldState : Type 0
+TreeWorldState = TreeState NodeMap
+
+abbrev pub tree : Machine (NodeMap × ℕ) TreeWorldState TreeCall
+tree = tree_over tree_steps
+
+-- after every list of calls nodes and walks keep the law of the tree
+abbrev pub HasLawfulNodes : TreeWorldState → Type 0
+HasLawfulNodes w = Always tree (λ first r. IsTree tree_steps (begun_in (way_calls r)) w.memory (walkers w.participants)) w

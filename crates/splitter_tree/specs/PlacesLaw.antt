@@ -1,0 +1,32 @@
+-- what the calls of a tree's world have to do with places
+use Rattle.std.specs.Prelude.{ℕ, List, [], ◌∷◌, Option, Some, None}
+use Rattle.step_memory.specs.declared.participant.Participant.{Participant}
+use Rattle.step_memory.specs.Participant.{participant_of}
+use Rattle.step_memory.specs.Calls.{Call}
+use Rattle.step_memory.specs.Calls.Call.{Began, Stepped}
+use Rattle.splitter_tree.specs.declared.client.Client.{Client}
+use Rattle.splitter_tree.specs.declared.walker.Walker.{Walker}
+use Rattle.splitter_tree.specs.TreeCalls.{TreeCall}
+use Rattle.splitter_tree.specs.TreeCalls.TreeCall.{Began as TreeBegan, Stepped as TreeStepped, Stored, CollectBegan, CollectStepped}
+use Rattle.splitter_tree.specs.Law.{KeepsTreeLaw}
+
+-- the calls of `begin` and `step` among these: the way to the places
+abbrev pub way_calls : List TreeCall → List (Call (Option ℕ))
+way_calls [] = []
+way_calls (TreeBegan id reply ∷ r) = Began id reply ∷ way_calls r
+way_calls (TreeStepped id reply ∷ r) = Stepped id reply ∷ way_calls r
+way_calls (Stored id value reply ∷ r) = way_calls r
+way_calls (CollectBegan id reply ∷ r) = way_calls r
+way_calls (CollectStepped id reply ∷ r) = way_calls r
+
+-- the law of the places: stores and collects have no part in it
+abbrev pub KeepsPlacesLaw : List TreeCall → Type 0
+KeepsPlacesLaw r = KeepsTreeLaw (way_calls r)
+
+abbrev pub walker_in : Option (Participant Client) → Option Walker
+walker_in None = None
+walker_in (Some v) = Some v.program.walker
+
+-- the walk of each identity
+abbrev pub walkers : List (Participant Client) → ℕ → Option Walker
+walkers ps p = walker_in (participant_of p ps)

@@ -1,0 +1,88 @@
+-- what the calls of a tree's world answer and leave
+use Rattle.std.specs.Prelude.{◌≡◌, ◌≢◌, option_and_then, ℕ, Bool, if◌then◌else◌, List, Option, Some, None, Result, Err}
+use Rattle.step_memory.specs.declared.refusal.Refusal.{Refusal}
+use Rattle.step_memory.specs.declared.refusal.Refusal.TheVariants.{AlreadyBegun, NotBegun, Finished}
+use Rattle.step_memory.specs.Participant.{participant_of, program_of}
+use Rattle.step_memory.specs.Steps.{MemorySteps}
+use Rattle.step_memory.specs.WorldState.{WorldState}
+use Rattle.step_memory.specs.World.{after_begin, after_set, step_answer, after_step, may_refuse_step}
+use Rattle.step_memory.specs.Calls.{reply_of}
+use Rattle.splitter_tree.specs.declared.register.TreeRegister.{TreeRegister}
+use Rattle.splitter_tree.specs.declared.register.TreeRegister.TheVariants.{Contents}
+use Rattle.splitter_tree.specs.declared.register.TreeValue.{TreeValue}
+use Rattle.splitter_tree.specs.declared.client.Client.{Client}
+use Rattle.splitter_tree.specs.Walk.{place_of}
+use Rattle.splitter_tree.specs.Client.{client_of, client_steps, is_placing, is_idle, is_collecting, storing, collecting, place_told, view_told}
+
+-- a memory of type S, the most participants, and the participants
+abbrev pub TreeState : Type 0 → Type 0
+TreeState S = WorldState S Client
+
+-- why `store` and `collect_begin` are refused
+abbrev pub asking_refusal_by : Option Client → Option Refusal
+asking_refusal_by None = Some NotBegun
+asking_refusal_by (Some c) = if is_idle c.task then None else Some AlreadyBegun
+
+module _ {S : Type 0} where
+  abbrev pub asking_refusal : TreeState S → ℕ → Option Refusal
+  asking_refusal w id = asking_refusal_by (program_of id w.participants)
+
+  abbrev pub after_tree_begin : TreeState S → ℕ → TreeState S
+  after_tree_begin w id = after_begin w id (client_of id)
+
+  abbrev pub after_collect_begin_by : TreeState S → ℕ → Option Client → TreeState S
+  after_collect_begin_by w id None = w
+  after_collect_begin_by w id (Some c) = if is_idle c.task then after_set w id (collecting c) else w
+
+  -- the world after `collect_begin`, which makes no access
+  abbrev pub after_collect_begin : TreeState S → ℕ → TreeState S
+  after_collect_begin w id = after_collect_begin_by w id (program_of id w.participants)
+
+module _ {S : Type 0} (memory : MemorySteps S TreeRegister TreeValue) where
+  abbrev pub place_answer_by : TreeState S → ℕ → Option Client → Result (Option ℕ) Refusal
+  place_answer_by w id None = Err NotBegun
+  place_answer_by w id (Some c) = if is_placing c.task then reply_of place_told (step_answer client_steps memory w id) else Err Finished
+
+  abbrev pub after_placing_by : TreeState S → ℕ → Option Client → TreeState S
+  after_placing_by w id None = w
+  after_placing_by w id (Some c) = if is_placing c.task then after_step client_steps memory w id else w
+
+  -- what `step` answers where no growth is refused, and the world after it
+  abbrev pub place_answer : TreeState S → ℕ → Result (Option ℕ) Refusal
+  place_answer w id = place_answer_by w id (program_of id w.participants)
+
+  abbrev pub after_placing : TreeState S → ℕ → TreeState S
+  after_placing w id = after_placing_by w id (program_of id w.participants)
+
+  -- whether a step of the placing may be refused for want of memory
+  abbrev pub may_lack_memory : TreeState S → ℕ → Bool
+  may_lack_memory w id = may_refuse_step client_steps memory w id
+
+  abbrev pub after_store_by : TreeState S → ℕ → ℕ → Option Client → TreeState S
+  after_store_by w id value None = w
+  after_store_by w id value (Some c) = if is_idle c.task then after_step client_steps memory (after_set w id (storing c value)) id else w
+
+  -- the world after `store`, which is one write
+  abbrev pub after_store : TreeState S → ℕ → ℕ → TreeState S
+  after_store w id value = after_store_by w id value (program_of id w.participants)
+
+  abbrev pub view_answer_by : TreeState S → ℕ → Option Client → Result (Option (List (ℕ × ℕ))) Refusal
+  view_answer_by w id None = Err NotBegun
+  view_answer_by w id (Some c) = if is_collecting c.task then reply_of view_told (step_answer client_steps memory w id) else Err Finished
+
+  abbrev pub after_collecting_by : TreeState S → ℕ → Option Client → TreeState S
+  after_collecting_by w id None = w
+  after_collecting_by w id (Some c) = if is_collecting c.task then after_step client_steps memory w id else w
+
+  -- what `collect_step` answers, and the world after it
+  abbrev pub view_answer : TreeState S → ℕ → Result (Option (List (ℕ × ℕ))) Refusal
+  view_answer w id = view_answer_by w id (program_of id w.participants)
+
+  abbrev pub after_collecting : TreeState S → ℕ → TreeState S
+  after_collecting w id = after_collecting_by w id (program_of id w.participants)
+
+  -- nothing of the world changes but participant p and the segment at its place
+  pub record IsLocalStore (p : ℕ) (old new : TreeState S) : Type 0 where
+    pub most : new.most ≡ old.most
+    pub others : (q : ℕ) → q ≢ p → participant_of q new.participants ≡ participant_of q old.participants
+    pub registers : (r : TreeRegister) → ((place : ℕ) → option_and_then (λ c. place_of c.walker) (program_of p old.participants) ≡ Some place → r ≢ Contents place) → memory.register new.memory r ≡ memory.register old.memory r

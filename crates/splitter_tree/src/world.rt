@@ -1,0 +1,207 @@
+//! A world whose participants walk down one tree, store values at their places, and collect them.
+
+ghost use Rattle.std.specs.Prelude.{◌≡◌, ◌≢◌, [], IfOk, IfErr, IsOk, Err, OnErr, true, ◌≤◌, ◌<◌, ◌⊎◌, ◌↔◌, option_and_then};
+ghost use Rattle.splitter_tree.specs.WorldLaws.{AnswersPlaceAlike, StaysAlikeOnWay, StaysAlikeCollecting};
+ghost use Rattle.splitter_tree.specs.Client.{client_steps};
+ghost use Rattle.splitter_tree.specs.TreeCalls.TreeCall.{Began, Stepped, Stored, CollectBegan, CollectStepped};
+ghost use Rattle.splitter_tree.specs.TreeSteps.{tree_steps, empty_tree};
+ghost use Rattle.splitter_tree.specs.TreeWorld.{after_tree_begin, asking_refusal, place_answer, after_placing, may_lack_memory, after_store, after_collect_begin, view_answer, after_collecting, IsLocalStore};
+ghost use Rattle.splitter_tree.specs.PlacesLaw.{way_calls};
+ghost use Rattle.splitter_tree.specs.Machine.{HasLawfulNodes, TreeWorldState, fresh_over, tree};
+ghost use Rattle.step_memory.specs.Machine.{After, Always, IsLawful, LeadsOn, RefusesWhereDue};
+ghost use Rattle.splitter_tree.specs.Walk.{place_of};
+ghost use Rattle.step_memory.specs.Calls.{outcome_of};
+ghost use Rattle.step_memory.specs.Locality.{IsLocal, LookAlike};
+ghost use Rattle.step_memory.specs.Participant.{program_of};
+ghost use Rattle.step_memory.specs.World.{begin_refusal, done_unless};
+
+use crate::Tree;
+use crate::client::{Client, place_told, view_told};
+use std::alloc::Allocator;
+use std::marker::Model;
+use step_memory::{Place, Refusal, View, World};
+
+/// Participants that walk down one tree, each to a place of its own, store values there, and collect what all have
+/// stored. Nodes are made one at a time, as walks come to them.
+#[derive(Drop)]
+pub struct TreeWorld<A: Allocator> {
+    world: World<Client, Tree<A>, A>,
+}
+
+impl<A: Allocator> Model for TreeWorld<A> {
+    ghost use Rattle.splitter_tree.specs.Machine.{TreeWorldState};
+    ghost use Rattle.splitter_tree.specs.contracts.client.Client as client;
+    ghost use Rattle.splitter_tree.specs.contracts.node_registers.NodeRegisters as registers;
+    ghost use Rattle.std.specs.Coded.{coded_ℕ};
+    ghost use Rattle.std.specs.FinMap as map;
+    ghost use Rattle.step_memory.specs.WorldCode.{world_code};
+
+    ghost Value = { TreeWorldState };
+
+    ghost coded = { world_code (map.code coded_ℕ registers.the_row.coded) client.the_row.coded };
+
+    ghost view = { λ w. w.world };
+}
+
+impl<A: Allocator + Clone> TreeWorld<A> {
+    /// A tree of no nodes, for at most `most` participants, from 1 to 64; `OutOfRange` elsewhere. The room for the
+    /// participants is taken here, that for a node when a walk comes to it first.
+    #[tactic(auto, using(crate::proofs::TreeProved::tree_contracts))]
+    pub fn new(alloc: A, most: usize) -> Result<Self, Refusal>
+        ensures fresh { IfOk result (λ w. w ≡ fresh_over tree_steps (empty_tree, most)) }
+        ensures after { IfOk result (λ w. After tree (empty_tree, most) w []) }
+        ensures law { IfOk result (λ w. IsLawful tree w) }
+        ensures range { IsOk result → (1 ≤ most) × (most ≤ 64) }
+        ensures out_of_range { result ≡ Err Refusal.OutOfRange ↔ ((most < 1) ⊎ (64 < most)) }
+        ensures only { IfErr result (λ r. (r ≡ Refusal.NoMemory) ⊎ (r ≡ Refusal.OutOfRange)) }
+    {
+        if most < 1 || 64 < most {
+            return Err(Refusal::OutOfRange);
+        }
+        let tree = Tree::new(alloc.clone()?);
+        let world = World::new(alloc, tree, most)?;
+        Ok(TreeWorld { world })
+    }
+
+    /// A participant begins: its walk has made no access. Refused where the identity is 0, then where it has begun, then
+    /// where as many have begun as there may be.
+    #[tactic(auto, using(crate::proofs::TreeProved::tree_contracts))]
+    pub fn begin(&mut self, id: u64) -> Result<(), Refusal>
+        ensures answer { result ≡ done_unless (begin_refusal self.old id) }
+        ensures state { self.new ≡ after_tree_begin self.old id }
+        ensures refused { OnErr result (self.new ≡ self.old) }
+        ensures after { LeadsOn tree self.old self.new (Began id result) }
+
+        // The law, over every list of calls and replies that the world may be after.
+        ensures law { IsLawful tree self.new }
+        ensures due { RefusesWhereDue tree self.new }
+        ensures nodes { HasLawfulNodes self.new }
+    {
+        self.world.begin(id, Client::new(id))
+    }
+
+    /// One step on the way to a place, which is one access; the place, once it is reached. Refused where the identity
+    /// has not begun, then where it has its place. Refused too where the access makes a node and its growth was refused:
+    /// nothing has then changed, and the same step may be asked again.
+    #[tactic(auto, using(crate::proofs::TreeProved::tree_contracts))]
+    pub fn step(&mut self, id: u64) -> Result<Option<Place>, Refusal>
+        ensures answer { result ≢ Err Refusal.NoMemory → result ≡ place_answer tree_steps self.old id }
+        ensures state { result ≢ Err Refusal.NoMemory → self.new ≡ after_placing tree_steps self.old id }
+        ensures refused { OnErr result (self.new ≡ self.old) }
+        ensures no_memory { result ≡ Err Refusal.NoMemory → may_lack_memory tree_steps self.old id ≡ true }
+        ensures after { LeadsOn tree self.old self.new (Stepped id result) }
+        ensures law { IsLawful tree self.new }
+        ensures due { RefusesWhereDue tree self.new }
+        ensures nodes { HasLawfulNodes self.new }
+
+        // Nothing of the world changes but this participant and the register that it names, and in another world that
+        // looks alike to this participant the answer is the same, and where the participant then stands.
+        ensures local { IsLocal client_steps tree_steps id self.old self.new }
+        ensures alike { result ≢ Err Refusal.NoMemory → AnswersPlaceAlike self.old id result }
+        ensures stands_alike { result ≢ Err Refusal.NoMemory → StaysAlikeOnWay self.old self.new id }
+    {
+        let Some(client) = self.world.program(id) else {
+            return Err(Refusal::NotBegun);
+        };
+        if !client.is_placing() {
+            return Err(Refusal::Finished);
+        }
+        match self.world.step(id) {
+            Ok(note) => Ok(place_told(&note)),
+            Err(refusal) => Err(refusal),
+        }
+    }
+
+    /// Stores a value at one's place, by one write. Refused where the identity has not begun, then where it has no place
+    /// yet or a collect of it is under way.
+    #[tactic(auto, using(crate::proofs::TreeProved::tree_contracts))]
+    pub fn store(&mut self, id: u64, value: u64) -> Result<(), Refusal>
+        ensures answer { result ≡ done_unless (asking_refusal self.old id) }
+        ensures state { self.new ≡ after_store tree_steps self.old id value }
+        ensures refused { OnErr result (self.new ≡ self.old) }
+        ensures after { LeadsOn tree self.old self.new (Stored id value result) }
+
+        // The law, over every list of calls and replies that the world may be after.
+        ensures law { IsLawful tree self.new }
+        ensures due { RefusesWhereDue tree self.new }
+
+        // Nothing of the world changes but this participant and the segment at its place.
+        ensures local { IsLocalStore tree_steps id self.old self.new }
+    {
+        let Some(client) = self.world.program(id) else {
+            return Err(Refusal::NotBegun);
+        };
+        if !client.is_idle() {
+            return Err(Refusal::AlreadyBegun);
+        }
+        let client = client.storing(value);
+        // Whoever has begun may be set.
+        let _ = self.world.set(id, client);
+        match self.world.step(id) {
+            Ok(_) => Ok(()),
+            Err(refusal) => Err(refusal),
+        }
+    }
+
+    /// Begins a collect, which the next calls of `collect_step` make; this call makes no access. Refused where the
+    /// identity has not begun, then where it has no place yet or a collect of it is under way.
+    #[tactic(auto, using(crate::proofs::TreeProved::tree_contracts))]
+    pub fn collect_begin(&mut self, id: u64) -> Result<(), Refusal>
+        ensures answer { result ≡ done_unless (asking_refusal self.old id) }
+        ensures state { self.new ≡ after_collect_begin self.old id }
+        ensures refused { OnErr result (self.new ≡ self.old) }
+        ensures after { LeadsOn tree self.old self.new (CollectBegan id result) }
+        ensures law { IsLawful tree self.new }
+        ensures due { RefusesWhereDue tree self.new }
+    {
+        let Some(client) = self.world.program(id) else {
+            return Err(Refusal::NotBegun);
+        };
+        if !client.is_idle() {
+            return Err(Refusal::AlreadyBegun);
+        }
+        let client = client.collecting();
+        self.world.set(id, client)
+    }
+
+    /// One step of a collect, which is one read; the view, once it ends: what was stored at each place that it met.
+    /// Refused where the identity has not begun, then where no collect of it is under way.
+    #[tactic(auto, using(crate::proofs::TreeProved::tree_contracts))]
+    pub fn collect_step(&mut self, id: u64) -> Result<Option<View>, Refusal>
+        ensures answer { result ≡ view_answer tree_steps self.old id }
+        ensures state { self.new ≡ after_collecting tree_steps self.old id }
+        ensures refused { OnErr result (self.new ≡ self.old) }
+        ensures after { LeadsOn tree self.old self.new (CollectStepped id result) }
+        ensures law { IsLawful tree self.new }
+        ensures due { RefusesWhereDue tree self.new }
+        ensures local { IsLocal client_steps tree_steps id self.old self.new }
+        ensures alike { (other : TreeWorldState) → LookAlike client_steps tree_steps id self.old other → result ≡ view_answer tree_steps other id }
+        ensures stands_alike { StaysAlikeCollecting self.old self.new id }
+    {
+        let Some(client) = self.world.program(id) else {
+            return Err(Refusal::NotBegun);
+        };
+        if !client.is_collecting() {
+            return Err(Refusal::Finished);
+        }
+        match self.world.step(id) {
+            Ok(note) => Ok(view_told(&note)),
+            Err(refusal) => Err(refusal),
+        }
+    }
+
+    /// The place of a participant, once it has one: the one that was answered.
+    pub fn place_of(&self, id: u64) -> Option<Place>
+        ensures value { result ≡ option_and_then (λ c. place_of c.walker) (program_of id self.now.participants) }
+        ensures answered { Always tree (λ first r. result ≡ outcome_of id (way_calls r)) self.now }
+    {
+        self.world.program(id)?.walker.place()
+    }
+
+    /// The tree, for what watches from outside.
+    pub fn tree(&self) -> &Tree<A>
+        ensures { result.now ≡ self.now.memory }
+    {
+        self.world.memory()
+    }
+}

@@ -1,0 +1,103 @@
+-- machines each of whose steps is one access of one participant's program to registers in a row, and what has to be proved of
+-- them. Threads can take such a program access by access over a memory that they share (this project's profile)
+use Rattle.std.specs.Prelude.{◌≡◌, ◌≢◌, ℕ, ◌+◌, ◌<◌, ◌≤◌, false, List, [], Option, Some, None, replicate, slice_index_or, slice_set}
+use Rattle.step_memory.specs.declared.access.Access.{Access}
+use Rattle.step_memory.specs.declared.access.Access.TheVariants.{Read, Write}
+use Rattle.step_memory.specs.declared.access.Answer.{Answer}
+use Rattle.step_memory.specs.declared.access.Answer.TheVariants.{Value, Done}
+use Rattle.step_memory.specs.declared.participant.Participant.{Participant}
+use Rattle.step_memory.specs.Note.{ends}
+use Rattle.step_memory.specs.Steps.{ProgramSteps}
+use Rattle.step_memory.specs.Calls.{Call, outcome_in, steps_of, begun_in}
+use Rattle.step_memory.specs.Machine.{Machine, After}
+
+-- the machine and how it starts for so many, what stands in its registers, and where each identity stands; what its calls told an identity at
+-- its end; for how many it may start, its registers for so many, the program of an identity, and the most accesses of one
+pub record LocalMachine (P V O : Type 0) : Type 1 where
+  pub State : Type 0
+  pub Start : Type 0
+  pub X : Type 0
+  pub machine : Machine Start State (Call X)
+  pub start_of : ℕ → Start
+  pub memory : State → List V
+  pub self : State → ℕ → Option (Participant P)
+  pub outcome_of : ℕ → List (Call X) → Option O
+  pub MayStart : ℕ → Type 0
+  pub registers : ℕ → ℕ
+  pub start : ℕ → P
+  pub bound : ℕ → ℕ
+
+-- the access reads or writes one of so many registers
+abbrev pub IsWithin : {V : Type 0} → ℕ → Access ℕ V → Type 0
+IsWithin registers (Read r) = r < registers
+IsWithin registers (Write r v) = r < registers
+IsWithin registers a = ⊥
+
+-- what it leaves
+abbrev pub values_after : {V : Type 0} → List V → Access ℕ V → List V
+values_after values (Write r v) = slice_set values r v
+values_after values a = values
+
+-- what it answers, where this stands in a register that is not there
+abbrev pub answer_in : {V : Type 0} → V → List V → Access ℕ V → Answer V
+answer_in first values (Read r) = Value (slice_index_or values r first)
+answer_in first values a = Done
+
+-- who has begun has not ended
+abbrev pub GoesOn : {P : Type 0} → Option (Participant P) → Type 0
+GoesOn None = Unit {0}
+GoesOn (Some v) = v.ended ≡ false
+
+-- one more begins where there was none
+abbrev pub one_more : {P : Type 0} → Option (Participant P) → ℕ
+one_more None = 1
+one_more (Some v) = 0
+
+module _ {P V O : Type 0} (program : ProgramSteps P ℕ V O) (first : V) (local : LocalMachine P V O) where
+  -- the program of an identity: that of who begins, until it does
+  abbrev pub program_at : ℕ → Option (Participant P) → P
+  program_at p None = local.start p
+  program_at p (Some v) = v.program
+
+  -- what a program gets for its next access
+  abbrev pub got : local.State → P → Answer V
+  got w u = answer_in first (local.memory w) (program.next u)
+
+  -- a participant after an answer to its program
+  abbrev pub moved : ℕ → P → Answer V → Participant P
+  moved p u answer = record { identity = p; program = program.resumed u answer; ended = ends (program.note u answer) }
+
+  -- Some calls later p, which stood so, has made one access more: the registers are as that access left them, p's program got its
+  -- answer, and each other stands where it did
+  pub record IsOnce (most : ℕ) (w0 : local.State) (r0 : List (Call local.X)) (p : ℕ) (o : Option (Participant P)) (u : P) : Type 0 where
+    pub w : local.State
+    pub r : List (Call local.X)
+    pub after : After local.machine (local.start_of most) w r
+    pub memory_is : local.memory w ≡ values_after (local.memory w0) (program.next u)
+    pub mine : local.self w p ≡ Some (moved p u (got w0 u))
+    pub others : (q : ℕ) → q ≢ p → local.self w q ≡ local.self w0 q
+    pub own_steps : steps_of p r ≡ steps_of p r0 + 1
+    pub steps : (q : ℕ) → q ≢ p → steps_of q r ≡ steps_of q r0
+    pub own_outcome_is : local.outcome_of p r0 ≡ None → local.outcome_of p r ≡ outcome_in (program.note u (got w0 u))
+    pub outcomes : (q : ℕ) → q ≢ p → local.outcome_of q r ≡ local.outcome_of q r0
+    pub begun : begun_in r ≡ begun_in r0 + one_more o
+
+  -- it starts with what nobody wrote in each register, and nobody has begun
+  pub record IsFresh (most : ℕ) : Type 0 where
+    pub after : After local.machine (local.start_of most) (local.machine.first (local.start_of most)) []
+    pub blank : local.memory (local.machine.first (local.start_of most)) ≡ replicate (local.registers most) first
+    pub nobody : (q : ℕ) → local.self (local.machine.first (local.start_of most)) q ≡ None
+    pub untold : (q : ℕ) → local.outcome_of q [] ≡ None
+
+  -- What is proved of it. `takes`: who stands somewhere and has not ended makes one access, as its program says, and begins with it where
+  -- it has not begun and there is room. `few`: nobody makes more accesses than the bound. `begins`, `own`: each access of who has not
+  -- ended is to one of the registers
+  pub record IsLocal : Type 0 where
+    pub fresh : (most : ℕ) → local.MayStart most → IsFresh most
+    pub takes : (most : ℕ) (w : local.State) (r : List (Call local.X)) → After local.machine (local.start_of most) w r → (p : ℕ) (o : Option (Participant P)) → p ≢ 0 → local.self w p ≡ o → GoesOn o →
+        begun_in r + one_more o ≤ most → IsOnce most w r p o (program_at p o)
+    pub some : (most : ℕ) → 1 ≤ most → 0 < local.registers most
+    pub few : (most : ℕ) (w : local.State) (r : List (Call local.X)) → After local.machine (local.start_of most) w r → (p : ℕ) → steps_of p r ≤ local.bound most
+    pub begins : (most p : ℕ) → 1 ≤ most → local.MayStart most → IsWithin (local.registers most) (program.next (local.start p))
+    pub own : (most : ℕ) (w : local.State) (r : List (Call local.X)) → After local.machine (local.start_of most) w r → (p : ℕ) (v : Participant P) → local.self w p ≡ Some v → v.ended ≡ false →
+        IsWithin (local.registers most) (program.next v.program)

@@ -1,0 +1,67 @@
+-- worlds of programs over registers in a row, as local machines
+use Rattle.std.specs.Prelude.{◌≡◌, ◌≢◌, ℕ, ◌≤◌, ◌+◌, false, List, Option, replicate, is_some}
+use Rattle.step_memory.specs.declared.access.Access.TheVariants.{TestAndSet}
+use Rattle.step_memory.specs.declared.participant.Participant.{Participant}
+use Rattle.step_memory.specs.Calls.{Call, outcome_in, outcome_of, begun_in}
+use Rattle.step_memory.specs.Participant.{participant_of}
+use Rattle.step_memory.specs.RegisterState.{Registers}
+use Rattle.step_memory.specs.Registers.{memory_steps}
+use Rattle.step_memory.specs.Steps.{ProgramSteps}
+use Rattle.step_memory.specs.WorldState.{WorldState}
+use Rattle.step_memory.specs.WorldMachine.{WorldParts, world_machine}
+use Rattle.step_memory.specs.Machine.{After}
+use Rattle.step_memory.specs.LocalMachine.{LocalMachine, GoesOn, one_more, program_at, IsOnce}
+
+-- a world of such programs: for how many it may start, the registers for so many, what nobody wrote in them, the program of an identity, the
+-- most accesses of one, and what the lists of calls keep
+pub record LocalParts (P V O : Type 0) : Type 1 where
+  pub MayStart : ℕ → Type 0
+  pub registers : ℕ → ℕ
+  pub first : V
+  pub start : ℕ → P
+  pub bound : ℕ → ℕ
+  pub KeepsLaw : List (Call (Option O)) → Type 0
+
+module _ {P V O : Type 0} (program : ProgramSteps P ℕ V O) (parts : LocalParts P V O) where
+  -- the world as any other: a step answers what its program has ended with
+  abbrev pub parts_of_world : WorldParts P (Registers V) ℕ V O (Option O)
+  parts_of_world = record {
+    program = program;
+    memory = memory_steps;
+    shown = outcome_in;
+    start = parts.start;
+    last = is_some;
+    grows = false;
+    MayStart = parts.MayStart;
+    empty = λ most. record { first = parts.first; values = replicate (parts.registers most) parts.first; bits = replicate 0 false };
+    KeepsLaw = parts.KeepsLaw;
+  }
+
+  -- and as a local machine
+  abbrev pub local_world : LocalMachine P V O
+  local_world = record {
+    State = WorldState (Registers V) P;
+    Start = ℕ;
+    X = Option O;
+    machine = world_machine parts_of_world;
+    start_of = λ most. most;
+    memory = λ w. w.memory.values;
+    self = λ w q. participant_of q w.participants;
+    outcome_of = outcome_of;
+    MayStart = parts.MayStart;
+    registers = parts.registers;
+    start = parts.start;
+    bound = parts.bound;
+  }
+
+-- a world that keeps no law but that of calls, and may start for any number
+abbrev pub any_parts : {P V O : Type 0} → (ℕ → ℕ) → V → (ℕ → P) → LocalParts P V O
+any_parts registers first start = record { MayStart = λ most. Unit {0}; registers = registers; first = first; start = start; bound = λ most. 0; KeepsLaw = λ r. Unit {0} }
+
+-- where no program sets a bit, who stands somewhere in a world and has not ended makes one access, as its program says
+abbrev pub TakesLocally : (P V O : Type 0) → Type 0
+TakesLocally P V O =
+    (program : ProgramSteps P ℕ V O) (registers : ℕ → ℕ) (first : V) (start : ℕ → P) → ((u : P) (r : ℕ) → program.next u ≢ TestAndSet r) →
+    (most : ℕ) (w : WorldState (Registers V) P) (r : List (Call (Option O))) → After (world_machine (parts_of_world program (any_parts registers first start))) most w r →
+    (p : ℕ) (o : Option (Participant P)) → p ≢ 0 → participant_of p w.participants ≡ o → GoesOn o → begun_in r + one_more o ≤ most →
+    IsOnce program first (local_world program (any_parts registers first start)) most w r p o (program_at program first (local_world program (any_parts registers first start)) p o)
