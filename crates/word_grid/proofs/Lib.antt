@@ -1,9 +1,3 @@
-mod Common
-mod Words
-mod Begun
-mod Walking
-mod Dealing
-mod Visiting
-mod Ending
-mod Claiming
+mod Accesses
+mod Places
 mod Ruling

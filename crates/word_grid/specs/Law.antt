@@ -1,12 +1,18 @@
 -- the law of a grid over raw words (Moir and Anderson 1995), of one walk, and of a table that keeps the rule
-use Rattle.std.specs.Prelude.{◌≡◌, ◌≢◌, ℕ, ◌+◌, ◌-◌, ◌*◌, ◌/◌, ◌<◌, ◌≤◌, true, List, Some}
+use Rattle.std.specs.Prelude.{◌≡◌, ◌≢◌, ℕ, ◌+◌, ◌-◌, ◌*◌, ◌/◌, ◌<◌, ◌≤◌, true, List, Option, Some}
+use Rattle.step_memory.specs.Calls.{begun_in}
+use Rattle.step_memory.specs.Participant.{program_of}
+use Rattle.step_memory.specs.RegisterState.{Registers}
 use Rattle.splitter.specs.Invariant.{IsSplitter}
 use Rattle.splitter.specs.Stage.{has_entered, has_set, went_right, went_down}
 use Rattle.splitter_grid.specs.declared.door.Door.{Door}
+use Rattle.splitter_grid.specs.declared.walker.Walker.{Walker}
 use Rattle.splitter_grid.specs.Door.{IsDoorWithin}
-use Rattle.splitter_grid.specs.Walk.{place_by}
-use Rattle.word_grid.specs.declared.grid_view.GridView.{GridView}
-use Rattle.word_grid.specs.GridRule.{IsKept}
+use Rattle.splitter_grid.specs.Invariant.{DoorsAgree, x_in, y_in}
+use Rattle.splitter_grid.specs.Machine.{place_in}
+use Rattle.word_machine.specs.declared.seat_view.SeatView.{SeatView}
+use Rattle.word_machine.specs.RunRule.{IsRunning}
+use Rattle.word_machine.specs.Walks.{walk_local}
 use Rattle.word_grid.specs.Seats.{EndedWalk, place_of}
 
 -- the accesses of a walk from the corner to the door at which it stops: two at each door that it left to the right, which
@@ -23,25 +29,32 @@ pub record KeepsWalkLaw (e : EndedWalk) : Type 0 where
   pub accesses : e.accesses ≡ accesses_to e.door
   pub at_most : e.accesses ≤ 4 * e.entered
 
+-- the rule of a grid's table: some list of calls of the grid's machine leads to registers that the words spell
+abbrev pub IsGridTable : ℕ → List ℕ → List (SeatView Walker ℕ) → Type 0
+IsGridTable most words views = IsRunning walk_local most words views
+
 -- the places at which walks have ended, in a table that keeps the rule: no two walks have one
 abbrev pub PlacesAreDistinct : Type 0
 PlacesAreDistinct =
-    (most : ℕ) (words : List ℕ) (views : List GridView) (kept : IsKept most words views) (p q place : ℕ) →
-    place_by (kept.walker p) ≡ Some place → place_by (kept.walker q) ≡ Some place → p ≡ q
+    (most : ℕ) (words : List ℕ) (views : List (SeatView Walker ℕ)) (kept : IsGridTable most words views) (p q place : ℕ) →
+    place_in kept.w p ≡ Some place → place_in kept.w q ≡ Some place → p ≡ q
 
 -- each is on one of the first diagonals, as many as walks have begun
 abbrev pub PlacesAreLow : Type 0
 PlacesAreLow =
-    (most : ℕ) (words : List ℕ) (views : List GridView) (kept : IsKept most words views) (p place : ℕ) →
-    place_by (kept.walker p) ≡ Some place → IsDoorWithin kept.begun place
+    (most : ℕ) (words : List ℕ) (views : List (SeatView Walker ℕ)) (kept : IsGridTable most words views) (p place : ℕ) →
+    place_in kept.w p ≡ Some place → IsDoorWithin (begun_in kept.r) place
 
--- each door is a splitter
-abbrev pub EachDoorSplits : Type 0
-EachDoorSplits = (most : ℕ) (words : List ℕ) (views : List GridView) (kept : IsKept most words views) (door : ℕ) → IsSplitter (kept.agree.stage door)
+-- b walks have begun, and the doors in these registers agree with them. Each door is a splitter. Who left a door to the right did so where
+-- another had set Y of it, and who left it down, where another had entered it
+pub record SplitsAtDoors (b : ℕ) (m : Registers ℕ) (walker : ℕ → Option Walker) : Type 0 where
+  pub agree : DoorsAgree b b (x_in m) (y_in m) walker
+  pub splits : (door : ℕ) → IsSplitter (agree.stage door)
+  pub right : (door p : ℕ) → went_right (agree.stage door p) ≡ true → (q : ℕ) × (q ≢ p) × (has_set (agree.stage door q) ≡ true)
+  pub down : (door p : ℕ) → went_down (agree.stage door p) ≡ true → (q : ℕ) × (q ≢ p) × (has_entered (agree.stage door q) ≡ true)
 
--- who left a door to the right did so where another had set Y of it, and who left it down, where another had entered it
-abbrev pub LeavesAnother : Type 0
-LeavesAnother =
-    (most : ℕ) (words : List ℕ) (views : List GridView) (kept : IsKept most words views) (door p : ℕ) →
-    (went_right (kept.agree.stage door p) ≡ true → (q : ℕ) × (q ≢ p) × (has_set (kept.agree.stage door q) ≡ true)) ×
-    (went_down (kept.agree.stage door p) ≡ true → (q : ℕ) × (q ≢ p) × (has_entered (kept.agree.stage door q) ≡ true))
+-- so it is of the walks and of the registers that the words of a table spell
+abbrev pub DoorsSplit : Type 0
+DoorsSplit =
+    (most : ℕ) (words : List ℕ) (views : List (SeatView Walker ℕ)) (kept : IsGridTable most words views) →
+    (kept.w.memory.values ≡ words) × SplitsAtDoors (begun_in kept.r) kept.w.memory (λ p. program_of p kept.w.participants)

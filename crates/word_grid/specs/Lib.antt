@@ -1,5 +1,2 @@
-pub mod GridView
-pub mod GridRule
-pub mod GridSteps
 pub mod Seats
 pub mod Law

@@ -3,7 +3,8 @@
 //!
 //! A walk begins at the door in the corner and goes right or down as each splitter says, until it stops at a door, which is
 //! its place. Doors are numbered one diagonal after another, from 0. No call takes a lock, waits for another or starts a
-//! thread: who holds a seat makes the accesses of its walk, at most four a door.
+//! thread: who holds a seat makes the accesses of its walk, at most four a door. The walk is the program of `splitter_grid`,
+//! which a [`word_machine::WordMachine`] takes access by access. So the law of that crate's machine holds of the threads.
 //!
 //! The law, where `b` walks had begun when this one ended, itself among them: the place is among the first `b(b + 1)/2`; the
 //! walk made exactly two accesses for each door that it left to the right, four for each that it left down, and four at its
@@ -24,9 +25,6 @@
 //! ```
 #![tactic(auto)]
 
-mod doors;
-pub mod grid_steps;
-pub mod grid_view;
 pub mod laws;
 pub mod seats;
 pub mod word_grid;

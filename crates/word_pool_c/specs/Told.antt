@@ -4,7 +4,9 @@ use Rattle.std.specs.Arc.{arc_value}
 use Rattle.word_pool_c.specs.Refused.{MetAllInTime, WasSought}
 use Rattle.word_grid.specs.Law.{KeepsWalkLaw}
 use Rattle.word_grid.specs.Seats.{EndedWalk, GridId, place_of}
+use Rattle.word_pool_c.specs.Lines.{IsHeldInLine}
 use Rattle.word_pool_c.specs.declared.member.Member.{Member}
+use Rattle.word_pool_c.specs.declared.line_member.LineMember.{LineMember}
 
 -- a member holds this number of its pool, which it got by at most so many accesses, as it was sought
 abbrev pub HoldsNumber : ℕ → ℕ → Member → Type 0
@@ -19,3 +21,7 @@ WasRefused hint m = IsSomeAnd m.refused (MetAllInTime hint (arc_value m.pool))
 -- a walk has ended in this grid at the place of which this is the number, from 1, as its law says
 abbrev pub IsToldAs : ℕ → GridId → EndedWalk → Type 0
 IsToldAs number grid e = (place_of e + 1 ≡ number) × (e.grid ≡ grid) × KeepsWalkLaw e
+
+-- a member holds this number of its line
+abbrev pub HoldsInLine : ℕ → LineMember → Type 0
+HoldsInLine number m = IsSomeAnd m.held (IsHeldInLine number (arc_value m.line))

@@ -10,6 +10,9 @@
 //!
 //! A grid's handles are of the same kind: the first is made by `word_grid_new`, the others by `word_grid_join` of it, one for
 //! each seat. C can share no handle by `&`, since nothing that holds atomic words may cross to it so.
+//!
+//! A line's handles are as a grid's: the first is made by `line_pool_new`, the others by `line_pool_join` of it, one for each
+//! ticket. A handle of a line always gets a number, and the number is small where few hold or seek one.
 #![tactic(auto)]
 
 ghost use Rattle.std.specs.Prelude.{◌≡◌, ◌≢◌, ◌≤◌, ◌⊎◌, IfSome, IsSome, IsSomeAnd, None, Some, true, false};
@@ -21,11 +24,15 @@ pub mod grid;
 pub mod grid_handle;
 pub mod grid_member;
 pub mod handle;
+pub mod line;
+pub mod line_handle;
+pub mod line_member;
 pub mod member;
 pub mod parts;
 
 pub use grid_handle::GridHandle;
 pub use handle::Handle;
+pub use line_handle::LineHandle;
 use member::Member;
 use std::alloc::Global;
 use std::mem;

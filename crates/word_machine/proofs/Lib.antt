@@ -1,0 +1,7 @@
+mod Common
+mod Stepping
+mod Dealing
+mod Running
+mod Counting
+mod Meeting
+mod Claiming

@@ -1,0 +1,6 @@
+pub mod SeatViews
+pub mod RunRule
+pub mod RunSteps
+pub mod Ids
+pub mod Visits
+pub mod Walks

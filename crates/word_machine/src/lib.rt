@@ -1,0 +1,37 @@
+//! Programs of single accesses, taken by threads over atomic words that they share, with no lock.
+//!
+//! A [`WordProgram`] is a step program whose registers are words, with the machine on which it is proved: a splitter's visits
+//! and a grid's walks are two. Each step of the machine is one access of one participant's program (`IsLocal` of
+//! `step_memory`). A [`WordMachine`] runs the same program by threads: who holds a seat makes the accesses of its
+//! participant, one after another. No call takes a lock, waits for another or starts a thread.
+//!
+//! The law: for each participant that has ended, some list of calls of the machine leads to a state in which it stands at the
+//! program that `enter` returned, and was told the outcome, by just as many steps as it made accesses; as many had begun as
+//! had entered. So each law that holds after every list of calls of the machine holds of threads. Two that meet have one list
+//! for both ends. The dealer shows that no more had entered than seats were dealt. A claim shows an outcome to whoever was
+//! told of it. What is not promised: anything of seats that never meet, and that a thread gets on with its accesses.
+//!
+//! A caller:
+//!
+//! ```text
+//! let (machine, mut dealer) = WordMachine::<Walker, Global>::new(alloc, 64)?;
+//! let (Some(first), Some(second)) = (machine.deal(&mut dealer), machine.deal(&mut dealer)) else { .. };
+//! let shared = &machine;
+//! let (mut one, mut other) = join(rt, move || shared.enter(first), move || shared.enter(second));
+//! machine.meet(&mut one, &mut other);             // one list of calls led to both outcomes
+//! machine.tally(&mut dealer, &mut one);           // no more than two had entered
+//! ```
+#![tactic(auto)]
+
+pub mod program;
+pub mod run_steps;
+pub mod seat_view;
+pub mod seats;
+pub mod visits;
+pub mod walks;
+pub mod word_machine;
+mod words;
+
+pub use program::WordProgram;
+pub use seats::{Claim, Dealer, EnteredSeat, FreshSeat};
+pub use word_machine::WordMachine;

@@ -1,0 +1,85 @@
+//! The rule of a table of words, and the kinds of step that keep it.
+
+ghost use Rattle.std.specs.Prelude.{◌++◌, [], take, drop};
+ghost use Rattle.word_machine.specs.RunRule.{KeepsRun};
+ghost use Rattle.word_machine.specs.RunSteps.{MovesOn, Looks};
+ghost use Rattle.word_machine.specs.SeatViews.{view_of, undealt_from, endings_of};
+
+use crate::program::WordProgram;
+use crate::seat_view::SeatView;
+use atomic_table::{Join, Play, Split, TableRule};
+use std::marker::PhantomData;
+
+/// The rule: some list of calls leads to a state whose memory the words spell, and whose participants the views tell.
+pub struct Running<P> {
+    of: PhantomData<P>,
+}
+
+impl<S, P: WordProgram> TableRule<S, SeatView<P, P::Output>, u64> for Running<P> {
+    ghost holds = { KeepsRun P.local };
+
+    ghost first = { undealt_from 0 };
+}
+
+/// An access of a participant.
+pub struct Step<P> {
+    of: PhantomData<P>,
+}
+
+impl<S, P: WordProgram> Play<S, SeatView<P, P::Output>> for Step<P> {
+    ghost then = { MovesOn P.steps P.local };
+}
+
+/// The first participant goes to a new seat: where a seat is dealt out, and where two that met part again.
+pub struct Deal;
+
+impl<P, O> Split<SeatView<P, O>> for Deal {
+    ghost left = { λ v. view_of v.most (drop 1 v.stands) v.endings };
+
+    ghost right = { λ v. view_of v.most (take 1 v.stands) [] };
+}
+
+/// A seat takes in the participants of another, before its own. The other is spent: no participant is its to step.
+pub struct Unite;
+
+impl<P, O> Join<SeatView<P, O>> for Unite {
+    ghost both = { λ v w. view_of v.most (w.stands ++ v.stands) v.endings };
+
+    ghost spent = { view_of 0 [] [] };
+}
+
+/// A load that changes nothing, and shows that the view is one under the rule.
+pub struct Look<P> {
+    of: PhantomData<P>,
+}
+
+impl<S, P: WordProgram> Play<S, SeatView<P, P::Output>> for Look<P> {
+    ghost then = { Looks P.local };
+}
+
+/// A new seat can tell of the end of this seat's participant.
+pub struct Tell;
+
+impl<P, O> Split<SeatView<P, O>> for Tell {
+    ghost left = { λ v. v };
+
+    ghost right = { λ v. view_of v.most [] (endings_of v.stands) };
+}
+
+/// A seat takes in what another can tell, before its own.
+pub struct Learn;
+
+impl<P, O> Join<SeatView<P, O>> for Learn {
+    ghost both = { λ v w. view_of v.most v.stands (w.endings ++ v.endings) };
+
+    ghost spent = { view_of 0 [] [] };
+}
+
+/// They part again: what it learned goes to a new seat.
+pub struct Forget;
+
+impl<P, O> Split<SeatView<P, O>> for Forget {
+    ghost left = { λ v. view_of v.most v.stands (drop 1 v.endings) };
+
+    ghost right = { λ v. view_of v.most [] (take 1 v.endings) };
+}

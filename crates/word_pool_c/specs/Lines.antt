@@ -1,0 +1,12 @@
+-- what a member of a line holds
+use Rattle.std.specs.Prelude.{◌≡◌, ◌≤◌, ◌+◌, ℕ}
+use Rattle.word_pool.specs.Crowd.{greatest}
+use Rattle.word_pool.specs.LineRule.{IsInLine}
+use Rattle.word_pool.specs.PoolView.{lone}
+use Rattle.word_pool.specs.Pools.{CallId, PoolId}
+
+-- this number of a line is held, got by at most so many accesses, and is at most the most that held or sought one at one moment of
+-- the call, which its seat has seen in a table that keeps the rule of a line
+abbrev pub IsHeldInLine : ℕ → PoolId → CallId → Type 0
+IsHeldInLine number line h =
+    (h.number ≡ number) × (number ≤ line.numbers) × (h.call.accesses ≤ number + 1) × (number ≤ greatest h.call.crowds) × IsInLine (lone h.call h.past)
