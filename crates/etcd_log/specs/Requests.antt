@@ -52,3 +52,9 @@ pub record SaysGet (text prefix : List ℕ) (place last : ℕ) : Type 0 where
   pub says : document text ≡ Some (get_request key end)
   pub at : decode_of standard key ≡ Ok (key_of prefix place)
   pub before : decode_of standard end ≡ Ok (key_of prefix last)
+
+-- a text is the request that gets what stands at one place under a prefix, and at no other key
+pub record SaysOne (text prefix : List ℕ) (place : ℕ) : Type 0 where
+  pub key : List ℕ
+  pub says : document text ≡ Some (only (codes "key") (string key))
+  pub at : decode_of standard key ≡ Ok (key_of prefix place)

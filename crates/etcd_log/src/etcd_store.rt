@@ -7,7 +7,7 @@ ghost use Rattle.etcd_log.specs.Faults.{IsOverNetwork};
 use crate::answer::{read_get, read_put};
 use crate::dial::Dial;
 use crate::exchange::exchange;
-use crate::request::{get_text, put_text};
+use crate::request::{get_text, one_text, put_text};
 use http1::{Client, Limits};
 use one_log::{MOST_PLACES, Put, Store, StoreFault};
 use std::alloc::Global;
@@ -102,8 +102,8 @@ impl<D: Dial> EtcdStore<D> {
         Err(StoreFault::Lost)
     }
 
-    // Asks what stands at the places from one on.
-    fn ask_from(&mut self, place: u64) -> Result<(), StoreFault>
+    // What stands at the places from one on. An answer with a key of another length between them is wrong.
+    fn ask_range(&mut self, place: u64) -> Result<Vec<Vec<u8>>, StoreFault>
         requires { place < MOST_PLACES }
         ensures { IfErr result IsOverNetwork }
     {
@@ -112,7 +112,30 @@ impl<D: Dial> EtcdStore<D> {
             return Err(StoreFault::Memory);
         };
         let body = self.ask(b"/v3/kv/range", &text)?;
-        self.ahead = read_get(self.alloc, &body, MOST_FOUND, self.prefix.as_str(), place)?;
+        read_get(self.alloc, &body, MOST_FOUND, self.prefix.as_str(), place)
+    }
+
+    // What stands at one place.
+    fn ask_one(&mut self, place: u64) -> Result<Vec<Vec<u8>>, StoreFault>
+        ensures { IfErr result IsOverNetwork }
+    {
+        let Ok(text) = one_text(self.alloc, self.prefix.as_str(), place) else {
+            return Err(StoreFault::Memory);
+        };
+        let body = self.ask(b"/v3/kv/range", &text)?;
+        read_get(self.alloc, &body, 1, self.prefix.as_str(), place)
+    }
+
+    // Asks what stands at the places from one on; or at that one alone where keys stand between them of a log whose prefix begins with this
+    // one and goes on with digits.
+    fn ask_from(&mut self, place: u64) -> Result<(), StoreFault>
+        requires { place < MOST_PLACES }
+        ensures { IfErr result IsOverNetwork }
+    {
+        self.ahead = match self.ask_range(place) {
+            Err(StoreFault::Wrong) => self.ask_one(place)?,
+            answered => answered?,
+        };
         self.ahead.reverse();
         self.place = place;
         Ok(())

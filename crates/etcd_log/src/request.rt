@@ -3,7 +3,7 @@
 ghost use Rattle.std.specs.Prelude.{◌≡◌, ◌<◌, codes, IfOk};
 ghost use Rattle.json.specs.Json.{object};
 ghost use Rattle.json.specs.Value.{members_view, value_view};
-ghost use Rattle.etcd_log.specs.Requests.{SaysGet, SaysPut, alone, get_request, never_created, only, pair, put_request};
+ghost use Rattle.etcd_log.specs.Requests.{SaysGet, SaysOne, SaysPut, alone, get_request, never_created, only, pair, put_request};
 
 use crate::key::key64;
 use base64::engine::general_purpose::STANDARD;
@@ -108,4 +108,12 @@ pub fn get_text(alloc: Global, prefix: &str, place: u64, last: u64) -> Result<Ve
     let key = key64(alloc, prefix, place)?;
     let end = key64(alloc, prefix, last)?;
     to_vec(alloc, &range(alloc, key.as_str(), end.as_str())?)
+}
+
+/// The text of the request that gets what stands at one place under a prefix.
+pub fn one_text(alloc: Global, prefix: &str, place: u64) -> Result<Vec<u8>, AllocError>
+    ensures { IfOk result (λ text. SaysOne text.items prefix.now place) }
+{
+    let key = key64(alloc, prefix, place)?;
+    to_vec(alloc, &only(alloc, "key", Value::String(key.as_str()))?)
 }

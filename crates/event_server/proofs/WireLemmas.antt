@@ -1,9 +1,10 @@
 -- what a wire takes
-use Rattle.std.proofs.Common.{◌≡◌, ◌≤◌, ℕ, length, true, false, Bool, List, [], ◌∷◌, ◌++◌, ◌||◌, take, drop, Option, Some, None, refl, sym, ap, subst, ◌∙◌, arith, append_assoc}
+use Rattle.std.proofs.Common.{◌≡◌, ◌≤◌, ℕ, length, true, false, Bool, List, [], ◌∷◌, ◌++◌, ◌||◌, take, drop, Option, Some, None, Result, Ok, Err, refl, sym, ap, subst, ◌∙◌, arith, append_assoc}
 use Rattle.event_server.proofs.Common.{Consumes-nil, ShownReply, Request, WorldKind, Runs, Turn, WireState, bytes_of, Look}
 use Rattle.std.proofs.lemmas.Grind.{flat_map-append}
-use Rattle.std.proofs.lemmas.List.{append-nil, take-append-drop, take-append-le}
-use Rattle.std.specs.Io.KnownBytes.{Consumes, IsAtEnd, Keeps}
+use Rattle.std.proofs.lemmas.List.{append-nil, take-append-drop, take-append-le, length-append}
+use Rattle.std.specs.Io.KnownBytes.{Consumes, IsAtEnd, Keeps, ReadConsumes}
+use Rattle.std.specs.Io.{ReadsAtMost}
 use Rattle.player.specs.Progress.{Progress, after_bytes, after_end}
 use Rattle.player.specs.Says.{Says, Spoke}
 use Rattle.player.specs.Texts.{turn_reply, replies_of}
@@ -23,6 +24,16 @@ pub consumes_kept : (left left' : Option (List ℕ)) → Keeps left left' → Co
 consumes_kept None left' k = tt
 consumes_kept (Some xs) None k = k
 consumes_kept (Some xs) (Some ys) k = sym k
+
+-- what was read into a part is read into the whole
+pub reads_more : {E : Type 0} (result : Result ℕ E) (part rest : List ℕ) → ReadsAtMost result part → ReadsAtMost result (part ++ rest)
+reads_more (Ok n) part rest fits = (omega (arith, fits.0, length-append part rest), fits.1 ∙ ap (λ (l : List ℕ). length l) (sym (take-append-le n part rest fits.0)))
+reads_more (Err why) part rest fits = tt
+
+pub consumes_more : {E : Type 0} (left left' : Option (List ℕ)) (result : Result ℕ E) (part rest : List ℕ) → 1 ≤ length part → ReadsAtMost result part
+    → ReadConsumes left left' result part → ReadConsumes left left' result (part ++ rest)
+consumes_more left left' (Ok n) part rest some fits consumes = (subst (λ (l : List ℕ). Consumes left left' l) (sym (take-append-le n part rest fits.0)) consumes.0, λ none room. consumes.1 none some)
+consumes_more left left' (Err why) part rest some fits consumes = consumes
 
 -- nothing is taken
 abbrev nothing_taken : (came : List ℕ) (s s' : WireState) → s'.talker ≡ s.talker → s'.ended ≡ s.ended → (s'.broken ≡ false → (s'.inbox ≡ s.inbox ++ came) × (s'.outbox ≡ s.outbox) × (s.broken ≡ false)) → Takes [] came false s s'

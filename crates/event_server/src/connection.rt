@@ -52,6 +52,17 @@ pub struct Connection<S, A: Allocator> {
     pub look: Option<Look>,
 }
 
+// Reads once into the first so many bytes of a chunk.
+fn read_at_most<S: Stream>(stream: &mut S, chunk: &mut [u8], most: usize) -> io::Result<usize>
+    requires { (1 ≤ most) × (most ≤ length chunk.old) }
+    ensures bound { ReadsAtMost result chunk.new }
+    ensures bytes { ReadConsumes (S.left stream.old) (S.left stream.new) result chunk.new }
+    ensures same { S.gone stream.new ≡ S.gone stream.old }
+    ensures size { length chunk.new ≡ length chunk.old }
+{
+    stream.read_some(&mut chunk[..most])
+}
+
 // Reads once into the room.
 fn read_into<S: Stream, B: Allocator>(stream: &mut S, room: &mut Room<B>) -> io::Result<usize>
     requires { IsRoom room.old }
@@ -60,7 +71,8 @@ fn read_into<S: Stream, B: Allocator>(stream: &mut S, room: &mut Room<B>) -> io:
     ensures same { S.gone stream.new ≡ S.gone stream.old }
     ensures room { IsRoom room.new }
 {
-    stream.read_some(&mut room.chunk)
+    let most = room.most();
+    read_at_most(stream, &mut room.chunk, most)
 }
 
 // A read or a write did nothing: it may do something once the stream is told able again, or at once, or else the wire is at fault.
@@ -346,7 +358,7 @@ impl<S: Stream, A: Allocator> Connection<S, A> {
                 .wire
                 .finish(rt, service, &mut room.view, &mut room.replies),
             Ok(count) => {
-                self.readable = self.hung || count == READ_ROOM;
+                self.readable = self.hung || count == room.most();
                 self.wire.take(
                     rt,
                     service,

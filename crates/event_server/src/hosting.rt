@@ -10,6 +10,7 @@ use crate::host_fault::HostFault;
 use crate::house::House;
 use crate::keep::{Keep, Tally};
 use crate::room::Room;
+use crate::teller::Teller;
 use crate::turns::turn;
 use commands::WorldKind;
 use mio::net::TcpListener;
@@ -93,6 +94,11 @@ struct Hosting {
     batch: Option<Batch<Global>>,
     /// Whether a second has passed since the keeper was last told.
     ticked: bool,
+    /// Whether a second has passed since who says nothing was last closed.
+    sweeps: bool,
+    teller: Teller,
+    /// Whether it was said that something is amiss with the keeper.
+    said_trouble: bool,
 }
 
 // By hand, so that a server is taken apart here alone, and not where it is let go.
@@ -117,6 +123,9 @@ impl Drop for Hosting {
             last: _,
             batch: _,
             ticked: _,
+            sweeps: _,
+            teller: _,
+            said_trouble: _,
         } = self;
     }
 }
@@ -189,7 +198,7 @@ impl Hosting {
             poll,
             events,
             listener,
-            house: House::new(alloc),
+            house: House::new(alloc, options.clients)?,
             start,
             tick: 0,
             report: 0,
@@ -202,6 +211,9 @@ impl Hosting {
             last: LAST_ROUNDS,
             batch,
             ticked: false,
+            sweeps: false,
+            teller: Teller::new(rt, alloc)?,
+            said_trouble: false,
         })
     }
 
@@ -225,6 +237,7 @@ impl Hosting {
         self.tell_tick(service, keep)?;
         self.serve(rt, service, keep, room)?;
         self.tell_lost(errors);
+        self.tell_trouble(keep.trouble(), errors);
         if self.is_report_due() {
             self.tell_tally(keep.tally(service), errors);
         }
@@ -246,36 +259,54 @@ impl Hosting {
     }
 
     // For how long nothing need be done: a tenth of a second at the end, no time where connections are due or wait to be accepted, a second
-    // where some are open, else any time.
-    fn next_wait(&self) -> Option<Duration> {
+    // where some are open, else a minute.
+    fn next_wait(&self) -> Duration {
         if self.stop {
-            Some(Duration::from_millis(100))
+            Duration::from_millis(100)
         } else if self.can_accept() || !self.house.ready.is_empty() {
-            Some(Duration::from_millis(0))
+            Duration::from_millis(0)
         } else if 0 < self.house.open || self.full || self.options.reports || self.batch.is_some() {
-            Some(Duration::from_millis(1000))
+            Duration::from_millis(1000)
         } else {
-            None
+            Duration::from_secs(60)
         }
     }
 
-    // Waits, and notes what the system tells.
+    // Waits, and notes what the system tells. Who says nothing is closed only where all that the system has to tell was noted: a wait that
+    // was interrupted tells nothing, and one that tells as much as there is room for may leave something untold.
     fn wait<R: Clock, F>(&mut self, rt: &R) -> Result<(), HostFault<F>> {
-        let most = self.next_wait();
-        self.poll.poll(&mut self.events, most)?;
+        self.note_events(self.next_wait())?;
+        self.note_tick(rt)?;
+        if self.sweeps && !self.note_events(Duration::from_millis(0))? {
+            self.sweeps = false;
+            self.house.sweep(self.tick, self.options.idle);
+        }
+        Ok(())
+    }
+
+    // Waits for so long at most, and notes what the system tells. Says whether it tells anything.
+    fn note_events<F>(&mut self, most: Duration) -> Result<bool, HostFault<F>> {
+        self.poll.poll(&mut self.events, Some(most))?;
+        let mut told = false;
         for event in &self.events {
+            told = true;
             match event.token() {
                 LISTENER => self.waiting = true,
                 STOPPER => self.stop = self.stop || event.is_read_closed(),
                 _ => self.house.note(event)?,
             }
         }
-        let tick = self.start.elapsed(rt)?.as_secs();
-        if self.tick < tick {
-            self.tick = tick;
+        Ok(told)
+    }
+
+    // Notes that a second has passed. After a stall of many seconds the ticks catch up by one a round, so that what clients sent meanwhile is
+    // taken before they count as idle.
+    fn note_tick<R: Clock, F>(&mut self, rt: &R) -> Result<(), HostFault<F>> {
+        if self.tick < self.start.elapsed(rt)?.as_secs() {
+            self.tick = self.tick.saturating_add(1);
             self.full = false;
             self.ticked = true;
-            self.house.sweep(tick, self.options.idle);
+            self.sweeps = true;
         }
         Ok(())
     }
@@ -305,6 +336,7 @@ impl Hosting {
         ensures served { OnOk result (WasServed D.may K.learns K.keeps K.waits keep.old service.old keep.new service.new) }
     {
         let House { seats, ready, .. } = &mut self.house;
+        room.share_among(ready.len());
         let called = match &mut self.batch {
             None => turn(rt, service, keep, room, seats, ready).map(Called::Served),
             Some(batch) => turn_ahead(rt, service, keep, batch, room, seats, ready),
@@ -326,7 +358,7 @@ impl Hosting {
         Ok(())
     }
 
-    // Has the keeper go on, where it learns answers ahead and a second has passed.
+    // Has the keeper go on, where a second has passed.
     fn tell_tick<D, K: Keep<D>>(
         &mut self,
         service: &mut D,
@@ -334,7 +366,7 @@ impl Hosting {
     ) -> Result<(), HostFault<K::Fault>>
         ensures { OnOk result (((keep.new ≡ keep.old) × (service.new ≡ service.old)) ⊎ K.waits keep.old service.old keep.new service.new) }
     {
-        if !self.ticked || self.batch.is_none() {
+        if !self.ticked {
             return Ok(());
         }
         self.ticked = false;
@@ -363,8 +395,9 @@ impl Hosting {
     fn tell_full<E: Write>(&mut self, errors: &mut E) {
         if self.full && !self.said {
             self.said = true;
-            let _ = errors.write_all(
+            self.teller.tell(
                 b"slotctl: no room for more connections; those that wait are accepted as others leave\n",
+                errors,
             );
         }
     }
@@ -389,7 +422,21 @@ impl Hosting {
         } else {
             "slotctl: the log answers again\n"
         };
-        let _ = errors.write_all(text.as_bytes());
+        self.teller.tell(text.as_bytes(), errors);
+    }
+
+    // Says once what is amiss with the keeper, each time that something comes to be.
+    fn tell_trouble<E: Write>(&mut self, trouble: Option<&'static str>, errors: &mut E) {
+        let said = self.said_trouble;
+        self.said_trouble = trouble.is_some();
+        if said {
+            return;
+        }
+        if let Some(text) = trouble {
+            if let Ok(line) = format!(in self.alloc; "slotctl: {text}\n") {
+                self.teller.tell(line.as_bytes(), errors);
+            }
+        }
     }
 
     // Whether it is time to tell how much there is: at first and once a minute where that is wanted.
@@ -406,7 +453,7 @@ impl Hosting {
         if let Ok(line) = format!(in self.alloc;
             "{clients} clients, {events} events, {bytes} bytes of journal\n"
         ) {
-            let _ = errors.write_all(line.as_bytes());
+            self.teller.tell(line.as_bytes(), errors);
         }
     }
 

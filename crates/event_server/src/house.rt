@@ -13,6 +13,10 @@ use std::alloc::{AllocError, Global};
 use std::mem;
 use std::net::Shutdown;
 
+/// For so many clients at most room is taken at once, in lists that lie below all that clients make grow: so what those leave goes back to
+/// the system.
+const MOST_RESERVED: usize = 16_384;
+
 /// For how many ticks a connection that is at its end may take nothing of the replies to it.
 const FLUSH_TICKS: u64 = 10;
 
@@ -40,16 +44,17 @@ fn has_unsent(seat: &Option<Connection<Socket, Global>>) -> bool {
 }
 
 impl House {
-    /// No seats.
-    pub fn new(alloc: Global) -> House {
-        House {
-            seats: Vec::new(alloc),
-            ready: Vec::new(alloc),
+    /// No seats, for so many clients.
+    pub fn new(alloc: Global, clients: usize) -> Result<House, AllocError> {
+        let few = clients.min(MOST_RESERVED);
+        Ok(House {
+            seats: Vec::with_capacity(alloc, few)?,
+            ready: Vec::with_capacity(alloc, few)?,
             open: 0,
             served: 0,
-            later: Vec::new(alloc),
-            empty: Vec::new(alloc),
-        }
+            later: Vec::with_capacity(alloc, few)?,
+            empty: Vec::with_capacity(alloc, few)?,
+        })
     }
 
     // An empty seat.

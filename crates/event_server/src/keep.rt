@@ -51,9 +51,12 @@ pub trait Keep<D> {
         ensures known { result ≡ Ok Ahead.Known → learns self.old service.old lines.now self.new service.new }
         ensures lost { result ≡ Ok Ahead.Lost → waits self.old service.old self.new service.new };
 
-    /// Is called about once a second where `most_ahead` is some.
+    /// Is called about once a second while clients are there, and once a minute while none is.
     fn tick(&mut self, service: &mut D) -> Result<(), Self::Fault>
         ensures { OnOk result (waits self.old service.old self.new service.new) };
+
+    /// What is amiss and does not end the server, for people; `None` where nothing is.
+    fn trouble(&self) -> Option<&'static str>;
 
     /// How much there is, for people.
     fn tally(&self, service: &D) -> Tally;

@@ -32,6 +32,7 @@ pub mod look;
 pub mod room;
 pub mod socket;
 pub mod stream;
+pub mod teller;
 pub mod turns;
 pub mod wire;
 
@@ -43,5 +44,6 @@ pub use keep::{Ahead, Keep, Tally};
 pub use look::Look;
 pub use room::{READ_ROOM, Room};
 pub use stream::Stream;
+pub use teller::Teller;
 pub use turns::{send_replies, take_turns, turn};
 pub use wire::{MOST_LINES, UNSENT_ROOM, Wire};

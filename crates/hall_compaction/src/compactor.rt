@@ -2,7 +2,7 @@
 
 ghost use Rattle.std.specs.Prelude.{◌≡◌, ◌↔◌, ◌≤◌, true, length, IfSome, IfNone};
 ghost use Rattle.hall_compaction.specs.Compactions.{IsCompacted};
-ghost use Rattle.hall_compaction.specs.Dues.{due_after};
+ghost use Rattle.hall_compaction.specs.Dues.{due_after, due_again};
 
 use crate::compacting::compacted;
 use hall::Hall;
@@ -48,6 +48,14 @@ impl Compactor {
         ensures { result ≡ true ↔ (self.now.due ≤ length hall.now.history) }
     {
         self.due <= hall.len()
+    }
+
+    /// A compaction could not be kept: the next one is due a tenth of the room further on, and not at each event until then.
+    pub fn put_off(&mut self, hall: &Hall)
+        ensures { self.new.due ≡ due_again (length hall.now.history) }
+    {
+        let room = MOST_EVENTS.saturating_sub(hall.len());
+        self.due = hall.len().saturating_add(room / 10 + 1);
     }
 
     /// What `compacted` makes of a hall; the next one is due so long after what that left.

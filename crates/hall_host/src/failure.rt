@@ -30,6 +30,12 @@ pub enum HostFailure {
     /// The path of the journal names a device, a pipe or a socket.
     #[error("journal fault: no regular file, but a device, a pipe or a socket")]
     NotRegular,
+    /// The file of the journal has more than one name.
+    #[error("journal fault: the file has more than one name (a hard link), and a compaction would part them")]
+    Linked,
+    /// The file of the journal was deleted, moved or cut short under the server.
+    #[error("journal fault: the file was deleted, moved or cut short under the server; what was not synced was not answered")]
+    Moved,
     /// The file of the journal failed. What was not synced was not answered.
     #[error("journal fault: {0}")]
     Journal(ErrorKind),
@@ -64,6 +70,7 @@ impl From<FileFault> for HostFailure {
         match fault {
             FileFault::InUse => HostFailure::InUse,
             FileFault::NotRegular => HostFailure::NotRegular,
+            FileFault::Linked => HostFailure::Linked,
             FileFault::Failed(kind) => HostFailure::Journal(kind),
         }
     }
@@ -73,6 +80,7 @@ impl From<DiskFault> for HostFailure {
     fn from(fault: DiskFault) -> HostFailure {
         match fault {
             DiskFault::NoMemory => HostFailure::Memory,
+            DiskFault::Moved => HostFailure::Moved,
             DiskFault::Failed(kind) => HostFailure::Journal(kind),
         }
     }

@@ -61,6 +61,10 @@ impl Keep<Hall> for Unrecorded {
         Ok(())
     }
 
+    fn trouble(&self) -> Option<&'static str> {
+        None
+    }
+
     fn tally(&self, hall: &Hall) -> Tally {
         Tally {
             events: hall.len() as u64,
@@ -125,6 +129,10 @@ impl<D: Disk> Keep<Chronicle> for Recorded<D> {
 
     fn tick(&mut self, _chronicle: &mut Chronicle) -> Result<(), JournalFault> {
         Ok(())
+    }
+
+    fn trouble(&self) -> Option<&'static str> {
+        None
     }
 
     fn tally(&self, chronicle: &Chronicle) -> Tally {

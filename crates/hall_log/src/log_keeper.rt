@@ -286,6 +286,10 @@ impl<S: Store, T: Pause> Keep<Tape> for LogKeeper<S, T> {
         }
     }
 
+    fn trouble(&self) -> Option<&'static str> {
+        None
+    }
+
     fn tally(&self, _tape: &Tape) -> Tally {
         Tally {
             events: self.log.hall().len() as u64,

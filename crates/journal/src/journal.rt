@@ -84,8 +84,8 @@ impl<D: Disk> Journal<D> {
 
 impl<D: Disk> Journal<D> {
     /// A hall that was compacted of the chronicle's takes its place, and its record that of all that was written, in one step; so also what
-    /// waited is handed on. `false` where room for the record was refused, with nothing changed. After a fault of the disk nothing is ever
-    /// written again, and the chronicle is as it was.
+    /// waited is handed on. `false` where an allocation failed or the record could not be written beside what there is, with nothing
+    /// changed. After any other fault of the disk nothing is ever written again, and the chronicle is as it was.
     pub fn compact(
         &mut self,
         alloc: Global,
@@ -111,6 +111,9 @@ impl<D: Disk> Journal<D> {
         let Ok(record) = record_of(alloc, &hall) else {
             return Ok(false);
         };
+        if !self.disk.can_replace(alloc, &record) {
+            return Ok(false);
+        }
         match self.disk.replace(alloc, &record) {
             Ok(()) => {
                 chronicle.replace_hall(hall);
@@ -120,7 +123,8 @@ impl<D: Disk> Journal<D> {
         }
     }
 
-    /// Compacts the chronicle's hall where that is due and gives a shorter history.
+    /// Compacts the chronicle's hall where that is due and gives a shorter history. Where the new record could not be written beside the
+    /// old one, the history goes on as it is.
     pub fn compact_when_due(
         &mut self,
         alloc: Global,

@@ -12,8 +12,10 @@ use std::io::{self, ErrorKind};
 pub enum DiskFault {
     /// The device failed, or had no room; so it was told.
     Failed(ErrorKind),
-    /// A growth was refused.
+    /// An allocation failed.
     NoMemory,
+    /// The path names another file by now, or none, or the file has another length than what was written gave it.
+    Moved,
 }
 
 impl From<AllocError> for DiskFault {
@@ -55,10 +57,17 @@ pub trait Disk: Drop {
     fn cut(&mut self, len: usize) -> Result<(), DiskFault>
         ensures { Changes (IsCut len result) (state self.old) (state self.new) };
 
+    /// Whether these bytes could be written beside the others now, as `replace` does first: there is room, and what that opens can be
+    /// opened. Where not, nothing is left beside.
+    fn can_replace(&self, alloc: Global, bytes: &[u8]) -> bool;
+
     /// Puts bytes in place of all others, in one step, and waits until they are surely there. A crash at any moment of the call leaves
     /// what it may leave of those before, or all of these (`MayLeaveEither`); and so it does after a call that failed.
     fn replace(&mut self, alloc: Global, bytes: &[u8]) -> Result<(), DiskFault>
         ensures { Changes (IsReplaced bytes.now result) (state self.old) (state self.new) };
+
+    /// Whether the bytes are still where they were written: a file that was deleted, moved or cut short is not.
+    fn look(&self) -> Result<(), DiskFault>;
 
     /// How many bytes it has, for people; none where the system does not tell.
     fn size(&self) -> u64;

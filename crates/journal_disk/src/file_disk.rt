@@ -4,11 +4,14 @@ ghost use Rattle.std.specs.Prelude.{None};
 
 use crate::disk::{Disk, DiskFault};
 use std::alloc::Global;
-use std::fs::{File, TryLockError};
+use std::fs::{File, Metadata, TryLockError};
 use std::io::{ErrorKind, Read, Seek, SeekFrom, Write};
-use std::os::unix::fs::MetadataExt;
+use std::os::unix::fs::{MetadataExt, OpenOptionsExt};
 use std::rt::Files;
 use std::{fs, io};
+
+/// Who may read and write a file that is made: its owner both, its group read.
+const MODE: u32 = 0o640;
 
 /// Why a file is not opened.
 #[derive(Clone, Copy, Debug, Drop, PartialEq, Eq)]
@@ -17,6 +20,8 @@ pub enum FileFault {
     InUse,
     /// It is a device, a pipe or a socket: what is read of it is not what was written, and may have no end.
     NotRegular,
+    /// It has more than one name: the others would keep the old bytes once new ones take their place.
+    Linked,
     /// The system failed, so it was told.
     Failed(ErrorKind),
 }
@@ -31,8 +36,11 @@ impl From<io::Error> for FileFault {
 #[derive(Drop)]
 pub struct FileDisk<R> {
     files: R,
+    /// The path with no link in it.
     path: String,
     file: File,
+    /// How many bytes it has by what was written.
+    len: u64,
 }
 
 /// The folder of a path.
@@ -50,6 +58,7 @@ fn opened<R: Files<File = File>>(rt: &R, path: &str) -> io::Result<File> {
         .read(true)
         .append(true)
         .create(true)
+        .mode(MODE)
         .open(rt, path)
 }
 
@@ -58,10 +67,9 @@ fn sync_folder<R: Files<File = File>>(rt: &R, path: &str) -> io::Result<()> {
     File::sync_all(&File::open(rt, folder_of(path))?)
 }
 
-/// Whether a path names a file that is open.
-fn is_named<R: Files<File = File>>(rt: &R, path: &str, file: &File) -> io::Result<bool> {
+/// Whether a path names a file that is open, of which this is told.
+fn is_named<R: Files<File = File>>(rt: &R, path: &str, held: &Metadata) -> io::Result<bool> {
     let named = fs::metadata(rt, path)?;
-    let held = File::metadata(file)?;
     Ok(named.ino() == held.ino() && named.dev() == held.dev())
 }
 
@@ -72,17 +80,21 @@ fn lock<R: Files<File = File>>(rt: &R, path: &str, file: &File) -> Result<(), Fi
         Err(TryLockError::WouldBlock) => return Err(FileFault::InUse),
         Err(TryLockError::Error(error)) => return Err(FileFault::from(error)),
     }
-    if !is_named(rt, path, file)? {
+    if !is_named(rt, path, &File::metadata(file)?)? {
         return Err(FileFault::InUse);
     }
     Ok(())
 }
 
-/// Opens and locks a regular file; one that is missing is made, and its folder is synced.
+/// Opens and locks a regular file of one name; one that is missing is made, and its folder is synced.
 fn locked<R: Files<File = File>>(rt: &R, path: &str) -> Result<File, FileFault> {
     let file = opened(rt, path)?;
-    if !File::metadata(&file)?.is_file() {
+    let held = File::metadata(&file)?;
+    if !held.is_file() {
         return Err(FileFault::NotRegular);
+    }
+    if 1 < held.nlink() {
+        return Err(FileFault::Linked);
     }
     lock(rt, path, &file)?;
     sync_folder(rt, path)?;
@@ -97,31 +109,47 @@ fn fill(file: &mut File, bytes: &[u8]) -> io::Result<()> {
     File::sync_all(file)
 }
 
-/// A file with these bytes, all of them surely there, and locked, which was written at one path and then put in place of what another names.
-fn put_in_place<R: Files<File = File>>(
-    rt: &R,
-    beside: &str,
-    path: &str,
-    bytes: &[u8],
-) -> io::Result<File> {
-    let mut file = opened(rt, beside)?;
-    fill(&mut file, bytes)?;
-    fs::rename(rt, beside, path)?;
-    Ok(file)
+/// A file at this path with these bytes, all of them surely there, and locked. Where it could not be written nothing is left there.
+fn written<R: Files<File = File>>(rt: &R, path: &str, bytes: &[u8]) -> io::Result<File> {
+    let mut file = opened(rt, path)?;
+    match fill(&mut file, bytes) {
+        Ok(()) => Ok(file),
+        Err(error) => {
+            let _ = fs::remove_file(rt, path);
+            Err(error)
+        }
+    }
+}
+
+/// The same, once the folder was opened, which is opened again for its sync.
+fn write_beside<R: Files<File = File>>(rt: &R, path: &str, bytes: &[u8]) -> io::Result<()> {
+    let _folder = File::open(rt, folder_of(path))?;
+    let _file = written(rt, path, bytes)?;
+    Ok(())
 }
 
 impl<R: Files<File = File> + AllocGlobal + Copy> FileDisk<R> {
-    /// Opens a file and locks it; one that is missing is made.
+    /// Opens a file and locks it; one that is missing is made, with mode 0640. A link is followed once, now: what takes the place of the
+    /// bytes later takes that of the file that it names.
     pub fn open(rt: &R, path: &str) -> Result<FileDisk<R>, FileFault> {
-        let Ok(name) = String::from_str(rt.alloc(), path) else {
-            return Err(FileFault::Failed(ErrorKind::OutOfMemory));
-        };
-        let file = locked(rt, path)?;
+        // A link that leads nowhere has its file made by this.
+        let _ = opened(rt, path)?;
+        let path = fs::canonicalize(rt, path)?.into_string();
+        let file = locked(rt, &path)?;
+        let len = File::metadata(&file)?.len();
         Ok(FileDisk {
             files: *rt,
-            path: name,
+            path,
             file,
+            len,
         })
+    }
+}
+
+impl<R: Files<File = File> + Drop> FileDisk<R> {
+    /// The path beside it.
+    fn path_beside(&self, alloc: Global) -> Result<String, DiskFault> {
+        Ok(format!(in alloc; "{}.new", self.path)?)
     }
 }
 
@@ -137,32 +165,53 @@ impl<R: Files<File = File> + Drop> Disk for FileDisk<R> {
 
     fn append(&mut self, bytes: &[u8]) -> Result<(), DiskFault> {
         self.file.write_all(bytes)?;
+        self.len = self.len.saturating_add(bytes.len() as u64);
         Ok(())
     }
 
+    /// A file that was deleted, moved or cut short in the meantime fails.
     fn sync(&mut self) -> Result<(), DiskFault> {
         File::sync_data(&self.file)?;
-        Ok(())
+        self.look()
     }
 
     fn cut(&mut self, len: usize) -> Result<(), DiskFault> {
         File::set_len(&self.file, len as u64)?;
+        self.len = len as u64;
         Ok(())
+    }
+
+    /// They are written into a file beside, `PATH.new`, and synced, and the folder is opened. So `replace` goes on from there.
+    fn can_replace(&self, alloc: Global, bytes: &[u8]) -> bool {
+        match self.path_beside(alloc) {
+            Ok(path) => write_beside(&self.files, &path, bytes).is_ok(),
+            Err(_) => false,
+        }
     }
 
     /// The bytes are written into a file beside, `PATH.new`, which is locked, synced and then renamed; the folder is synced last.
     /// A file of that name that a crash left is written over.
     fn replace(&mut self, alloc: Global, bytes: &[u8]) -> Result<(), DiskFault> {
-        let beside = format!(in alloc; "{}.new", self.path)?;
-        self.file = put_in_place(&self.files, &beside, &self.path, bytes)?;
+        let path = self.path_beside(alloc)?;
+        let file = written(&self.files, &path, bytes)?;
+        fs::rename(&self.files, &path, &self.path)?;
+        self.file = file;
+        self.len = bytes.len() as u64;
         sync_folder(&self.files, &self.path)?;
         Ok(())
     }
 
-    fn size(&self) -> u64 {
-        match File::metadata(&self.file) {
-            Ok(data) => data.len(),
-            Err(_) => 0,
+    fn look(&self) -> Result<(), DiskFault> {
+        let held = File::metadata(&self.file)?;
+        match is_named(&self.files, &self.path, &held) {
+            Ok(true) if held.len() == self.len => Ok(()),
+            Ok(_) => Err(DiskFault::Moved),
+            Err(error) if error.kind() == ErrorKind::NotFound => Err(DiskFault::Moved),
+            Err(error) => Err(DiskFault::from(error)),
         }
+    }
+
+    fn size(&self) -> u64 {
+        self.len
     }
 }

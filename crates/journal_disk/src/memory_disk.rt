@@ -147,6 +147,10 @@ impl Disk for MemoryDisk {
         Ok(())
     }
 
+    fn can_replace(&self, _alloc: Global, _bytes: &[u8]) -> bool {
+        self.calls_left != 0
+    }
+
     fn replace(&mut self, alloc: Global, bytes: &[u8]) -> Result<(), DiskFault> {
         let written = bytes.to_vec(alloc)?;
         if self.cuts == usize::MAX || !self.goes_on() {
@@ -164,6 +168,10 @@ impl Disk for MemoryDisk {
             return Err(DiskFault::Failed(ErrorKind::Other));
         }
         self.before = None;
+        Ok(())
+    }
+
+    fn look(&self) -> Result<(), DiskFault> {
         Ok(())
     }
 

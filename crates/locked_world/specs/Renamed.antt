@@ -1,5 +1,5 @@
 -- what `rename` adds to a session's list
-use Rattle.std.specs.Prelude.{◌≡◌, ℕ, ◌+◌, ◌≤◌, ◌⊎◌, List, ◌++◌, length, Bool, true, false, All, Option, Some, None, Result, Ok, Err}
+use Rattle.std.specs.Prelude.{◌≡◌, ℕ, ◌+◌, ◌<◌, ◌≤◌, ◌⊎◌, ⊤, List, [], ◌∷◌, ◌++◌, length, Bool, true, false, All, Option, Some, None, Result, Ok, Err}
 use mathlib.Core.List.{IsPrefix}
 use Rattle.step_memory.specs.declared.refusal.Refusal.{Refusal}
 use Rattle.step_memory.specs.declared.refusal.Refusal.TheVariants as refusal
@@ -23,13 +23,19 @@ pub record IsPlainStep (id : ℕ) (k : Kept) : Type 0 where
   pub event : k.exchange.event ≡ Step id
   pub plain : goes_on k.exchange.reply ≡ true
 
--- So many such steps were added. What was seen is a prefix of what is seen now, and is a lawful history, in which all that was kept stands
+-- the places of these rise, each above those of all before it
+abbrev pub AreAbove : List Kept → List Kept → Type 0
+AreAbove before [] = ⊤
+AreAbove before (k ∷ ks) = All (λ j. j.place < k.place) before × AreAbove (before ++ k ∷ []) ks
+
+-- So many such steps were added, at places that rise. What was seen is a prefix of what is seen now, and is a lawful history, in which all that was kept stands
 -- at its place, where it was one before: so each reply is the one that was due there
 pub record IsStepped (c : Config) (id count : ℕ) (s t : CallerState) : Type 0 where
   pub added : List Kept
   pub longer : t.kept ≡ s.kept ++ added
   pub counted : length added ≡ count
   pub plain : All (IsPlainStep id) added
+  pub rising : AreAbove s.kept added
   pub seen : IsPrefix s.seen t.seen
   pub sound : IsSound c s → IsSound c t
 

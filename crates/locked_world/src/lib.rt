@@ -4,7 +4,7 @@
 //! A call takes the lock once and is one event; its caller keeps the event with its reply where it is accepted, at its place in the
 //! history. What is proved (`IsTaken`): the reply is that of a hall of the config that the lock was made for, with a lawful history that
 //! goes on from what the caller had seen when it was last answered; all that the caller has kept stands in that history at its
-//! place (`HallLock::{apply, act, step, session}` and their fellows); `rename` adds at most its turns, and exactly its turns where they
+//! place (`HallLock::{apply, act, step, session}` and their fellows); `rename` adds at most its turns, at places that rise, and exactly its turns where they
 //! are used up; `close` gives a history of that config, each place of which was kept by just one caller, with the event and the reply
 //! that stand there, or hands all back. So the accepted replies that the callers got are one run, each once, in each caller's order.
 //!

@@ -104,12 +104,12 @@ abbrev pub serve_app : App
 serve_app = with_options (codes "serve") (world_option ∷ m_option ∷ k_option ∷ limit_option ∷ port_option
     ∷ number_option (codes "workers") 1 16 (codes "2") ∷ number_option (codes "count") 1 1000000 (codes "1") ∷ [])
 
--- `--address ADDRESS`, or 127.0.0.1; `--clients NUMBER`, from 1 to 1,000,000, or 10000; `--idle NUMBER`, at most 31,536,000, or 0; `--journal
+-- `--address ADDRESS`, or 127.0.0.1; `--clients NUMBER`, from 1 to 1,000,000, or 10000; `--idle NUMBER`, at most 31,536,000, or 600; `--journal
 -- FILE`, `--etcd MEMBERS` and `--prefix NAME`, or none; `--patience NUMBER`, from 1 to 3,600, or 10
 abbrev pub host_app : App
 host_app = with_options (codes "host") (world_option ∷ m_option ∷ k_option ∷ limit_option
     ∷ chosen_option (codes "address") (codes "127.0.0.1") ∷ port_option ∷ number_option (codes "clients") 1 1000000 (codes "10000")
-    ∷ number_option (codes "idle") 0 31536000 (codes "0") ∷ text_option (codes "journal") ∷ text_option (codes "etcd") ∷ text_option (codes "prefix")
+    ∷ number_option (codes "idle") 0 31536000 (codes "600") ∷ text_option (codes "journal") ∷ text_option (codes "etcd") ∷ text_option (codes "prefix")
     ∷ number_option (codes "patience") 1 3600 (codes "10") ∷ flag (codes "export") ∷ flag (codes "verbose") ∷ [])
 
 -- the program before it has a subcommand, one of which has to be given

@@ -76,7 +76,7 @@ const POOL_SIZE: Choice = Choice {
 const PROPOSAL_LIMIT: Choice = Choice {
     name: "limit",
     takes: Takes::Number(1, 1_000_000, "1000"),
-    help: "the most proposals of each participant, from 1 to 1000000",
+    help: "the most proposals of each participant, from 1 to 1000000; above 3(5^m - 1)/4 nobody is spent",
 };
 
 // `--port NUMBER`.
@@ -238,8 +238,8 @@ const HOST: Manual = Manual {
         },
         Choice {
             name: "idle",
-            takes: Takes::Number(0, 31_536_000, "0"),
-            help: "after how many seconds a client that says nothing is closed, or 0 for never",
+            takes: Takes::Number(0, 31_536_000, "600"),
+            help: "after how many seconds a client that says nothing is closed, or 0 for never; an empty line, answered bad 3, keeps it and adds nothing",
         },
         Choice {
             name: "journal",

@@ -6,7 +6,7 @@ ghost use Rattle.program_work.specs.Done.{IsWorked, IsDrawnBy, IsPlayedBy, is_wo
 
 use crate::checking::check_for;
 use crate::migrating::migrate_for;
-use drawn_schedules::{Schedule, draw, play_drawn_by};
+use drawn_schedules::{Schedule, draw_schedule, play_drawn_by};
 use player::{Fault, Sink, Source};
 use program_args::{Ask, Drawing, Playing};
 use schedule_player::{play_any, record};
@@ -33,7 +33,7 @@ fn draw_for<T: Threads + Sync, W: Sink>(
     } = drawing;
     let plan = Schedule { seed, ids, steps };
     if runs == 0 {
-        draw(alloc, plan, writer)?;
+        draw_schedule(alloc, plan, writer)?;
     } else {
         play_drawn_by(rt, alloc, jobs, plan, runs, config, writer)?;
     }

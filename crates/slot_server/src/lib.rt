@@ -29,7 +29,7 @@
 //! clerks.push(lock.clerk(rt, alloc)?)?;                           // a worker
 //! clerks.push(lock.clerk(rt, alloc)?)?;                           // and another
 //! let served = serve_many(rt, alloc, &listener, &lock, &OpenGate, clerks, 10);
-//! served.connections.accepted();                                  // 10, where no fault is told
+//! served.served;                                                  // 10, where no fault is told
 //! lock.close(Vec::new(alloc), served.clerks)?;                    // the history of what all clients did
 //! ```
 #![tactic(auto)]

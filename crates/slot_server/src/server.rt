@@ -121,7 +121,7 @@ fn end<L: LockName, W: Write>(
     if lock.close(Vec::new(alloc), served.clerks).is_err() {
         return Err(ServeFault::Server(ServerFault::History));
     }
-    tell(alloc, "served", served.connections.accepted(), output)
+    tell(alloc, "served", served.served, output)
 }
 
 /// Serves connections to 127.0.0.1 over one hall, by threads. Before the first it writes a line with the port that it listens on,

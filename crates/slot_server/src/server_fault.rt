@@ -19,7 +19,7 @@ impl fmt::Display for ServerFault {
     fn fmt<W: fmt::Write>(&self, f: &mut fmt::Formatter<W>) -> fmt::Result {
         f.write_str(match self {
             ServerFault::Memory => "no memory",
-            ServerFault::Network => "network fault: is the port taken?",
+            ServerFault::Network => "network fault",
             ServerFault::History => "history fault",
         })
     }

@@ -24,6 +24,8 @@ use std::time::Duration;
 pub struct Served<L: LockName> {
     /// The connections that were accepted, of which each was served, those that ended by a fault of their own among them.
     pub connections: Connections,
+    /// How many that are.
+    pub served: u64,
     /// The clerks, with all that they have kept.
     pub clerks: Vec<Clerk<L>>,
     /// Why not all connections were served.
@@ -129,6 +131,7 @@ where
     R: Threads + Wait + Sync,
     G: Gate<R> + Sync,
     ensures clerks { result.fault ≢ Some ServerFault.Memory → vec_len result.clerks ≡ vec_len clerks }
+    ensures served { result.served ≡ result.connections.accepted }
     ensures all { IfNone result.fault (result.connections.accepted ≡ count) }
     ensures kept { result.fault ≢ Some ServerFault.Memory → ClerksGoOn L.config clerks.items result.clerks.items }
 {
@@ -142,15 +145,18 @@ where
         { work(rt, alloc, listener, lock, gate, shared, clerk) },
     );
     let connections = connections.into_inner();
+    let served = connections.accepted();
     let lack = connections.lack(count);
     match back {
         Ok(clerks) => Served {
             connections,
+            served,
             clerks,
             fault: lack,
         },
         Err(_) => Served {
             connections,
+            served,
             clerks: Vec::new(alloc),
             fault: Some(ServerFault::Memory),
         },

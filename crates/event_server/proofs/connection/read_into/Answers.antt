@@ -1,16 +1,16 @@
-use Rattle.std.proofs.Common.{◌≡◌, ◌++◌, ap, arith, drop, length, take}
+use Rattle.std.proofs.Common.{◌≡◌, ◌++◌, ◌∙◌, ap, arith, drop, length, take}
 use Rattle.std.proofs.lemmas.List.{take_at}
 use Rattle.event_server.proofs.connection.read_into.Goals as goal
 
 pub returns : goal.returns
 returns g c =
-    let read = c.read_some.new.buf in
+    let read = c.read_at_most.new.chunk in
     let chunk = c.args.room.now.chunk in
-    let whole : length read ≡ length chunk.items = omega (arith, c.read_some.auto.buf, ap length c.deref_mut.ensures.value) in
+    let whole : length read ≡ length chunk.items = c.read_at_most.ensures.size ∙ ap length c.deref_mut.ensures.value in
     let same : take chunk.len (read ++ drop (length read) chunk.items) ≡ read = take_at read (drop (length read) chunk.items) chunk.len (omega (arith, whole, chunk.ok.0)) in
     record {
-      bound = rw same c.read_some.ensures.bound;
-      bytes = rw same c.read_some.ensures.bytes;
-      same = c.read_some.ensures.same;
+      bound = rw same c.read_at_most.ensures.bound;
+      bytes = rw same c.read_at_most.ensures.bytes;
+      same = c.read_at_most.ensures.same;
       room = rw same (omega (arith, whole, c.requires.0), c.requires.1);
     }

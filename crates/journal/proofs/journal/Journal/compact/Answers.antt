@@ -17,12 +17,25 @@ returns-in_default-clause-any_moment g c = λ stands. (
   λ none. none,
 )
 
+pub returns-then-not-can_replace-clause-any_moment : goal.returns-then-not-can_replace-clause-any_moment
+returns-then-not-can_replace-clause-any_moment g c = λ stands. (
+  λ s is. (
+    s,
+    is,
+    record {
+      is = inl refl;
+      leaves = leaves_either c.law_of_lines.ensures.once c.args.chronicle.now c.args.hall s (stands.known s is) c.waiting.ensures.few;
+    },
+  ),
+  λ none. none,
+)
+
 pub returns-in-Ok-replace-clause-stands : goal.returns-in-Ok-replace-clause-stands
 returns-in-Ok-replace-clause-stands g c = λ stands. record {
   well = c.if-self.false;
   known = λ t is.
       let before = known_before _ _ t c.in-Ok-replace.ensures is in
-      let record_is : c.deref.result.now ≡ record_of_hall c.args.hall = c.deref.ensures.value ∙ c.in-Ok.ensures in
+      let record_is : c.deref-2.result.now ≡ record_of_hall c.args.hall = c.deref-2.ensures.value ∙ c.in-Ok.ensures in
       subst (λ (x : ChronicleState). HasSynced x t) (sym c.replace_hall.ensures)
       (replaced_synced c.args.hall before.0 t (subst (λ (l : List ℕ). t ≡ replaced_by before.0 l) record_is before.2));
 }
@@ -31,7 +44,7 @@ pub returns-in-Ok-replace-clause-any_moment : goal.returns-in-Ok-replace-clause-
 returns-in-Ok-replace-clause-any_moment g c = λ stands. (
   λ s is.
       let after = c.in-Ok-replace.ensures.0 s is in
-      let record_is : c.deref.result.now ≡ record_of_hall c.args.hall = c.deref.ensures.value ∙ c.in-Ok.ensures in (
+      let record_is : c.deref-2.result.now ≡ record_of_hall c.args.hall = c.deref-2.ensures.value ∙ c.in-Ok.ensures in (
         after.0,
         after.1,
         record {
@@ -46,7 +59,7 @@ pub returns-in-Err-clause-any_moment : goal.returns-in-Err-clause-any_moment
 returns-in-Err-clause-any_moment g c = λ stands. (
   λ s is.
       let after = c.in-Err.ensures.0 s is in
-      let record_is : c.deref.result.now ≡ record_of_hall c.args.hall = c.deref.ensures.value ∙ c.in-Ok.ensures in (
+      let record_is : c.deref-2.result.now ≡ record_of_hall c.args.hall = c.deref-2.ensures.value ∙ c.in-Ok.ensures in (
         after.0,
         after.1,
         record {
