@@ -1,7 +1,7 @@
 /* Small numbers for threads, with no lock: the proved pool over raw words as a C library, for C99 and later and for C++.
  *
- * Link `libword_pool_c.a` and the kit's `liblibc_c.a`; `bindings/c/test` shows how. `bindings/c/counters.c` is a program with a
- * counter for each thread. In short, with no answer looked at:
+ * Link `libword_pool_c.a` with `heap.c`, which is its heap over malloc, or with the kit's `liblibc_c.a`; `bindings/c/test` shows
+ * how. `bindings/c/counters.c` is a program with a counter for each thread. In short, with no answer looked at:
  *
  *     struct word_pool first = {0}, mine = {0};
  *     word_pool_new(&first, 64);                      a pool, with a handle for the thread that makes it ...
@@ -89,6 +89,36 @@ uint64_t word_grid_enter(struct word_grid *grid);
 /* Ends this handle, which is of zero bytes then, and with the last one the grid's memory. Its place stays taken. */
 void word_grid_free(struct word_grid *grid);
 
+/* A line: as many tickets as numbers, so a thread with a ticket always gets a number, and a small one where few have or seek one.
+ *
+ * Each thread has a handle of its own, with one ticket; those that were joined share one line. What a caller owes is as above: a
+ * handle is used by one call at a time; it is made of zero bytes before `line_pool_new`, or before it is the second handle of
+ * `line_pool_join`; and it holds a line where any other call is given it. A handle may keep its number for as long as it likes. */
+
+/* Zero: no line. */
+struct line_pool {
+    void *at;
+};
+
+/* Makes a line of the numbers from 1 to `numbers`, which is from 1 to 4096, with as many tickets, and deals this handle the first.
+ * False, with nothing made, elsewhere and where memory was refused. */
+bool line_pool_new(struct line_pool *line, uint64_t numbers);
+
+/* A handle for one more thread, with the next ticket. `line` is the handle that `line_pool_new` made. False, with none made,
+ * where all tickets are dealt, where `line` is another handle, and where memory was refused; a ticket dealt then is lost. */
+bool line_pool_join(struct line_pool *line, struct line_pool *other);
+
+/* Takes the least number that a walk from 1 upward finds free, by at most one access more than the number says. The number is at
+ * most the most handles that held or sought one at one moment of the call. 0 only where this handle holds a number already. */
+uint64_t line_pool_acquire(struct line_pool *line);
+
+/* Gives back the number that this handle holds, and tells it. 0 where it holds none. */
+uint64_t line_pool_release(struct line_pool *line);
+
+/* Ends this handle, which is of zero bytes then, and with the last one the line's memory. Its number is given back, and its ticket
+ * is not dealt again. */
+void line_pool_free(struct line_pool *line);
+
 /* The same calls for who can't be sure of his handles: a null pointer, or a handle that holds nothing where one has to, is
  * answered by false, 0 or nothing at all; and a handle that holds a pool or grid is not made anew. */
 
@@ -143,6 +173,33 @@ static inline void beglushan_grid_free(struct word_grid *grid)
 {
     if (grid && grid->at) {
         word_grid_free(grid);
+    }
+}
+
+static inline bool beglushan_line_new(struct line_pool *line, uint64_t numbers)
+{
+    return line && !line->at && line_pool_new(line, numbers);
+}
+
+static inline bool beglushan_line_join(struct line_pool *line, struct line_pool *other)
+{
+    return line && line->at && other && !other->at && line_pool_join(line, other);
+}
+
+static inline uint64_t beglushan_line_acquire(struct line_pool *line)
+{
+    return line && line->at ? line_pool_acquire(line) : 0;
+}
+
+static inline uint64_t beglushan_line_release(struct line_pool *line)
+{
+    return line && line->at ? line_pool_release(line) : 0;
+}
+
+static inline void beglushan_line_free(struct line_pool *line)
+{
+    if (line && line->at) {
+        line_pool_free(line);
     }
 }
 

@@ -111,9 +111,24 @@ static bool answers_what_is_missing(void)
     return none && some && pool.at == NULL && grid.at == NULL;
 }
 
+/* Two handles of a line of two: each always gets a number, the least that is free, and keeps it as long as it likes. */
+static bool lines_always_give(void)
+{
+    struct line_pool first = {0}, second = {0}, third = {0};
+    bool refused = !beglushan_line_new(NULL, 1) && !line_pool_new(&first, 0) && !line_pool_new(&first, 4097)
+        && beglushan_line_acquire(&first) + beglushan_line_release(NULL) == 0;
+    bool made = beglushan_line_new(&first, 2) && beglushan_line_join(&first, &second) && !beglushan_line_join(&first, &third);
+    bool both = beglushan_line_acquire(&second) == 1 && line_pool_acquire(&first) == 2 && line_pool_acquire(&first) == 0;
+    bool least = beglushan_line_release(&second) == 1 && line_pool_release(&second) == 0 && line_pool_acquire(&second) == 1;
+    beglushan_line_free(&first);
+    beglushan_line_free(&second);
+    beglushan_line_free(&third);
+    return refused && made && both && least && first.at == NULL && second.at == NULL;
+}
+
 int main(void)
 {
-    if (!answers_what_is_missing()) {
+    if (!answers_what_is_missing() || !lines_always_give()) {
         return 1;
     }
     struct word_pool pools[THREADS] = {{0}};

@@ -1,102 +1,92 @@
-//! Finds the proved static library, or has it proved and built, and links it with the kit's heap.
+//! Links the proved library that stands in the crate, if there is one for the target.
+//!
+//! With `BEGLUSHAN_PROVE=1` it proves and builds the library anew, by the kit's `rt` in a clone of the repository.
 
 use std::env;
 use std::fs;
 use std::path::{Path, PathBuf};
 use std::process::Command;
-use std::time::SystemTime;
 
 const LIBRARY: &str = "libword_pool_c.a";
-const HEAP: &str = "liblibc_c.a";
-/// The crates whose sources the library is made of.
-const SOURCES: [&str; 7] = [
-    "word_pool_c",
-    "word_pool",
-    "word_grid",
-    "raw_parts",
-    "splitter_grid",
-    "splitter",
-    "step_memory",
+
+/// How `rt lib` builds the library of each target.
+const TARGETS: [(&str, &[&str]); 2] = [
+    ("x86_64-unknown-linux-gnu", &["--cpu", "x86-64"]),
+    (
+        "aarch64-unknown-linux-gnu",
+        &["--target", "aarch64-unknown-linux-gnu"],
+    ),
 ];
 
 fn main() {
-    println!("cargo:rerun-if-env-changed=BEGLUSHAN_LIB");
-    let folders = match env::var_os("BEGLUSHAN_LIB") {
-        Some(folder) => built(Path::new(&folder)),
-        None => from_the_clone(),
-    };
-    for folder in folders {
-        println!("cargo:rustc-link-search=native={}", folder.display());
+    println!("cargo:rerun-if-changed=build.rs");
+    println!("cargo:rerun-if-changed=prebuilt");
+    println!("cargo:rerun-if-env-changed=BEGLUSHAN_PROVE");
+    if env::var_os("CARGO_FEATURE_PLAIN").is_some() {
+        return;
     }
+    let Some((target, options)) = target() else {
+        return;
+    };
+    let folder = match env::var("BEGLUSHAN_PROVE") {
+        Ok(word) if word == "1" => proved_anew(options),
+        _ => PathBuf::from("prebuilt").join(target),
+    };
+    let folder = folder.canonicalize().unwrap_or(folder);
+    if !folder.join(LIBRARY).is_file() {
+        fail(&format!("there is no {LIBRARY} in {}", folder.display()));
+    }
+    println!("cargo:rustc-link-search=native={}", folder.display());
     println!("cargo:rustc-link-lib=static=word_pool_c");
-    println!("cargo:rustc-link-lib=static=libc_c");
+    println!("cargo:rustc-cfg=beglushan_proved");
 }
 
-/// A folder with both libraries, as a packager has it.
-fn built(folder: &Path) -> Vec<PathBuf> {
-    for name in [LIBRARY, HEAP] {
-        if !folder.join(name).is_file() {
-            fail(&format!(
-                "BEGLUSHAN_LIB is {}, and there is no {name} in it",
-                folder.display()
-            ));
-        }
+/// The target whose library fits, by what cargo says of this one: Linux with either C library, on these processors.
+fn target() -> Option<(&'static str, &'static [&'static str])> {
+    let says = |name: &str| env::var(name).unwrap_or_default();
+    let is_linux = says("CARGO_CFG_TARGET_OS") == "linux";
+    let is_wide = says("CARGO_CFG_TARGET_POINTER_WIDTH") == "64";
+    let is_little = says("CARGO_CFG_TARGET_ENDIAN") == "little";
+    if !(is_linux && is_wide && is_little) {
+        return None;
     }
-    vec![folder.to_path_buf()]
+    let processor = says("CARGO_CFG_TARGET_ARCH") + "-";
+    let fits = |(name, _): &(&str, _)| name.starts_with(&processor);
+    TARGETS.into_iter().find(fits)
 }
 
-/// The library of this clone, proved and built where it is missing or older than its sources.
-fn from_the_clone() -> Vec<PathBuf> {
+/// The folder with the library that `rt lib` proves and builds.
+fn proved_anew(options: &[&str]) -> PathBuf {
     let crates = Path::new(env!("CARGO_MANIFEST_DIR")).join("../../../crates");
-    let Ok(crates) = crates.canonicalize() else {
-        fail("this is no clone of the repository: crates/word_pool_c is not there");
-    };
-    let mut newest = SystemTime::UNIX_EPOCH;
-    for name in SOURCES {
-        let sources = crates.join(name).join("src");
-        println!("cargo:rerun-if-changed={}", sources.display());
-        newest = newest.max(newest_in(&sources));
+    let sources = crates.join("word_pool_c");
+    if !sources.is_dir() {
+        fail("BEGLUSHAN_PROVE is 1, and this is no clone of the repository: crates/word_pool_c is not there");
     }
-    let folder = crates.join("word_pool_c");
-    let library = folder.join("out").join(LIBRARY);
-    println!("cargo:rerun-if-changed={}", library.display());
-    let made = fs::metadata(&library).and_then(|file| file.modified());
-    if made.map_or(true, |made| made < newest) {
-        let done = Command::new("rt").arg("lib").current_dir(&folder).output();
-        match done {
-            Err(_) => fail("`rt` is not on the path"),
-            Ok(done) if !done.status.success() => {
-                eprint!("{}", String::from_utf8_lossy(&done.stderr));
-                fail("`rt lib` in crates/word_pool_c failed, as told above")
-            }
-            Ok(_) => {}
+    println!("cargo:rerun-if-changed={}", crates.display());
+    let mut prove = Command::new("rt");
+    let done = prove
+        .arg("lib")
+        .args(options)
+        .current_dir(&sources)
+        .output();
+    match done {
+        Err(_) => fail("BEGLUSHAN_PROVE is 1, and `rt` is not on the path"),
+        Ok(done) if !done.status.success() => {
+            eprint!("{}", String::from_utf8_lossy(&done.stderr));
+            fail("`rt lib` in crates/word_pool_c failed, as told above")
         }
+        Ok(_) => {}
     }
-    vec![folder.join("out"), heap_folder()]
-}
-
-/// The folder of the kit that has its heap: beside the page that `rt doc` names.
-fn heap_folder() -> PathBuf {
-    let Ok(told) = Command::new("rt").arg("doc").output() else {
-        fail("`rt` is not on the path");
-    };
-    let page = PathBuf::from(String::from_utf8_lossy(&told.stdout).trim());
-    match page.parent().map(|kit| kit.join("c")) {
-        Some(folder) if folder.join(HEAP).is_file() => folder,
-        _ => fail("the kit has no heap for C beside the page that `rt doc` names"),
+    let folder = PathBuf::from(env::var_os("OUT_DIR").expect("cargo sets it"));
+    let built = sources.join("out").join(LIBRARY);
+    if let Err(why) = fs::copy(&built, folder.join(LIBRARY)) {
+        fail(&format!("{}: {why}", built.display()));
     }
-}
-
-/// The time of the newest file in a folder of sources.
-fn newest_in(folder: &Path) -> SystemTime {
-    let files = fs::read_dir(folder).into_iter().flatten().flatten();
-    let times = files.filter_map(|file| file.metadata().and_then(|meta| meta.modified()).ok());
-    times.max().unwrap_or(SystemTime::UNIX_EPOCH)
+    folder
 }
 
 fn fail(why: &str) -> ! {
     eprintln!("beglushan: {why}.");
-    eprintln!("Put the kit's `rt` on the path, so that `rt lib` in crates/word_pool_c can prove and build the library,");
-    eprintln!("or set BEGLUSHAN_LIB to a folder that has {LIBRARY} and {HEAP}.");
+    eprintln!("The feature `plain` builds the crate without the library, unproved.");
     std::process::exit(1)
 }

@@ -1,9 +1,10 @@
-//! Stays in a pool and values of threads, beside what else there is, at 1, 2, 4 and 8 threads.
+//! Stays in a pool and values of threads, beside what else there is, at 1, 2, 3, 4 and 8 threads.
 
+mod counted;
 mod plain;
 mod timed;
 
-use beglushan::{PerThread, Pool};
+use beglushan::{PerThread, Pool, Slots, Workers};
 use plain::{PlainBits, PlainWords};
 use std::cmp::Reverse;
 use std::collections::BinaryHeap;
@@ -12,45 +13,76 @@ use std::sync::atomic::{AtomicU64, Ordering::Relaxed};
 use std::sync::Mutex;
 use std::time::Instant;
 use thread_local::ThreadLocal;
-use timed::timed;
+use timed::{ratio, timed};
 
 const NUMBERS: usize = 64;
 
 fn main() {
-    for threads in [1, 2, 4, 8] {
+    let words: Vec<String> = std::env::args().skip(1).collect();
+    match words.as_slice() {
+        [] => all(),
+        [list] if list == "works" => println!("{}", counted::WORKS.join("\n")),
+        [name, times] => counted::work(name, times.parse().expect("a count")),
+        _ => panic!("pairs, pairs works, or pairs WORK TIMES"),
+    }
+}
+
+fn all() {
+    for threads in [1, 2, 3, 4, 8] {
         stays_near(threads);
-        stays_from_one(threads);
+        stays_kept(threads);
+        stays_with_no_hint(threads);
         peers(threads);
         values(threads);
         println!();
     }
+    pools_in_turn();
+    values_in_turn();
     sums();
     first_uses();
 }
 
-/// Each thread alone on its own number.
+/// Each thread alone on its own number, which is not the first.
 fn stays_near(threads: usize) {
     let pool = Pool::new(NUMBERS).expect("a size that there is");
-    let ours = timed("Pool::acquire_near and drop", threads, |thread| thread + 1, |mine| {
+    let ours = timed("Pool::acquire_near and drop", threads, |thread| thread + 2, |mine| {
         *mine = pool.acquire_near(*mine).map_or(1, |slot| black_box(slot.number()));
     });
     let words = PlainWords::new(NUMBERS);
-    let plain = timed("plain words, near", threads, |thread| thread + 1, |mine| {
+    let plain = timed("plain words, near", threads, |thread| thread + 2, |mine| {
         *mine = words.acquire_near(*mine).unwrap_or(1);
         words.release(black_box(*mine));
     });
-    println!("{:<52} {threads} threads  {:>8.2}", "ratio", ours / plain);
+    ratio("a stay near to plain words", threads, ours, plain);
     let bits = PlainBits::new(NUMBERS);
-    timed("bits of one word, near", threads, |thread| thread + 1, |mine| {
+    timed("bits of one word, near", threads, |thread| thread + 2, |mine| {
         *mine = bits.acquire_near(*mine).unwrap_or(1);
         bits.release(black_box(*mine));
     });
 }
 
+/// A stay of a worker that keeps its number, with its element of an array.
+fn stays_kept(threads: usize) {
+    let workers = Workers::new(NUMBERS).expect("a size that there is");
+    let elements = Slots::new(&workers, |_| 0_u64);
+    let attach = |_| workers.attach().expect("at most 64");
+    timed("Worker::stay and Slots::get", threads, attach, |worker| {
+        *elements.get(&mut black_box(worker).stay()) += 1;
+    });
+}
+
 /// As many numbers as threads, and no hint.
-fn stays_from_one(threads: usize) {
+fn stays_with_no_hint(threads: usize) {
     let pool = Pool::new(threads).expect("a size that there is");
     let ours = timed("Pool::acquire and drop, numbers as threads", threads, |_| (), |()| while pool.acquire().is_none() {});
+    let slab = sharded_slab::Slab::<u64>::new();
+    let theirs = timed("sharded_slab, insert and remove", threads, |_| (), |()| {
+        let key = slab.insert(7).expect("room");
+        slab.remove(black_box(key));
+    });
+    ratio("acquire to sharded_slab", threads, ours, theirs);
+    let least = Pool::new(threads).expect("a size that there is");
+    let ours = timed("Pool::acquire_least, numbers as threads", threads, |_| (), |()| while least.acquire_least().is_none() {});
     let words = PlainWords::new(threads);
     let plain = timed("plain words from 1, numbers as threads", threads, |_| (), |()| {
         let number = loop {
@@ -60,7 +92,7 @@ fn stays_from_one(threads: usize) {
         };
         words.release(black_box(number));
     });
-    println!("{:<52} {threads} threads  {:>8.2}", "ratio", ours / plain);
+    ratio("acquire_least to plain words from 1", threads, ours, plain);
     let bits = PlainBits::new(threads);
     timed("bits of one word from 1, numbers as threads", threads, |_| (), |()| {
         let number = loop {
@@ -79,35 +111,59 @@ fn peers(threads: usize) {
         let number = heap.lock().expect("no panic").pop();
         heap.lock().expect("no panic").extend(black_box(number));
     });
-    let slab = sharded_slab::Slab::<u64>::new();
-    timed("sharded_slab, insert and remove", threads, |_| (), |()| {
-        let key = slab.insert(7).expect("room");
-        slab.remove(black_box(key));
-    });
     let collector = crossbeam_epoch::Collector::new();
     timed("crossbeam_epoch, pin and unpin", threads, |_| collector.register(), |handle| drop(black_box(handle.pin())));
 }
 
 /// A thread's value, after its first use.
 fn values(threads: usize) {
-    let ours = PerThread::<AtomicU64>::new(NUMBERS).expect("a size that there is");
+    let ours = PerThread::<AtomicU64>::new();
     let count = |mine: &AtomicU64| mine.store(mine.load(Relaxed) + 1, Relaxed);
-    let with = timed("PerThread::with", threads, |_| (), |()| black_box(&ours).with(count).expect("at most 64"));
+    let with = timed("PerThread::with", threads, |_| (), |()| black_box(&ours).with(count));
     let theirs = ThreadLocal::<AtomicU64>::new();
     let get = timed("thread_local, get_or_default", threads, |_| (), |()| count(black_box(&theirs).get_or_default()));
-    println!("{:<52} {threads} threads  {:>8.2}", "ratio", with / get);
+    ratio("with to thread_local", threads, with, get);
+}
+
+/// Many values of one thread, used in turn.
+fn values_in_turn() {
+    let count = |mine: &AtomicU64| mine.store(mine.load(Relaxed) + 1, Relaxed);
+    for many in [1, 8, 9, 16, 64, 256, 1000] {
+        let ours: Vec<PerThread<AtomicU64>> = (0..many).map(|_| PerThread::new()).collect();
+        let with = timed(&format!("{many} PerThreads in turn"), 1, |_| 0, |turn| {
+            *turn = if *turn + 1 == many { 0 } else { *turn + 1 };
+            black_box(&ours[*turn]).with(count);
+        });
+        let theirs: Vec<ThreadLocal<AtomicU64>> = (0..many).map(|_| ThreadLocal::new()).collect();
+        let get = timed(&format!("{many} thread_locals in turn"), 1, |_| 0, |turn| {
+            *turn = if *turn + 1 == many { 0 } else { *turn + 1 };
+            count(black_box(&theirs[*turn]).get_or_default());
+        });
+        ratio("with to thread_local", 1, with, get);
+    }
+}
+
+/// Many pools of one thread, used in turn.
+fn pools_in_turn() {
+    for many in [1, 2, 10, 100] {
+        let pools: Vec<Pool> = (0..many).map(|_| Pool::new(NUMBERS).expect("a size that there is")).collect();
+        timed(&format!("{many} pools in turn, acquire and drop"), 1, |_| 0, |turn| {
+            *turn = if *turn + 1 == many { 0 } else { *turn + 1 };
+            drop(black_box(pools[*turn].acquire()));
+        });
+    }
 }
 
 /// The sum over the counters of 64 threads.
 fn sums() {
     const SUMS: u32 = 100_000;
-    let ours = PerThread::<AtomicU64>::new(NUMBERS).expect("a size that there is");
+    let ours = PerThread::<AtomicU64>::new();
     let theirs = ThreadLocal::<AtomicU64>::new();
     let gate = std::sync::Barrier::new(NUMBERS);
     std::thread::scope(|scope| {
         for _ in 0..NUMBERS {
             scope.spawn(|| {
-                ours.with(|mine| mine.store(1, Relaxed)).expect("at most 64");
+                ours.with(|mine| mine.store(1, Relaxed));
                 theirs.get_or_default().store(1, Relaxed);
                 gate.wait();
             });
@@ -138,8 +194,8 @@ fn first_uses() {
         from.elapsed().as_nanos() as f64 / f64::from(THREADS)
     };
     let bare = per_thread(&|| ());
-    let ours = PerThread::<AtomicU64>::new(NUMBERS).expect("a size that there is");
-    let with = per_thread(&|| ours.with(|mine| mine.store(1, Relaxed)).expect("one at once")) - bare;
+    let ours = PerThread::<AtomicU64>::new();
+    let with = per_thread(&|| ours.with(|mine| mine.store(1, Relaxed))) - bare;
     let theirs = ThreadLocal::<AtomicU64>::new();
     let get = per_thread(&|| theirs.get_or_default().store(1, Relaxed)) - bare;
     println!("a thread's first use: PerThread {with:.0} ns, thread_local {get:.0} ns, beside {bare:.0} ns for the thread");

@@ -6,6 +6,10 @@ use std::time::Instant;
 /// How many works a thread does in a run.
 const WORKS: usize = 2_000_000;
 
+/// A thread's state, with no other thread's beside it.
+#[repr(align(128))]
+struct Alone<S>(S);
+
 /// Nanoseconds of wall time that a work takes as its thread sees it, of the slowest
 /// thread, the best of five runs. Each thread has a state of its own.
 pub fn timed<S>(name: &str, threads: usize, state: impl Fn(usize) -> S + Sync, work: impl Fn(&mut S) + Sync) -> f64 {
@@ -17,12 +21,12 @@ pub fn timed<S>(name: &str, threads: usize, state: impl Fn(usize) -> S + Sync, w
                 .map(|thread| {
                     let (gate, state, work) = (&gate, &state, &work);
                     scope.spawn(move || {
-                        let mut mine = state(thread);
-                        work(&mut mine);
+                        let mut mine = Alone(state(thread));
+                        work(&mut mine.0);
                         gate.wait();
                         let from = Instant::now();
                         for _ in 0..WORKS {
-                            work(&mut mine);
+                            work(&mut mine.0);
                         }
                         from.elapsed()
                     })
@@ -34,4 +38,9 @@ pub fn timed<S>(name: &str, threads: usize, state: impl Fn(usize) -> S + Sync, w
     }
     println!("{name:<52} {threads} threads  {best:>8.1} ns");
     best
+}
+
+/// The ratio of two times, with what it is of.
+pub fn ratio(of: &str, threads: usize, ours: f64, theirs: f64) {
+    println!("{:<52} {threads} threads  {:>8.2}", format!("  ratio: {of}"), ours / theirs);
 }

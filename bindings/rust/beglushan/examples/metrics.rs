@@ -17,9 +17,9 @@ impl Histogram {
     }
 }
 
-fn main() -> Result<(), beglushan::Error> {
+fn main() {
     const AT_ONCE: usize = 4;
-    let latencies = PerThread::<Histogram>::new(AT_ONCE)?;
+    let latencies = PerThread::<Histogram>::new();
     let is_over = AtomicBool::new(false);
     let total = || {
         latencies.sum(|mine| {
@@ -40,15 +40,13 @@ fn main() -> Result<(), beglushan::Error> {
         });
         for _ in 0..50 {
             thread::scope(|requests| {
-                for _ in 0..AT_ONCE {
-                    requests.spawn(|| {
-                        (0..100).for_each(|value| {
-                            latencies
-                                .with(|mine| mine.record(value % 5))
-                                .expect("four at once")
-                        })
-                    });
-                }
+                let work =
+                    || (0..100).for_each(|value| latencies.with(|mine| mine.record(value % 5)));
+                let running: Vec<_> = (0..AT_ONCE).map(|_| requests.spawn(work)).collect();
+                // A thread that is joined has given its number back.
+                running.into_iter().for_each(|thread| {
+                    thread.join().expect("nothing panics");
+                });
             });
         }
         is_over.store(true, Relaxed);
@@ -62,5 +60,4 @@ fn main() -> Result<(), beglushan::Error> {
         );
     }
     println!("all: {}", total());
-    Ok(())
 }

@@ -1,41 +1,19 @@
 //! Names for good, by splitters.
 
 use crate::error::Error;
+use crate::library::GridMember;
+use std::cell::Cell;
 use std::fmt;
-use std::ptr;
+use std::marker::PhantomData;
 
 /// The most seats of [`Names`].
 pub const MOST_SEATS: usize = 64;
 
-/// A pointer to a seat of a grid, null where there is none.
-#[repr(C)]
-struct GridMember {
-    at: *mut u8,
-}
-
-// SAFETY: the library proves that a handle may go to another thread; `&mut` lets one call at a time have it.
-unsafe impl Send for GridMember {}
-
-unsafe extern "C" {
-    fn word_grid_new(grid: *mut GridMember, most: u64) -> bool;
-    fn word_grid_join(grid: *mut GridMember, other: *mut GridMember) -> bool;
-    fn word_grid_enter(grid: *mut GridMember) -> u64;
-    fn word_grid_free(grid: *mut GridMember);
-}
-
-impl Drop for GridMember {
-    fn drop(&mut self) {
-        // SAFETY: it holds a grid since it was made, and this is its last call.
-        unsafe { word_grid_free(self) }
-    }
-}
-
-/// Names for good, by the grid of splitters of Moir and Anderson (1995): a seat for each of `most` threads, each of which takes
-/// a name once.
+/// Names for good, by the grid of splitters of Moir and Anderson (1995). Each of `most` threads has a seat, and takes a name by
+/// it once.
 ///
-/// A seat's one call is wait-free, by reads and writes alone: where `b` seats have entered, its own among them, the name is at most
-/// `b(b + 1)/2`, whatever `most` is, by at most `4b` accesses. The bound is that of the grid, and not of a pool, whose numbers are at
-/// most its size and come back.
+/// A seat's one call is wait-free, by reads and writes alone. If `b` seats have entered, its own among them, the name is at most
+/// `b(b + 1)/2`, whatever `most` is. The call makes at most `4b` accesses. A pool has smaller numbers, which come back.
 ///
 /// ```
 /// use beglushan::Names;
@@ -55,7 +33,9 @@ impl Names {
     /// Seats for so many threads, from 1 to [`MOST_SEATS`].
     ///
     /// # Errors
-    /// [`Error::Size`] outside that range, [`Error::NoMemory`] where the library was refused memory.
+    ///
+    /// - [`Error::Size`]: `most` is out of range.
+    /// - [`Error::NoMemory`]: an allocation failed.
     pub fn new(most: usize) -> Result<Names, Error> {
         if most == 0 || MOST_SEATS < most {
             return Err(Error::Size {
@@ -63,21 +43,18 @@ impl Names {
                 most: MOST_SEATS,
             });
         }
-        let mut at = ptr::null_mut::<u8>();
-        // SAFETY: `GridMember` is one pointer, as `at` is, and it holds no grid.
-        let made = unsafe { word_grid_new((&raw mut at).cast(), most as u64) };
-        let first = made.then_some(GridMember { at }).ok_or(Error::NoMemory)?;
-        let mut seats = vec![Seat(first)];
+        let first = GridMember::first(most).ok_or(Error::NoMemory)?;
+        let mut seats = vec![Seat::of(first)];
         for _ in 1..most {
-            let next = join(&mut seats[0].0).ok_or(Error::NoMemory)?;
-            seats.push(Seat(next));
+            let next = seats[0].member.join().ok_or(Error::NoMemory)?;
+            seats.push(Seat::of(next));
         }
         // The first is dealt first.
         seats.reverse();
         Ok(Names { seats })
     }
 
-    /// One seat more, where there is one left.
+    /// One seat more, if there is one left.
     pub fn deal(&mut self) -> Option<Seat> {
         self.seats.pop()
     }
@@ -95,13 +72,6 @@ impl fmt::Debug for Names {
     }
 }
 
-fn join(first: &mut GridMember) -> Option<GridMember> {
-    let mut at = ptr::null_mut::<u8>();
-    // SAFETY: `first` is what `word_grid_new` made, and the other holds no grid.
-    let made = unsafe { word_grid_join(first, (&raw mut at).cast()) };
-    made.then_some(GridMember { at })
-}
-
 /// What lets one thread take a name, once:
 ///
 /// ```compile_fail,E0382
@@ -110,7 +80,11 @@ fn join(first: &mut GridMember) -> Option<GridMember> {
 /// let another = seat.enter();
 /// ```
 #[must_use = "a seat that is dropped is lost"]
-pub struct Seat(GridMember);
+pub struct Seat {
+    member: GridMember,
+    // A cell is not `Sync`, and so neither is a seat.
+    one_thread: PhantomData<Cell<()>>,
+}
 
 impl fmt::Debug for Seat {
     fn fmt(&self, f: &mut fmt::Formatter<'_>) -> fmt::Result {
@@ -119,10 +93,14 @@ impl fmt::Debug for Seat {
 }
 
 impl Seat {
+    fn of(member: GridMember) -> Seat {
+        let one_thread = PhantomData;
+        Seat { member, one_thread }
+    }
+
     /// A name, from 1, that no other seat of the grid has or will have.
     #[must_use]
     pub fn enter(mut self) -> usize {
-        // SAFETY: it holds a grid, and has not entered, since that spends the seat.
-        unsafe { word_grid_enter(&mut self.0) as usize }
+        self.member.enter()
     }
 }

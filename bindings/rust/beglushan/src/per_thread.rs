@@ -1,229 +1,394 @@
-//! A value for each thread, of a bounded number of threads at once.
+//! A value for each thread.
 
-use crate::error::{Error, Full};
-use crate::member::Member;
-use crate::padded::Padded;
-use crate::pool::Pool;
-use crate::slot::{Missed, OwnedSlot, SlotOf};
-use std::cell::{Cell, RefCell};
+use crate::error::Error;
+use crate::per_thread_iter::{Iter, IterMut};
+use crate::thread::{place_or_nowhere, with_place, Place, BUCKETS};
+use crate::values::{Entry, Made};
+use std::convert::Infallible;
 use std::fmt;
-use std::hint;
 use std::iter::Sum;
-use std::sync::atomic::{AtomicUsize, Ordering::SeqCst};
-use std::sync::{Arc, OnceLock, Weak};
+use std::marker::PhantomData;
+use std::panic::{RefUnwindSafe, UnwindSafe};
+use std::ptr;
+use std::sync::atomic::{AtomicPtr, Ordering::AcqRel, Ordering::Acquire};
 
-/// How many of a thread's places are found without a search.
-const QUICK: usize = 8;
-
-/// What a thread keeps of one `PerThread` until it ends: the slot goes then, and its number to another thread.
-struct Place {
-    key: u64,
-    owner: Weak<()>,
-    // The slot is dropped before the admission, so who is admitted finds a number.
-    slot: OwnedSlot,
-    _admission: Admission,
-}
-
-/// One of the threads that may have a place at once.
-struct Admission(Arc<AtomicUsize>);
-
-impl Admission {
-    /// None where so many are admitted already.
-    fn of(admitted: &Arc<AtomicUsize>, most: usize) -> Option<Admission> {
-        let more = |count| (count < most).then_some(count + 1);
-        admitted.fetch_update(SeqCst, SeqCst, more).ok()?;
-        Some(Admission(Arc::clone(admitted)))
-    }
-}
-
-impl Drop for Admission {
-    fn drop(&mut self) {
-        self.0.fetch_sub(1, SeqCst);
-    }
-}
-
-/// All places of a thread.
-struct Places(Vec<Place>);
-
-impl Drop for Places {
-    fn drop(&mut self) {
-        // What runs later in this thread must not find a place that is given back.
-        QUICK_PLACES.with(|quick| quick.iter().for_each(|entry| entry.set((0, 0))));
-    }
-}
-
-thread_local! {
-    static PLACES: RefCell<Places> = const { RefCell::new(Places(Vec::new())) };
-    /// Key and index of some places. No key is 0.
-    static QUICK_PLACES: [Cell<(u64, usize)>; QUICK] = const { [const { Cell::new((0, 0)) }; QUICK] };
-}
-
-/// A value for each of at most `most` threads at once.
+/// A value for each thread, which grows with the threads that there are at once.
 ///
-/// A thread takes a number at its first use, has it until it ends, and finds its value after that by a load and an index. The
-/// value stays when the thread ends, so that sums lose nothing, and goes on with the next thread that is given the number: the
-/// array is as long as the most threads at once, however many there ever are.
+/// A thread takes a number at its first use of any `PerThread`, and has it until it ends. After that it finds its value by two
+/// loads and an index. The value stays when the thread ends, so sums lose nothing. The next thread that is given the number
+/// goes on with it. So there are as many values as threads at once, however many threads there ever are.
 ///
 /// ```
 /// use beglushan::PerThread;
-/// use std::sync::atomic::{AtomicU64, Ordering::Relaxed};
+/// use std::cell::Cell;
 ///
-/// let hits = PerThread::<AtomicU64>::new(8)?;
+/// let hits = PerThread::<Cell<u64>>::new();
 /// std::thread::scope(|threads| {
 ///     for _ in 0..8 {
-///         threads.spawn(|| hits.with(|mine| mine.store(mine.load(Relaxed) + 1, Relaxed)).expect("at most eight"));
+///         threads.spawn(|| hits.with(|mine| mine.set(mine.get() + 1)));
 ///     }
 /// });
-/// assert_eq!(hits.sum(|counter| counter.load(Relaxed)), 8);
-/// # Ok::<(), beglushan::Error>(())
+/// assert_eq!(hits.into_iter().map(Cell::into_inner).sum::<u64>(), 8);
 /// ```
 ///
-/// One for the whole program is a `static`:
+/// One for the whole program is a `static`. Who reads values while their threads write to them has atomics in them, or a lock:
 ///
 /// ```
 /// use beglushan::PerThread;
 /// use std::sync::atomic::{AtomicU64, Ordering::Relaxed};
-/// use std::sync::LazyLock;
 ///
-/// static HITS: LazyLock<PerThread<AtomicU64>> = LazyLock::new(|| PerThread::new(64).expect("a size that there is"));
+/// static HITS: PerThread<AtomicU64> = PerThread::new();
 ///
-/// // A thread that is one too many is not counted.
-/// let _ = HITS.with(|mine| mine.store(mine.load(Relaxed) + 1, Relaxed));
+/// HITS.with(|mine| mine.store(mine.load(Relaxed) + 1, Relaxed)); // nobody else writes to it
 /// assert_eq!(HITS.sum(|counter| counter.load(Relaxed)), 1);
 /// ```
 ///
-/// Values are read by `iter` while their threads write to them, so `T` has atomics or a lock of its own; a value that its thread
-/// has as `&mut` stands in [`Slots`](crate::Slots). What a thread keeps of a `PerThread` that was dropped goes when the thread
-/// ends or first uses another one.
+/// # What a value needs
+///
+/// `T: Send` is enough for [`with`](PerThread::with) and its kin, so a `Cell` or a `RefCell` may be a value. The calls that
+/// answer a reference want `T: Sync`. A reference can outlive the thread's number, in the destructor of another thread-local, and
+/// then the next thread has the same value.
+///
+/// # When a thread ends
+///
+/// A thread gives its number back in a destructor of a thread-local. A thread that is joined by its handle has run it. A thread
+/// of `thread::scope` may run it after the scope has returned. A call in a later destructor of the thread takes another number
+/// for that call alone.
+///
+/// # Which number
+///
+/// The numbers are those of lines, as [`Workers`](crate::Workers) has them. The first line has 64 numbers, and each further line
+/// twice as many, up to 4,096. A number of the first line is at most the most threads that have one at one moment.
+///
+/// # What waits
+///
+/// A thread's first use and its end take a mutex for a moment, which no other call takes. A thread's first use of a further
+/// `PerThread` takes none.
+///
+/// # Allocators
+///
+/// The values' memory is the system allocator's. So an allocator may count by a `PerThread`, with
+/// [`try_with`](PerThread::try_with), which answers [`Error::Nested`] where a panic would do harm.
+///
+/// # After a fork
+///
+/// The child has a copy of all values. The thread that forked goes on with its own. Threads that begin in the child have
+/// numbers that no thread of the parent had, so they begin with new values. No call hangs in the child.
 pub struct PerThread<T> {
-    pool: Arc<Pool>,
-    admitted: Arc<AtomicUsize>,
-    alive: Arc<()>,
-    values: Box<[Padded<OnceLock<T>>]>,
+    /// The last one stays null: it is that of a thread with no number.
+    buckets: [AtomicPtr<Entry<T>>; BUCKETS + 1],
+    most: usize,
+    // Neither `Send` nor `Sync` but as below.
+    owns: PhantomData<(T, *mut ())>,
 }
 
+// SAFETY: it owns its values.
+unsafe impl<T: Send> Send for PerThread<T> {}
+
+// SAFETY: a value is lent by a number that one thread has at a time, for the time of a call, which is what `T: Send` allows.
+// Calls that lend it for longer, or lend those of other threads, want `T: Sync` besides.
+unsafe impl<T: Send> Sync for PerThread<T> {}
+
+impl<T: UnwindSafe> UnwindSafe for PerThread<T> {}
+impl<T: RefUnwindSafe> RefUnwindSafe for PerThread<T> {}
+
 impl<T> PerThread<T> {
-    /// Room for `most` threads at once, from 1 to [`MOST_NUMBERS`](crate::MOST_NUMBERS). Values are made when they are asked for.
-    ///
-    /// # Errors
-    /// Those of [`Pool::new`].
-    pub fn new(most: usize) -> Result<PerThread<T>, Error> {
-        Ok(PerThread {
-            pool: Arc::new(Pool::new(most)?),
-            admitted: Arc::default(),
-            alive: Arc::default(),
-            values: (0..most).map(|_| Padded(OnceLock::new())).collect(),
-        })
-    }
-
-    /// How many threads may use it at once.
+    /// No values yet. Each is made when its thread first asks for it.
     #[must_use]
-    pub fn most(&self) -> usize {
-        self.values.len()
+    pub const fn new() -> PerThread<T> {
+        PerThread::bounded(usize::MAX)
     }
 
-    /// This thread's value. `make` is called where no thread with this number has made one; it may not ask for the same value.
+    /// No values yet, with memory for those of so many threads.
     ///
-    /// # Errors
-    /// [`Full`] where as many other threads have a place as there are, where this thread is about to end and has given its own
-    /// back, where memory was refused at its first use, and in an allocator that this thread's first use calls.
-    #[inline]
-    pub fn get_or(&self, make: impl FnOnce() -> T) -> Result<&T, Full> {
-        let place = self.place()?;
-        Ok(self.values[place].0.get_or_init(make))
+    /// # Panics
+    ///
+    /// If the allocation failed.
+    #[must_use]
+    pub fn with_capacity(threads: usize) -> PerThread<T> {
+        let values = PerThread::new();
+        let places = (0..BUCKETS).map(|bucket| Place { bucket, offset: 0 });
+        for place in places.take_while(|place| place.index() < threads) {
+            let made = values.entry(place);
+            made.expect("memory for the values of so many threads");
+        }
+        values
     }
 
-    /// What `use_it` makes of this thread's value, which is made by `Default` where there is none.
+    /// No values yet, and at most `most`: a thread with an index of `most` or more is refused. The index is the process's, not
+    /// this `PerThread`'s. So a thread can be refused only if more than `most` threads use some `PerThread` at once.
     ///
-    /// # Errors
-    /// As [`get_or`](PerThread::get_or).
+    /// ```
+    /// use beglushan::{Error, PerThread};
+    ///
+    /// let values = PerThread::<u64>::bounded(1);
+    /// assert_eq!(values.try_with(|mine| *mine), Ok(0));
+    /// let other = std::thread::scope(|threads| threads.spawn(|| values.try_with(|mine| *mine)).join());
+    /// assert_eq!(other.expect("nothing panics"), Err(Error::Full { most: 1 }));
+    /// ```
+    #[must_use]
+    pub const fn bounded(most: usize) -> PerThread<T> {
+        PerThread {
+            buckets: [const { AtomicPtr::new(ptr::null_mut()) }; BUCKETS + 1],
+            most,
+            owns: PhantomData,
+        }
+    }
+
+    /// What `use_it` makes of this thread's value, which is made by `Default` if there is none.
+    ///
+    /// # Panics
+    ///
+    /// - If it is called by the `Default` of the same value.
+    /// - If the allocation failed at the thread's first use.
+    /// - If the thread is one too many for [`bounded`](PerThread::bounded).
+    ///
+    /// [`try_with`](PerThread::try_with) answers an error then.
     #[inline]
-    pub fn with<R>(&self, use_it: impl FnOnce(&T) -> R) -> Result<R, Full>
+    pub fn with<R>(&self, use_it: impl FnOnce(&T) -> R) -> R
     where
         T: Default,
     {
-        self.get_or(T::default).map(use_it)
+        self.with_or(T::default, use_it)
+    }
+
+    /// [`with`](PerThread::with), with a value that `make` makes if there is none.
+    ///
+    /// # Panics
+    ///
+    /// Those of [`with`](PerThread::with).
+    #[inline]
+    pub fn with_or<R>(&self, make: impl FnOnce() -> T, use_it: impl FnOnce(&T) -> R) -> R {
+        granted(self.try_with_or(make, use_it))
+    }
+
+    /// [`with`](PerThread::with), with an error in place of a panic.
+    ///
+    /// # Errors
+    ///
+    /// - [`Error::Nested`]: the call came from within the `Default` of the same value, or from an allocator that this thread's
+    ///   first use calls.
+    /// - [`Error::Full`]: the thread is one too many for [`bounded`](PerThread::bounded).
+    /// - [`Error::NoMemory`]: an allocation failed, or the values are larger than any allocation can be.
+    #[inline]
+    pub fn try_with<R>(&self, use_it: impl FnOnce(&T) -> R) -> Result<R, Error>
+    where
+        T: Default,
+    {
+        self.try_with_or(T::default, use_it)
+    }
+
+    /// [`with_or`](PerThread::with_or), with an error in place of a panic.
+    ///
+    /// # Errors
+    ///
+    /// Those of [`try_with`](PerThread::try_with).
+    #[inline]
+    pub fn try_with_or<R>(
+        &self,
+        make: impl FnOnce() -> T,
+        use_it: impl FnOnce(&T) -> R,
+    ) -> Result<R, Error> {
+        if let Some(mine) = self.find() {
+            return Ok(use_it(mine));
+        }
+        self.make(|| Ok::<T, Infallible>(make()), use_it)
+            .map(|Ok(told)| told)
+    }
+
+    /// The index of this thread, from 0, which is the same for all `PerThread`s. The thread takes a number if it has none.
+    ///
+    /// # Panics
+    ///
+    /// If an allocation failed.
+    #[must_use]
+    pub fn index(&self) -> usize {
+        granted(with_place(Place::index))
     }
 
     /// All values that were made, those of threads that ended too.
-    pub fn iter(&self) -> impl DoubleEndedIterator<Item = &T> {
-        self.values.iter().filter_map(|value| value.0.get())
+    pub fn iter_mut(&mut self) -> IterMut<'_, T> {
+        IterMut::of(&mut self.buckets)
     }
 
-    /// The same, with nobody using one: to set counters back.
-    pub fn iter_mut(&mut self) -> impl DoubleEndedIterator<Item = &mut T> {
-        self.values.iter_mut().filter_map(|value| value.0.get_mut())
+    /// Drops all values. Each thread makes its own anew.
+    pub fn clear(&mut self) {
+        for (bucket, at) in self.buckets.iter_mut().enumerate() {
+            let at = std::mem::replace(at.get_mut(), ptr::null_mut());
+            // SAFETY: it was allocated as this bucket, and nobody finds it.
+            unsafe { Entry::free(at, bucket) };
+        }
     }
 
     /// The values that were made.
     #[must_use]
-    pub fn into_inner(self) -> Vec<T> {
-        let values = self.values.into_vec().into_iter();
-        values.filter_map(|value| value.0.into_inner()).collect()
+    pub fn into_inner(mut self) -> Vec<T> {
+        self.buckets
+            .iter_mut()
+            .enumerate()
+            // SAFETY: the bucket has as many entries, and is borrowed alone.
+            .flat_map(|(bucket, at)| unsafe { Entry::all_mut(*at.get_mut(), bucket) })
+            .filter_map(Entry::take)
+            .collect()
+    }
+
+    /// This thread's value, if it has one.
+    #[inline(always)]
+    fn find(&self) -> Option<&T> {
+        let place = place_or_nowhere();
+        // SAFETY: a bucket is at most `BUCKETS`, which is that of a thread with no number.
+        let at = unsafe { self.buckets.get_unchecked(place.bucket) }.load(Acquire);
+        if at.is_null() {
+            return None;
+        }
+        // SAFETY: a bucket that is there has an entry at each of its offsets.
+        unsafe { &*at.add(place.offset) }.get()
+    }
+
+    /// What `use_it` makes of this thread's value, which is made if there is none.
+    #[cold]
+    #[inline(never)]
+    fn make<'a, R, E>(
+        &'a self,
+        make: impl FnOnce() -> Result<T, E>,
+        use_it: impl FnOnce(&'a T) -> R,
+    ) -> Result<Result<R, E>, Error> {
+        with_place(|place| {
+            if self.most <= place.index() {
+                return Err(Error::Full { most: self.most });
+            }
+            // SAFETY: one thread has the place at a time, and has it for the time of this call.
+            match unsafe { self.entry(place)?.get_or_make(make) } {
+                Made::Value(mine) => Ok(Ok(use_it(mine))),
+                Made::Failed(why) => Ok(Err(why)),
+                Made::Nested => Err(Error::Nested),
+            }
+        })?
+    }
+
+    /// The entry of a place, in a bucket that is allocated if it is not there.
+    fn entry(&self, place: Place) -> Result<&Entry<T>, Error> {
+        let bucket = &self.buckets[place.bucket];
+        let mut at = bucket.load(Acquire);
+        if at.is_null() {
+            let new = Entry::allocate(place.bucket).ok_or(Error::NoMemory)?;
+            at = match bucket.compare_exchange(ptr::null_mut(), new, AcqRel, Acquire) {
+                Ok(_) => new,
+                Err(theirs) => {
+                    // SAFETY: it was allocated as this bucket, and nobody has seen it.
+                    unsafe { Entry::free(new, place.bucket) };
+                    theirs
+                }
+            };
+        }
+        // SAFETY: a bucket that is there has an entry at each of its offsets, until this is dropped.
+        Ok(unsafe { &*at.add(place.offset) })
+    }
+}
+
+impl<T: Sync> PerThread<T> {
+    /// This thread's value, if it has one.
+    #[must_use]
+    #[inline]
+    pub fn get(&self) -> Option<&T> {
+        self.find()
+    }
+
+    /// This thread's value, which `make` makes if there is none.
+    ///
+    /// # Panics
+    ///
+    /// Those of [`with`](PerThread::with).
+    #[inline]
+    pub fn get_or(&self, make: impl FnOnce() -> T) -> &T {
+        granted(self.try_get_or(make))
+    }
+
+    /// This thread's value, which is made by `Default` if there is none.
+    ///
+    /// # Panics
+    ///
+    /// Those of [`with`](PerThread::with).
+    #[inline]
+    pub fn get_or_default(&self) -> &T
+    where
+        T: Default,
+    {
+        self.get_or(T::default)
+    }
+
+    /// This thread's value, which `make` makes if there is none, or the error of `make`.
+    ///
+    /// # Errors
+    ///
+    /// The error of `make`.
+    ///
+    /// # Panics
+    ///
+    /// Those of [`with`](PerThread::with).
+    #[inline]
+    pub fn get_or_try<E>(&self, make: impl FnOnce() -> Result<T, E>) -> Result<&T, E> {
+        match self.find() {
+            Some(mine) => Ok(mine),
+            None => granted(self.make(make, |mine| mine)),
+        }
+    }
+
+    /// [`get_or`](PerThread::get_or), with an error in place of a panic.
+    ///
+    /// # Errors
+    ///
+    /// Those of [`try_with`](PerThread::try_with).
+    #[inline]
+    pub fn try_get_or(&self, make: impl FnOnce() -> T) -> Result<&T, Error> {
+        if let Some(mine) = self.find() {
+            return Ok(mine);
+        }
+        self.make(|| Ok::<T, Infallible>(make()), |mine| mine)
+            .map(|Ok(mine)| mine)
+    }
+
+    /// All values that were made, those of threads that ended too.
+    pub fn iter(&self) -> Iter<'_, T> {
+        Iter::of(&self.buckets)
     }
 
     /// The sum over all values that were made.
     pub fn sum<S: Sum>(&self, count: impl FnMut(&T) -> S) -> S {
         self.iter().map(count).sum()
     }
+}
 
-    #[inline]
-    fn place(&self) -> Result<usize, Full> {
-        let key = self.pool.key();
-        let (kept, index) = QUICK_PLACES.with(|quick| quick[key as usize % QUICK].get());
-        if kept == key {
-            return Ok(index);
-        }
-        self.find_place(key)
-    }
-
-    /// The place among all those of this thread, or a new one.
-    #[cold]
-    fn find_place(&self, key: u64) -> Result<usize, Full> {
-        let full = Full { most: self.most() };
-        let found = PLACES.try_with(|places| {
-            // The push below allocates: an allocator that counts by thread comes here again from there, and is told `Full`.
-            let places = &mut places.try_borrow_mut().ok()?.0;
-            if let Some(place) = places.iter().find(|place| place.key == key) {
-                return Some(place.slot.index());
-            }
-            let admission = Admission::of(&self.admitted, self.most())?;
-            let slot = self.slot()?;
-            let index = slot.index();
-            places.retain(|place| place.owner.strong_count() > 0);
-            places.push(Place {
-                key,
-                owner: Arc::downgrade(&self.alive),
-                slot,
-                _admission: admission,
-            });
-            Some(index)
-        });
-        let index = found.ok().flatten().ok_or(full)?;
-        QUICK_PLACES.with(|quick| quick[key as usize % QUICK].set((key, index)));
-        Ok(index)
+/// The value of a call, or a panic with a sentence.
+#[inline]
+fn granted<R>(told: Result<R, Error>) -> R {
+    match told {
+        Ok(told) => told,
+        Err(why) => refused(why),
     }
 }
 
-impl<T> PerThread<T> {
-    /// A slot for a thread that is admitted: at most as many are as there are numbers, so one is free at each moment, and a
-    /// walk misses it only where another thread took it. None where memory was refused.
-    fn slot(&self) -> Option<OwnedSlot> {
-        loop {
-            match SlotOf::take(Arc::clone(&self.pool), Member::acquire) {
-                Ok(slot) => return Some(slot),
-                Err(Missed::NoMemory) => return None,
-                Err(Missed::AllHeld) => hint::spin_loop(),
-            }
-        }
+#[cold]
+#[inline(never)]
+fn refused(why: Error) -> ! {
+    panic!("this thread has no value of the PerThread: {why}")
+}
+
+impl<T> Default for PerThread<T> {
+    fn default() -> PerThread<T> {
+        PerThread::new()
     }
 }
 
-impl<T> fmt::Debug for PerThread<T> {
+impl<T> Drop for PerThread<T> {
+    fn drop(&mut self) {
+        self.clear();
+    }
+}
+
+impl<T: Sync + fmt::Debug> fmt::Debug for PerThread<T> {
     fn fmt(&self, f: &mut fmt::Formatter<'_>) -> fmt::Result {
-        f.debug_struct("PerThread")
-            .field("most", &self.most())
-            .field("threads", &self.pool.len())
-            .finish_non_exhaustive()
+        f.write_str("PerThread ")?;
+        f.debug_list().entries(self).finish()
     }
 }

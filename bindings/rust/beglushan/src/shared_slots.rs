@@ -1,12 +1,16 @@
-//! An array as long as a pool, which all may read.
+//! An array with an element for each number, which all may read.
 
-use crate::padded::Padded;
-use crate::pool::{Lent, Pool};
-use crate::slot::SlotOf;
+use crate::error::Error;
+use crate::numbers::{Holder, Numbers};
+use crate::padded::{padded, Padded};
 use std::fmt;
+use std::ops::Index;
 
-/// One element for each number of a pool, which all threads may read: counters that are summed, epochs that are scanned.
-/// A slot names the element that its holder alone writes to, by what `T` has of atomics. Each element has a cache line of its own.
+/// One element for each number of a [`Pool`](crate::Pool) or of [`Workers`](crate::Workers), which all threads may read: counters
+/// that are summed, epochs that are scanned.
+///
+/// A slot names the element that its holder alone writes to, by what `T` has of atomics. Each element has a cache line of its
+/// own. Who scans names elements by index.
 ///
 /// ```
 /// use beglushan::{Pool, SharedSlots};
@@ -19,6 +23,8 @@ use std::fmt;
 /// // Nobody else writes to it: a load and a store do.
 /// mine.store(mine.load(Relaxed) + 1, Relaxed);
 /// assert_eq!(counters.iter().map(|counter| counter.load(Relaxed)).sum::<u64>(), 1);
+/// assert_eq!(counters[slot.index()].load(Relaxed), 1);
+/// assert!(counters.at(4).is_none());
 /// # Ok::<(), beglushan::Error>(())
 /// ```
 pub struct SharedSlots<T> {
@@ -27,31 +33,56 @@ pub struct SharedSlots<T> {
 }
 
 impl<T> SharedSlots<T> {
-    /// An array for the numbers of a pool; the element of each is made from its index.
-    pub fn new(pool: &Pool, mut make: impl FnMut(usize) -> T) -> SharedSlots<T> {
-        SharedSlots {
-            key: pool.key(),
-            elements: (0..pool.size()).map(|index| Padded(make(index))).collect(),
-        }
+    /// An array for the numbers of a pool. The element of each number is made from its index.
+    ///
+    /// # Panics
+    ///
+    /// If an allocation failed, or if the elements are larger than any allocation can be. [`try_new`](SharedSlots::try_new)
+    /// answers an error then.
+    pub fn new(numbers: &impl Numbers, make: impl FnMut(usize) -> T) -> SharedSlots<T> {
+        SharedSlots::try_new(numbers, make).expect("memory for an element of each number")
     }
 
-    /// How many elements there are: as many as the pool has numbers.
+    /// The same, with an error in place of a panic.
+    ///
+    /// # Errors
+    ///
+    /// [`Error::NoMemory`]: an allocation failed, or the elements are larger than any allocation can be.
+    pub fn try_new(
+        numbers: &impl Numbers,
+        make: impl FnMut(usize) -> T,
+    ) -> Result<SharedSlots<T>, Error> {
+        Ok(SharedSlots {
+            key: numbers.key(),
+            elements: padded(numbers.count(), make).ok_or(Error::NoMemory)?,
+        })
+    }
+
+    /// How many elements there are: as many as there are numbers.
     #[must_use]
     #[allow(clippy::len_without_is_empty)] // no pool has no numbers
     pub fn len(&self) -> usize {
         self.elements.len()
     }
 
-    /// The element of a slot, to be written to while the slot is held. It may be kept longer: then the next holder writes to it too,
-    /// and a load and a store may lose what that one wrote.
+    /// The element of a holder, to be written to while the number is held. It may be kept longer. Then the next holder writes to
+    /// it too, and a load and a store may lose what that one wrote.
     ///
     /// # Panics
-    /// Where the slot is of another pool than the array was made for.
+    ///
+    /// If the holder's number is of another pool than the array was made for.
     #[must_use]
     #[inline]
-    pub fn get<P: Lent>(&self, slot: &SlotOf<P>) -> &T {
-        assert_eq!(slot.pool().key(), self.key, "a slot of another pool");
-        &self.elements[slot.index()].0
+    pub fn get(&self, holder: &impl Holder) -> &T {
+        assert_eq!(holder.key(), self.key, "a slot of another pool");
+        &self.elements[holder.place()].0
+    }
+
+    /// The element of the number `index + 1`. None if there is no such number.
+    #[must_use]
+    #[inline]
+    pub fn at(&self, index: usize) -> Option<&T> {
+        self.elements.get(index).map(|element| &element.0)
     }
 
     /// All elements, by rising number.
@@ -67,6 +98,15 @@ impl<T> SharedSlots<T> {
             .into_iter()
             .map(|element| element.0)
             .collect()
+    }
+}
+
+impl<T> Index<usize> for SharedSlots<T> {
+    type Output = T;
+
+    /// The element of the number `index + 1`.
+    fn index(&self, index: usize) -> &T {
+        &self.elements[index].0
     }
 }
 

@@ -1,10 +1,14 @@
 //! A number that is held.
 
-use crate::member::Member;
+use crate::error::Error;
+use crate::library::Member;
 use crate::pool::{Lent, Pool};
 use std::cell::Cell;
+use std::cmp::Ordering;
 use std::fmt;
+use std::hash::{Hash, Hasher};
 use std::marker::PhantomData;
+use std::mem::ManuallyDrop;
 use std::num::NonZeroUsize;
 use std::sync::Arc;
 
@@ -14,10 +18,12 @@ pub type Slot<'pool> = SlotOf<&'pool Pool>;
 /// A slot that keeps its pool.
 pub type OwnedSlot = SlotOf<Arc<Pool>>;
 
-/// A number of a pool that nobody else holds, given back when this is dropped, in a panic too. What was written before it was dropped
-/// is seen by whoever holds the number next. A slot that is forgotten (`mem::forget`) keeps its number, and the pool's words, for good.
+/// A number of a pool that nobody else holds. Dropping the slot gives the number back, in a panic too.
 ///
-/// It may go to another thread, but two threads can't share one slot, so its place of an array is one thread's at a time:
+/// The next holder of the number sees what was written before the slot was dropped. A slot that is forgotten (`mem::forget`)
+/// keeps its number, and the pool's words, for good. Slots are ordered by pool and then by number.
+///
+/// A slot may go to another thread, but two threads can't share one. So its place of an array is one thread's at a time:
 ///
 /// ```
 /// fn goes<T: Send>() {}
@@ -27,38 +33,31 @@ pub type OwnedSlot = SlotOf<Arc<Pool>>;
 /// fn shares<T: Sync>() {}
 /// shares::<beglushan::Slot<'static>>();
 /// ```
+#[must_use = "a slot that is dropped gives its number back at once"]
 pub struct SlotOf<P: Lent> {
     // It is taken out when the slot is dropped.
-    member: Option<Member>,
+    member: ManuallyDrop<Member>,
     number: NonZeroUsize,
     pool: P,
     // A cell is not `Sync`, and so neither is a slot.
     one_thread: PhantomData<Cell<()>>,
 }
 
-/// Why a call has no number.
-pub(crate) enum Missed {
-    /// It met each number held, one after another.
-    AllHeld,
-    /// The library was refused memory for a member.
-    NoMemory,
-}
-
 impl<P: Lent> SlotOf<P> {
-    /// A slot with the number that a member of the pool is given.
-    #[inline]
+    /// A slot with the number that a member of the pool is given. The member is asked with the number that it had last.
+    #[inline(always)]
     pub(crate) fn take(
         pool: P,
-        ask: impl FnOnce(&mut Member) -> Option<NonZeroUsize>,
-    ) -> Result<SlotOf<P>, Missed> {
-        let mut member = pool.member().ok_or(Missed::NoMemory)?;
-        let Some(number) = ask(&mut member) else {
-            pool.keep(member);
-            return Err(Missed::AllHeld);
+        ask: impl FnOnce(&mut Member, usize) -> Option<NonZeroUsize>,
+    ) -> Result<SlotOf<P>, Error> {
+        let (mut member, last) = pool.member()?;
+        let Some(number) = ask(&mut member, last) else {
+            pool.keep(member, last);
+            return Err(Error::Full { most: pool.size() });
         };
         pool.mark(number);
         Ok(SlotOf {
-            member: Some(member),
+            member: ManuallyDrop::new(member),
             number,
             pool,
             one_thread: PhantomData,
@@ -81,17 +80,48 @@ impl<P: Lent> SlotOf<P> {
 
     /// The pool that the number is of.
     #[must_use]
+    #[inline]
     pub fn pool(&self) -> &Pool {
         &self.pool
+    }
+
+    fn place(&self) -> (u64, NonZeroUsize) {
+        (self.pool.key(), self.number)
     }
 }
 
 impl<P: Lent> Drop for SlotOf<P> {
-    #[inline]
+    #[inline(always)]
     fn drop(&mut self) {
-        if let Some(member) = self.member.take() {
-            self.pool.give_back(member, self.number);
-        }
+        // SAFETY: it is taken out here alone.
+        let member = unsafe { ManuallyDrop::take(&mut self.member) };
+        self.pool.give_back(member, self.number);
+    }
+}
+
+impl<P: Lent, Q: Lent> PartialEq<SlotOf<Q>> for SlotOf<P> {
+    fn eq(&self, other: &SlotOf<Q>) -> bool {
+        self.place() == other.place()
+    }
+}
+
+impl<P: Lent> Eq for SlotOf<P> {}
+
+impl<P: Lent, Q: Lent> PartialOrd<SlotOf<Q>> for SlotOf<P> {
+    fn partial_cmp(&self, other: &SlotOf<Q>) -> Option<Ordering> {
+        Some(self.place().cmp(&other.place()))
+    }
+}
+
+impl<P: Lent> Ord for SlotOf<P> {
+    fn cmp(&self, other: &SlotOf<P>) -> Ordering {
+        self.place().cmp(&other.place())
+    }
+}
+
+impl<P: Lent> Hash for SlotOf<P> {
+    fn hash<H: Hasher>(&self, state: &mut H) {
+        self.place().hash(state);
     }
 }
 

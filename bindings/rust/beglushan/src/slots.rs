@@ -1,15 +1,16 @@
-//! An array as long as a pool, of which a slot lends its own element.
+//! An array with an element for each number, of which a holder has its own.
 
-use crate::padded::Padded;
-use crate::pool::{Lent, Pool};
-use crate::slot::SlotOf;
+use crate::error::Error;
+use crate::numbers::{Holder, Numbers};
+use crate::padded::{padded, Padded};
 use std::cell::UnsafeCell;
 use std::fmt;
 
-/// One element for each number of a pool. Who holds a slot has its element alone, with no lock and no atomic on the way; each
-/// element has a cache line of its own. A holder finds it as the last one left it, in a panic too: nothing is poisoned.
+/// One element for each number of a [`Pool`](crate::Pool) or of [`Workers`](crate::Workers). A holder has its element alone, with
+/// no lock and no atomic on the way.
 ///
-/// A slot lends one element at a time, so what a holder needs at once stands in one `T`, as a tuple or a struct.
+/// Each element has a cache line of its own. A holder finds it as the last one left it, in a panic too: nothing is poisoned. A
+/// slot lends one element at a time, so what a holder needs at once stands in one `T`, as a tuple or a struct.
 ///
 /// ```
 /// use beglushan::{Pool, Slots};
@@ -49,43 +50,66 @@ pub struct Slots<T> {
     elements: Box<[Padded<UnsafeCell<T>>]>,
 }
 
-// SAFETY: an element is reached through `&mut` of the slot of its number, which one thread has at a time, or through `&mut self`;
-// so sharing the array lends an element to one thread after another, which is what `Send` allows.
+// SAFETY: an element is reached through `&mut` of the holder of its number, which one thread has at a time, or through
+// `&mut self`. So sharing the array lends an element to one thread after another, which is what `Send` allows.
 unsafe impl<T: Send> Sync for Slots<T> {}
 
 impl<T> Slots<T> {
-    /// An array for the numbers of a pool; the element of each is made from its index.
-    pub fn new(pool: &Pool, mut make: impl FnMut(usize) -> T) -> Slots<T> {
-        let elements = (0..pool.size())
-            .map(|index| Padded(UnsafeCell::new(make(index))))
-            .collect();
-        Slots {
-            key: pool.key(),
-            elements,
-        }
+    /// An array for the numbers of a pool. The element of each number is made from its index.
+    ///
+    /// # Panics
+    ///
+    /// If an allocation failed, or if the elements are larger than any allocation can be. [`try_new`](Slots::try_new) answers
+    /// an error then.
+    pub fn new(numbers: &impl Numbers, make: impl FnMut(usize) -> T) -> Slots<T> {
+        Slots::try_new(numbers, make).expect("memory for an element of each number")
     }
 
-    /// How many elements there are: as many as the pool has numbers.
+    /// The same, with an error in place of a panic.
+    ///
+    /// # Errors
+    ///
+    /// [`Error::NoMemory`]: an allocation failed, or the elements are larger than any allocation can be.
+    pub fn try_new(
+        numbers: &impl Numbers,
+        mut make: impl FnMut(usize) -> T,
+    ) -> Result<Slots<T>, Error> {
+        let elements = padded(numbers.count(), |index| UnsafeCell::new(make(index)));
+        Ok(Slots {
+            key: numbers.key(),
+            elements: elements.ok_or(Error::NoMemory)?,
+        })
+    }
+
+    /// How many elements there are: as many as there are numbers.
     #[must_use]
     #[allow(clippy::len_without_is_empty)] // no pool has no numbers
     pub fn len(&self) -> usize {
         self.elements.len()
     }
 
-    /// The element of a slot.
+    /// The element of a holder.
     ///
     /// # Panics
-    /// Where the slot is of another pool than the array was made for.
+    ///
+    /// If the holder's number is of another pool than the array was made for.
     #[inline]
-    pub fn get<'a, P: Lent>(&'a self, slot: &'a mut SlotOf<P>) -> &'a mut T {
-        assert_eq!(slot.pool().key(), self.key, "a slot of another pool");
-        let element = self.elements[slot.index()].0.get();
-        // SAFETY: two slots of one pool have two numbers while both live (proved of the library: a number that is held is
-        // nobody else's; a slot that is forgotten keeps its own). A slot shows one pool all its life (`Lent` is sealed), whose
-        // key is no other pool's. The slot is borrowed alone for as long as the element is. The last holder's writes come before
-        // this: dropping its slot stored 0 in the number's word, which this slot's taking swapped, both sequentially consistent;
-        // and the pool's mark of the number was stored and read in the same order.
+    pub fn get<'a>(&'a self, holder: &'a mut impl Holder) -> &'a mut T {
+        assert_eq!(holder.key(), self.key, "a slot of another pool");
+        let element = self.elements[holder.place()].0.get();
+        // SAFETY: two holders of one pool have two numbers while both live. The library proves that a number that is held is
+        // nobody else's; a slot that is forgotten keeps its own. A holder shows one pool all its life (`Holder` and `Lent` are
+        // sealed), whose key is no other pool's. The holder is borrowed alone for as long as the element is. The last holder's
+        // writes come before this: giving its number back stored 0 in the number's word, which the taking swapped, both
+        // sequentially consistent. A pool's mark of the number was stored and read in the same order.
         unsafe { &mut *element }
+    }
+
+    /// The element of the number `index + 1`, with nobody holding one. None if there is no such number.
+    pub fn get_mut(&mut self, index: usize) -> Option<&mut T> {
+        self.elements
+            .get_mut(index)
+            .map(|element| element.0.get_mut())
     }
 
     /// All elements, by rising number, with nobody holding one.

@@ -11,15 +11,13 @@ const THREADS: usize = 8;
 
 struct Counting;
 
-static COUNTS: OnceLock<PerThread<AtomicU64>> = OnceLock::new();
+static COUNTS: PerThread<AtomicU64> = PerThread::new();
 static POOL: OnceLock<Pool> = OnceLock::new();
 
 // SAFETY: memory is the system's; what is counted beside it is no memory.
 unsafe impl GlobalAlloc for Counting {
     unsafe fn alloc(&self, layout: Layout) -> *mut u8 {
-        if let Some(counts) = COUNTS.get() {
-            let _ = counts.with(|mine| mine.store(mine.load(Relaxed) + 1, Relaxed));
-        }
+        let _ = COUNTS.try_with(|mine| mine.store(mine.load(Relaxed) + 1, Relaxed));
         // Two slots at once, so that a member goes to the thread's list.
         drop(POOL.get().map(|pool| (pool.acquire(), pool.acquire())));
         // SAFETY: as the caller owes it.
@@ -38,10 +36,8 @@ static ALLOCATOR: Counting = Counting;
 #[test]
 fn counts_its_threads() {
     const EACH: u64 = 1000;
-    COUNTS.get_or_init(|| PerThread::new(64).unwrap());
     POOL.get_or_init(|| Pool::new(64).unwrap());
-    let counts = COUNTS.get().unwrap();
-    let before = counts.sum(|count| count.load(Relaxed));
+    let before = COUNTS.sum(|count| count.load(Relaxed));
     for _ in 0..100 {
         thread::scope(|scope| {
             for _ in 0..THREADS {
@@ -49,7 +45,7 @@ fn counts_its_threads() {
             }
         });
     }
-    let counted = counts.sum(|count| count.load(Relaxed)) - before;
+    let counted = COUNTS.sum(|count| count.load(Relaxed)) - before;
     assert!(counted >= 100 * THREADS as u64 * EACH, "{counted}");
     assert!(POOL.get().unwrap().is_empty());
 }

@@ -1,7 +1,8 @@
 //! Values for threads that begin and end.
 
-use beglushan::{Full, PerThread};
-use std::cell::Cell;
+use beglushan::{Error, PerThread};
+use std::cell::{Cell, RefCell};
+use std::panic::{catch_unwind, AssertUnwindSafe};
 use std::sync::atomic::{AtomicU64, AtomicUsize, Ordering::Relaxed};
 use std::sync::{Arc, Barrier};
 use std::thread;
@@ -9,17 +10,17 @@ use std::thread;
 #[test]
 fn one_value_a_thread() {
     let made = AtomicUsize::new(0);
-    let values = PerThread::<usize>::new(4).unwrap();
+    let values = PerThread::<usize>::new();
     let make = || made.fetch_add(1, Relaxed);
-    let mine = *values.get_or(make).unwrap();
-    assert_eq!(*values.get_or(make).unwrap(), mine);
+    let mine = *values.get_or(make);
+    assert_eq!(*values.get_or(make), mine);
     let gate = Barrier::new(3);
     thread::scope(|scope| {
         for _ in 0..3 {
             scope.spawn(|| {
-                let theirs = *values.get_or(make).unwrap();
+                let theirs = *values.get_or(make);
                 gate.wait();
-                assert_eq!(*values.get_or(make).unwrap(), theirs);
+                assert_eq!(*values.get_or(make), theirs);
                 assert_ne!(theirs, mine);
             });
         }
@@ -30,60 +31,23 @@ fn one_value_a_thread() {
     assert_eq!(all, [0, 1, 2, 3]);
 }
 
-/// One thread more than there are places is told so, and is served once another has ended.
+/// A thread whose index is past the bound is told so, and one with a smaller index is served.
 #[test]
-fn full_and_free_again() {
-    let values = PerThread::<AtomicU64>::new(2).unwrap();
-    values.with(|mine| mine.fetch_add(1, Relaxed)).unwrap();
-    thread::scope(|scope| {
-        scope
-            .spawn(|| {
-                values.with(|mine| mine.fetch_add(1, Relaxed)).unwrap();
-                thread::scope(|inner| {
-                    inner.spawn(|| {
-                        assert_eq!(
-                            values.get_or(AtomicU64::default).unwrap_err(),
-                            Full { most: 2 }
-                        )
-                    });
-                });
-            })
-            .join()
-            .unwrap();
-        // The thread's places are given back before it can be joined by `join` or not: so this asks until it is so.
-        scope.spawn(|| while values.with(|mine| mine.fetch_add(1, Relaxed)).is_err() {});
-    });
-    assert_eq!(values.iter().count(), 2);
-    assert_eq!(values.sum(|counter| counter.load(Relaxed)), 3);
-    assert_eq!(Full { most: 2 }.to_string(), "more than 2 threads at once");
-}
-
-/// A hundred thousand threads, at most eight at once: at most eight values, and the sum of all.
-#[test]
-fn a_hundred_thousand_threads() {
-    const AT_ONCE: usize = 8;
-    const THREADS: usize = 100_000;
-    let counters = PerThread::<AtomicU64>::new(AT_ONCE).unwrap();
-    thread::scope(|scope| {
-        for _ in 0..AT_ONCE {
-            scope.spawn(|| {
-                for _ in 0..THREADS / AT_ONCE {
-                    // A thread that is joined has run its destructors, so at most eight have a place.
-                    thread::scope(|inner| {
-                        inner
-                            .spawn(|| counters.with(add_one).unwrap())
-                            .join()
-                            .unwrap()
-                    });
-                }
-            });
-        }
-    });
-    assert!(counters.iter().count() <= AT_ONCE);
+fn bounded() {
+    let none = PerThread::<u64>::bounded(0);
+    assert_eq!(none.try_with(|_| ()), Err(Error::Full { most: 0 }));
     assert_eq!(
-        counters.sum(|counter| counter.load(Relaxed)),
-        THREADS as u64
+        Error::Full { most: 0 }.to_string(),
+        "all of 0 places are taken"
     );
+    let refused = catch_unwind(AssertUnwindSafe(|| none.with(|_| ()))).unwrap_err();
+    let sentence = refused.downcast::<String>().unwrap();
+    assert_eq!(
+        *sentence,
+        "this thread has no value of the PerThread: all of 0 places are taken"
+    );
+    let mine = PerThread::<u64>::bounded(none.index() + 1);
+    assert_eq!(mine.try_with(|value| *value), Ok(0));
 }
 
 /// By a load and a store, which lose counts where two threads have one counter.
@@ -91,73 +55,201 @@ fn add_one(mine: &AtomicU64) {
     mine.store(mine.load(Relaxed) + 1, Relaxed);
 }
 
-/// More of them than are found without a search, by turns, in several threads.
+/// Many of them by turns, in several threads.
 #[test]
 fn many_side_by_side() {
-    let all: Vec<PerThread<AtomicU64>> = (0..20).map(|_| PerThread::new(3).unwrap()).collect();
+    let all: Vec<PerThread<AtomicU64>> = (0..200).map(|_| PerThread::new()).collect();
     thread::scope(|scope| {
         for _ in 0..3 {
             scope.spawn(|| {
-                for _ in 0..100 {
-                    all.iter()
-                        .for_each(|counters| counters.with(add_one).unwrap());
+                for _ in 0..10 {
+                    all.iter().for_each(|counters| counters.with(add_one));
                 }
             });
         }
     });
     assert!(all
         .iter()
-        .all(|counters| counters.sum(|counter| counter.load(Relaxed)) == 300));
+        .all(|counters| counters.sum(|counter| counter.load(Relaxed)) == 30));
+}
+
+/// More threads at once than the first line has numbers, with memory at hand for some.
+#[test]
+fn more_threads_than_a_line() {
+    const THREADS: usize = if cfg!(miri) { 8 } else { 300 };
+    let values = PerThread::<Cell<u64>>::with_capacity(100);
+    let gate = Barrier::new(THREADS);
+    thread::scope(|scope| {
+        for id in 0..THREADS as u64 {
+            let (values, gate) = (&values, &gate);
+            scope.spawn(move || {
+                values.with(|mine| mine.set(mine.get() + id));
+                gate.wait();
+                values.with(|mine| assert_eq!(mine.get(), id, "somebody else wrote here"));
+                gate.wait();
+            });
+        }
+    });
+    let sum: u64 = values.into_iter().map(Cell::into_inner).sum();
+    assert_eq!(sum, (0..THREADS as u64).sum());
 }
 
 /// A value that is used by the destructor of another thread-local is not somebody else's.
 #[test]
 fn in_destructors() {
-    struct Last(Cell<Option<Arc<PerThread<AtomicU64>>>>);
+    struct Last(Cell<Option<Arc<PerThread<Cell<u64>>>>>);
     impl Drop for Last {
         fn drop(&mut self) {
             if let Some(counters) = self.0.take() {
-                let _ = counters.with(add_one);
+                counters.with(|mine| {
+                    mine.set(mine.get() + 1);
+                    // Another value, or the same.
+                    counters.with(|mine| mine.set(mine.get() + 1));
+                });
             }
         }
     }
     thread_local!(static LAST: Last = const { Last(Cell::new(None)) });
-    let counters = Arc::new(PerThread::<AtomicU64>::new(1).unwrap());
-    for _ in 0..100 {
+    let counters = Arc::new(PerThread::<Cell<u64>>::new());
+    for turn in 0..if cfg!(miri) { 4 } else { 100 } {
         let theirs = Arc::clone(&counters);
-        thread::spawn(move || {
+        let set = move || {
+            if turn % 2 == 0 {
+                theirs.with(|mine| mine.set(mine.get() + 1));
+            }
             LAST.with(|last| last.0.set(Some(Arc::clone(&theirs))));
-            theirs.with(add_one).unwrap();
-        })
-        .join()
-        .unwrap();
+            theirs.with(|mine| mine.set(mine.get() + 1));
+        };
+        thread::spawn(set).join().unwrap();
     }
-    let told = counters.sum(|counter| counter.load(Relaxed));
-    assert!((100..=200).contains(&told), "{told}");
+    let counters = Arc::into_inner(counters).unwrap();
+    let told: u64 = counters.into_iter().map(Cell::into_inner).sum();
+    assert_eq!(told, if cfg!(miri) { 14 } else { 350 });
 }
 
 /// Values are set back, and taken out, when nobody uses them.
 #[test]
 fn set_back_and_taken_out() {
-    let mut counters = PerThread::<AtomicU64>::new(4).unwrap();
-    counters.with(add_one).unwrap();
+    let mut counters = PerThread::<AtomicU64>::new();
+    counters.with(add_one);
     counters
         .iter_mut()
         .for_each(|counter| *counter.get_mut() = 7);
-    counters.with(add_one).unwrap();
+    counters.with(add_one);
+    for counter in &mut counters {
+        *counter.get_mut() += 1;
+    }
+    for counter in &counters {
+        assert_eq!(counter.load(Relaxed), 9);
+    }
+    counters.clear();
+    assert!(counters.get().is_none() && counters.iter().next().is_none());
+    counters.with(add_one);
     let all: Vec<u64> = counters
         .into_inner()
         .into_iter()
         .map(AtomicU64::into_inner)
         .collect();
-    assert_eq!(all, [8]);
+    assert_eq!(all, [1]);
 }
 
 /// Those that were dropped are forgotten, and a new one is not taken for an old one.
 #[test]
 fn made_and_dropped() {
-    for turn in 0..1000 {
-        let values = PerThread::<u64>::new(1).unwrap();
-        assert_eq!(*values.get_or(|| turn).unwrap(), turn);
+    for turn in 0..if cfg!(miri) { 10 } else { 1000 } {
+        let values = PerThread::<u64>::new();
+        assert_eq!(*values.get_or(|| turn), turn);
     }
+}
+
+/// A value whose making asks for the same value is refused by an error or a sentence, and never hangs.
+#[test]
+fn within_itself() {
+    let values = PerThread::<u64>::new();
+    let nested = || values.try_get_or(|| 2).err();
+    let mut told = None;
+    assert_eq!(
+        *values.get_or(|| {
+            told = nested();
+            assert!(values.get().is_none());
+            1
+        }),
+        1
+    );
+    assert_eq!(told, Some(Error::Nested));
+    let values = PerThread::<u64>::new();
+    let caught = catch_unwind(AssertUnwindSafe(|| *values.get_or(|| *values.get_or(|| 1))));
+    let sentence = caught.unwrap_err().downcast::<String>().unwrap();
+    assert!(sentence.ends_with("called from within the call that makes the value"));
+    assert_eq!(*values.get_or(|| 3), 3, "the place is free after a panic");
+}
+
+#[derive(Debug)]
+struct Itself;
+
+static OF_ITSELF: PerThread<Itself> = PerThread::new();
+
+impl Default for Itself {
+    fn default() -> Itself {
+        let nested = OF_ITSELF.try_with(|_| ());
+        assert_eq!(nested, Err(Error::Nested));
+        Itself
+    }
+}
+
+#[test]
+fn a_default_that_asks_for_itself() {
+    OF_ITSELF.with(|_| ());
+}
+
+#[test]
+fn tried() {
+    let values = PerThread::<String>::new();
+    assert_eq!(values.get_or_try(|| Err::<String, _>("no")), Err("no"));
+    assert_eq!(
+        values
+            .get_or_try(|| Ok::<_, ()>("yes".to_string()))
+            .unwrap(),
+        "yes"
+    );
+    assert_eq!(values.get_or_default(), "yes");
+    assert_eq!(values.get().map(String::as_str), Some("yes"));
+    assert_eq!(format!("{values:?}"), "PerThread [\"yes\"]");
+}
+
+/// A value in a `RefCell`, which its thread changes.
+#[test]
+fn in_a_cell() {
+    let lists = PerThread::<RefCell<Vec<usize>>>::default();
+    thread::scope(|scope| {
+        for id in 0..4 {
+            let lists = &lists;
+            scope.spawn(move || {
+                (0..10).for_each(|_| lists.with(|mine| mine.borrow_mut().push(id)));
+            });
+        }
+    });
+    let mut all: Vec<usize> = lists.into_iter().flat_map(RefCell::into_inner).collect();
+    all.sort_unstable();
+    assert_eq!(all.len(), 40);
+    assert_eq!(all[35], 3);
+}
+
+/// A value for which there is no room is refused by an error.
+#[test]
+#[cfg_attr(miri, ignore = "it wants an allocator that refuses")]
+fn too_large() {
+    type Huge = [u8; 1 << 46];
+    let values = PerThread::<Huge>::new();
+    let told = values.try_with_or(|| unreachable!("there is no room"), |_| ());
+    assert_eq!(told, Err(Error::NoMemory));
+}
+
+/// All `PerThread`s have one index for a thread.
+#[test]
+fn one_index() {
+    let (one, other) = (PerThread::<u8>::new(), PerThread::<String>::new());
+    assert_eq!(one.index(), other.index());
+    let theirs = thread::scope(|scope| scope.spawn(|| one.index()).join().unwrap());
+    assert_ne!(theirs, one.index());
 }

@@ -24,7 +24,7 @@ fn sizes() {
     }
     assert_eq!(
         Pool::new(0).unwrap_err().to_string(),
-        "from 1 to 4096, and not 0"
+        "a size is from 1 to 4096, and not 0"
     );
 }
 
@@ -56,6 +56,7 @@ fn hints() {
     let pool = Pool::new(8).unwrap();
     let five = pool.acquire_near(5).unwrap();
     assert_eq!(five.number(), 5);
+    assert_eq!(pool.acquire_least().unwrap().number(), 1);
     assert_eq!(pool.acquire_near(5).unwrap().number(), 1);
     for hint in [0, 1, 9, usize::MAX] {
         assert_eq!(pool.acquire_near(hint).unwrap().number(), 1, "{hint}");
@@ -65,6 +66,7 @@ fn hints() {
 /// Each holder writes its element by plain writes and reads it back, millions of times; nobody else's write is ever met, and
 /// the last holder's is.
 fn canaries(threads: usize, size: usize, stays: usize) {
+    let stays = if cfg!(miri) { 50 } else { stays };
     let pool = Pool::new(size).unwrap();
     let elements = Slots::new(&pool, |_| [0_u64; 4]);
     let gate = Barrier::new(threads);
@@ -75,10 +77,10 @@ fn canaries(threads: usize, size: usize, stays: usize) {
             scope.spawn(move || {
                 gate.wait();
                 for stay in 0..stays {
-                    let slot = if stay % 2 == 0 {
-                        pool.acquire()
-                    } else {
-                        pool.acquire_near(id as usize)
+                    let slot = match stay % 3 {
+                        0 => pool.acquire(),
+                        1 => pool.acquire_near(id as usize),
+                        _ => pool.acquire_least(),
                     };
                     let Some(mut slot) = slot else { continue };
                     let mine = elements.get(&mut slot);
@@ -182,14 +184,16 @@ fn owned_slots_near_and_in_time() {
     let rest: Vec<OwnedSlot> = (0..3)
         .map(|_| pool.acquire_timeout_owned(Duration::ZERO).unwrap())
         .collect();
-    assert!(pool
-        .acquire_timeout_owned(Duration::from_millis(5))
-        .is_none());
+    assert_eq!(
+        pool.acquire_timeout_owned(Duration::from_millis(5)).err(),
+        Some(Error::TimedOut)
+    );
     let theirs = Arc::clone(&pool);
     let waits = thread::spawn(move || {
         theirs
             .acquire_timeout_owned(Duration::from_secs(60))
             .map(|slot| slot.number())
+            .ok()
     });
     thread::sleep(Duration::from_millis(20));
     drop(near);
@@ -236,11 +240,14 @@ fn waits_for_a_number() {
     assert_eq!(pool.acquire_timeout(Duration::ZERO).unwrap().number(), 1);
     let slot = pool.acquire().unwrap();
     let begun = Instant::now();
-    assert!(pool.acquire_timeout(Duration::from_millis(20)).is_none());
+    assert_eq!(
+        pool.acquire_timeout(Duration::from_millis(20)).err(),
+        Some(Error::TimedOut)
+    );
     assert!(begun.elapsed() >= Duration::from_millis(20));
     thread::scope(|scope| {
         for _ in 0..4 {
-            scope.spawn(|| assert!(pool.acquire_timeout(Duration::from_secs(60)).is_some()));
+            scope.spawn(|| assert!(pool.acquire_timeout(Duration::from_secs(60)).is_ok()));
         }
         thread::sleep(Duration::from_millis(20));
         drop(slot);
@@ -249,7 +256,7 @@ fn waits_for_a_number() {
         begun.elapsed() < Duration::from_secs(50),
         "each release wakes one"
     );
-    assert!(pool.acquire_timeout(Duration::MAX).is_some());
+    assert!(pool.acquire_timeout(Duration::MAX).is_ok());
 }
 
 /// A thousand waits and releases by turns: no wake-up is lost.
@@ -278,4 +285,72 @@ fn what_it_says_of_itself() {
     let slot = pool.acquire().unwrap();
     assert_eq!(format!("{pool:?}"), "Pool { size: 3, len: 1 }");
     assert_eq!(format!("{slot:?}"), "Slot { number: 1, .. }");
+}
+
+/// Slots have an order, by pool and number, and go into sets.
+#[test]
+#[allow(clippy::mutable_key_type)] // words are no part of what is compared
+fn slots_are_told_apart() {
+    let (pool, other) = (Arc::new(Pool::new(2).unwrap()), Pool::new(2).unwrap());
+    let (one, two) = (pool.acquire().unwrap(), pool.acquire_owned().unwrap());
+    assert!(one != two && one < two);
+    assert_ne!(one, other.acquire().unwrap());
+    let numbers: std::collections::HashSet<Slot> = [one, other.acquire().unwrap()].into();
+    assert_eq!(numbers.len(), 2);
+}
+
+/// A thread has the number that it had last, pool by pool, however many pools there are.
+#[test]
+fn the_last_number_again() {
+    let pools: Vec<Pool> = (0..100).map(|_| Pool::new(8).unwrap()).collect();
+    for (place, pool) in pools.iter().enumerate() {
+        assert_eq!(
+            pool.acquire_near(1 + place % 8).unwrap().number(),
+            1 + place % 8
+        );
+    }
+    for _ in 0..3 {
+        for (place, pool) in pools.iter().enumerate() {
+            assert_eq!(pool.acquire().unwrap().number(), 1 + place % 8);
+            assert_eq!(pool.acquire_least().unwrap().number(), 1);
+            drop(pool.acquire_near(1 + place % 8));
+        }
+    }
+}
+
+/// More slots at once than a thread keeps members, again and again.
+#[test]
+fn many_slots_at_once() {
+    let pool = Pool::new(64).unwrap();
+    for _ in 0..10 {
+        let all: Vec<Slot> = (0..64).map(|_| pool.acquire().unwrap()).collect();
+        assert_eq!(
+            all.iter().map(Slot::number).collect::<BTreeSet<_>>().len(),
+            64
+        );
+    }
+}
+
+#[test]
+fn elements_by_index() {
+    let pool = Pool::new(3).unwrap();
+    let mut elements = Slots::new(&pool, |index| index);
+    *elements.get_mut(1).unwrap() = 7;
+    assert!(elements.get_mut(3).is_none());
+    assert_eq!(elements.into_inner(), [0, 7, 2]);
+    let shared = SharedSlots::new(&pool, |index| AtomicU64::new(index as u64));
+    assert_eq!(shared[2].load(Relaxed), 2);
+    assert!(shared.at(3).is_none());
+}
+
+/// Elements that no allocation has room for are refused by an error.
+#[test]
+#[cfg_attr(miri, ignore = "it wants an allocator that refuses")]
+fn elements_too_large() {
+    type Huge = [u8; 1 << 46];
+    let pool = Pool::new(4096).unwrap();
+    let shared = SharedSlots::<Huge>::try_new(&pool, |_| unreachable!("there is no room"));
+    assert_eq!(shared.err(), Some(Error::NoMemory));
+    let own = Slots::<Huge>::try_new(&pool, |_| unreachable!("there is no room"));
+    assert_eq!(own.err(), Some(Error::NoMemory));
 }

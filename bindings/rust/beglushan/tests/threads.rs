@@ -1,6 +1,9 @@
 //! What may go to other threads, and what a thread leaves when it ends.
 
-use beglushan::{Error, Full, Names, OwnedSlot, PerThread, Pool, Seat, SharedSlots, Slot, Slots};
+use beglushan::{
+    Error, Names, OwnedSlot, OwnedWorker, PerThread, Pool, Seat, SharedSlots, Slot, Slots, Stay,
+    Worker, Workers,
+};
 use std::cell::{Cell, RefCell};
 use std::panic::{catch_unwind, AssertUnwindSafe, RefUnwindSafe, UnwindSafe};
 use std::rc::Rc;
@@ -16,9 +19,9 @@ fn may_go_or_be_shared() {
     is_shared::<Pool>();
     is_shared::<Slots<Cell<u64>>>();
     is_shared::<SharedSlots<AtomicU64>>();
-    is_shared::<PerThread<AtomicU64>>();
-    is_shared::<(Error, Full)>();
-    goes::<(Slot, OwnedSlot, Names, Seat)>();
+    is_shared::<(PerThread<AtomicU64>, PerThread<Cell<u64>>)>();
+    is_shared::<(Error, Workers)>();
+    goes::<(Slot, OwnedSlot, Names, Seat, Worker, OwnedWorker, Stay)>();
     goes::<(SharedSlots<Cell<u64>>, PerThread<Cell<u64>>)>();
 }
 
@@ -37,7 +40,8 @@ macro_rules! is_not {
 #[test]
 fn may_not() {
     is_not!(Sync: Slot, OwnedSlot, Names, Seat, MutexGuard<'static, Cell<u64>>);
-    is_not!(Sync: Slots<Rc<u64>>, Slots<MutexGuard<'static, u64>>, SharedSlots<Cell<u64>>, PerThread<Cell<u64>>);
+    is_not!(Sync: Slots<Rc<u64>>, Slots<MutexGuard<'static, u64>>, SharedSlots<Cell<u64>>);
+    is_not!(Sync: PerThread<Rc<u64>>, PerThread<MutexGuard<'static, u64>>, Worker, OwnedWorker, Stay);
     is_not!(Send: Slots<Rc<u64>>, SharedSlots<Rc<u64>>, PerThread<Rc<u64>>);
 }
 
@@ -46,9 +50,9 @@ fn in_panics() {
     fn may_be_met_after<T: UnwindSafe + RefUnwindSafe>() {}
     may_be_met_after::<Pool>();
     may_be_met_after::<PerThread<AtomicU64>>();
-    let values = PerThread::<u64>::new(1).unwrap();
-    assert!(catch_unwind(|| values.get_or(|| panic!("no value")).copied()).is_err());
-    assert_eq!(values.get_or(|| 7), Ok(&7));
+    let values = PerThread::<u64>::new();
+    assert!(catch_unwind(|| *values.get_or(|| panic!("no value"))).is_err());
+    assert_eq!(values.get_or(|| 7), &7);
     let pool = Pool::new(1).unwrap();
     let elements = Slots::new(&pool, |_| 0);
     let half_way = || {
@@ -69,7 +73,7 @@ thread_local!(static KEPT: RefCell<Vec<OwnedSlot>> = const { RefCell::new(Vec::n
 #[test]
 fn a_thread_that_ends_gives_back_what_it_keeps() {
     let pool = Arc::new(Pool::new(4).unwrap());
-    for turn in 0..200 {
+    for turn in 0..if cfg!(miri) { 4 } else { 200 } {
         let theirs = Arc::clone(&pool);
         let keep = move || {
             if turn % 2 == 0 {
@@ -95,7 +99,7 @@ fn taken_here_and_dropped_there() {
     let (send, receive) = std::sync::mpsc::sync_channel::<OwnedSlot>(8);
     thread::scope(|scope| {
         scope.spawn(move || receive.into_iter().for_each(drop));
-        for _ in 0..20_000 {
+        for _ in 0..if cfg!(miri) { 100 } else { 20_000 } {
             // Eight in the channel, one that is dropped, and this one.
             send.send(pool.acquire_near_owned(3).expect("sixteen for ten"))
                 .unwrap();

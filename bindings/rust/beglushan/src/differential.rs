@@ -1,0 +1,181 @@
+//! The proved library and the plain one beside it, called alike: one thread has the same answers of both, by drawn schedules,
+//! and many threads have the same laws.
+
+use crate::{plain, proved};
+use std::num::NonZeroUsize;
+use std::sync::atomic::{AtomicUsize, Ordering::SeqCst};
+use std::thread;
+
+/// Draws by a multiplication (Steele and others 2014, the last step of SplitMix).
+struct Draws(u64);
+
+impl Draws {
+    fn below(&mut self, most: usize) -> usize {
+        self.0 = self.0.wrapping_add(0x9E37_79B9_7F4A_7C15);
+        let mixed = (self.0 ^ (self.0 >> 30)).wrapping_mul(0xBF58_476D_1CE4_E5B9);
+        ((mixed >> 32) as usize) % most
+    }
+}
+
+/// Two members that are called alike.
+struct Both {
+    proved: proved::Member,
+    plain: plain::Member,
+}
+
+impl Both {
+    fn call(&mut self, kind: usize, hint: usize) -> Option<NonZeroUsize> {
+        match kind {
+            0 => same(self.proved.acquire(), self.plain.acquire()),
+            1 | 2 => same(
+                self.proved.acquire_near(hint),
+                self.plain.acquire_near(hint),
+            ),
+            _ => {
+                self.proved.release();
+                self.plain.release();
+                None
+            }
+        }
+    }
+
+    fn join(&mut self) -> Both {
+        Both {
+            proved: self.proved.join().expect("there is memory"),
+            plain: self.plain.join().expect("there is memory"),
+        }
+    }
+}
+
+fn same<T: PartialEq + std::fmt::Debug>(proved: T, plain: T) -> T {
+    assert_eq!(proved, plain);
+    proved
+}
+
+#[test]
+fn pools_answer_alike() {
+    for round in 0..200 {
+        let mut draws = Draws(round);
+        let size = 1 + draws.below(12);
+        let mut first = Both {
+            proved: proved::Member::first(size).expect("a size"),
+            plain: plain::Member::first(size).expect("a size"),
+        };
+        let mut members: Vec<Both> = (0..size + 2).map(|_| first.join()).collect();
+        for _ in 0..2000 {
+            let place = draws.below(members.len());
+            let (kind, hint) = (draws.below(6), draws.below(size + 3));
+            members[place].call(kind, hint);
+            if draws.below(50) == 0 {
+                // One that ends gives its number back.
+                members[place] = first.join();
+            }
+        }
+    }
+}
+
+#[test]
+fn sizes_are_refused_alike() {
+    for size in [0, 1, 2, 64, 65, 4095, 4096, 4097, usize::MAX] {
+        let proved = proved::Member::first(size).is_some();
+        assert_eq!(proved, plain::Member::first(size).is_some(), "{size}");
+        let proved = proved::LineMember::first(size).is_some();
+        assert_eq!(proved, plain::LineMember::first(size).is_some(), "{size}");
+        let proved = proved::GridMember::first(size).is_some();
+        assert_eq!(proved, plain::GridMember::first(size).is_some(), "{size}");
+    }
+}
+
+#[test]
+fn lines_answer_alike() {
+    for round in 0..200 {
+        let mut draws = Draws(round);
+        let numbers = 1 + draws.below(12);
+        let mut proved = vec![proved::LineMember::first(numbers).expect("a size")];
+        let mut plain = vec![plain::LineMember::first(numbers).expect("a size")];
+        for _ in 1..numbers {
+            let next = (proved[0].join(), plain[0].join());
+            proved.push(next.0.expect("a ticket is left"));
+            plain.push(next.1.expect("a ticket is left"));
+        }
+        assert!(proved[0].join().is_none() && plain[0].join().is_none());
+        for _ in 0..2000 {
+            let place = draws.below(numbers);
+            if draws.below(2) == 0 {
+                same(proved[place].acquire(), plain[place].acquire());
+            } else {
+                proved[place].release();
+                plain[place].release();
+            }
+        }
+    }
+}
+
+#[test]
+fn grids_answer_alike() {
+    for most in [1, 2, 3, 8, 64] {
+        let mut proved = vec![proved::GridMember::first(most).expect("a size")];
+        let mut plain = vec![plain::GridMember::first(most).expect("a size")];
+        for _ in 1..most {
+            let next = (proved[0].join(), plain[0].join());
+            proved.push(next.0.expect("a seat is left"));
+            plain.push(next.1.expect("a seat is left"));
+        }
+        assert!(proved[0].join().is_none() && plain[0].join().is_none());
+        let mut draws = Draws(most as u64);
+        for _ in 0..3 * most {
+            let place = draws.below(most);
+            same(proved[place].enter(), plain[place].enter());
+        }
+    }
+}
+
+/// The laws of a pool, with as many threads as numbers: a number is in range and nobody else's, and a hint that is free is taken.
+fn keeps_the_laws<M: Send>(
+    first: &mut M,
+    join: fn(&mut M) -> Option<M>,
+    ask: fn(&mut M, usize) -> Option<NonZeroUsize>,
+    release: fn(&mut M),
+) {
+    const THREADS: usize = 4;
+    let holders: Vec<AtomicUsize> = (0..THREADS).map(|_| AtomicUsize::new(0)).collect();
+    let members: Vec<M> = (0..THREADS)
+        .map(|_| join(first).expect("there is memory"))
+        .collect();
+    thread::scope(|scope| {
+        for (id, mut member) in members.into_iter().enumerate() {
+            let holders = &holders;
+            scope.spawn(move || {
+                for stay in 0..50_000 {
+                    let Some(number) = ask(&mut member, stay % (THREADS + 2)) else {
+                        continue;
+                    };
+                    let holder = &holders[number.get() - 1];
+                    assert_eq!(holder.swap(id + 1, SeqCst), 0, "two hold {number}");
+                    assert!(ask(&mut member, 1).is_none(), "it holds one already");
+                    assert_eq!(holder.swap(0, SeqCst), id + 1);
+                    release(&mut member);
+                }
+            });
+        }
+    });
+    assert_eq!(ask(first, THREADS), NonZeroUsize::new(THREADS));
+    release(first);
+    assert_eq!(ask(first, 0), NonZeroUsize::new(1));
+}
+
+#[test]
+fn pools_keep_the_same_laws() {
+    keeps_the_laws(
+        &mut proved::Member::first(4).expect("a size"),
+        proved::Member::join,
+        proved::Member::acquire_near,
+        proved::Member::release,
+    );
+    keeps_the_laws(
+        &mut plain::Member::first(4).expect("a size"),
+        plain::Member::join,
+        plain::Member::acquire_near,
+        plain::Member::release,
+    );
+}
