@@ -23,6 +23,8 @@ mod journals;
 #[cfg(test)]
 mod lock_tests;
 #[cfg(test)]
+mod names_tests;
+#[cfg(test)]
 mod opening;
 #[cfg(test)]
 mod server_tests;

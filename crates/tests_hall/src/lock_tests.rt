@@ -1,11 +1,11 @@
-//! A hall whose history is full, and a lock round one with its session.
+//! A hall whose history is full, and locks round halls with a session and with a clerk.
 
 ghost use Rattle.std.specs.Prelude.{◌≡◌};
 
 use crate::opening::{Opening, opened};
 use commands::{Config, Event, Reply, WorldKind};
 use hall::Hall;
-use locked_world::{Act, HallLock, LockName, Missing, Session};
+use locked_world::{Act, Clerk, HallLock, LockName, Missing, Session};
 use std::alloc::Global;
 use std::marker::Brand;
 use std::process::Abort;
@@ -57,9 +57,8 @@ fn a_full_history(rt: HostRuntime) {
     assert!(rt; told == (true, 7, 1_000_000), "{told:?}");
 }
 
-/// What a session does, with the replies: it steps, takes a number, uses its slot, gives it back, and steps.
-const ACTS: [(Act, Reply<()>); 7] = [
-    (Act::Step, Reply::Quiet),
+/// What a session does, with the replies: it takes a number, uses its slot, gives it back, and steps.
+const ACTS: [(Act, Reply<()>); 6] = [
     (Act::Enter, Reply::Ok),
     (Act::Probe, Reply::Got(1)),
     (Act::Put(5), Reply::Ok),
@@ -79,7 +78,7 @@ fn acts<L: LockName, R: Wait>(rt: &R, lock: &HallLock<L>, session: &mut Session<
     true
 }
 
-/// A session that acts and then steps until it is named, beside which no other is opened for the same identity.
+/// A session that steps, acts and then steps until it is named, beside which no other is opened for the same identity.
 fn one_who_acts<L: LockName, R: Abort + Wait>(
     rt: &R,
     alloc: Global,
@@ -87,13 +86,15 @@ fn one_who_acts<L: LockName, R: Abort + Wait>(
 ) -> Session<L> {
     let mut session = lock.session(rt, alloc, 7).expect(rt, "room for a session");
     let again = lock.session(rt, alloc, 7).err();
-    let acted = acts(rt, lock, &mut session);
+    let is_quiet = lock.step(rt, &mut session) == Reply::Quiet;
+    let acted = is_quiet && acts(rt, lock, &mut session);
     let named = [
         lock.rename(rt, &mut session, 6),
+        lock.rename(rt, &mut session, 0),
         lock.rename(rt, &mut session, 1),
         lock.rename(rt, &mut session, 1),
     ];
-    let are_due = named == [Ok(None), Ok(Some(1)), Err(Refusal::Finished)];
+    let are_due = named == [Ok(None), Ok(None), Ok(Some(1)), Err(Refusal::Finished)];
     assert!(rt; acted && are_due && again == Some(Refusal::AlreadyBegun));
     session
 }
@@ -125,4 +126,61 @@ fn the_row_of_a_session(rt: HostRuntime) {
         Opening::new(&rt, WorldKind::Rename, 1, 4),
     );
     assert!(rt; length == 15);
+}
+
+/// What a clerk applies for 7, which goes its way alone, with the replies.
+const WAY: [(Event, Reply<()>); 11] = [
+    (Event::Begin(7), Reply::Ok),
+    (Event::Step(7), Reply::Quiet),
+    (Event::Step(7), Reply::Quiet),
+    (Event::Step(7), Reply::Quiet),
+    (Event::Step(7), Reply::Place(0)),
+    (Event::Step(7), Reply::Quiet),
+    (Event::Step(7), Reply::Quiet),
+    (Event::Step(7), Reply::Proposed(1)),
+    (Event::Step(7), Reply::Quiet),
+    (Event::Step(7), Reply::Named(1, ())),
+    (Event::Step(7), Reply::Refused(Refusal::Finished)),
+];
+
+/// Whether a clerk applies these events with these replies.
+fn are_applied<L: LockName, R: Wait>(rt: &R, lock: &HallLock<L>, clerk: &mut Clerk<L>) -> bool {
+    let mut view = View::new();
+    for (event, want) in &WAY {
+        if lock.apply(rt, clerk, *event).shorten(&mut view) != *want {
+            return false;
+        }
+    }
+    view.pairs() == [(7, 1)].as_slice()
+}
+
+/// Whether the lock says that 1 is 7's, and that 2 is no name.
+fn has_one_owner<L: LockName, R: Wait>(rt: &R, lock: &HallLock<L>) -> bool {
+    lock.owner(rt, 1) == Reply::Owner(Some(7))
+        && lock.owner(rt, 2) == Reply::Refused(Refusal::OutOfRange)
+}
+
+/// One participant alone, through a clerk. The length of the history.
+fn one_by_clerk<L: LockName, R: Abort + Wait>(rt: &R, alloc: Global, opening: Opening) -> usize
+    requires name { (opening.blank.name ≡ L.name) × (opening.blank.parts ≡ L.parts) }
+    requires book { opening.history.seen.book ≡ L.book }
+    requires config { opening.config ≡ L.config }
+{
+    let lock = opened::<L>(rt, alloc, opening);
+    let mut clerk = lock.clerk(rt, alloc).expect(rt, "room for a clerk");
+    assert!(rt; are_applied(rt, &lock, &mut clerk) && has_one_owner(rt, &lock));
+    let mut clerks = Vec::new(alloc);
+    clerks.push(clerk).ok().expect(rt, "room for one more");
+    let closed = lock.close(Vec::new(alloc), clerks).ok();
+    closed.expect(rt, "each caller is handed in").hall.len()
+}
+
+#[test]
+fn the_row_of_a_clerk(rt: HostRuntime) {
+    let length = one_by_clerk::<Brand, _>(
+        &rt,
+        rt.alloc(),
+        Opening::new(&rt, WorldKind::Rename, 1, 4),
+    );
+    assert!(rt; length == 10);
 }

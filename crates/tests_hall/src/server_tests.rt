@@ -135,11 +135,12 @@ where
         move || serve_many(rt, alloc, listener, shared, gate, clerks, 2),
     );
     let Served {
-        connections,
+        connections: _,
+        served,
         clerks,
         fault,
     } = served;
-    let is_served = are_ok && connections.accepted() == 2 && fault.is_none();
+    let is_served = are_ok && served == 2 && fault.is_none();
     match lock.close(Vec::new(alloc), clerks) {
         Ok(closed) => is_served && has_just(&closed.hall, &[Event::Enter(5), Event::Begin(7)]),
         Err(_) => false,

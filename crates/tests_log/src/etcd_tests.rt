@@ -35,10 +35,10 @@ const SILENT: &[u8] = b"";
 const AWAY: &[u8] = b"HTTP/1.1 503 No\r\nContent-Length: 0\r\n\r\n";
 
 /// Texts, of which each exchange takes the next: for what is put and found; for what stands behind and is read at once; a member that says
-/// nothing and one that does not serve, behind which the next is asked; and wrong answers.
-const TEXTS: [&[u8]; 14] = [
+/// nothing and one that does not serve, behind which the next is asked; wrong answers, behind which the one place is asked.
+const TEXTS: [&[u8]; 17] = [
     WRITTEN, TAKEN, FOUND, TAKEN, FOUND_TWO, TAKEN, FOUND_TWO, SILENT, AWAY, WRITTEN, OTHER, FOUND,
-    SHORT, NO_LETTER,
+    TAKEN, FOUND, FOUND, SHORT, NO_LETTER,
 ];
 
 /// A store over the texts.
@@ -69,6 +69,7 @@ fn answers(etcd: &mut EtcdStore<Script<'_>>, entry: &mut Vec<u8>) -> bool {
         found(etcd, entry, 42, b"hi"),
     ];
     let asked = [etcd.put(42, b"hi"), etcd.put(42, b"hi")];
+    let passed_over = found(etcd, entry, 41, b"hi");
     let wrong = (found(etcd, entry, 41, b"hi"), etcd.put(42, b"hi"));
     put == [Ok(Put::Written), Ok(Put::Taken)]
         && got
@@ -81,6 +82,7 @@ fn answers(etcd: &mut EtcdStore<Script<'_>>, entry: &mut Vec<u8>) -> bool {
                 (Ok(true), true),
             ]
         && asked == [Ok(Put::Written), Err(StoreFault::Wrong)]
+        && passed_over == (Ok(false), true)
         && wrong == ((Err(StoreFault::Wrong), true), Err(StoreFault::Lost))
 }
 

@@ -175,6 +175,10 @@ impl Keep<Told> for Teller {
         Ok(())
     }
 
+    fn trouble(&self) -> Option<&'static str> {
+        None
+    }
+
     fn tally(&self, _service: &Told) -> Tally {
         Tally {
             events: 0,

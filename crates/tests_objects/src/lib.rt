@@ -11,6 +11,8 @@ mod board_tests;
 #[cfg(test)]
 mod common;
 #[cfg(test)]
+mod full_heap_tests;
+#[cfg(test)]
 mod grid_tests;
 #[cfg(test)]
 mod heap_tests;
@@ -32,5 +34,7 @@ mod snapshot_tests;
 mod tree_tests;
 #[cfg(test)]
 mod word_grid_tests;
+#[cfg(test)]
+mod word_machine_tests;
 #[cfg(test)]
 mod word_pool_tests;

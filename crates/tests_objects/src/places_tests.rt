@@ -2,8 +2,8 @@
 
 use crate::common::holds;
 use crate::snapshot_tests::{Call, Row, Told, plays};
+use snapshot_core::SnapWorld;
 use snapshot_places::{Grid, TreePlaces};
-use snapshot_world::SnapWorld;
 use std::alloc::Global;
 use std::process::Abort;
 use std::test::Fail;

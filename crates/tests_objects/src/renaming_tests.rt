@@ -1,10 +1,10 @@
 //! Worlds of every size over segments in a row, and two participants there. Those over a grid and over a tree are tried where they are
 //! played as lines, in `tests_player` and by `tests/program`.
 
-use crate::common::{holds, lent, same, view_of};
+use crate::common::{Told, holds, lent, same, view_of};
 use commands::{Config, WorldKind};
 use rename_core::{RenameWorld, next_proposal};
-use snapshot_world::Fixed;
+use snapshot_core::Fixed;
 use std::alloc::Global;
 use step_memory::Refusal;
 
@@ -73,4 +73,27 @@ fn the_next_proposal_of_each_rank(rt: HostRuntime) {
     for (i, id) in [10, 20, 30].iter().enumerate() {
         holds(&rt, i, next_proposal(&view, *id) == 2 + i as u64);
     }
+}
+
+/// The most proposals of so many participants, from 1 on.
+const MOST_PROPOSALS: [u64; 8] = [3, 18, 93, 468, 2_343, 11_718, 58_593, 292_968];
+
+/// Whether nobody of so many can be spent under a round limit.
+fn cannot_spend(most: u64, limit: u64) -> Told {
+    let config = Config::new(WorldKind::Rename, most, 4, limit)?;
+    Ok(config.cannot_spend())
+}
+
+#[test]
+fn limits_under_which_nobody_is_spent(rt: HostRuntime) {
+    for (i, most) in MOST_PROPOSALS.iter().enumerate() {
+        same(&rt, i, cannot_spend(i as u64 + 1, *most), Ok(false));
+        same(
+            &rt,
+            i,
+            cannot_spend(i as u64 + 1, most.saturating_add(1)),
+            Ok(true),
+        );
+    }
+    same(&rt, 8, cannot_spend(9, 1_000_000), Ok(false));
 }

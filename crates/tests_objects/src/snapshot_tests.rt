@@ -1,8 +1,7 @@
 //! Updates and scans over segments in a row, and what plays calls of a snapshot object.
 
 use crate::common::{holds, lent, same};
-use snapshot_core::{Places, SnapReply};
-use snapshot_world::{Fixed, SnapWorld};
+use snapshot_core::{Fixed, Places, SnapReply, SnapWorld};
 use std::alloc::{Allocator, Global};
 use std::process::Abort;
 use step_memory::{Place, Refusal};

@@ -1,10 +1,9 @@
 //! Walks down a tree, collects of what was stored there, and how deep it goes.
 
 use crate::common::{holds, lent, same, view_of};
-use splitter_tree::{Tree, TreeRegister, TreeValue};
+use splitter_tree::{Tree, TreeRegister, TreeValue, TreeWorld};
 use std::alloc::Global;
 use step_memory::{Access, Place, Refusal, StepMemory, View};
-use tree_world::TreeWorld;
 
 /// Takes so many steps of a walk: what the last answers.
 fn walked(world: &mut TreeWorld<Global>, id: u64, steps: u64) -> Result<Option<Place>, Refusal> {
@@ -39,6 +38,44 @@ fn two_collect(world: &mut TreeWorld<Global>) -> bool {
 fn two_collect_what_was_stored(rt: HostRuntime) {
     let world = TreeWorld::new(rt.alloc(), 2);
     same(&rt, 2, lent(world, two_collect), Ok(true));
+}
+
+/// Whether one alone collects what it stored in four steps, and a fifth is refused.
+fn collects_alone(world: &mut TreeWorld<Global>) -> bool {
+    let asked = [world.store(10, 5), world.collect_begin(10)];
+    let quiet = [
+        world.collect_step(10),
+        world.collect_step(10),
+        world.collect_step(10),
+    ];
+    let shown = world.collect_step(10);
+    asked == [Ok(()), Ok(())]
+        && quiet == [Ok(None), Ok(None), Ok(None)]
+        && shown == Ok(Some(view_of(&[(10, 5)])))
+        && world.collect_step(10) == Err(Refusal::Finished)
+}
+
+/// Whether one on its way, and one that has not begun, neither store nor collect.
+fn are_refused(world: &mut TreeWorld<Global>) -> bool {
+    let on_its_way = [world.store(20, 1), world.collect_begin(20)];
+    let not_begun = [world.store(30, 1), world.collect_begin(30)];
+    on_its_way == [Err(Refusal::AlreadyBegun), Err(Refusal::AlreadyBegun)]
+        && not_begun == [Err(Refusal::NotBegun), Err(Refusal::NotBegun)]
+}
+
+/// Whether one alone has a place within five steps, and then collects, beside another that only begins.
+fn one_collects(world: &mut TreeWorld<Global>) -> bool {
+    let begun = [world.begin(10), world.begin(20)];
+    begun == [Ok(()), Ok(())]
+        && walked(world, 10, 5) == Ok(Some(1))
+        && collects_alone(world)
+        && are_refused(world)
+}
+
+#[test]
+fn one_alone_collects_in_four_steps(rt: HostRuntime) {
+    let world = TreeWorld::new(rt.alloc(), 2);
+    same(&rt, 1, lent(world, one_collects), Ok(true));
 }
 
 /// Whether each goes right of those before it, from node 1 to node 2^64 - 1, and no further.

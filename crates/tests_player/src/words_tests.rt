@@ -133,7 +133,7 @@ fn hostings_are_read(rt: HostRuntime) {
     ];
     let here = IpAddr::V4(Ipv4Addr::new(127, 0, 0, 1));
     let loopback = IpAddr::V6(Ipv6Addr::new(0, 0, 0, 0, 0, 0, 0, 1));
-    let plain = Some((here, 0, 10_000, 0, false));
+    let plain = Some((here, 0, 10_000, 600, false));
     let verbose = Some((loopback, 65_535, 1_000_000, 31_536_000, true));
     assert!(rt; told == [plain, verbose, plain, plain]);
 }

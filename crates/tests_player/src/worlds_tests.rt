@@ -326,7 +326,7 @@ pub(crate) fn text_of(rt: &impl Abort, alloc: Global, row: &Row, is_kept: bool) 
 }
 
 /// Plays a row, or records it, however the bytes are cut, and with each growth refused in turn: where walks are in a tree some
-/// line is refused then. A short row is played with each call failing in turn, too.
+/// line is refused then. A row that is played is played with each read and each write failing in turn, too.
 fn row_is_run(rt: &impl Abort, alloc: Global, row: &Row, is_kept: bool) {
     let input = spelled(rt, alloc, row.asked);
     let text = text_of(rt, alloc, row, is_kept);
@@ -337,7 +337,7 @@ fn row_is_run(rt: &impl Abort, alloc: Global, row: &Row, is_kept: bool) {
         text: &text,
     };
     is_run(rt, alloc, &case);
-    if !is_kept && input.len() < 200 {
+    if !is_kept {
         calls_fail_in_turn(rt, alloc, &case);
     }
     let refused = growths_refused_in_turn(rt, alloc, &case);

@@ -7,7 +7,7 @@
 ghost use Rattle.std.specs.Prelude.{◌<◌, ◌^◌};
 
 use commands::{Config, WorldKind};
-use drawn_schedules::{Schedule, draw, play_drawn};
+use drawn_schedules::{draw, play_drawn};
 use run_checker::{Verdict, migrate};
 use schedule_player::{Fault, Sink, Tried};
 use std::alloc::Global;
@@ -29,16 +29,11 @@ enum Work<'a> {
 fn outcome_of<W: Sink>(alloc: Global, work: Work<'_>, writer: &mut W) -> Result<bool, Fault>
     requires { W.calls writer.old < 2 ^ 64 }
 {
-    let plan = Schedule {
-        seed: 7,
-        ids: 4,
-        steps: 200,
-    };
     match work {
         Work::Draw(Some(config)) if config.world.gives_names() => {
-            play_drawn(alloc, plan, 3, config, writer)?
+            play_drawn(alloc, 7, 4, 200, 3, config, writer)?
         }
-        Work::Draw(_) => draw(alloc, plan, writer)?,
+        Work::Draw(_) => draw(alloc, 7, 4, 200, writer)?,
         Work::Migrate(record) => return Ok(migrate(alloc, record, writer)? == Verdict::Yes),
     }
     Ok(true)
