@@ -1,4 +1,5 @@
 mod Common
 mod Renames
+mod Ending
 pub mod Sent
 mod Keepers

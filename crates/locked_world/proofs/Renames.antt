@@ -4,7 +4,8 @@ use Rattle.locked_world.proofs.Common.{append-nil, Refusal, Config, Step, exchan
 use Rattle.std.proofs.lemmas.List.Elements.{All-nil, All-push}
 use Rattle.commands.specs.declared.reply.Reply.{Reply}
 use Rattle.commands.specs.declared.reply.Reply.TheVariants.{Named, Spent, Refused}
-use Rattle.locked_world.specs.Renamed.{goes_on, AreAbove, IsStepped, IsPlainStep}
+use Rattle.desk.specs.NamedAmong.{goes_on}
+use Rattle.locked_world.specs.Renamed.{AreAbove, IsStepped, IsPlainStep}
 use Rattle.hall_callers.specs.declared.kept.Kept.{Kept}
 use Rattle.history_book.proofs.Fronts.{prefix_self, prefix_trans}
 use Rattle.hall_callers.proofs.Standing.{sound_after, seen_after}

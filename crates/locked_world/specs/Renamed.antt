@@ -1,22 +1,23 @@
 -- what `rename` adds to a session's list
-use Rattle.std.specs.Prelude.{◌≡◌, ℕ, ◌+◌, ◌<◌, ◌≤◌, ◌⊎◌, ⊤, List, [], ◌∷◌, ◌++◌, length, Bool, true, false, All, Option, Some, None, Result, Ok, Err}
+use Rattle.std.specs.Prelude.{◌≡◌, ℕ, ◌+◌, ◌<◌, ◌≤◌, ◌⊎◌, ⊤, List, [], ◌∷◌, ◌++◌, length, true, All, Option, Some, None, Result, Ok, Err}
 use mathlib.Core.List.{IsPrefix}
 use Rattle.step_memory.specs.declared.refusal.Refusal.{Refusal}
 use Rattle.step_memory.specs.declared.refusal.Refusal.TheVariants as refusal
+use Rattle.commands.specs.Config.{is_tree}
 use Rattle.commands.specs.declared.config.Config.{Config}
 use Rattle.commands.specs.declared.event.Event.TheVariants.{Step}
 use Rattle.commands.specs.Replies.{ShownReply}
 use Rattle.commands.specs.declared.reply.Reply.TheVariants as reply
+use Rattle.rename_core.specs.Ends.{steps_among}
+use Rattle.desk.specs.DeskRun.{desk_bounds}
+use Rattle.desk.specs.NamedAmong.{goes_on}
 use Rattle.hall_callers.specs.declared.kept.Kept.{Kept}
 use Rattle.hall_callers.specs.CallerState.{CallerState}
 use Rattle.hall_callers.specs.Kepts.{IsTaken, IsSound}
 
--- whether a participant goes on after this reply to its step
-abbrev pub goes_on : ShownReply → Bool
-goes_on (reply.Named name view) = false
-goes_on reply.Spent = false
-goes_on (reply.Refused refusal) = false
-goes_on s = true
+-- in so many turns a session is named, spent or refused, where at most b have begun
+abbrev pub turns_among : Config → ℕ → ℕ
+turns_among c b = steps_among (desk_bounds (is_tree c.world) c.m) b
 
 -- a step of this identity after which it went on
 pub record IsPlainStep (id : ℕ) (k : Kept) : Type 0 where

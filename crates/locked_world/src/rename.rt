@@ -1,7 +1,8 @@
 //! Steps until the name.
 
-ghost use Rattle.std.specs.Prelude.{◌≡◌};
-ghost use Rattle.locked_world.specs.Renamed.{IsRenamed};
+ghost use Rattle.std.specs.Prelude.{◌≡◌, ◌≢◌, ◌≤◌, ℕ, Ok, None};
+ghost use Rattle.desk.specs.Names.{begun_in};
+ghost use Rattle.locked_world.specs.Renamed.{IsRenamed, turns_among};
 
 use crate::lock::HallLock;
 use commands::Reply;
@@ -11,7 +12,8 @@ use step_memory::{Refusal, View};
 
 impl<L: LockName> HallLock<L> {
     /// Makes steps of a session until it is named, is spent, is refused, or has made so many. Each takes the lock once.
-    /// `Spent` also where a step answered that the participant is.
+    /// `Spent` also where a step answered that the participant is. With so many turns as its config ends in it answers a name or an error,
+    /// whatever others do; with fewer where few have begun.
     pub fn rename<R: Wait>(
         &self,
         rt: &R,
@@ -20,6 +22,8 @@ impl<L: LockName> HallLock<L> {
     ) -> Result<Option<u64>, Refusal>
         ensures renamed { IsRenamed L.config session.old.id turns session.old.clerk result session.new.clerk }
         ensures same { session.new.id ≡ session.old.id }
+        ensures ended { turns_among L.config L.config.m ≤ turns → result ≢ Ok None }
+        ensures adaptive { (b : ℕ) → begun_in session.new.clerk.seen ≤ b → turns_among L.config b ≤ turns → result ≢ Ok None }
     {
         let mut view = View::new();
         for turn in 0..turns {

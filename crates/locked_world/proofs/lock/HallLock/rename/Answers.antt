@@ -1,11 +1,13 @@
-use Rattle.std.proofs.Common.{rules, subst, ◌∙◌, ℕ}
+use Rattle.std.proofs.Common.{◌≡◌, ◌≤◌, inl, refl, sym, arith, rules, subst, ◌∙◌, ℕ}
 use Rattle.locked_world.proofs.Common.{Step, with_view, IsTaken}
 use Rattle.hall_callers.proofs.Standing.{taken_by}
+use Rattle.locked_world.specs.Renamed.{turns_among}
 use Rattle.locked_world.proofs.Renames.{stepped_not, stepped_more, plain_by}
+use Rattle.locked_world.proofs.Ending.{gone_on, fewer, fewer_at_most}
 use Rattle.locked_world.proofs.lock.HallLock.rename.Goals as goal
 
 pub loop-turn-init : goal.loop-turn-init
-loop-turn-init g c = record { same = search rules; stepped = stepped_not _ _ _ }
+loop-turn-init g c = record { same = search rules; stepped = stepped_not _ _ _; on = inl refl }
 
 pub loop-turn-preserved : goal.loop-turn-preserved
 loop-turn-preserved g c =
@@ -19,4 +21,19 @@ loop-turn-preserved g c =
     record {
       same = c.act_short-reply.ensures.same ∙ c.loop-turn.invariant.same;
       stepped = stepped_more g.L.LockName.config c.args.session.now.id c.loop-turn.turn c.args.session.now.clerk s.clerk new.clerk r c.loop-turn.invariant.stepped taken plain accepted;
+      on = gone_on g.L.LockName.config c.args.session.now.id c.loop-turn.turn s.clerk new.clerk r c.loop-turn.invariant.on taken plain accepted;
     }
+
+pub returns-clause-ended : goal.returns-clause-ended
+returns-clause-ended g c =
+    let end = c.loop-turn.auto.turn-end in
+    let over = c.loop-turn-test.false in
+    let all : c.loop-turn.turn ≡ c.args.turns = omega arith in
+    λ enough none. fewer_at_most g.L.LockName.config c.args.session.now.id c.loop-turn.turn c.loop-turn.session.clerk c.loop-turn.invariant.on (subst (λ (n : ℕ). turns_among g.L.LockName.config g.L.LockName.config.m ≤ n) (sym all) enough)
+
+pub returns-clause-adaptive : goal.returns-clause-adaptive
+returns-clause-adaptive g c =
+    let end = c.loop-turn.auto.turn-end in
+    let over = c.loop-turn-test.false in
+    let all : c.loop-turn.turn ≡ c.args.turns = omega arith in
+    λ b few enough none. fewer g.L.LockName.config c.args.session.now.id c.loop-turn.turn c.loop-turn.session.clerk b c.loop-turn.invariant.on few (subst (λ (n : ℕ). turns_among g.L.LockName.config b ≤ n) (sym all) enough)
