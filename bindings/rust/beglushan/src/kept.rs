@@ -158,30 +158,32 @@ extern "C" fn keep_in_table(key: u64, alive: &Arc<()>, at: NonNull<u8>, number: 
     if entry.key.get() == key && entry.member.get().is_null() {
         entry.member.set(at.as_ptr());
         entry.number.set(number);
-        count_miss(entry);
+        count_miss(key);
     } else {
         keep_aside(key, alive, at, number);
     }
 }
 
-/// Counts a call of the entry's pool that did not find its member beside the table. After some, it comes to stand there.
+/// Counts a call that did not find its pool's member beside the table. After some, that member comes to stand there.
 #[inline(always)]
-fn count_miss(entry: &Entry) {
+fn count_miss(key: u64) {
     let misses = NEAR.with(|near| near.misses.replace(near.misses.get().wrapping_add(1)));
     if misses >= MISSES {
-        bring_near(entry);
+        bring_near(key);
     }
 }
 
 #[cold]
 #[inline(never)]
-fn bring_near(entry: &Entry) {
+fn bring_near(key: u64) {
     put_back();
-    NEAR.with(|near| {
-        near.key.set(entry.key.get());
-        near.member.set(entry.member.replace(ptr::null_mut()));
-        near.number.set(entry.number.get());
-    });
+    if let Some(entry) = find(key) {
+        NEAR.with(|near| {
+            near.key.set(key);
+            near.member.set(entry.member.replace(ptr::null_mut()));
+            near.number.set(entry.number.get());
+        });
+    }
 }
 
 /// Puts the member that stands beside the table into its pool's entry, so that none stands there.
