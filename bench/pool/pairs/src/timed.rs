@@ -3,36 +3,42 @@
 use std::sync::Barrier;
 use std::time::Instant;
 
-/// How many works a thread does in a run.
-const WORKS: usize = 1_000_000;
+/// How many slices a thread times in a run, and how many works are in one.
+const SLICES: usize = 100;
+const WORKS: usize = 10_000;
 
 /// A thread's state, with no other thread's beside it.
 #[repr(align(128))]
 struct Alone<S>(S);
 
-/// Times one run, and prints its line: nanoseconds of wall time that a work takes as its thread sees it, of the slowest thread. Each
-/// thread has a state of its own.
+/// Times one run, and prints its line: nanoseconds of wall time that a work takes as its thread sees it, by the median of the thread's
+/// slices, of the slowest thread. A slice in which the thread did not run is no median. Each thread has a state of its own.
 pub fn timed<S>(name: &str, threads: usize, state: impl Fn(usize) -> S + Sync, work: impl Fn(&mut S) + Sync) {
     let gate = Barrier::new(threads);
-    let span = std::thread::scope(|scope| {
+    let slowest = std::thread::scope(|scope| {
         let workers: Vec<_> = (0..threads)
             .map(|thread| {
                 let (gate, state, work) = (&gate, &state, &work);
                 scope.spawn(move || {
                     let mut mine = Alone(state(thread));
-                    (0..WORKS / 100).for_each(|_| work(&mut mine.0));
+                    (0..WORKS).for_each(|_| work(&mut mine.0));
                     gate.wait();
-                    let from = Instant::now();
-                    for _ in 0..WORKS {
-                        work(&mut mine.0);
+                    let mut slices = [0; SLICES];
+                    for slice in &mut slices {
+                        let from = Instant::now();
+                        for _ in 0..WORKS {
+                            work(&mut mine.0);
+                        }
+                        *slice = from.elapsed().as_nanos();
                     }
-                    from.elapsed()
+                    slices.sort_unstable();
+                    slices[SLICES / 2]
                 })
             })
             .collect();
         workers.into_iter().map(|worker| worker.join().expect("no worker panics")).max()
     });
-    line(name, threads, span.expect("a thread").as_nanos() as f64 / WORKS as f64);
+    line(name, threads, slowest.expect("a thread") as f64 / WORKS as f64);
 }
 
 /// Prints what a run took: what it timed, how many threads there were, and nanoseconds.
