@@ -121,17 +121,17 @@ fn canaries(threads: usize, size: usize, stays: usize) {
 
 #[test]
 fn eight_threads_on_eight_numbers() {
-    canaries(8, 8, 300_000);
+    canaries(8, 8, 200_000);
 }
 
 #[test]
 fn eight_threads_on_sixteen_numbers() {
-    canaries(8, 16, 300_000);
+    canaries(8, 16, 200_000);
 }
 
 #[test]
 fn more_threads_than_numbers() {
-    canaries(8, 3, 300_000);
+    canaries(8, 3, 200_000);
 }
 
 #[test]
