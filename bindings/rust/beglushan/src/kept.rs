@@ -173,9 +173,10 @@ fn count_miss(key: u64) {
     }
 }
 
+/// It does not unwind, so that a slot's drop needs no landing pad.
 #[cold]
 #[inline(never)]
-fn bring_near(key: u64) {
+extern "C" fn bring_near(key: u64) {
     put_back();
     if let Some(entry) = find(key) {
         NEAR.with(|near| {
