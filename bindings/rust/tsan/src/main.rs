@@ -133,10 +133,13 @@ fn one_after_another() {
 fn read_while_written() {
     let values = Arc::new(PerThread::<(u64, AtomicU64)>::new());
     let begun = Arc::new(AtomicUsize::new(0));
+    let ended = Arc::new(AtomicUsize::new(0));
     let mut threads = Vec::new();
     for id in 0..THREADS {
         let (values, count) = (Arc::clone(&values), Arc::clone(&begun));
+        let ended = Arc::clone(&ended);
         threads.push(thread::spawn(move || {
+            ENDED.with(|mine| mine.0.set(Some(Arc::clone(&ended))));
             values.get_or(|| (7, AtomicU64::new(0)));
             count.fetch_add(1, Relaxed);
             for told in 0..STAYS as u64 {
@@ -145,6 +148,9 @@ fn read_while_written() {
                     |mine| mine.1.store(told, Relaxed),
                 );
             }
+            // No thread gives its number back while another takes one or gives one back.
+            await_count(&count, THREADS);
+            await_count(&ended, id);
         }));
         // No thread takes its number while another does.
         await_count(&begun, id + 1);
