@@ -66,9 +66,18 @@ fn pool() {
             }
         }
     };
+    let begun = Arc::new(AtomicUsize::new(0));
     let begin = |id| {
         let (pool, elements) = (Arc::clone(&pool), Arc::clone(&elements));
-        thread::spawn(move || stays(id, &pool, &elements))
+        let begun = Arc::clone(&begun);
+        thread::spawn(move || {
+            // No thread makes its member while another does.
+            await_count(&begun, id - 1);
+            drop(pool.acquire());
+            begun.fetch_add(1, Relaxed);
+            await_count(&begun, THREADS);
+            stays(id, &pool, &elements);
+        })
     };
     join_all((1..=THREADS).map(begin).collect());
     assert!(pool.is_empty());
