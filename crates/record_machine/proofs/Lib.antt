@@ -1,0 +1,9 @@
+mod Common
+mod Slots
+mod Stepping
+mod Reaching
+mod Running
+mod Dealing
+mod Counting
+mod Meeting
+mod Claiming
