@@ -1,5 +1,5 @@
 mod Common
-mod Slots
+pub mod Slots
 mod Stepping
 mod Reaching
 mod Running

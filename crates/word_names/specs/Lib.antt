@@ -1,0 +1,10 @@
+pub mod Renamers
+pub mod NameMachine
+pub mod Spelling
+pub mod Spelled
+pub mod Good
+pub mod Taking
+pub mod Known
+pub mod Stepping
+pub mod Counting
+pub mod Sound
