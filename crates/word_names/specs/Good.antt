@@ -1,33 +1,28 @@
 -- a client and a round that go together do so after each answer
-use Rattle.std.proofs.Common.{◌≡◌, ◌≢◌, ℕ, suc, ◌+◌, ◌*◌, ◌<◌, ◌≤◌, ◌⊎◌, inl, inr, ◌↔◌, Bool, true, false, cond, nat_lt, nat_le, is_some, List, [], Option, Some, None, refl, sym, ap, subst, ◌∙◌, arith}
+use Rattle.std.proofs.Common.{◌≡◌, ℕ, ◌+◌, ◌*◌, ◌<◌, ◌≤◌, inl, inr, ◌↔◌, true, false, cond, nat_lt, nat_le, is_some, List, [], Option, Some, None, refl, sym, ap, subst, ◌∙◌, arith}
 use Rattle.std.proofs.lemmas.Bool.Decides.{leb_tells, nat_tests}
-use Rattle.step_memory.specs.declared.access.Answer.{Answer}
-use Rattle.step_memory.specs.declared.access.Answer.TheVariants.{Value, WasSet, Done}
 use Rattle.step_memory.specs.declared.note.Note.{Note}
 use Rattle.step_memory.specs.declared.note.Note.TheVariants.{Quiet, Said, Ended}
 use Rattle.step_memory.specs.declared.record.Record.{Record}
-use Rattle.snapshot_core.specs.declared.client.Client.{Client}
-use Rattle.snapshot_core.specs.declared.client.Pending.TheVariants.{Nothing, Placing as OnWay, Scan as Scans, Update, Write as Writing}
+use Rattle.snapshot_core.specs.declared.client.Pending.TheVariants.{Nothing, Placing as OnWay, Scan as Scans, Update}
 use Rattle.snapshot_core.specs.declared.client.SnapReply.{SnapReply}
 use Rattle.snapshot_core.specs.declared.client.SnapReply.TheVariants.{Quiet as Silent, Placed as HasPlace, Written, View as Viewed}
 use Rattle.snapshot_core.specs.declared.scan.Scan.{Scan}
-use Rattle.snapshot_core.specs.Client.{is_placed, placed_note, scan_resumed, scan_note, pending_after, note_after, with_pending, updating, scanning}
+use Rattle.snapshot_core.specs.Client.{is_placed, placed_note, scan_resumed, scan_note, pending_after, note_after, updating, scanning}
 use Rattle.snapshot_core.specs.Scan.{scan_from, met, met_at, view_at, is_second_change, is_clean, walked_on, ended_collect, goes_after, goes_view, scan_after, scan_view}
-use Rattle.snapshot_core.specs.SnapWorld.{told, clients_over}
+use Rattle.snapshot_core.specs.SnapWorld.{told}
 use Rattle.snapshot_places.specs.declared.grid_register.GridValue.{GridValue}
 use Rattle.snapshot_places.specs.declared.grid_walk.GridWalk.{GridWalk}
 use Rattle.snapshot_places.specs.declared.grid_walker.GridWalker.{GridWalker}
 use Rattle.snapshot_places.specs.Grid.{segments_for, grid_walks, grid_place, contents_of, next_place}
-use Rattle.snapshot_places.specs.GridTies.{grid_places}
 use Rattle.rename_core.specs.declared.round.Follow.{Follow}
 use Rattle.rename_core.specs.declared.round.Round.{Round}
-use Rattle.rename_core.specs.declared.round.Stage.{Stage}
-use Rattle.rename_core.specs.declared.round.Stage.TheVariants.{Placing, Proposing, Looking, Settled, Over}
+use Rattle.rename_core.specs.declared.round.Stage.TheVariants.{Placing, Proposing, Looking}
 use Rattle.rename_core.specs.Locality.{wished}
 use Rattle.rename_core.specs.Round.{followed, decided, at_stage, stage_refusal}
 use Rattle.proposal_rounds.specs.Proposals.{is_taken, next_proposal}
 use Rattle.record_machine.specs.declared.size.Size.{Size}
-use Rattle.word_names.specs.NameMachine.{Walking, MayStart, IsPaired, IsAtStage, IsScanning, first_walk}
+use Rattle.word_names.specs.NameMachine.{Walking, MayStart, IsPaired, IsScanning, first_walk}
 
 -- a scan that meets a segment stays where its walk is
 met_walk : (s : Scan GridWalk) (place : Option ℕ) (r : Option Record) → (met_at grid_walks s place r).walk ≡ s.walk

@@ -1,50 +1,30 @@
 -- what is known of a state stays known by each access of a participant
-use Rattle.std.proofs.Common.{◌≡◌, ◌≢◌, ℕ, ◌+◌, ◌*◌, ◌<◌, ◌≤◌, ◌⊎◌, inl, inr, Bool, true, false, cond, is_some, List, [], ◌∷◌, ◌++◌, length, length-append, Option, Some, None, Result, Ok, Err, refl, sym, ap, subst, ◌∙◌, arith, option_map, nat_le}
-use Rattle.std.proofs.Math.Path.{fun_ext}
-use Rattle.std.proofs.lemmas.Bool.Decides.{eqb_tells, Decides-eqb, nat_tests}
+use Rattle.std.proofs.Common.{◌≡◌, ℕ, inl, inr, true, false, is_some, List, Option, Some, None, refl, sym, ap, subst}
 use Rattle.step_memory.specs.SetAt.{set_at}
-use Rattle.step_memory.specs.declared.access.Access.{Access}
-use Rattle.step_memory.specs.declared.access.Access.TheVariants.{Read, Write}
-use Rattle.step_memory.specs.declared.access.Answer.{Answer}
-use Rattle.step_memory.specs.declared.access.Answer.TheVariants.{Value, WasSet, Done}
-use Rattle.step_memory.specs.declared.note.Note.{Note}
-use Rattle.step_memory.specs.declared.note.Note.TheVariants.{Quiet, Said, Ended}
-use Rattle.step_memory.specs.declared.participant.Participant.{Participant}
+use Rattle.step_memory.specs.declared.access.Access.TheVariants.{Write}
 use Rattle.step_memory.specs.declared.refusal.Refusal.{Refusal}
-use Rattle.step_memory.specs.declared.refusal.Refusal.TheVariants.{NoMemory, ZeroIdentity, AlreadyBegun, Full}
-use Rattle.step_memory.specs.Calls.{Call, steps_of, begun_in}
-use Rattle.step_memory.specs.Calls.Call.{Began, Stepped}
-use Rattle.step_memory.specs.Machine.{After}
-use Rattle.step_memory.specs.Note.{ends}
-use Rattle.step_memory.specs.Participant.{participant_of, beginner}
 use Rattle.step_memory.specs.Steps.{answer_from}
-use Rattle.step_memory.specs.World.{begin_refusal, done_unless}
-use Rattle.step_memory.proofs.MachineLemmas.{call_leads_on}
-use Rattle.step_memory.proofs.SetAtLemmas.{set_at-same, set_at-other, set_at-as_is}
-use Rattle.step_memory.proofs.WorldKeeps.{steps_of-push, begun_in-push}
-use Rattle.snapshot_core.specs.declared.client.Client.{Client}
+use Rattle.step_memory.proofs.SetAtLemmas.{set_at-as_is}
 use Rattle.snapshot_core.specs.declared.client.Pending.{Pending}
-use Rattle.snapshot_core.specs.declared.client.Pending.TheVariants.{Nothing, Placing as OnWay, Scan as Scans, Update, Write as Writing}
-use Rattle.snapshot_core.specs.declared.client.SnapReply.{SnapReply}
+use Rattle.snapshot_core.specs.declared.client.Pending.TheVariants.{Nothing, Write as Writing}
 use Rattle.snapshot_core.specs.Client.{is_idle, is_placed, placed_note, access_for, after_for, note_for, record_of}
 use Rattle.snapshot_core.specs.SnapWorld.{told, clients_over, ways_of, way_now}
 use Rattle.snapshot_places.specs.declared.grid_register.GridRegister.{GridRegister}
 use Rattle.snapshot_places.specs.declared.grid_register.GridValue.{GridValue}
 use Rattle.snapshot_places.specs.declared.grid_walk.GridWalk.{GridWalk}
 use Rattle.snapshot_places.specs.declared.grid_walker.GridWalker.{GridWalker}
-use Rattle.snapshot_places.specs.Grid.{segments_for, register_of, grid_place, grid_walker, grid_walks, grid_walker_steps, after_access, door_access, word_answer}
+use Rattle.snapshot_places.specs.Grid.{register_of, grid_place, after_access, door_access, word_answer}
 use Rattle.snapshot_places.specs.GridProofs.{grid_laws}
 use Rattle.snapshot_places.specs.GridState.{GridState}
 use Rattle.snapshot_places.specs.GridTies.{IsGridFor, grid_places}
 use Rattle.splitter_grid.proofs.GridLaw.{ended_at_place}
-use Rattle.rename_core.specs.declared.round.Follow.{Follow}
 use Rattle.rename_core.specs.declared.round.Round.{Round}
 use Rattle.rename_core.specs.declared.round.Stage.{Stage}
 use Rattle.rename_core.specs.declared.round.Stage.TheVariants.{Placing, Proposing, Looking, Settled, Over}
 use Rattle.rename_core.specs.Locality.{wished, got_in, access_of}
 use Rattle.rename_core.specs.Round.{followed, stage_refusal}
 use Rattle.record_machine.specs.declared.size.Size.{Size}
-use Rattle.word_names.specs.NameMachine.{World, Walking, MayStart, IsPaired, IsAtStage, IsScanning}
+use Rattle.word_names.specs.NameMachine.{Walking, MayStart, IsPaired, IsAtStage}
 use Rattle.word_names.specs.Good.{way_step, scan_step, update_step, written}
 
 abbrev W : Rattle.snapshot_core.specs.Places.KnownPlaces GridState GridRegister GridValue GridWalker GridWalk

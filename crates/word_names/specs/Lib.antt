@@ -5,6 +5,8 @@ pub mod Spelled
 pub mod Good
 pub mod Taking
 pub mod Known
-pub mod Stepping
 pub mod Counting
+pub mod Stepping
+pub mod Accesses
+pub mod Beginning
 pub mod Sound

@@ -2,7 +2,7 @@
 use Rattle.std.specs.Prelude.{◌≡◌, ℕ, ◌+◌, ◌*◌, ◌<◌, ◌≤◌, ◌==◌, ◌⊎◌, Bool, true, false, if◌then◌else◌, is_some, List, [], ◌∷◌, length, Option, Some, None, Result, Ok, Err}
 use Rattle.step_memory.specs.declared.participant.Participant.{Participant}
 use Rattle.step_memory.specs.declared.refusal.Refusal.{Refusal}
-use Rattle.step_memory.specs.Calls.{Call, outcome_in, first_of, begun_in}
+use Rattle.step_memory.specs.Calls.{Call, outcome_in, first_of, steps_of, begun_in}
 use Rattle.step_memory.specs.Calls.Call.{Began, Stepped}
 use Rattle.step_memory.specs.Machine.{Machine, After}
 use Rattle.step_memory.specs.Participant.{participant_of}
@@ -10,7 +10,6 @@ use Rattle.step_memory.specs.Steps.{ProgramSteps}
 use Rattle.commands.specs.declared.kind.WorldKind.TheVariants as kind
 use Rattle.snapshot_core.specs.declared.client.Client.{Client}
 use Rattle.snapshot_core.specs.declared.client.Pending.TheVariants.{Placing as OnWay, Scan as Scans, Update, Write as Writing}
-use Rattle.snapshot_core.specs.declared.scan.Scan.{Scan}
 use Rattle.snapshot_core.specs.Client.{client_at}
 use Rattle.snapshot_core.specs.SnapWorld.{clients_over, ways_of}
 use Rattle.snapshot_places.specs.declared.grid_register.GridRegister.{GridRegister}
@@ -20,6 +19,7 @@ use Rattle.snapshot_places.specs.declared.grid_register.GridValue.TheVariants.{W
 use Rattle.snapshot_places.specs.declared.grid_walk.GridWalk.{GridWalk}
 use Rattle.snapshot_places.specs.declared.grid_walker.GridWalker.{GridWalker}
 use Rattle.snapshot_places.specs.Grid.{fresh_grid, segments_for, register_of, grid_place, grid_walker}
+use Rattle.snapshot_places.specs.Bounds.{grid_bounds}
 use Rattle.snapshot_places.specs.GridState.{GridState}
 use Rattle.snapshot_places.specs.GridTies.{IsGridFor, grid_places}
 use Rattle.rename_core.specs.declared.reply.Reply.TheVariants.{Quiet, Placed, Proposed, Saw, Named, Spent}
@@ -28,6 +28,7 @@ use Rattle.rename_core.specs.declared.round.Stage.{Stage}
 use Rattle.rename_core.specs.declared.round.Stage.TheVariants.{Placing, Proposing, Looking, Settled, Over}
 use Rattle.rename_core.specs.Locality.{client_of, round_of}
 use Rattle.rename_core.specs.Machine.{renaming}
+use Rattle.rename_core.specs.Ends.{steps_among}
 use Rattle.rename_core.specs.RenameState.{RenameState}
 use Rattle.rename_core.specs.Reply.{StepReply}
 use Rattle.rename_core.specs.Round.{first_round, stage_refusal}
@@ -131,6 +132,10 @@ pub record IsPaired (size : Size) (c : Walking) (r : Round) : Type 0 where
   pub few : r.count ≤ size.limit
   pub at : IsAtStage size c r.count r.stage
 
+-- the most accesses of one: those to its place, and those of one round more than all of them make proposals
+abbrev pub most_accesses : Size → ℕ
+most_accesses size = steps_among (grid_bounds size.most) size.most
+
 -- What is known of a state and of the calls that threads have led to it. The memory agrees with the ways of all that have begun; each of
 -- them has a round that goes together with its client
 pub record IsKnown (size : Size) (w : World) (r : List (Call StepReply)) : Type 0 where
@@ -141,6 +146,7 @@ pub record IsKnown (size : Size) (w : World) (r : List (Call StepReply)) : Type 
   pub limit : w.limit ≡ size.limit
   pub consistent : IsGridFor w.snap.memory (begun_in r) (ways_of w.snap.participants)
   pub many : length w.snap.participants ≡ begun_in r
+  pub few : (p : ℕ) → steps_of p r ≤ most_accesses size
   pub joined : (p : ℕ) → is_some (participant_of p w.snap.participants) ≡ is_some (participant_of p w.rounds)
   pub awake : (p : ℕ) (v : Participant Walking) (u : Participant Round) → participant_of p w.snap.participants ≡ Some v → participant_of p w.rounds ≡ Some u → is_some (stage_refusal u.program.stage) ≡ false → v.ended ≡ false
   pub paired : (p : ℕ) (v : Participant Walking) (u : Participant Round) → participant_of p w.snap.participants ≡ Some v → participant_of p w.rounds ≡ Some u → IsPaired size v.program u.program
@@ -158,10 +164,6 @@ IsRegister size (Segment place) = place < segments_for size.most
 abbrev pub place_for : Size → GridRegister → ℕ
 place_for size (Door r) = r
 place_for size (Segment place) = size.most * (size.most + 1) + place
-
--- the most accesses of one: those to its place, and those of one round more than it may make
-abbrev pub most_accesses : Size → ℕ
-most_accesses size = 4 * size.most + (size.limit + 1) * (2 * (segments_for size.most * (segments_for size.most + 1)) + 1)
 
 abbrev pub names_law : RecordLaw Naming GridRegister GridValue (Option ℕ)
 names_law = record {

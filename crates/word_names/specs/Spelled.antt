@@ -1,15 +1,14 @@
 -- what words spell they say
-use Rattle.std.proofs.Common.{◌≡◌, ◌≢◌, ℕ, zero, suc, ◌+◌, ◌-◌, ◌%◌, ◌<◌, ◌≤◌, ◌==◌, cond, nat_lt, true, false, List, [], ◌∷◌, length, drop, drop-cons, get_or, slice_index, Option, Some, None, inl, inr, refl, sym, ap, subst, ◌∙◌, arith}
+use Rattle.std.proofs.Common.{◌≡◌, ◌≢◌, ℕ, zero, suc, ◌+◌, ◌-◌, ◌%◌, ◌<◌, ◌≤◌, ◌==◌, nat_lt, true, false, List, [], ◌∷◌, length, drop, drop-cons, get_or, slice_index, Some, None, inl, inr, refl, sym, ap, subst, ◌∙◌, arith}
 use Rattle.std.proofs.lemmas.Bool.Decides.{eqb_tells, nat_tests}
 use Rattle.std.proofs.lemmas.List.{length-drop}
 use Rattle.step_memory.specs.declared.record.Record.{Record}
-use Rattle.step_memory.specs.View.{inserted, IsRising, IsAbove}
+use Rattle.step_memory.specs.View.{inserted, IsRising}
 use Rattle.step_memory.proofs.ViewLemmas.{IsRising-drop, inserted-below}
 use Rattle.snapshot_places.specs.declared.grid_register.GridValue.{GridValue}
 use Rattle.snapshot_places.specs.declared.grid_register.GridValue.TheVariants.{Word, Contents}
-use Rattle.record_machine.specs.RunRule.{row}
 use Rattle.record_machine.proofs.Slots.{row_at, row_length}
-use Rattle.word_names.specs.Spelling.{record_word, contents_word, word_at, spelled_by, pairs_in, pairs_of, record_in, value_in, FitsRecord, Fits}
+use Rattle.word_names.specs.Spelling.{record_word, word_at, spelled_by, pairs_in, pairs_of, record_in, value_in, FitsRecord, Fits}
 
 differs : (a b : ℕ) → a ≢ b → (a == b) ≡ false
 differs a b n = elim (eqb_tells a b) [ inl e ↦ absurd (n e.1) | inr e ↦ e.0 ]
@@ -66,11 +65,11 @@ module _ (r : Record) where
       let number : slice_index words 3 % 4294967296 ≡ r.number = ap (λ (n : ℕ). n % 4294967296) (word_is (Contents (Some r)) 3 (omega arith)) ∙ (let small = fits.small in omega arith) in
       let all : record_in words ≡ r = (λ i. record { identity = word_is (Contents (Some r)) 1 (omega arith) i; value = word_is (Contents (Some r)) 2 (omega arith) i; number = number i; view = view i }) in
       rw (differs (slice_index words 0) 0 (λ e. absurd (omega arith)), differs (slice_index words 0) 100 (λ e. absurd (omega arith))) (ap (λ (x : Record). Contents (Some x)) all) where
-    counted : (n : ℕ) → n ≤ 64 → pairs_of (n + 1) ≡ n
-    counted n l = elim (eqb_tells n 64) [
-      | inl e ↦ rw (not_less (n + 1 - 1) 64 (let same = e.1 in omega arith)) (sym e.1)
-      | inr e ↦ rw (less (n + 1 - 1) 64 (let other = e.1 in omega arith)) (omega arith)
-    ]
+        counted : (n : ℕ) → n ≤ 64 → pairs_of (n + 1) ≡ n
+        counted n l = elim (eqb_tells n 64) [
+          | inl e ↦ rw (not_less (n + 1 - 1) 64 (let same = e.1 in omega arith)) (sym e.1)
+          | inr e ↦ rw (less (n + 1 - 1) 64 (let other = e.1 in omega arith)) (omega arith)
+        ]
 
 pub spelled : (v : GridValue) → Fits v → value_in (spelled_by v) ≡ v
 spelled (Word w) fits = refl

@@ -1,6 +1,6 @@
 -- how words spell what stands in the registers of a grid with segments. A door's word says itself. A record is spelled by 132 words: what
 -- it is and how long its view, its identity, value and number, and then the identities and the values of its view
-use Rattle.std.specs.Prelude.{◌≡◌, ℕ, zero, suc, ◌+◌, ◌-◌, ◌%◌, ◌<◌, ◌≤◌, ◌==◌, nat_lt, if◌then◌else◌, List, [], ◌∷◌, length, slice_index, Option, Some, None}
+use Rattle.std.specs.Prelude.{ℕ, zero, suc, ◌+◌, ◌-◌, ◌%◌, ◌<◌, ◌≤◌, ◌==◌, nat_lt, if◌then◌else◌, List, [], length, slice_index, Option, Some, None}
 use Rattle.std.proofs.Common.{get_or}
 use Rattle.step_memory.specs.declared.record.Record.{Record}
 use Rattle.step_memory.specs.View.{inserted, IsRising}

@@ -1,22 +1,19 @@
 -- a step of a participant that has begun keeps what is known of the state
-use Rattle.std.proofs.Common.{◌≡◌, ◌≢◌, ℕ, ◌+◌, ◌<◌, ◌≤◌, inl, inr, Bool, true, false, cond, is_some, List, [], ◌∷◌, ◌++◌, length, Option, Some, None, Result, Ok, Err, refl, sym, ap, subst, ◌∙◌, arith, option_map, nat_le}
+use Rattle.std.proofs.Common.{◌≡◌, ℕ, inl, inr, true, false, cond, is_some, List, [], ◌∷◌, ◌++◌, Option, Some, None, Ok, refl, sym, ap, subst, ◌∙◌, arith, nat_le}
 use Rattle.std.proofs.Math.Path.{fun_ext}
 use Rattle.std.proofs.lemmas.Bool.Decides.{eqb_tells}
 use Rattle.step_memory.specs.SetAt.{set_at}
 use Rattle.step_memory.specs.declared.access.Access.{Access}
-use Rattle.step_memory.specs.declared.access.Access.TheVariants.{Read, Write}
+use Rattle.step_memory.specs.declared.access.Access.TheVariants.{Write}
 use Rattle.step_memory.specs.declared.access.Answer.{Answer}
 use Rattle.step_memory.specs.declared.note.Note.{Note}
 use Rattle.step_memory.specs.declared.participant.Participant.{Participant}
-use Rattle.step_memory.specs.declared.refusal.Refusal.{Refusal}
-use Rattle.step_memory.specs.declared.refusal.Refusal.TheVariants.{NoMemory}
 use Rattle.step_memory.specs.Calls.{Call, begun_in}
-use Rattle.step_memory.specs.Calls.Call.{Began, Stepped}
+use Rattle.step_memory.specs.Calls.Call.{Stepped}
 use Rattle.step_memory.specs.Machine.{After}
 use Rattle.step_memory.specs.Note.{ends}
 use Rattle.step_memory.specs.Participant.{participant_of, beginner}
-use Rattle.step_memory.specs.Steps.{answer_from}
-use Rattle.step_memory.proofs.SetAtLemmas.{set_at-same, set_at-other, set_at-cases}
+use Rattle.step_memory.proofs.SetAtLemmas.{set_at-same, set_at-other}
 use Rattle.step_memory.proofs.WorldKeeps.{begun_in-push}
 use Rattle.commands.specs.declared.kind.WorldKind.TheVariants as kind
 use Rattle.snapshot_core.specs.declared.client.Pending.{Pending}
@@ -24,13 +21,11 @@ use Rattle.snapshot_core.specs.declared.client.SnapReply.{SnapReply}
 use Rattle.snapshot_core.specs.declared.client.SnapReply.TheVariants.{Quiet as Silent, Placed as HasPlace, Written, View as Viewed}
 use Rattle.snapshot_core.specs.Client.{is_idle}
 use Rattle.snapshot_core.specs.SnapWorld.{told, clients_over, ways_of, way_now}
-use Rattle.snapshot_places.specs.declared.grid_walker.GridWalker.{GridWalker}
 use Rattle.snapshot_places.specs.declared.grid_register.GridValue.{GridValue}
 use Rattle.snapshot_places.specs.GridState.{GridState}
 use Rattle.snapshot_places.specs.GridTies.{IsGridFor, grid_places}
 use Rattle.rename_core.specs.declared.round.Follow.{Follow}
 use Rattle.rename_core.specs.declared.round.Round.{Round}
-use Rattle.rename_core.specs.declared.round.Stage.{Stage}
 use Rattle.rename_core.specs.Locality.{wished, got_in, access_of}
 use Rattle.rename_core.specs.Round.{followed, stage_refusal, spent_by, saw_by, named_by}
 use Rattle.rename_core.specs.RenameWorld.{after_follow}
@@ -39,7 +34,8 @@ use Rattle.rename_core.proofs.AfterCalls.{step_leads_on}
 use Rattle.proposal_rounds.specs.Proposals.{is_taken}
 use Rattle.record_machine.specs.declared.size.Size.{Size}
 use Rattle.word_names.specs.Renamers.{note_of}
-use Rattle.word_names.specs.NameMachine.{World, Walking, names_machine, start_of, IsPaired, IsAtStage, IsKnown}
+use Rattle.word_names.specs.NameMachine.{World, Walking, names_machine, start_of, IsPaired, IsKnown}
+use Rattle.word_names.specs.Counting.{few_after}
 use Rattle.word_names.specs.Taking.{answer_is, after_is, stepped, IsStepped}
 use Rattle.word_names.specs.Known.{busy_at, answered_at, agrees_at, wished_walker}
 
@@ -62,6 +58,7 @@ quiet_note c Rattle.snapshot_core.specs.declared.client.Pending.TheVariants.Scan
   view_note o None = refl
   view_note None (Some view) = refl
   view_note (Some n) (Some view) = refl
+
   read_note : (o : Option ℕ) (a : Answer GridValue) → ends (Rattle.snapshot_core.specs.Client.read_note grid_places.walks c a o) ≡ false
   read_note o (Rattle.step_memory.specs.declared.access.Answer.TheVariants.Value v) = view_note o (Rattle.snapshot_core.specs.Scan.scan_view grid_places.walks c.scan v)
   read_note o (Rattle.step_memory.specs.declared.access.Answer.TheVariants.WasSet b) = refl
@@ -71,6 +68,7 @@ quiet_note c (Rattle.snapshot_core.specs.declared.client.Pending.TheVariants.Upd
   view_note o None = refl
   view_note None (Some view) = refl
   view_note (Some k) (Some view) = refl
+
   read_note : (o : Option ℕ) (a : Answer GridValue) → ends (Rattle.snapshot_core.specs.Client.read_note grid_places.walks c a o) ≡ false
   read_note o (Rattle.step_memory.specs.declared.access.Answer.TheVariants.Value v) = view_note o (Rattle.snapshot_core.specs.Scan.scan_view grid_places.walks c.scan v)
   read_note o (Rattle.step_memory.specs.declared.access.Answer.TheVariants.WasSet b) = refl
@@ -84,19 +82,19 @@ module _ (size : Size) (w : World) (r : List (Call StepReply)) (h : IsKnown size
   pub awake : v.ended ≡ false
   awake = h.awake p v u here round (ap is_some goes)
 
-  abbrev follow : Follow
+  abbrev pub follow : Follow
   follow = followed u.program p (told ((clients_over grid_places).note v.program (got_in grid_places w.snap.memory v.program))) w.limit
 
-  abbrev new : World
+  abbrev pub new : World
   new = after_follow grid_places w p follow
 
-  abbrev call : Call StepReply
+  abbrev pub call : Call StepReply
   call = Stepped p (Ok follow.reply)
 
   pub step : IsStepped grid_places w p v u here round awake busy goes new
   step = stepped grid_places w p v u here round awake busy goes
 
-  abbrev client : Walking
+  abbrev pub client : Walking
   client = wished follow.wish ((clients_over grid_places).resumed v.program (got_in grid_places w.snap.memory v.program))
 
   pub after_step : After names_machine (start_of size) new (r ++ call ∷ [])
@@ -140,6 +138,7 @@ module _ (size : Size) (w : World) (r : List (Call StepReply)) (h : IsKnown size
     limit = step.limit ∙ h.limit;
     consistent = subst (λ (b : ℕ). IsGridFor new.snap.memory b (ways_of new.snap.participants)) (sym begun_same) agree_now;
     many = step.many ∙ h.many ∙ sym begun_same;
+    few = λ q. few_after size w r h.after h.few new p follow.reply after_step q;
     joined = λ q. elim (eqb_tells q p) [
       | inl e ↦ ap (λ (z : ℕ). is_some (participant_of z new.snap.participants)) e.1 ∙ ap is_some step.client ∙ sym (ap (λ (z : ℕ). is_some (participant_of z new.rounds)) e.1 ∙ ap is_some step.round_now)
       | inr e ↦ ap is_some (step.others q e.1).0 ∙ h.joined q ∙ sym (ap is_some (step.others q e.1).1)

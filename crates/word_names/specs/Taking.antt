@@ -1,19 +1,12 @@
 -- a step of a participant of the renaming machine over a grid is one access of its program
-use Rattle.std.proofs.Common.{◌≡◌, ◌≢◌, ℕ, ◌+◌, ◌*◌, ◌<◌, ◌≤◌, ◌⊎◌, inl, inr, Bool, true, false, cond, is_some, List, [], ◌∷◌, ◌++◌, length, length-append, Option, Some, None, Result, Ok, Err, refl, sym, ap, subst, ◌∙◌, arith, option_map, option_and_then}
-use Rattle.std.proofs.Math.Path.{fun_ext}
-use Rattle.std.proofs.lemmas.Bool.Decides.{eqb_tells}
-use Rattle.step_memory.specs.SetAt.{set_at}
-use Rattle.step_memory.specs.declared.access.Access.{Access}
-use Rattle.step_memory.specs.declared.access.Access.TheVariants.{Write}
+use Rattle.std.proofs.Common.{◌≡◌, ◌≢◌, ℕ, false, List, length, Option, Some, None, Ok, refl, sym, ap, ◌∙◌, option_map}
 use Rattle.step_memory.specs.declared.access.Answer.{Answer}
 use Rattle.step_memory.specs.declared.participant.Participant.{Participant}
 use Rattle.step_memory.specs.declared.refusal.Refusal.{Refusal}
-use Rattle.step_memory.specs.declared.refusal.Refusal.TheVariants.{NoMemory}
-use Rattle.step_memory.specs.Calls.{Call, reply_of}
-use Rattle.step_memory.specs.Calls.Call.{Began, Stepped}
+use Rattle.step_memory.specs.Calls.{reply_of}
 use Rattle.step_memory.specs.Participant.{participant_of, program_of, with_participant, beginner, resumed}
 use Rattle.step_memory.specs.Note.{ends}
-use Rattle.step_memory.proofs.ParticipantLemmas.{participant_of-put, participant_of-push, identity_of, length-with_participant}
+use Rattle.step_memory.proofs.ParticipantLemmas.{participant_of-put, identity_of, length-with_participant}
 use Rattle.step_memory.proofs.SetAtLemmas.{set_at-same, set_at-other}
 use Rattle.step_memory.proofs.StepLemmas.{going_answer, going_after}
 use Rattle.snapshot_core.specs.declared.client.Client.{Client}
@@ -26,10 +19,9 @@ use Rattle.rename_core.specs.declared.round.Follow.{Follow}
 use Rattle.rename_core.specs.declared.round.Round.{Round}
 use Rattle.rename_core.specs.declared.round.Wish.{Wish}
 use Rattle.rename_core.specs.declared.round.Wish.TheVariants.{Nothing, Update, Scan}
-use Rattle.rename_core.specs.Locality.{client_of, round_of, wished, asked_unless, access_of, got_in}
+use Rattle.rename_core.specs.Locality.{wished, asked_unless, access_of, got_in}
 use Rattle.rename_core.specs.RenameState.{RenameState}
 use Rattle.rename_core.specs.RenameWorld.{after_wish, after_follow, rename_answer, after_rename_step}
-use Rattle.rename_core.specs.Reply.{StepReply}
 use Rattle.rename_core.specs.Round.{followed, stage_refusal}
 
 -- who is put in is found there, and no other has changed

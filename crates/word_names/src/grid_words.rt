@@ -68,7 +68,11 @@ fn pairs_spelled(word: u64) -> usize
     ensures count { result ≡ pairs_of word }
     ensures few { result ≤ 64 }
 {
-    if word - 1 < 64 { (word - 1) as usize } else { 64 }
+    if word - 1 < 64 {
+        (word - 1) as usize
+    } else {
+        64
+    }
 }
 
 /// The view of so many pairs that words spell.

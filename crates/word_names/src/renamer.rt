@@ -6,9 +6,7 @@ ghost use Rattle.snapshot_core.specs.Client.{client_steps};
 ghost use Rattle.word_names.specs.Renamers.{note_of, renamer_on, resumed_on, reply_on};
 
 use rename_core::{Reply, Round, Wish};
-use snapshot_core::{
-    Client, MOST_UPDATES, PlaceWalker, SegmentWalk, SnapReply, ToScan, ToUpdate,
-};
+use snapshot_core::{Client, MOST_UPDATES, PlaceWalker, SegmentWalk, SnapReply, ToScan, ToUpdate};
 use step_memory::{Access, Answer, Note, Request, StepProgram, View};
 
 /// A participant: its client of the snapshot object, and its round.

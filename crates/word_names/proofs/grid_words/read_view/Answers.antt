@@ -1,4 +1,4 @@
-use Rattle.std.proofs.Common.{◌≡◌, ◌-◌, ◌+◌, arith, ap, sym, ◌∙◌, length, slice_index}
+use Rattle.std.proofs.Common.{◌-◌, ◌+◌, arith, ap, ◌∙◌, length, slice_index}
 use Rattle.step_memory.specs.View.{inserted}
 use Rattle.step_memory.proofs.ViewLemmas.{length-inserted}
 use Rattle.word_names.specs.Spelled.{pairs_more}

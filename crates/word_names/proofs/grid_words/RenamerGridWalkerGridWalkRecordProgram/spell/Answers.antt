@@ -1,4 +1,4 @@
-use Rattle.std.proofs.Common.{sym, ap, ◌∙◌, ◌≡◌, arith}
+use Rattle.std.proofs.Common.{sym, ap, ◌∙◌, arith}
 use Rattle.word_names.specs.Spelling.{word_at}
 use Rattle.word_names.specs.Spelled.{other_word, word_is}
 use Rattle.word_names.proofs.grid_words.RenamerGridWalkerGridWalkRecordProgram.spell.Goals as goal
