@@ -3,12 +3,12 @@ use Rattle.std.proofs.Common.{◌≡◌, ◌==◌, ℕ, ◌+◌, ◌≤◌, inl,
 use Rattle.std.proofs.lemmas.Bool.Decides.{eqb_tells, leb_tells}
 use Rattle.step_memory.specs.SetAt.{set_at}
 use Rattle.step_memory.specs.declared.refusal.Refusal.TheVariants.{NotBegun, Finished, Spent as IsSpent}
-use Rattle.step_memory.specs.Calls.{Call, steps_of, steps_by, first_of, outcome_in}
+use Rattle.step_memory.specs.Calls.{Call, steps_of, steps_by, begun_in, begun_by, first_of, outcome_in}
 use Rattle.step_memory.specs.Calls.Call.{Began, Stepped}
 use Rattle.step_memory.specs.Machine.{After}
 use Rattle.step_memory.specs.Runs.{Run}
 use Rattle.step_memory.proofs.RunLemmas.{run_splits, run_one}
-use Rattle.step_memory.proofs.SetAtLemmas.{set_at-same, set_at-other}
+use Rattle.step_memory.proofs.SetAtLemmas.{set_at-same, set_at-other, set_at-cases}
 use Rattle.step_memory.proofs.WorldKeeps.{steps_of-push}
 use Rattle.commands.specs.declared.kind.WorldKind.TheVariants as kind
 use Rattle.snapshot_places.specs.Bounds.{grid_bounds}
@@ -143,9 +143,71 @@ module _ (size : Size) where
       | inr other ↦ absurd (let never : None ≡ Some (Some n) = rw other.0 at e in cc)
     ]
 
-    told_run : (r : List (Call StepReply)) (o end : RenameObject) → Run after (Allows terms) o r end → outcome_of p r ≡ Some (Some n) → end.name p ≡ Some n
+    pub told_run : (r : List (Call StepReply)) (o end : RenameObject) → Run after (Allows terms) o r end → outcome_of p r ≡ Some (Some n) → end.name p ≡ Some n
     told_run [] o end run e = absurd (cc)
     told_run (h ∷ r) o end run e = elim (outcome_by p h) as (λ x. outcome_by p h ≡ x → first_of x (outcome_of p r) ≡ Some (Some n) → end.name p ≡ Some n) [
       | None ↦ λ _ later. told_run r (after o h) end run.1 later
       | Some y ↦ λ is now. kept_run r (after o h) end run.1 (told_call o h (is ∙ now))
+    ] refl e
+
+  -- as many have begun as calls let in
+  many_step : (o : RenameObject) (q : ℕ) (reply : StepReply) → (after_step o q reply).many ≡ o.many
+  many_step o q Quiet = refl
+  many_step o q (Placed place) = refl
+  many_step o q (Proposed n) = refl
+  many_step o q (Saw view) = refl
+  many_step o q (Named n view) = refl
+  many_step o q Spent = refl
+
+  many_call : (o : RenameObject) (h : Call StepReply) → (after o h).many ≡ o.many + begun_by h
+  many_call o (Began q (Ok done)) = refl
+  many_call o (Began q (Err why)) = omega arith
+  many_call o (Stepped q (Ok reply)) = (let same = many_step o q reply in omega arith)
+  many_call o (Stepped q (Err why)) = omega arith
+
+  pub many_run : (r : List (Call StepReply)) (o end : RenameObject) → Run after (Allows terms) o r end → o.many + begun_in r ≡ end.many
+  many_run [] o end run = (let same = ap (λ (x : RenameObject). x.many) run in omega arith)
+  many_run (h ∷ r) o end run = (let one = many_call o h in let rest = many_run r (after o h) end run.1 in omega arith)
+
+  -- whoever was told that it is spent is
+  module _ (p : ℕ) where
+    spent_step : (o : RenameObject) (q : ℕ) (reply : StepReply) → o.spent p ≡ true → (after_step o q reply).spent p ≡ true
+    spent_step o q Quiet is = is
+    spent_step o q (Placed place) is = is
+    spent_step o q (Proposed n) is = is
+    spent_step o q (Saw view) is = is
+    spent_step o q (Named n view) is = is
+    spent_step o q Spent is = set_at-cases o.spent q true (λ (b : Bool). b ≡ true) p (λ _. refl) (λ _. is)
+
+    spent_call : (o : RenameObject) (h : Call StepReply) → o.spent p ≡ true → (after o h).spent p ≡ true
+    spent_call o (Began q (Ok done)) is = is
+    spent_call o (Began q (Err why)) is = is
+    spent_call o (Stepped q (Ok reply)) is = spent_step o q reply is
+    spent_call o (Stepped q (Err why)) is = is
+
+    spent_run : (r : List (Call StepReply)) (o end : RenameObject) → Run after (Allows terms) o r end → o.spent p ≡ true → end.spent p ≡ true
+    spent_run [] o end run is = ap (λ (x : RenameObject). x.spent p) run ∙ is
+    spent_run (h ∷ r) o end run is = spent_run r (after o h) end run.1 (spent_call o h is)
+
+    told_spent_own : (o : RenameObject) (q : ℕ) (reply : StepReply) → q ≡ p → outcome_in (note_of reply) ≡ Some None → (after_step o q reply).spent p ≡ true
+    told_spent_own o q Quiet same e = absurd (cc)
+    told_spent_own o q (Placed place) same e = absurd (cc)
+    told_spent_own o q (Proposed m) same e = absurd (cc)
+    told_spent_own o q (Saw view) same e = absurd (cc)
+    told_spent_own o q (Named m view) same e = absurd (cc)
+    told_spent_own o q Spent same e = ap (set_at o.spent q true) (sym same) ∙ set_at-same o.spent q true
+
+    told_spent_call : (o : RenameObject) (h : Call StepReply) → outcome_by p h ≡ Some None → (after o h).spent p ≡ true
+    told_spent_call o (Began q reply) e = absurd (cc)
+    told_spent_call o (Stepped q (Err why)) e = absurd (cc)
+    told_spent_call o (Stepped q (Ok reply)) e = elim (eqb_tells q p) [
+      | inl same ↦ told_spent_own o q reply same.1 (rw same.0 at e)
+      | inr other ↦ absurd (let never : None ≡ Some None = rw other.0 at e in cc)
+    ]
+
+    pub told_spent : (r : List (Call StepReply)) (o end : RenameObject) → Run after (Allows terms) o r end → outcome_of p r ≡ Some None → end.spent p ≡ true
+    told_spent [] o end run e = absurd (cc)
+    told_spent (h ∷ r) o end run e = elim (outcome_by p h) as (λ x. outcome_by p h ≡ x → first_of x (outcome_of p r) ≡ Some None → end.spent p ≡ true) [
+      | None ↦ λ _ later. told_spent r (after o h) end run.1 later
+      | Some y ↦ λ is now. spent_run r (after o h) end run.1 (told_spent_call o h (is ∙ now))
     ] refl e

@@ -10,3 +10,5 @@ pub mod Stepping
 pub mod Accesses
 pub mod Beginning
 pub mod Sound
+pub mod Seats
+pub mod NameLaw

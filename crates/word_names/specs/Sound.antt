@@ -43,14 +43,14 @@ proposals_pushed p [] h = omega arith
 proposals_pushed p (g ∷ r) h = let rest = proposals_pushed p r h in omega arith
 
 -- the participant of the snapshot object and the round that a participant of the machine is
-record IsFound (w : World) (p : ℕ) (x : Participant Naming) : Type 0 where
-  v : Participant Walking
-  u : Participant Round
-  here : participant_of p w.snap.participants ≡ Some v
-  round : participant_of p w.rounds ≡ Some u
-  is : x ≡ record { identity = p; program = record { identity = p; limit = w.limit; client = v.program; round = u.program }; ended = is_some (stage_refusal u.program.stage) }
+pub record IsFound (w : World) (p : ℕ) (x : Participant Naming) : Type 0 where
+  pub v : Participant Walking
+  pub u : Participant Round
+  pub here : participant_of p w.snap.participants ≡ Some v
+  pub round : participant_of p w.rounds ≡ Some u
+  pub is : x ≡ record { identity = p; program = record { identity = p; limit = w.limit; client = v.program; round = u.program }; ended = is_some (stage_refusal u.program.stage) }
 
-found : (w : World) (p : ℕ) (x : Participant Naming) → naming_of w p ≡ Some x → IsFound w p x
+pub found : (w : World) (p : ℕ) (x : Participant Naming) → naming_of w p ≡ Some x → IsFound w p x
 found w p x e = elim (participant_of p w.snap.participants) as (λ a. participant_of p w.snap.participants ≡ a → naming_at p w.limit (option_map (λ z. z.program) a) (option_map (λ z. z.program) (participant_of p w.rounds)) ≡ Some x → IsFound w p x) [
   | None ↦ λ _ k. absurd (cc)
   | Some v ↦ λ here. elim (participant_of p w.rounds) as (λ b. participant_of p w.rounds ≡ b → naming_at p w.limit (Some v.program) (option_map (λ z. z.program) b) ≡ Some x → IsFound w p x) [
