@@ -111,7 +111,7 @@ fn are_names_of(names: &[Option<u64>], count: u64) -> bool {
 
 /// Whether so many threads that are renamed at once have names of their own below twice their number.
 fn have_names<R: Threads + Sync>(rt: &R, alloc: Global, count: u64) -> Result<bool, Refusal> {
-    let (names, dealer) = Names::new(alloc, 16, 64)?;
+    let (names, dealer) = Names::new(alloc, count, 64)?;
     let callers = callers_of(alloc, &names, dealer, count)?;
     let told = thread::map_vec(rt, callers, &|caller| name_of(caller))?;
     Ok(are_names_of(&told, count))
@@ -119,7 +119,7 @@ fn have_names<R: Threads + Sync>(rt: &R, alloc: Global, count: u64) -> Result<bo
 
 #[test]
 fn threads_have_names_of_their_own(rt: HostRuntime) {
-    for round in 0..1000u64 {
+    for round in 0..150u64 {
         let count = 2 + round % 15;
         same(&rt, round as usize, have_names(&rt, rt.alloc(), count), Ok(true));
     }
