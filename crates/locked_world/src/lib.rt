@@ -4,14 +4,15 @@
 //! A call takes the lock once and is one event; its caller keeps the event with its reply where it is accepted, at its place in the
 //! history. What is proved (`IsTaken`): the reply is that of a hall of the config that the lock was made for, with a lawful history that
 //! goes on from what the caller had seen when it was last answered; all that the caller has kept stands in that history at its
-//! place (`HallLock::{apply, act, step, session}` and their fellows); `rename` adds at most its turns, at places that rise, and exactly its turns where they
-//! are used up; `close` gives a history of that config, each place of which was kept by just one caller, with the event and the reply
-//! that stand there, or hands all back. So the accepted replies that the callers got are one run, each once, in each caller's order.
+//! place (`HallLock::{apply, act, step, session}` and their fellows); `rename` adds at most its turns, at places that rise, and exactly
+//! its turns where they are used up; with `turns_among` turns it ends in a name or an error, whatever others do; `close` gives a history
+//! of that config, each place of which was kept by just one caller, with the event and the reply that stand there, or hands all back. So
+//! the accepted replies that the callers got are one run, each once, in each caller's order.
 //!
 //! A reply may show a view, which takes a kilobyte. Where events are many, `HallLock::{apply_short, act_short}` answer in a few bytes
 //! and put the view beside.
 //!
-//! Not promised: that a lock is got, an order between threads that never meet, an end.
+//! Not promised: that a lock is got, so that a call returns; an order between threads that never meet.
 //!
 //! A caller, in a function over `L: LockName` that is called with `Brand`, which picks config, blank and book:
 //!
@@ -35,7 +36,9 @@ pub mod rename;
 pub mod serving_clerk;
 
 pub use closing::Missing;
+pub use hall::Hall;
 pub use hall_callers::{Act, Clerk, Closed, Kept, KeptLog, LockName, Session, agrees, post_name};
 pub use laws::law_of_clerks;
 pub use lock::HallLock;
+pub use player::Service;
 pub use serving_clerk::ServingClerk;

@@ -37,4 +37,6 @@ mod word_grid_tests;
 #[cfg(test)]
 mod word_machine_tests;
 #[cfg(test)]
+mod word_names_tests;
+#[cfg(test)]
 mod word_pool_tests;

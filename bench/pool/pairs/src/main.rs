@@ -1,4 +1,8 @@
-//! Stays in a pool and values of threads, beside what else there is, at 1, 2, 3, 4 and 8 threads.
+//! Stays in a pool and values of threads, beside what else there is.
+//!
+//!     pairs               times each work once, and prints a line for each: its name, its threads, its nanoseconds
+//!     pairs works         the works of one thread, by name
+//!     pairs WORK TIMES    does one of these so many times
 
 mod counted;
 mod plain;
@@ -13,7 +17,7 @@ use std::sync::atomic::{AtomicU64, Ordering::Relaxed};
 use std::sync::Mutex;
 use std::time::Instant;
 use thread_local::ThreadLocal;
-use timed::{ratio, timed};
+use timed::{line, timed};
 
 const NUMBERS: usize = 64;
 
@@ -34,7 +38,6 @@ fn all() {
         stays_with_no_hint(threads);
         peers(threads);
         values(threads);
-        println!();
     }
     pools_in_turn();
     values_in_turn();
@@ -45,17 +48,16 @@ fn all() {
 /// Each thread alone on its own number, which is not the first.
 fn stays_near(threads: usize) {
     let pool = Pool::new(NUMBERS).expect("a size that there is");
-    let ours = timed("Pool::acquire_near and drop", threads, |thread| thread + 2, |mine| {
+    timed("near", threads, |thread| thread + 2, |mine| {
         *mine = pool.acquire_near(*mine).map_or(1, |slot| black_box(slot.number()));
     });
     let words = PlainWords::new(NUMBERS);
-    let plain = timed("plain words, near", threads, |thread| thread + 2, |mine| {
+    timed("plain near", threads, |thread| thread + 2, |mine| {
         *mine = words.acquire_near(*mine).unwrap_or(1);
         words.release(black_box(*mine));
     });
-    ratio("a stay near to plain words", threads, ours, plain);
     let bits = PlainBits::new(NUMBERS);
-    timed("bits of one word, near", threads, |thread| thread + 2, |mine| {
+    timed("bits near", threads, |thread| thread + 2, |mine| {
         *mine = bits.acquire_near(*mine).unwrap_or(1);
         bits.release(black_box(*mine));
     });
@@ -66,7 +68,7 @@ fn stays_kept(threads: usize) {
     let workers = Workers::new(NUMBERS).expect("a size that there is");
     let elements = Slots::new(&workers, |_| 0_u64);
     let attach = |_| workers.attach().expect("at most 64");
-    timed("Worker::stay and Slots::get", threads, attach, |worker| {
+    timed("kept", threads, attach, |worker| {
         *elements.get(&mut black_box(worker).stay()) += 1;
     });
 }
@@ -74,17 +76,17 @@ fn stays_kept(threads: usize) {
 /// As many numbers as threads, and no hint.
 fn stays_with_no_hint(threads: usize) {
     let pool = Pool::new(threads).expect("a size that there is");
-    let ours = timed("Pool::acquire and drop, numbers as threads", threads, |_| (), |()| while pool.acquire().is_none() {});
+    let number = |slot: beglushan::Slot| black_box(slot.number());
+    timed("acquire", threads, |_| (), |()| while pool.acquire().map(number).is_none() {});
     let slab = sharded_slab::Slab::<u64>::new();
-    let theirs = timed("sharded_slab, insert and remove", threads, |_| (), |()| {
+    timed("slab", threads, |_| (), |()| {
         let key = slab.insert(7).expect("room");
         slab.remove(black_box(key));
     });
-    ratio("acquire to sharded_slab", threads, ours, theirs);
     let least = Pool::new(threads).expect("a size that there is");
-    let ours = timed("Pool::acquire_least, numbers as threads", threads, |_| (), |()| while least.acquire_least().is_none() {});
+    timed("least", threads, |_| (), |()| while least.acquire_least().map(number).is_none() {});
     let words = PlainWords::new(threads);
-    let plain = timed("plain words from 1, numbers as threads", threads, |_| (), |()| {
+    timed("plain least", threads, |_| (), |()| {
         let number = loop {
             if let Some(number) = words.acquire_near(1) {
                 break number;
@@ -92,9 +94,8 @@ fn stays_with_no_hint(threads: usize) {
         };
         words.release(black_box(number));
     });
-    ratio("acquire_least to plain words from 1", threads, ours, plain);
     let bits = PlainBits::new(threads);
-    timed("bits of one word from 1, numbers as threads", threads, |_| (), |()| {
+    timed("bits least", threads, |_| (), |()| {
         let number = loop {
             if let Some(number) = bits.acquire_near(1) {
                 break number;
@@ -107,39 +108,35 @@ fn stays_with_no_hint(threads: usize) {
 /// What other crates do instead.
 fn peers(threads: usize) {
     let heap = Mutex::new((1..=NUMBERS).map(Reverse).collect::<BinaryHeap<Reverse<usize>>>());
-    timed("heap of free numbers under a mutex", threads, |_| (), |()| {
+    timed("heap", threads, |_| (), |()| {
         let number = heap.lock().expect("no panic").pop();
         heap.lock().expect("no panic").extend(black_box(number));
     });
     let collector = crossbeam_epoch::Collector::new();
-    timed("crossbeam_epoch, pin and unpin", threads, |_| collector.register(), |handle| drop(black_box(handle.pin())));
+    timed("epoch", threads, |_| collector.register(), |handle| drop(black_box(handle.pin())));
 }
 
 /// A thread's value, after its first use.
 fn values(threads: usize) {
     let ours = PerThread::<AtomicU64>::new();
     let count = |mine: &AtomicU64| mine.store(mine.load(Relaxed) + 1, Relaxed);
-    let with = timed("PerThread::with", threads, |_| (), |()| black_box(&ours).with(count));
+    timed("with", threads, |_| (), |()| black_box(&ours).with(count));
     let theirs = ThreadLocal::<AtomicU64>::new();
-    let get = timed("thread_local, get_or_default", threads, |_| (), |()| count(black_box(&theirs).get_or_default()));
-    ratio("with to thread_local", threads, with, get);
+    timed("thread_local", threads, |_| (), |()| count(black_box(&theirs).get_or_default()));
 }
 
 /// Many values of one thread, used in turn.
 fn values_in_turn() {
     let count = |mine: &AtomicU64| mine.store(mine.load(Relaxed) + 1, Relaxed);
     for many in [1, 8, 9, 16, 64, 256, 1000] {
+        let next = |turn: &mut usize| {
+            *turn = if *turn + 1 == many { 0 } else { *turn + 1 };
+            *turn
+        };
         let ours: Vec<PerThread<AtomicU64>> = (0..many).map(|_| PerThread::new()).collect();
-        let with = timed(&format!("{many} PerThreads in turn"), 1, |_| 0, |turn| {
-            *turn = if *turn + 1 == many { 0 } else { *turn + 1 };
-            black_box(&ours[*turn]).with(count);
-        });
+        timed(&format!("with, {many} in turn"), 1, |_| 0, |turn| black_box(&ours[next(turn)]).with(count));
         let theirs: Vec<ThreadLocal<AtomicU64>> = (0..many).map(|_| ThreadLocal::new()).collect();
-        let get = timed(&format!("{many} thread_locals in turn"), 1, |_| 0, |turn| {
-            *turn = if *turn + 1 == many { 0 } else { *turn + 1 };
-            count(black_box(&theirs[*turn]).get_or_default());
-        });
-        ratio("with to thread_local", 1, with, get);
+        timed(&format!("thread_local, {many} in turn"), 1, |_| 0, |turn| count(black_box(&theirs[next(turn)]).get_or_default()));
     }
 }
 
@@ -147,9 +144,9 @@ fn values_in_turn() {
 fn pools_in_turn() {
     for many in [1, 2, 10, 100] {
         let pools: Vec<Pool> = (0..many).map(|_| Pool::new(NUMBERS).expect("a size that there is")).collect();
-        timed(&format!("{many} pools in turn, acquire and drop"), 1, |_| 0, |turn| {
+        timed(&format!("acquire, {many} in turn"), 1, |_| 0, |turn| {
             *turn = if *turn + 1 == many { 0 } else { *turn + 1 };
-            drop(black_box(pools[*turn].acquire()));
+            black_box(pools[*turn].acquire().map(|slot| slot.number()));
         });
     }
 }
@@ -176,14 +173,13 @@ fn sums() {
         }
         from.elapsed().as_nanos() as f64 / f64::from(SUMS)
     };
-    let ours = per_sum(&|| ours.sum(|counter| counter.load(Relaxed)));
-    let theirs = per_sum(&|| theirs.iter().map(|counter| counter.load(Relaxed)).sum());
-    println!("sum over 64 counters: PerThread {ours:.1} ns, thread_local {theirs:.1} ns, ratio {:.2}", ours / theirs);
+    line("sum", 1, per_sum(&|| ours.sum(|counter| counter.load(Relaxed))));
+    line("thread_local sum", 1, per_sum(&|| theirs.iter().map(|counter| counter.load(Relaxed)).sum()));
 }
 
-/// A thread that begins, uses its value once and ends.
+/// A thread that begins and ends, and one that uses its value once between.
 fn first_uses() {
-    const THREADS: u32 = 10_000;
+    const THREADS: u32 = 5_000;
     let per_thread = |first_use: &(dyn Fn() + Sync)| {
         let from = Instant::now();
         for _ in 0..THREADS {
@@ -193,10 +189,9 @@ fn first_uses() {
         }
         from.elapsed().as_nanos() as f64 / f64::from(THREADS)
     };
-    let bare = per_thread(&|| ());
+    line("thread", 1, per_thread(&|| ()));
     let ours = PerThread::<AtomicU64>::new();
-    let with = per_thread(&|| ours.with(|mine| mine.store(1, Relaxed))) - bare;
+    line("thread with", 1, per_thread(&|| ours.with(|mine| mine.store(1, Relaxed))));
     let theirs = ThreadLocal::<AtomicU64>::new();
-    let get = per_thread(&|| theirs.get_or_default().store(1, Relaxed)) - bare;
-    println!("a thread's first use: PerThread {with:.0} ns, thread_local {get:.0} ns, beside {bare:.0} ns for the thread");
+    line("thread thread_local", 1, per_thread(&|| theirs.get_or_default().store(1, Relaxed)));
 }

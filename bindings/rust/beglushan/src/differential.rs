@@ -1,9 +1,11 @@
 //! The proved library and the plain one beside it, called alike: one thread has the same answers of both, by drawn schedules,
-//! and many threads have the same laws.
+//! and many threads have the same laws of both.
 
 use crate::{plain, proved};
+use std::collections::BTreeSet;
 use std::num::NonZeroUsize;
 use std::sync::atomic::{AtomicUsize, Ordering::SeqCst};
+use std::sync::Barrier;
 use std::thread;
 
 /// Draws by a multiplication (Steele and others 2014, the last step of SplitMix).
@@ -177,5 +179,101 @@ fn pools_keep_the_same_laws() {
         plain::Member::join,
         plain::Member::acquire_near,
         plain::Member::release,
+    );
+}
+
+/// The laws of a line, with as many threads as numbers: none is refused, and a number is in range and nobody else's.
+fn keeps_the_laws_of_lines<M: Send>(
+    mut first: M,
+    join: fn(&mut M) -> Option<M>,
+    acquire: fn(&mut M) -> Option<NonZeroUsize>,
+    release: fn(&mut M),
+) {
+    const THREADS: usize = 4;
+    let holders: Vec<AtomicUsize> = (0..THREADS).map(|_| AtomicUsize::new(0)).collect();
+    let mut members: Vec<M> = (1..THREADS)
+        .map(|_| join(&mut first).expect("a ticket is left"))
+        .collect();
+    members.push(first);
+    thread::scope(|scope| {
+        for (id, mut member) in members.into_iter().enumerate() {
+            let holders = &holders;
+            scope.spawn(move || {
+                for _ in 0..50_000 {
+                    let number = acquire(&mut member).expect("a line refuses nobody");
+                    let holder = &holders[number.get() - 1];
+                    assert_eq!(holder.swap(id + 1, SeqCst), 0, "two hold {number}");
+                    assert!(acquire(&mut member).is_none(), "it holds one already");
+                    assert_eq!(holder.swap(0, SeqCst), id + 1);
+                    release(&mut member);
+                }
+            });
+        }
+    });
+}
+
+#[test]
+fn lines_keep_the_same_laws() {
+    keeps_the_laws_of_lines(
+        proved::LineMember::first(4).expect("a size"),
+        proved::LineMember::join,
+        proved::LineMember::acquire,
+        proved::LineMember::release,
+    );
+    keeps_the_laws_of_lines(
+        plain::LineMember::first(4).expect("a size"),
+        plain::LineMember::join,
+        plain::LineMember::acquire,
+        plain::LineMember::release,
+    );
+}
+
+/// The laws of a grid: the seats that enter have places of their own, of at most `b(b + 1)/2` if `b` enter.
+fn keeps_the_laws_of_grids<M: Send>(
+    first: fn(usize) -> Option<M>,
+    join: fn(&mut M) -> Option<M>,
+    enter: fn(&mut M) -> usize,
+) {
+    const MOST: usize = 16;
+    for round in 0..200 {
+        let entering = 1 + round % 4;
+        let mut seats = vec![first(MOST).expect("a size")];
+        for _ in 1..entering {
+            let next = join(&mut seats[0]);
+            seats.push(next.expect("a seat is left"));
+        }
+        let gate = Barrier::new(entering);
+        let places: BTreeSet<usize> = thread::scope(|scope| {
+            let begin = |mut seat: M| {
+                let gate = &gate;
+                scope.spawn(move || {
+                    gate.wait();
+                    let place = enter(&mut seat);
+                    assert_eq!(enter(&mut seat), 0, "it has entered");
+                    place
+                })
+            };
+            let threads: Vec<_> = seats.into_iter().map(begin).collect();
+            let told =
+                |thread: thread::ScopedJoinHandle<'_, usize>| thread.join().expect("none panics");
+            threads.into_iter().map(told).collect()
+        });
+        assert_eq!(places.len(), entering, "two have one place");
+        assert!((1..=entering * (entering + 1) / 2).contains(places.last().expect("one at least")));
+        assert!(!places.contains(&0));
+    }
+}
+
+#[test]
+fn grids_keep_the_same_laws() {
+    keeps_the_laws_of_grids(
+        proved::GridMember::first,
+        proved::GridMember::join,
+        proved::GridMember::enter,
+    );
+    keeps_the_laws_of_grids(
+        plain::GridMember::first,
+        plain::GridMember::join,
+        plain::GridMember::enter,
     );
 }

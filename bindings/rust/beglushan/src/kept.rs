@@ -1,6 +1,7 @@
 //! Members that a thread keeps between its calls, by pool, with the number that each pool gave it last.
 //!
-//! A thread has a table with one entry for each pool that it uses. A call finds its entry by the pool's key, with no search.
+//! A thread has a table with one entry for each pool that it uses. A call finds its entry by the pool's key, with no search. One
+//! pool's first member stands beside the table, where a call finds it sooner: that of the pool which the thread uses most, or nearly.
 //! The memory is the system allocator's, so an allocator may use a pool.
 
 use crate::library::Member;
@@ -15,6 +16,9 @@ const MORE: usize = 11;
 
 /// The fewest entries of a table.
 const FEWEST: usize = 8;
+
+/// By how many calls that did not find their member beside the table another pool's member comes to stand there.
+const MISSES: u8 = 64;
 
 /// What a thread keeps of one pool. Zero bytes are the entry of no pool.
 #[repr(C, align(64))]
@@ -57,7 +61,28 @@ enum State {
     Over,
 }
 
+/// A member beside the table. Its pool has an entry in the table too.
+struct Near {
+    /// The pool, or 0.
+    key: Cell<u64>,
+    /// A member, or null while a slot has it.
+    member: Cell<*mut u8>,
+    /// The number that the pool gave this member last, or 0.
+    number: Cell<usize>,
+    /// How many calls have not found their member here, since this is this pool's.
+    misses: Cell<u8>,
+}
+
 thread_local! {
+    /// It has no destructor, which makes it quick.
+    static NEAR: Near = const {
+        Near {
+            key: Cell::new(0),
+            member: Cell::new(ptr::null_mut()),
+            number: Cell::new(0),
+            misses: Cell::new(0),
+        }
+    };
     /// The table's entries: a power of two of them, at least half of them of no pool. They have no destructor, which makes them
     /// quick.
     static ENTRIES: Cell<*const Entry> = const { Cell::new(&raw const NO_ENTRY.0) };
@@ -75,6 +100,7 @@ struct Ends;
 impl Drop for Ends {
     fn drop(&mut self) {
         STATE.set(State::Over);
+        put_back();
         drop(Entries::detach());
     }
 }
@@ -82,6 +108,22 @@ impl Drop for Ends {
 /// A member of the pool that the thread kept, if it has one, and the number that the pool gave it last.
 #[inline(always)]
 pub(crate) fn take(key: u64) -> Option<(Member, usize)> {
+    let near = NEAR.with(|near| {
+        if near.key.get() != key {
+            return None;
+        }
+        let member = NonNull::new(near.member.replace(ptr::null_mut()))?;
+        // SAFETY: the member is what `into_raw` gave, and it is taken out here.
+        Some((unsafe { Member::from_raw(member) }, near.number.get()))
+    });
+    match near {
+        Some(kept) => Some(kept),
+        None => take_from_table(key),
+    }
+}
+
+#[inline(never)]
+fn take_from_table(key: u64) -> Option<(Member, usize)> {
     let entry = home(key);
     if entry.key.get() == key {
         if let Some(member) = NonNull::new(entry.member.replace(ptr::null_mut())) {
@@ -95,17 +137,77 @@ pub(crate) fn take(key: u64) -> Option<(Member, usize)> {
 /// Keeps a member that holds nothing, and the number that it held last, for the thread's next call.
 #[inline(always)]
 pub(crate) fn keep(key: u64, alive: &Arc<()>, member: Member, number: usize) {
+    let at = member.into_raw();
+    let is_kept = NEAR.with(|near| {
+        let is_free = near.key.get() == key && near.member.get().is_null();
+        if is_free {
+            near.member.set(at.as_ptr());
+            near.number.set(number);
+        }
+        is_free
+    });
+    if !is_kept {
+        keep_in_table(key, alive, at, number);
+    }
+}
+
+/// It does not unwind, so that a slot's drop needs no landing pad.
+#[inline(never)]
+extern "C" fn keep_in_table(key: u64, alive: &Arc<()>, at: NonNull<u8>, number: usize) {
     let entry = home(key);
     if entry.key.get() == key && entry.member.get().is_null() {
-        entry.member.set(member.into_raw().as_ptr());
+        entry.member.set(at.as_ptr());
         entry.number.set(number);
+        count_miss(key);
     } else {
-        keep_aside(key, alive, member.into_raw(), number);
+        keep_aside(key, alive, at, number);
+    }
+}
+
+/// Counts a call that did not find its pool's member beside the table. After some, that member comes to stand there.
+#[inline(always)]
+fn count_miss(key: u64) {
+    let misses = NEAR.with(|near| near.misses.replace(near.misses.get().wrapping_add(1)));
+    if misses >= MISSES {
+        bring_near(key);
+    }
+}
+
+/// It does not unwind, so that a slot's drop needs no landing pad.
+#[cold]
+#[inline(never)]
+extern "C" fn bring_near(key: u64) {
+    put_back();
+    if let Some(entry) = find(key) {
+        NEAR.with(|near| {
+            near.key.set(key);
+            near.member.set(entry.member.replace(ptr::null_mut()));
+            near.number.set(entry.number.get());
+        });
+    }
+}
+
+/// Puts the member that stands beside the table into its pool's entry, so that none stands there.
+fn put_back() {
+    let (key, at, number) = NEAR.with(|near| {
+        near.misses.set(0);
+        let at = near.member.replace(ptr::null_mut());
+        (near.key.replace(0), at, near.number.get())
+    });
+    if let Some(at) = NonNull::new(at) {
+        let is_kept = find(key).is_some_and(|entry| entry.put(at, number));
+        if !is_kept {
+            // SAFETY: it is what `into_raw` gave, and nobody keeps it.
+            drop(unsafe { Member::from_raw(at) });
+        }
     }
 }
 
 /// Drops what the thread keeps of a pool that ends. Its entry goes when the table is next rebuilt.
 pub(crate) fn forget(key: u64) {
+    if NEAR.with(|near| near.key.get() == key) {
+        put_back();
+    }
     if let Some(entry) = find(key) {
         entry.clear();
     }
@@ -183,6 +285,7 @@ fn rebuild() -> bool {
         STATE.set(State::Over);
         return false;
     }
+    put_back();
     let old = Entries::detach();
     let live = old.iter().filter(|entry| entry.is_alive()).count();
     let Some(new) = Entries::of((4 * (live + 1)).next_power_of_two().max(FEWEST)) else {

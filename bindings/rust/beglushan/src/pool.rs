@@ -54,7 +54,7 @@ pub const MOST_NUMBERS: usize = 4096;
 /// - A call that finds no *member* of the pool in its thread makes one. That takes a little memory and, for that moment, a
 ///   mutex that only such calls take. A thread's first call of a pool is such a call. So is a call for more numbers than the
 ///   thread has had at once. A slot leaves its member with the thread that drops it, for that thread's next call. A thread keeps
-///   twelve of each pool, however many pools there are.
+///   at least twelve of each pool, however many pools there are.
 ///
 /// # What is left behind
 ///

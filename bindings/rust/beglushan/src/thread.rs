@@ -139,7 +139,7 @@ impl Drop for Busy {
 
 impl Number {
     fn take() -> Result<Number, Error> {
-        let lines = Lines::of_this_process();
+        let lines = Lines::of_this_process()?;
         let (line, mut member) = lines.hand_out()?;
         // The library proves that a line's member that holds no number is given one.
         let number = member.acquire().expect("there are as many as members");
@@ -186,27 +186,30 @@ fn first_of(line: usize) -> usize {
 impl Lines {
     /// Those of this process. A child of a fork makes lines of its own, whose numbers are no number of its parent's: what a
     /// thread of the parent had is nobody's in the child.
-    fn of_this_process() -> &'static Lines {
+    fn of_this_process() -> Result<&'static Lines, Error> {
         let process = Process::this();
         loop {
             let found = LINES.load(Acquire);
             // SAFETY: lines are never dropped.
             let before = unsafe { found.as_ref() };
             if let Some(lines) = before.filter(|lines| lines.process == process) {
-                return lines;
+                return Ok(lines);
             }
             let base = before.map_or(0, |lines| lines.end.load(Acquire));
-            let new = Box::into_raw(Box::new(Lines {
+            // A vector has room where there is memory, and tells where there is none.
+            let mut room = Vec::new();
+            room.try_reserve_exact(1).map_err(|_| Error::NoMemory)?;
+            room.push(Lines {
                 process,
                 base,
                 end: AtomicUsize::new(base),
                 desks: Mutex::new(Vec::new()),
-            }));
-            match LINES.compare_exchange(found, new, AcqRel, Acquire) {
+            });
+            let new = room.as_mut_ptr();
+            if LINES.compare_exchange(found, new, AcqRel, Acquire).is_ok() {
+                std::mem::forget(room);
                 // SAFETY: lines are never dropped.
-                Ok(_) => return unsafe { &*new },
-                // SAFETY: nobody else has seen it.
-                Err(_) => drop(unsafe { Box::from_raw(new) }),
+                return Ok(unsafe { &*new });
             }
         }
     }
@@ -221,6 +224,7 @@ impl Lines {
             }
         }
         let line = desks.len();
+        desks.try_reserve(1).map_err(|_| Error::NoMemory)?;
         let mut desk = Desk::of(length(line))?;
         let member = desk.hand_out()?;
         desks.push(desk);

@@ -9,7 +9,7 @@ use std::thread;
 #[test]
 fn many_threads_few_values() {
     const AT_ONCE: usize = 8;
-    const THREADS: usize = if cfg!(miri) { 16 } else { 100_000 };
+    const THREADS: usize = if cfg!(miri) { 16 } else { 40_000 };
     let counters = PerThread::<AtomicU64>::new();
     let counted = PerThread::<Cell<u64>>::new();
     let count = || {

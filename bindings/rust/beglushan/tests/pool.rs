@@ -121,17 +121,17 @@ fn canaries(threads: usize, size: usize, stays: usize) {
 
 #[test]
 fn eight_threads_on_eight_numbers() {
-    canaries(8, 8, 300_000);
+    canaries(8, 8, 200_000);
 }
 
 #[test]
 fn eight_threads_on_sixteen_numbers() {
-    canaries(8, 16, 300_000);
+    canaries(8, 16, 200_000);
 }
 
 #[test]
 fn more_threads_than_numbers() {
-    canaries(8, 3, 300_000);
+    canaries(8, 3, 200_000);
 }
 
 #[test]
@@ -315,6 +315,41 @@ fn the_last_number_again() {
             assert_eq!(pool.acquire_least().unwrap().number(), 1);
             drop(pool.acquire_near(1 + place % 8));
         }
+    }
+}
+
+/// A thread that uses one pool for long, and then another, has its last number of each. So it is while it holds a slot of the first,
+/// and after pools were dropped that it had used for long.
+#[test]
+fn one_pool_for_long_and_then_another() {
+    const STAYS: usize = 200;
+    let again = |pool: &Pool, number: usize| {
+        for _ in 0..STAYS {
+            assert_eq!(pool.acquire().unwrap().number(), number);
+        }
+    };
+    for round in 0..5 {
+        let pools: Vec<Pool> = (0..3 + round).map(|_| Pool::new(16).unwrap()).collect();
+        for (place, pool) in pools.iter().enumerate() {
+            drop(pool.acquire_near(2 + place));
+            again(pool, 2 + place);
+        }
+        let held = pools[0].acquire().unwrap();
+        assert_eq!(held.number(), 2);
+        drop(pools[0].acquire_near(11));
+        again(&pools[0], 11);
+        again(&pools[2], 4);
+        // Two that are held at once, and given back in both orders.
+        for _ in 0..STAYS {
+            let (one, other) = (pools[0].acquire().unwrap(), pools[0].acquire().unwrap());
+            assert!(one.number() != other.number() && other.number() != 2);
+            drop((other, one));
+            let (one, other) = (pools[0].acquire().unwrap(), pools[0].acquire().unwrap());
+            drop((one, other));
+        }
+        drop(held);
+        again(&pools[1], 3);
+        assert!(pools.iter().all(Pool::is_empty));
     }
 }
 

@@ -1,0 +1,12 @@
+use Rattle.std.proofs.Common.{◌≡◌, ◌-◌, ℕ, []}
+use Rattle.record_machine.proofs.Common.{Stands, accesses_in}
+use Rattle.record_machine.proofs.words.Words.run.Given as goal
+
+abbrev pub invariant-loop-outcome : goal.invariant-loop-outcome
+invariant-loop-outcome g l = record {
+  ours : l.seat.table_id ≡ l.self.table;
+  stands : Stands g.P.StepProgram.steps g.P.RecordProgram.law {S = ℕ} l.self.size l.number l.written l.program [] l.seat.me;
+}
+
+abbrev pub decreases-loop-outcome : goal.decreases-loop-outcome
+decreases-loop-outcome g l = g.P.RecordProgram.law.bound l.self.size - accesses_in l.seat.me

@@ -1,0 +1,42 @@
+//! Programs of single accesses to words and to records, taken by threads over atomic words that they share, with no lock.
+//!
+//! A [`RecordProgram`] is a step program each of whose registers is a word or holds a record, with the machine on which it is
+//! proved. Each step of the machine is one access of one participant's program. A [`RecordMachine`] runs the same program by
+//! threads: the holder of a seat makes the accesses of its participant, one after another. No call takes a lock, waits for
+//! another or starts a thread.
+//!
+//! A register that is one word is loaded and stored. A register that holds a record has a word too, which names a slot of
+//! words. A write stores the record into a slot of the writer's own, which no other seat reads yet, and then publishes it by
+//! one store of the register's word. A published slot never changes. So a read is one load of the register's word, and the
+//! words of the slot say the rest.
+//!
+//! The law: for each participant that has ended, some list of calls of the machine leads to a state in which it stands at the
+//! program that `enter` returned, and was told the outcome, by just as many steps as it made accesses; as many had begun as
+//! had entered. So each law that holds after every list of calls of the machine holds of threads. Two that meet have one list
+//! for both ends. The dealer shows that no more had entered than seats were dealt. A claim shows an outcome to each that was
+//! told of it. What is not promised: anything of seats that never meet, and that a thread gets on with its accesses.
+//!
+//! A caller:
+//!
+//! ```text
+//! let (machine, mut dealer) = RecordMachine::<Renamer, Global>::new(alloc, Size { most: 16, limit: 64 })?;
+//! let (Some(first), Some(second)) = (machine.deal(&mut dealer), machine.deal(&mut dealer)) else { .. };
+//! let shared = &machine;
+//! let (mut one, mut other) = join(rt, move || shared.enter(first), move || shared.enter(second));
+//! machine.meet(&mut one, &mut other);             // one list of calls led to both outcomes
+//! machine.tally(&mut dealer, &mut one);           // no more than two had entered
+//! ```
+#![tactic(auto)]
+
+pub mod program;
+pub mod record_machine;
+pub mod run_steps;
+pub mod seat_view;
+pub mod seats;
+pub mod size;
+mod words;
+
+pub use program::RecordProgram;
+pub use record_machine::RecordMachine;
+pub use seats::{Claim, Dealer, EnteredSeat, FreshSeat};
+pub use size::Size;

@@ -1,0 +1,172 @@
+//! A machine over words, whose registers are words and records.
+
+ghost use Rattle.std.specs.Prelude.{◌≡◌, ◌≢◌, ◌<◌, ◌≤◌, ◌+◌, IfOk, IfSome, IfNone, IsSome, ◌↔◌};
+ghost use Rattle.record_machine.specs.Ids.{dealer_of, seat_of, claim_of, HasRun, HaveRun, HaveTold};
+
+use crate::program::RecordProgram;
+use crate::seats::{Claim, Dealer, EnteredSeat, FreshSeat};
+use crate::size::Size;
+use crate::words::Words;
+use atomic_table::Badge;
+use std::alloc::{AllocError, Allocator};
+use std::marker::Model;
+use std::mem;
+
+/// A machine over words, whose participants are threads.
+#[derive(Drop)]
+pub struct RecordMachine<P: RecordProgram, A: Allocator> {
+    words: Words<P, A>,
+}
+
+impl<P: RecordProgram, A: Allocator> Model for RecordMachine<P, A> {
+    ghost use Rattle.record_machine.specs.Ids.{WordsId};
+
+    ghost Value = { WordsId };
+
+    ghost view = { λ w. w.words };
+}
+
+impl<P: RecordProgram, A: Allocator + Clone> RecordMachine<P, A> {
+    /// A machine of this size, of which no participant has begun, and who deals its seats.
+    ///
+    /// # Errors
+    ///
+    /// Only if the allocation failed.
+    pub fn new(alloc: A, size: Size) -> Result<(RecordMachine<P, A>, Dealer<P>), AllocError>
+        requires some { 1 ≤ size.most }
+        requires may { P.law.MayStart size }
+        ensures machine { IfOk result (λ r. r.0.size ≡ size) }
+        ensures dealer { IfOk result (λ r. r.1 ≡ dealer_of r.0 0) }
+    {
+        let (words, rest) = Words::open(alloc, size)?;
+        let badge = rest.into_badge();
+        Ok((RecordMachine { words }, Dealer { dealt: 0, badge }))
+    }
+}
+
+impl<P: RecordProgram, A: Allocator> RecordMachine<P, A> {
+    /// How many seats there are at most, and how many records each may write.
+    pub fn size(&self) -> Size
+        ensures count { result ≡ self.now.size }
+        ensures some { 1 ≤ result.most }
+        ensures may { P.law.MayStart result }
+    {
+        self.words.size()
+    }
+
+    /// The seat of the least number that was not dealt, where there is one. The dealer is of this machine.
+    pub fn deal(&self, dealer: &mut Dealer<P>) -> Option<FreshSeat<P>>
+        requires ours { dealer.old.words ≡ self.now }
+        ensures ours { dealer.new.words ≡ self.now }
+        ensures some { IsSome result ↔ (dealer.old.dealt < self.now.size.most) }
+        ensures seat { IfSome result (λ s. (s ≡ seat_of self.now dealer.old.dealt) × (dealer.new.dealt ≡ dealer.old.dealt + 1)) }
+        ensures none { IfNone result (dealer.new ≡ dealer.old) }
+    {
+        let number = dealer.dealt;
+        if self.words.size().most <= number {
+            return None;
+        }
+        let mut rest = mem::replace(&mut dealer.badge, Badge::blank()).into_seat::<u8>();
+        let seat = self.words.deal(&mut rest, number);
+        dealer.dealt = number + 1;
+        dealer.badge = rest.into_badge();
+        Some(FreshSeat { number, seat })
+    }
+}
+
+impl<P: RecordProgram + Drop, A: Allocator> RecordMachine<P, A>
+where
+    P::Value: Drop,
+    P::Output: Drop,
+{
+    /// Takes the program of the seat's participant, access by access, until it ends, whatever the other seats do: it makes no
+    /// more accesses than the machine's bound. The seat is of this machine.
+    pub fn enter(&self, fresh: FreshSeat<P>) -> EnteredSeat<P>
+        requires ours { fresh.words ≡ self.now }
+        ensures seat { (result.words ≡ fresh.words) × (result.number ≡ fresh.number) }
+
+        // There is a list of calls after which it has ended so, by as many steps as it made accesses.
+        ensures law { HasRun P.law result }
+        ensures few { result.accesses ≤ P.law.bound self.now.size }
+    {
+        let FreshSeat { number, mut seat } = fresh;
+        let (program, outcome) = self.words.run(&mut seat, number);
+        EnteredSeat {
+            number,
+            program,
+            outcome,
+            badge: seat.into_badge(),
+        }
+    }
+
+    /// Two seats whose participants have ended meet, and show that one list of calls led to both ends. Both are of this machine,
+    /// and stay as they are.
+    pub fn meet(&self, one: &mut EnteredSeat<P>, other: &mut EnteredSeat<P>)
+        requires one { one.old.words ≡ self.now }
+        requires other { other.old.words ≡ self.now }
+        ensures same { (one.new ≡ one.old) × (other.new ≡ other.old) }
+        ensures met { HaveRun P.law one.old other.old }
+    {
+        let left = mem::replace(&mut one.badge, Badge::blank()).into_seat::<u8>();
+        let right = mem::replace(&mut other.badge, Badge::blank()).into_seat::<u8>();
+        let (left, right) = self.words.look_together(left, right);
+        one.badge = left.into_badge();
+        other.badge = right.into_badge();
+    }
+
+    /// A seat whose participant has ended meets the dealer, and shows that no more had begun when it ended than seats were
+    /// dealt. Both are of this machine, and stay as they are.
+    pub fn tally(&self, dealer: &mut Dealer<P>, entered: &mut EnteredSeat<P>)
+        requires dealer { dealer.old.words ≡ self.now }
+        requires entered { entered.old.words ≡ self.now }
+        ensures same { (dealer.new ≡ dealer.old) × (entered.new ≡ entered.old) }
+        ensures counted { entered.old.entered ≤ dealer.old.dealt }
+    {
+        let left = mem::replace(&mut entered.badge, Badge::blank()).into_seat::<u8>();
+        let right = mem::replace(&mut dealer.badge, Badge::blank()).into_seat::<u8>();
+        let (left, right) = self.words.look_together(left, right);
+        entered.badge = left.into_badge();
+        dealer.badge = right.into_badge();
+    }
+
+    /// A claim of what the participant of a seat has ended with, for whoever has to be shown it. The seat is of this machine, and
+    /// stays as it is.
+    pub fn claim(&self, entered: &mut EnteredSeat<P>) -> Claim<P>
+    where
+        P::Output: Copy,
+        requires ours { entered.old.words ≡ self.now }
+        ensures same { entered.new ≡ entered.old }
+        ensures claim { result ≡ claim_of entered.old }
+    {
+        let number = entered.number;
+        let outcome = entered.outcome;
+        let mut seat = mem::replace(&mut entered.badge, Badge::blank()).into_seat::<u8>();
+        let told = self.words.tell(&mut seat);
+        entered.badge = seat.into_badge();
+        Claim {
+            number,
+            outcome,
+            badge: told.into_badge(),
+        }
+    }
+}
+
+impl<P: RecordProgram, A: Allocator> RecordMachine<P, A>
+where
+    P::Output: Drop,
+{
+    /// Two claims meet, and show that after one list of calls both were told what they say. Both are of this machine, and stay as
+    /// they are.
+    pub fn compare(&self, one: &mut Claim<P>, other: &mut Claim<P>)
+        requires one { one.old.words ≡ self.now }
+        requires other { other.old.words ≡ self.now }
+        ensures same { (one.new ≡ one.old) × (other.new ≡ other.old) }
+        ensures told { HaveTold P.law one.old other.old }
+    {
+        let left = mem::replace(&mut one.badge, Badge::blank()).into_seat::<u8>();
+        let right = mem::replace(&mut other.badge, Badge::blank()).into_seat::<u8>();
+        let (left, right) = self.words.compare(left, right);
+        one.badge = left.into_badge();
+        other.badge = right.into_badge();
+    }
+}

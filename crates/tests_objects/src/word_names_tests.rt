@@ -1,0 +1,126 @@
+//! Names that are given one after another, and to threads at once.
+
+ghost use Rattle.std.specs.Prelude.{◌≡◌};
+
+use crate::common::same;
+use std::alloc::{AllocError, Global};
+use std::thread::{self, Threads};
+use step_memory::Refusal;
+use word_names::{Dealer, FreshSeat, Names};
+
+/// The name of the next seat.
+fn name_next(names: &Names<Global>, dealer: &mut Dealer) -> Option<u64>
+    requires ours { dealer.old.names ≡ names.now }
+    ensures ours { dealer.new.names ≡ names.now }
+{
+    let fresh = names.deal(dealer)?;
+    let mut renamed = names.rename(fresh);
+    names.tally(dealer, &mut renamed);
+    Some(names.name(&renamed))
+}
+
+/// Whether the last name is this, where so many seats are renamed one after another.
+fn last_is(
+    alloc: Global,
+    most: u64,
+    limit: u64,
+    count: u64,
+    due: Option<u64>,
+) -> Result<bool, Refusal> {
+    let (names, dealer) = Names::new(alloc, most, limit)?;
+    let mut dealer = dealer;
+    let mut last = None;
+    for _ in 0..count {
+        last = name_next(&names, &mut dealer);
+    }
+    Ok(last == due)
+}
+
+/// For how many, with how many proposals each, how many come one after another; the last name, and whether it is that, or why
+/// there are no names. Where the k-th that comes is the k-th by identity, it proposes the k-th number that nobody has: `2k - 1`.
+/// With one proposal it is spent at the second seat, whose place is 1.
+const NAMED: [(u64, u64, u64, Option<u64>, Result<bool, Refusal>); 10] = [
+    (0, 1, 1, None, Err(Refusal::OutOfRange)),
+    (17, 1, 1, None, Err(Refusal::OutOfRange)),
+    (1, 0, 1, None, Err(Refusal::OutOfRange)),
+    (1, 1001, 1, None, Err(Refusal::OutOfRange)),
+    (1, 1, 1, Some(1), Ok(true)),
+    (1, 1, 2, None, Ok(true)),
+    (2, 2, 2, Some(3), Ok(true)),
+    (16, 64, 16, Some(31), Ok(true)),
+    (2, 1, 2, Some(5), Ok(true)),
+    (16, 1000, 3, Some(5), Ok(true)),
+];
+
+#[test]
+fn each_that_comes_later_has_the_next_odd_name(rt: HostRuntime) {
+    for (i, (most, limit, count, last, due)) in NAMED.iter().enumerate() {
+        same(
+            &rt,
+            i,
+            last_is(rt.alloc(), *most, *limit, *count, *last),
+            *due,
+        );
+    }
+}
+
+/// A thread's part: the names, and a seat of theirs.
+#[derive(Drop)]
+struct Caller<'a> {
+    names: &'a Names<Global>,
+    seat: FreshSeat,
+    ghost ours: { seat.names ≡ names.now },
+}
+
+/// The name that the rounds of a seat give it.
+fn name_of(caller: Caller<'_>) -> Option<u64> {
+    let Caller { names, seat } = caller;
+    names.rename(seat).named()
+}
+
+/// So many callers, each with a seat of its own, as far as there are seats.
+fn callers_of<'a>(
+    alloc: Global,
+    names: &'a Names<Global>,
+    mut dealer: Dealer,
+    count: u64,
+) -> Result<Vec<Caller<'a>, Global>, AllocError>
+    requires ours { dealer.names ≡ names.now }
+{
+    let mut callers = Vec::new(alloc);
+    for _ in 0..count {
+        if let Some(seat) = names.deal(&mut dealer) {
+            callers.push(Caller { names, seat })?;
+        }
+    }
+    Ok(callers)
+}
+
+/// Whether these are so many names of rounds, each below twice their number and no two alike.
+fn are_names_of(names: &[Option<u64>], count: u64) -> bool {
+    for (i, name) in names.iter().enumerate() {
+        let Some(own) = *name else {
+            return false;
+        };
+        if own < 1 || count.saturating_mul(2) <= own || names[..i].contains(name) {
+            return false;
+        }
+    }
+    names.len() as u64 == count
+}
+
+/// Whether so many threads that are renamed at once have names of their own below twice their number.
+fn have_names<R: Threads + Sync>(rt: &R, alloc: Global, count: u64) -> Result<bool, Refusal> {
+    let (names, dealer) = Names::new(alloc, count, 64)?;
+    let callers = callers_of(alloc, &names, dealer, count)?;
+    let told = thread::map_vec(rt, callers, &|caller| name_of(caller))?;
+    Ok(are_names_of(&told, count))
+}
+
+#[test]
+fn threads_have_names_of_their_own(rt: HostRuntime) {
+    for round in 0..150u64 {
+        let count = 2 + round % 15;
+        same(&rt, round as usize, have_names(&rt, rt.alloc(), count), Ok(true));
+    }
+}

@@ -1,0 +1,14 @@
+pub mod Renamers
+pub mod NameMachine
+pub mod Spelling
+pub mod Spelled
+pub mod Good
+pub mod Taking
+pub mod Known
+pub mod Counting
+pub mod Stepping
+pub mod Accesses
+pub mod Beginning
+pub mod Sound
+pub mod Seats
+pub mod NameLaw

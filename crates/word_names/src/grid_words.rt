@@ -1,0 +1,204 @@
+//! The registers of a grid with segments as words and records, and how words spell what stands in them.
+
+ghost use Rattle.std.specs.Prelude.{◌≡◌, ◌≤◌, ◌<◌, ◌+◌, ◌*◌, length, slice_index, if◌then◌else◌};
+ghost use Rattle.std.proofs.Common.{get_or};
+ghost use Rattle.record_machine.specs.declared.size.Size.{Size};
+ghost use Rattle.word_names.specs.NameMachine.{names_law, place_for, is_door, naming_from, MayStart};
+ghost use Rattle.word_names.specs.Spelling.{record_word, contents_word, pairs_in, pairs_of, value_in, word_in, FitsRecord, FitsContents, Fits};
+ghost use Rattle.word_names.specs.Sound.{names_sound};
+
+use crate::renamer::Renamer;
+use record_machine::{RecordProgram, Size};
+use rename_core::Round;
+use snapshot_core::Client;
+use snapshot_places::{GridRegister, GridValue, GridWalk, GridWalker};
+use splitter_grid::{Door, Walker};
+use step_memory::{Place, Record, Segment, View};
+
+/// How many words spell a record: what kind of value it is and how long its view, identity, value and number, and the view's
+/// identities and values.
+const RECORD_WORDS: usize = 132;
+
+/// The first word of what is no record but the word of a door.
+const DOOR_WORD: u64 = 100;
+
+/// One of so many pairs, or two zeros.
+fn of_pairs(pairs: &[(u64, u64)], at: usize) -> (u64, u64)
+    ensures { result ≡ get_or pairs.now at (0, 0) }
+{
+    if at < pairs.len() { pairs[at] } else { (0, 0) }
+}
+
+/// One of the words that spell a record.
+fn spell_record(record: &Record, at: usize) -> u64
+    ensures word { result ≡ record_word record.now at }
+    ensures fits { FitsRecord record.now }
+{
+    let number = record.number;
+    let pairs = record.view.pairs();
+    if at == 0 {
+        pairs.len() as u64 + 1
+    } else if at == 1 {
+        record.identity
+    } else if at == 2 {
+        record.value
+    } else if at == 3 {
+        number as u64
+    } else if at < 68 {
+        of_pairs(pairs, at - 4).0
+    } else {
+        of_pairs(pairs, at - 68).1
+    }
+}
+
+/// One of the words that spell what stands in a segment.
+fn spell_segment(segment: &Segment, at: usize) -> u64
+    ensures word { result ≡ contents_word segment.now at }
+    ensures fits { FitsContents segment.now }
+{
+    match segment {
+        None => 0,
+        Some(record) => spell_record(record, at),
+    }
+}
+
+/// How many pairs a record has of which this is the first word.
+fn pairs_spelled(word: u64) -> usize
+    requires { 1 ≤ word }
+    ensures count { result ≡ pairs_of word }
+    ensures few { result ≤ 64 }
+{
+    if word - 1 < 64 {
+        (word - 1) as usize
+    } else {
+        64
+    }
+}
+
+/// The view of so many pairs that words spell.
+fn read_view(words: &[u64], pairs: usize) -> View
+    requires long { length words.now ≡ 132 }
+    requires few { pairs ≤ 64 }
+    ensures { result ≡ pairs_in words.now 0 pairs }
+{
+    let mut view = View::new();
+    let mut at = pairs;
+    while 0 < at {
+        at -= 1;
+        view.insert(words[4 + at], words[68 + at]);
+    }
+    view
+}
+
+impl RecordProgram for Renamer<GridWalker, GridWalk> {
+    ghost law = { names_law };
+
+    fn registers(size: Size) -> usize
+        requires { MayStart size }
+        ensures { result ≡ names_law.registers size }
+    {
+        let doors = size.most * (size.most + 1);
+        (doors + doors / 2) as usize
+    }
+
+    fn place(size: Size, register: GridRegister) -> usize
+        requires may { MayStart size }
+        requires there { names_law.IsRegister size register }
+        ensures { result ≡ place_for size register }
+    {
+        match register {
+            GridRegister::Door(word) => word,
+            GridRegister::Segment(place) => {
+                (size.most * (size.most + 1)) as usize + place as usize
+            }
+        }
+    }
+
+    fn is_word(register: GridRegister) -> bool
+        ensures { result ≡ is_door register }
+    {
+        match register {
+            GridRegister::Door(_) => true,
+            GridRegister::Segment(_) => false,
+        }
+    }
+
+    fn of_word(word: u64) -> GridValue {
+        GridValue::Word(word)
+    }
+
+    fn to_word(value: &GridValue) -> u64
+        ensures { result ≡ word_in value.now }
+    {
+        match value {
+            GridValue::Word(word) => *word,
+            GridValue::Contents(_) => 0,
+        }
+    }
+
+    fn start(size: Size, identity: u64) -> Self
+        requires { MayStart size }
+        ensures { result ≡ naming_from size identity }
+    {
+        let walker = GridWalker {
+            walker: Walker::new(identity, Door::corner()),
+        };
+        let walk = GridWalk {
+            at: 0,
+            most: (size.most * (size.most + 1) / 2) as Place,
+        };
+        Renamer {
+            identity,
+            limit: size.limit,
+            client: Client::new(identity, walker, walk),
+            round: Round::first(false),
+        }
+    }
+
+    fn first() -> GridValue {
+        GridValue::Contents(None)
+    }
+
+    fn length() -> usize {
+        RECORD_WORDS
+    }
+
+    fn spell(value: &GridValue, at: usize) -> u64
+        requires { at < 132 }
+        ensures word { result ≡ slice_index (names_law.encode value.now) at }
+        ensures fits { Fits value.now }
+    {
+        match value {
+            GridValue::Word(word) => {
+                if at == 0 {
+                    DOOR_WORD
+                } else if at == 2 {
+                    *word
+                } else {
+                    0
+                }
+            }
+            GridValue::Contents(segment) => spell_segment(segment, at),
+        }
+    }
+
+    fn read(words: &[u64]) -> GridValue
+        requires { length words.now ≡ 132 }
+        ensures { result ≡ value_in words.now }
+    {
+        if words[0] == 0 {
+            return GridValue::Contents(None);
+        }
+        if words[0] == DOOR_WORD {
+            return GridValue::Word(words[2]);
+        }
+        GridValue::Contents(Some(Record {
+            identity: words[1],
+            value: words[2],
+            number: (words[3] % 4_294_967_296) as u32,
+            view: read_view(words, pairs_spelled(words[0])),
+        }))
+    }
+
+    ghost sound = { names_sound };
+}

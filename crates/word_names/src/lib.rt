@@ -1,0 +1,33 @@
+//! Names given to threads over atomic words, with no lock (the problem: Attiya et al. 1990).
+//!
+//! The participant is the program of `rename_core` over a grid with segments: it walks to a place of its own, and then
+//! proposes numbers in rounds until no other proposes the same. A [`record_machine::RecordMachine`] takes that very program
+//! access by access. A door's registers are words; a segment holds a record, which is written into words of the writer's own
+//! and published by one store. So the law of the renaming machine holds of threads, and nothing of it is proved anew.
+//!
+//! The law, where `b` had begun when a seat's run ended, itself among them: a name of its rounds is from 1 to `2b - 1`. Two that
+//! meet have two names. No more have begun than seats were dealt, which the dealer shows. Each run ends within a bounded
+//! number of accesses, whatever the other seats do. A seat whose proposals are spent has a name too, above all names of
+//! rounds: `2m` and its place, where there are `m` seats at most. No seat is spent whose limit is above `3(5^m - 1)/4`. What is
+//! not promised: anything of seats that never meet, and that a thread gets on with its accesses.
+//!
+//! A caller:
+//!
+//! ```text
+//! let (names, mut dealer) = Names::new(alloc, 16, 64)?;
+//! let (Some(first), Some(second)) = (names.deal(&mut dealer), names.deal(&mut dealer)) else { .. };
+//! let shared = &names;
+//! let (mut one, mut other) = join(rt, move || shared.rename(first), move || shared.rename(second));
+//! names.meet(&mut one, &mut other);               // names.name(&one) and names.name(&other) differ
+//! names.tally(&mut dealer, &mut one);             // two were dealt: a name of rounds is 1, 2 or 3
+//! ```
+#![tactic(auto)]
+
+pub mod grid_words;
+pub mod names;
+pub mod renamer;
+pub mod seats;
+
+pub use names::Names;
+pub use renamer::Renamer;
+pub use seats::{Claim, Dealer, FreshSeat, GridRenamer, Renamed};

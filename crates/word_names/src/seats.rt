@@ -1,0 +1,136 @@
+//! The seats: before they are dealt, before and after they are renamed, and what they can show of their names.
+
+ghost use Rattle.std.specs.Prelude.{◌≡◌};
+ghost use Rattle.word_names.specs.NameLaw.{KeepsNameLaw};
+
+use crate::renamer::Renamer;
+use snapshot_core::PlaceWalker;
+use snapshot_places::{GridWalk, GridWalker};
+use std::marker::Model;
+use step_memory::Place;
+
+/// A participant over a grid.
+pub type GridRenamer = Renamer<GridWalker, GridWalk>;
+
+/// The seats that are still to be dealt, by rising number.
+#[derive(Drop)]
+pub struct Dealer {
+    pub(crate) dealer: record_machine::Dealer<GridRenamer>,
+}
+
+impl Model for Dealer {
+    ghost use Rattle.word_names.specs.Seats.{DealerId, dealer_of};
+
+    ghost Value = { DealerId };
+
+    ghost view = { λ d. dealer_of d.dealer.words d.dealer.dealt };
+}
+
+impl Dealer {
+    /// How many seats were dealt.
+    pub fn dealt(&self) -> u64
+        ensures { result ≡ self.now.dealt }
+    {
+        self.dealer.dealt()
+    }
+}
+
+/// A seat that was not renamed. To be renamed uses it up, so no seat is renamed twice.
+#[derive(Drop)]
+pub struct FreshSeat {
+    pub(crate) seat: record_machine::FreshSeat<GridRenamer>,
+}
+
+impl Model for FreshSeat {
+    ghost use Rattle.word_names.specs.Seats.{SeatId, seat_of};
+
+    ghost Value = { SeatId };
+
+    ghost view = { λ f. seat_of f.seat.words f.seat.number };
+}
+
+impl FreshSeat {
+    /// The seat's number, from 0. The identity of its participant is one more.
+    pub fn number(&self) -> u64
+        ensures { result ≡ self.now.number }
+    {
+        self.seat.number()
+    }
+}
+
+/// A seat that was renamed.
+#[derive(Drop)]
+pub struct Renamed {
+    pub(crate) seat: record_machine::EnteredSeat<GridRenamer>,
+}
+
+impl Model for Renamed {
+    ghost use Rattle.word_names.specs.Seats.{RenamedId, renamed_by};
+    ghost use Rattle.record_machine.specs.Ids.{HasRun};
+    ghost use Rattle.word_names.specs.NameMachine.{names_law};
+
+    ghost Value = { RenamedId };
+
+    ghost view = { λ e. renamed_by e.seat };
+
+    ghost invariant = { λ e. HasRun names_law e.seat };
+}
+
+impl Renamed {
+    /// The seat's number, from 0.
+    pub fn number(&self) -> u64
+        ensures { result ≡ self.now.number }
+    {
+        self.seat.number()
+    }
+
+    /// The name that its rounds of proposals gave it; `None` where its proposals are spent.
+    pub fn named(&self) -> Option<u64>
+        ensures { result ≡ self.now.named }
+    {
+        *self.seat.outcome()
+    }
+
+    /// The place of the seat's participant in the grid.
+    pub fn place(&self) -> Place
+        ensures value { result ≡ self.now.place }
+
+        // The law, which each seat that was renamed keeps.
+        ensures law { KeepsNameLaw self.now }
+    {
+        match self.seat.program().client.walker.place() {
+            Some(place) => place,
+            None => 0,
+        }
+    }
+}
+
+/// A claim: that the rounds of a seat gave it this name, or none. The holder can show it, for good.
+#[derive(Drop)]
+pub struct Claim {
+    pub(crate) claim: record_machine::Claim<GridRenamer>,
+}
+
+impl Model for Claim {
+    ghost use Rattle.word_names.specs.Seats.{ClaimId, claim_at};
+
+    ghost Value = { ClaimId };
+
+    ghost view = { λ c. claim_at c.claim.words c.claim.number c.claim.outcome };
+}
+
+impl Claim {
+    /// Whose name it is: the number of a seat, from 0.
+    pub fn number(&self) -> u64
+        ensures { result ≡ self.now.number }
+    {
+        self.claim.number()
+    }
+
+    /// The name; `None` where the seat's proposals are spent.
+    pub fn named(&self) -> Option<u64>
+        ensures { result ≡ self.now.named }
+    {
+        *self.claim.outcome()
+    }
+}
