@@ -1,2 +1,4 @@
+mod Behind
 mod KeyDigits
+mod Lasts
 mod Ranges

@@ -7,3 +7,5 @@ IsOverNetwork StoreFault.Lost = Unit {0}
 IsOverNetwork StoreFault.Wrong = Unit {0}
 IsOverNetwork StoreFault.TooLong = Unit {0}
 IsOverNetwork StoreFault.Gap = ⊥
+IsOverNetwork StoreFault.NoSpace = Unit {0}
+IsOverNetwork StoreFault.WentBack = Unit {0}

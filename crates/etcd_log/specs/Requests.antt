@@ -1,5 +1,5 @@
 -- What etcd is asked, and what its answers say. Its gateway has keys and values in base64, and leaves out what is false or empty.
-use Rattle.std.specs.Prelude.{◌≡◌, ℕ, List, Some, codes, Ok}
+use Rattle.std.specs.Prelude.{◌≡◌, ℕ, ◌-◌, List, Some, codes, Ok}
 use Rattle.json.specs.Json.{Json, string, array, object, no_items, item, no_members, member, document}
 use Rattle.base64.specs.Engines.{standard}
 use Rattle.base64.specs.GeneralPurpose.{decode_of}
@@ -12,24 +12,43 @@ only name value = object (member name value no_members)
 abbrev pub alone : Json → Json
 alone value = array (item value no_items)
 
+abbrev pub both : Json → Json → Json
+both one other = array (item one (item other no_items))
+
+-- what is told of a key under a name is this
+abbrev pub compared : List ℕ → List ℕ → List ℕ → List ℕ → Json
+compared key target name value =
+    object (member (codes "key") (string key) (
+    member (codes "target") (string target) (
+    member (codes "result") (string (codes "EQUAL")) (
+    member name (string value) no_members))))
+
 -- the key was never created: its create revision is 0
 abbrev pub never_created : List ℕ → Json
-never_created key =
-    object (member (codes "key") (string key) (
-    member (codes "target") (string (codes "CREATE")) (
-    member (codes "result") (string (codes "EQUAL")) (
-    member (codes "create_revision") (string (codes "0")) no_members))))
+never_created key = compared key (codes "CREATE") (codes "create_revision") (codes "0")
+
+-- this value stands at the key
+abbrev pub holds : List ℕ → List ℕ → Json
+holds key value = compared key (codes "VALUE") (codes "value") value
 
 abbrev pub pair : List ℕ → List ℕ → Json
 pair key value =
     object (member (codes "key") (string key) (
     member (codes "value") (string value) no_members))
 
+-- if all of these hold, put the value at the key
+abbrev pub put_if : Json → List ℕ → List ℕ → Json
+put_if conditions key value =
+    object (member (codes "compare") conditions (
+    member (codes "success") (alone (only (codes "request_put") (pair key value))) no_members))
+
 -- if the key was never created, put the value there
 abbrev pub put_request : List ℕ → List ℕ → Json
-put_request key value =
-    object (member (codes "compare") (alone (never_created key)) (
-    member (codes "success") (alone (only (codes "request_put") (pair key value))) no_members))
+put_request key value = put_if (alone (never_created key)) key value
+
+-- if the key was never created and that value stands at the key before it, put the value there
+abbrev pub put_behind_request : List ℕ → List ℕ → List ℕ → List ℕ → Json
+put_behind_request before stood key value = put_if (both (never_created key) (holds before stood)) key value
 
 -- get the keys from this one on that come before that one, in their order
 abbrev pub get_request : List ℕ → List ℕ → Json
@@ -42,6 +61,18 @@ pub record SaysPut (text prefix : List ℕ) (place : ℕ) (entry : List ℕ) : T
   pub key : List ℕ
   pub value : List ℕ
   pub says : document text ≡ Some (put_request key value)
+  pub at : decode_of standard key ≡ Ok (key_of prefix place)
+  pub holds : decode_of standard value ≡ Ok entry
+
+-- a text is the request that puts an entry at a place under a prefix, where that entry stands at the place before it
+pub record SaysPutBehind (text prefix : List ℕ) (place : ℕ) (stood entry : List ℕ) : Type 0 where
+  pub before : List ℕ
+  pub last : List ℕ
+  pub key : List ℕ
+  pub value : List ℕ
+  pub says : document text ≡ Some (put_behind_request before last key value)
+  pub at_before : decode_of standard before ≡ Ok (key_of prefix (place - 1))
+  pub held : decode_of standard last ≡ Ok stood
   pub at : decode_of standard key ≡ Ok (key_of prefix place)
   pub holds : decode_of standard value ≡ Ok entry
 

@@ -1,19 +1,24 @@
 //! Places in etcd.
 
-ghost use Rattle.std.specs.Prelude.{◌<◌, ⊤, IfErr};
+ghost use Rattle.std.specs.Prelude.{◌≡◌, ◌≢◌, ◌<◌, ◌++◌, [], ◌∷◌, ℕ, List, ⊤, Err, OnOk, IfErr};
+ghost use Rattle.std.specs.declared.vec.Vec.{Vec};
+ghost use Rattle.std.specs.declared.alloc.Global.{Global};
 ghost use Rattle.one_log.specs.declared.store.TheConstants.{MOST_PLACES};
 ghost use Rattle.etcd_log.specs.Faults.{IsOverNetwork};
 
 use crate::answer::{read_get, read_put};
 use crate::dial::Dial;
 use crate::exchange::exchange;
-use crate::request::{get_text, one_text, put_text};
+use crate::request::{get_text, one_text, put_behind_text, put_text};
 use http1::{Client, Limits};
 use one_log::{MOST_PLACES, Put, Store, StoreFault};
 use std::alloc::Global;
 
 /// The status of a response that answers.
 const ANSWERED: u16 = 200;
+
+/// What a member says where the quota of etcd is used up.
+const NO_SPACE: &[u8] = b"etcdserver: mvcc: database space exceeded";
 
 /// What stands at so many places at most is asked at once.
 const MOST_FOUND: usize = 256;
@@ -25,8 +30,44 @@ struct Kept<S: Drop> {
     client: Client,
 }
 
+// What was written or read at a place.
+#[derive(Drop)]
+struct Last {
+    place: u64,
+    entry: Vec<u8>,
+}
+
+// Why a member answers with another status.
+fn refusal(body: &[u8]) -> StoreFault
+    ensures { IsOverNetwork result }
+{
+    if body.windows(NO_SPACE.len()).any(|part| part == NO_SPACE) {
+        return StoreFault::NoSpace;
+    }
+    StoreFault::Lost
+}
+
+// Takes the first place out of what was found, the last place first: this has to stand there.
+fn take_first(found: &mut Vec<Vec<u8>>, stood: &[u8]) -> Result<(), StoreFault>
+    ensures taken { OnOk result ((first : Vec ℕ Global) × (found.old.items ≡ found.new.items ++ first ∷ []) × (first.items ≡ stood.now)) }
+    ensures fault { IfErr result (λ f. f ≡ StoreFault.WentBack) }
+    ensures went_back { result ≡ Err StoreFault.WentBack → (rest : List (Vec ℕ Global)) (first : Vec ℕ Global) →
+        found.old.items ≡ rest ++ first ∷ [] → first.items ≢ stood.now }
+{
+    let Some(first) = found.pop() else {
+        return Err(StoreFault::WentBack);
+    };
+    if first.as_slice() == stood {
+        return Ok(());
+    }
+    Err(StoreFault::WentBack)
+}
+
 /// The places under a prefix in etcd, whose members are asked in turn: after a fault the next one. Nothing is ever deleted there,
 /// since a place that was deleted could be written again: let each log have a prefix of its own.
+///
+/// What was written or read last at the place before has to stand there still at each put, and at each get that asks a member. Where it
+/// does not, etcd was put back to an older state: nothing is written, and the fault is `WentBack`.
 #[derive(Drop)]
 pub struct EtcdStore<D: Dial> {
     alloc: Global,
@@ -37,6 +78,8 @@ pub struct EtcdStore<D: Dial> {
     /// What stands at the places from `place` on, the last of them first: it stands there for good.
     ahead: Vec<Vec<u8>>,
     place: u64,
+    /// What was written or read last, and at which place.
+    last: Option<Last>,
 }
 
 impl<D: Dial> EtcdStore<D> {
@@ -50,6 +93,7 @@ impl<D: Dial> EtcdStore<D> {
             prefix,
             ahead: Vec::new(alloc),
             place: 0,
+            last: None,
         }
     }
 
@@ -79,7 +123,7 @@ impl<D: Dial> EtcdStore<D> {
         let Kept { stream, client } = &mut kept;
         let response = exchange(self.alloc, client, stream, target, text)?;
         if response.status != ANSWERED {
-            return Err(StoreFault::Lost);
+            return Err(refusal(&response.body));
         }
         if kept.client.is_idle() {
             self.kept = Some(kept);
@@ -96,6 +140,7 @@ impl<D: Dial> EtcdStore<D> {
             match self.ask_once(target, text) {
                 Ok(body) => return Ok(body),
                 Err(StoreFault::Memory) => return Err(StoreFault::Memory),
+                Err(StoreFault::NoSpace) => return Err(StoreFault::NoSpace),
                 Err(_) => self.member = self.member.wrapping_add(1),
             }
         }
@@ -126,19 +171,87 @@ impl<D: Dial> EtcdStore<D> {
         read_get(self.alloc, &body, 1, self.prefix.as_str(), place)
     }
 
+    // What was written or read at the place before one, if that was the last.
+    fn stood_before(&self, place: u64) -> Option<&[u8]> {
+        let last = self.last.as_ref()?;
+        if last.place.checked_add(1) != Some(place) {
+            return None;
+        }
+        Some(&last.entry)
+    }
+
+    // The place from which is asked what stands at one and behind it: the place before, where it is known what stood there.
+    fn first_asked(&self, place: u64) -> u64
+        requires { place < MOST_PLACES }
+        ensures { result < MOST_PLACES }
+    {
+        match self.stood_before(place) {
+            Some(_) => place.saturating_sub(1),
+            None => place,
+        }
+    }
+
+    // Takes the place before one out of what was found from there on, the last place first, where it is known what stood there.
+    fn take_before(&self, place: u64, found: &mut Vec<Vec<u8>>) -> Result<(), StoreFault>
+        ensures { IfErr result IsOverNetwork }
+    {
+        match self.stood_before(place) {
+            Some(stood) => take_first(found, stood),
+            None => Ok(()),
+        }
+    }
+
+    // What stands at the places from one on, the last of them first.
+    fn ask_behind(&mut self, place: u64) -> Result<Vec<Vec<u8>>, StoreFault>
+        requires { place < MOST_PLACES }
+        ensures { IfErr result IsOverNetwork }
+    {
+        let mut found = self.ask_range(self.first_asked(place))?;
+        found.reverse();
+        self.take_before(place, &mut found)?;
+        Ok(found)
+    }
+
+    // What stands at one place, where the place before is asked alone too.
+    fn ask_singly(&mut self, place: u64) -> Result<Vec<Vec<u8>>, StoreFault>
+        requires { place < MOST_PLACES }
+        ensures { IfErr result IsOverNetwork }
+    {
+        let first = self.first_asked(place);
+        if first < place {
+            let mut found = self.ask_one(first)?;
+            self.take_before(place, &mut found)?;
+        }
+        self.ask_one(place)
+    }
+
     // Asks what stands at the places from one on; or at that one alone where keys stand between them of a log whose prefix begins with this
     // one and goes on with digits.
     fn ask_from(&mut self, place: u64) -> Result<(), StoreFault>
         requires { place < MOST_PLACES }
         ensures { IfErr result IsOverNetwork }
     {
-        self.ahead = match self.ask_range(place) {
-            Err(StoreFault::Wrong) => self.ask_one(place)?,
+        self.ahead = match self.ask_behind(place) {
+            Err(StoreFault::Wrong) => self.ask_singly(place)?,
             answered => answered?,
         };
-        self.ahead.reverse();
         self.place = place;
         Ok(())
+    }
+
+    // The text of the request that puts an entry at a place behind what was written or read there last.
+    fn text_of_put(&self, place: u64, entry: &[u8]) -> Result<Vec<u8>, StoreFault>
+        ensures { IfErr result IsOverNetwork }
+    {
+        let prefix = self.prefix.as_str();
+        let text = match self.stood_before(place) {
+            Some(stood) => put_behind_text(self.alloc, prefix, place, stood, entry),
+            None => put_text(self.alloc, prefix, place, entry),
+        };
+        match text {
+            Ok(text) => Ok(text),
+            Err(_) => Err(StoreFault::Memory),
+        }
     }
 }
 
@@ -150,11 +263,16 @@ impl<D: Dial> Store for EtcdStore<D> {
     ghost fails = { IsOverNetwork };
 
     fn put(&mut self, place: u64, entry: &[u8]) -> Result<Put, StoreFault> {
-        let Ok(text) = put_text(self.alloc, self.prefix.as_str(), place, entry) else {
+        let Ok(copy) = Vec::from_slice(self.alloc, entry) else {
             return Err(StoreFault::Memory);
         };
+        let text = self.text_of_put(place, entry)?;
         let body = self.ask(b"/v3/kv/txn", &text)?;
-        read_put(self.alloc, &body)
+        let put = read_put(self.alloc, &body)?;
+        if put == Put::Written {
+            self.last = Some(Last { place, entry: copy });
+        }
+        Ok(put)
     }
 
     fn get(&mut self, place: u64, entry: &mut Vec<u8>) -> Result<bool, StoreFault> {
@@ -167,6 +285,11 @@ impl<D: Dial> Store for EtcdStore<D> {
         let Some(found) = self.ahead.pop() else {
             return Ok(false);
         };
+        let Ok(copy) = Vec::from_slice(self.alloc, &found) else {
+            self.ahead.clear();
+            return Err(StoreFault::Memory);
+        };
+        self.last = Some(Last { place, entry: copy });
         self.place = place + 1;
         *entry = found;
         Ok(true)

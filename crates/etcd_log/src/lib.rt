@@ -5,6 +5,9 @@
 //! `read_put` and `read_get` what the texts of the answers say (`specs/Requests`, `specs/Answers`): keys and values are in base64, and etcd
 //! leaves out what is false or empty.
 //!
+//! What was written or read last has to stand at its place still: the transaction of the next put asks that too (`put_behind_text`), and
+//! the next range begins with it. Where it does not, etcd was put back to an older state, and the fault is `StoreFault::WentBack`.
+//!
 //! `EtcdStore` asks its members in turn, over any `Dial`; `TcpDial` is one over TCP, with a time limit for each read and write. After a
 //! fault it drops the connection and asks the next member the same, each twice at most: a put whose answer was lost is then found
 //! taken, by its own entry.

@@ -1,6 +1,6 @@
 //! When a history is compacted.
 
-ghost use Rattle.std.specs.Prelude.{◌≡◌, ◌↔◌, ◌≤◌, true, length, IfSome, IfNone};
+ghost use Rattle.std.specs.Prelude.{◌≡◌, ◌↔◌, ◌≤◌, true, false, length, IfSome, IfNone};
 ghost use Rattle.hall_compaction.specs.Compactions.{IsCompacted};
 ghost use Rattle.hall_compaction.specs.Dues.{due_after, due_again};
 
@@ -20,6 +20,8 @@ pub const DUE_EVENTS: usize = 900_000;
 #[derive(Drop)]
 pub struct Compactor {
     due: usize,
+    /// Whether what the last one gave could not be kept.
+    put_off: bool,
 }
 
 /// At how many events the next compaction is due after one that left so many.
@@ -36,10 +38,12 @@ fn due_after(left: usize) -> usize
 impl Compactor {
     /// Of a hall that was just opened.
     pub fn new() -> Compactor
-        ensures { result.due ≡ 450001 }
+        ensures due { result.due ≡ 450001 }
+        ensures put_off { result.put_off ≡ false }
     {
         Compactor {
             due: DUE_EVENTS / 2 + 1,
+            put_off: false,
         }
     }
 
@@ -52,10 +56,19 @@ impl Compactor {
 
     /// A compaction could not be kept: the next one is due a tenth of the room further on, and not at each event until then.
     pub fn put_off(&mut self, hall: &Hall)
-        ensures { self.new.due ≡ due_again (length hall.now.history) }
+        ensures due { self.new.due ≡ due_again (length hall.now.history) }
+        ensures put_off { self.new.put_off ≡ true }
     {
         let room = MOST_EVENTS.saturating_sub(hall.len());
         self.due = hall.len().saturating_add(room / 10 + 1);
+        self.put_off = true;
+    }
+
+    /// Whether what the last compaction gave could not be kept.
+    pub fn is_put_off(&self) -> bool
+        ensures { result ≡ self.now.put_off }
+    {
+        self.put_off
     }
 
     /// What `compacted` makes of a hall; the next one is due so long after what that left.
@@ -63,6 +76,7 @@ impl Compactor {
         ensures compacted { IfSome result (λ new. IsCompacted hall.now new) }
         ensures next { IfSome result (λ new. self.new.due ≡ due_after (length new.history)) }
         ensures none { IfNone result (self.new.due ≡ due_after (length hall.now.history)) }
+        ensures put_off { self.new.put_off ≡ false }
     {
         let new = compacted(alloc, hall);
         let left = match &new {
@@ -70,6 +84,7 @@ impl Compactor {
             None => hall.len(),
         };
         self.due = due_after(left);
+        self.put_off = false;
         new
     }
 }

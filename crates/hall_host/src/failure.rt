@@ -60,6 +60,9 @@ pub enum HostFailure {
     /// The log is one of another config, or of another version.
     #[error("log of another config")]
     OtherLog,
+    /// The log was put back to an older state under the server, which answers nothing more.
+    #[error("the log went back")]
+    WentBack,
     /// The members of the log did not answer, or the log failed.
     #[error("log fault: {0}")]
     Log(LogFault),
@@ -143,6 +146,7 @@ impl From<LogFault> for HostFailure {
             LogFault::Memory => HostFailure::Memory,
             LogFault::NoNames => HostFailure::NoNames,
             LogFault::OtherConfig => HostFailure::OtherLog,
+            LogFault::WentBack => HostFailure::WentBack,
             other => HostFailure::Log(other),
         }
     }

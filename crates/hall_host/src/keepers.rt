@@ -16,6 +16,10 @@ use std::alloc::Global;
 /// shortest commands, have room behind them, since a chronicle refuses memory where a megabyte waits.
 const FULL_BYTES: usize = 262_144;
 
+/// What is said where the record of a shorter history could not be written.
+const NOT_COMPACTED: &str =
+    "the journal is not compacted: its new file could not be written beside it; it goes on, and tries again later";
+
 /// Keeps nothing: the history of a hall ends with the program. It is compacted whenever it has grown long.
 #[derive(Drop)]
 pub struct Unrecorded {
@@ -127,12 +131,17 @@ impl<D: Disk> Keep<Chronicle> for Recorded<D> {
         Ok(Ahead::Known)
     }
 
+    // A file that was deleted, moved or cut short is noticed though nothing is written.
     fn tick(&mut self, _chronicle: &mut Chronicle) -> Result<(), JournalFault> {
-        Ok(())
+        self.journal.look()
     }
 
     fn trouble(&self) -> Option<&'static str> {
-        None
+        if self.compactor.is_put_off() {
+            Some(NOT_COMPACTED)
+        } else {
+            None
+        }
     }
 
     fn tally(&self, chronicle: &Chronicle) -> Tally {

@@ -4,15 +4,27 @@ use Rattle.one_log.specs.declared.serve_fault.Cause.{Cause}
 use Rattle.one_log.specs.declared.serve_fault.Cause.TheVariants as cause
 use Rattle.one_log.specs.declared.serve_fault.ServeFault.{ServeFault}
 use Rattle.one_log.specs.declared.serve_fault.ServeFault.TheVariants as serve
+use Rattle.one_log.specs.declared.store_fault.StoreFault.{StoreFault}
+use Rattle.one_log.specs.declared.store_fault.StoreFault.TheVariants as store
 use Rattle.hall_log.specs.declared.log_fault.LogFault.{LogFault}
 use Rattle.hall_log.specs.declared.log_fault.LogFault.TheVariants as fault
 
--- want of memory and of places; a store that does not answer may be asked again
+-- a log that went back; a store that does not answer may be asked again
+abbrev pub fault_of_store : StoreFault → Option LogFault
+fault_of_store store.WentBack = Some fault.WentBack
+fault_of_store store.Memory = None
+fault_of_store store.Lost = None
+fault_of_store store.Wrong = None
+fault_of_store store.TooLong = None
+fault_of_store store.Gap = None
+fault_of_store store.NoSpace = None
+
+-- want of memory and of places, and a fault of the store of which nothing comes again
 abbrev pub fault_of_cause : Cause → Option LogFault
 fault_of_cause cause.Memory = Some fault.Memory
 fault_of_cause cause.Spoiled = Some fault.Memory
 fault_of_cause cause.Full = Some fault.Full
-fault_of_cause (cause.Store why) = None
+fault_of_cause (cause.Store why) = fault_of_store why
 fault_of_cause cause.Busy = None
 
 abbrev pub fault_of : ServeFault → Option LogFault

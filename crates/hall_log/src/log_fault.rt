@@ -1,7 +1,7 @@
 //! Why a hall over a log is not served, or no more.
 
 ghost use Rattle.std.specs.Prelude.{◌≡◌};
-ghost use Rattle.hall_log.specs.Faults.{fault_of, fault_of_cause};
+ghost use Rattle.hall_log.specs.Faults.{fault_of, fault_of_cause, fault_of_store};
 
 use one_log::{Cause, ServeFault, StoreFault};
 use std::error::Error;
@@ -25,6 +25,8 @@ pub enum LogFault {
     Full,
     /// Connections took other lines than were learnt.
     Astray,
+    /// The log was put back to an older state than was applied.
+    WentBack,
     /// The store does not answer, as the hall is opened.
     Store(StoreFault),
 }
@@ -48,8 +50,23 @@ impl LogFault {
             Cause::Memory => Some(LogFault::Memory),
             Cause::Spoiled => Some(LogFault::Memory),
             Cause::Full => Some(LogFault::Full),
-            Cause::Store(_) => None,
+            Cause::Store(fault) => LogFault::of_store(fault),
             Cause::Busy => None,
+        }
+    }
+
+    /// The same, of a fault of the store.
+    pub fn of_store(fault: StoreFault) -> Option<LogFault>
+        ensures { result ≡ fault_of_store fault }
+    {
+        match fault {
+            StoreFault::WentBack => Some(LogFault::WentBack),
+            StoreFault::Memory => None,
+            StoreFault::Lost => None,
+            StoreFault::Wrong => None,
+            StoreFault::TooLong => None,
+            StoreFault::Gap => None,
+            StoreFault::NoSpace => None,
         }
     }
 }
@@ -73,6 +90,7 @@ impl fmt::Display for LogFault {
             LogFault::TooLong => "too many lines for one entry",
             LogFault::Full => "the log is full",
             LogFault::Astray => "other lines were taken than learnt",
+            LogFault::WentBack => "the log went back",
             LogFault::Store(fault) => return write!(f, "{fault}"),
         })
     }

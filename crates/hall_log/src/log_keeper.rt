@@ -14,7 +14,7 @@ use crate::tape::Tape;
 use commands::Config;
 use event_server::{Ahead, Keep, Tally};
 use hall::Hall;
-use one_log::{MOST_BATCH, MOST_PLACES, Store, StoreFault};
+use one_log::{Cause, MOST_BATCH, MOST_PLACES, ServeFault, Store, StoreFault};
 use std::alloc::{AllocError, Global};
 
 /// What ends a line.
@@ -25,6 +25,9 @@ const HEAD: usize = 50;
 
 /// How often a store is asked for one batch, at most; a `Pause` ends it before.
 const MOST_TRIES: u32 = 1_000_000;
+
+/// What etcd says where its quota is used up.
+const NO_SPACE: &str = "etcdserver: mvcc: database space exceeded";
 
 /// How many entries are applied at once where no client asks for anything.
 const TICK_ENTRIES: u64 = 10_000;
@@ -37,6 +40,8 @@ pub struct LogKeeper<S: Store, T: Pause> {
     token: [u8; 32],
     count: u64,
     pause: T,
+    /// Whether the store had no room for the last batch.
+    no_space: bool,
     ghost one_line: { All (λ b. b ≢ 10) token },
 }
 
@@ -50,6 +55,7 @@ impl<S: Store + Drop, T: Pause + Drop> Drop for LogKeeper<S, T> {
             token: _,
             count: _,
             pause: _,
+            no_space: _,
         } = self;
     }
 }
@@ -139,6 +145,7 @@ impl<S: Store + Drop, T: Pause + Drop> LogKeeper<S, T> {
             token,
             count: 0,
             pause,
+            no_space: false,
         };
         match keeper.start(line.as_bytes()) {
             Ok(()) => Ok(keeper),
@@ -229,8 +236,10 @@ impl<S: Store, T: Pause> LogKeeper<S, T> {
         self.pause.begin();
         for _ in 0..MOST_TRIES {
             let Err(fault) = self.log.serve(&self.batch, tape) else {
+                self.no_space = false;
                 return Ok(Ahead::Known);
             };
+            self.no_space = fault == ServeFault::Unknown(Cause::Store(StoreFault::NoSpace));
             if let Some(fault) = LogFault::of_serving(fault) {
                 return Err(fault);
             }
@@ -287,7 +296,7 @@ impl<S: Store, T: Pause> Keep<Tape> for LogKeeper<S, T> {
     }
 
     fn trouble(&self) -> Option<&'static str> {
-        None
+        if self.no_space { Some(NO_SPACE) } else { None }
     }
 
     fn tally(&self, _tape: &Tape) -> Tally {

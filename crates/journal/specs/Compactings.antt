@@ -1,7 +1,9 @@
 -- a journal whose chronicle's hall is compacted, and what a crash leaves then
-use Rattle.std.specs.Prelude.{◌≡◌, ◌⊎◌, ℕ, List, length, Bool, true, false, Option}
+use Rattle.std.specs.Prelude.{◌≡◌, ◌⊎◌, ◌<◌, ◌≤◌, ℕ, List, length, Bool, true, false, Option}
 use Rattle.hall.specs.HallState.{HallState}
+use Rattle.hall_compaction.specs.declared.compactor.Compactor.{Compactor}
 use Rattle.hall_compaction.specs.Compactions.{IsCompacted}
+use Rattle.hall_compaction.specs.Dues.{due_after, due_again}
 use Rattle.journal_disk.specs.DiskState.{DiskState}
 use Rattle.journal_disk.specs.Disks.{Changes, MayLeaveEither, replaced_by}
 use Rattle.journal.specs.ChronicleState.{ChronicleState}
@@ -36,3 +38,23 @@ MayCompact c u = (u ≡ c) ⊎ HasCompacted c u
 -- the record of a hall that was compacted was put in place of all, with what a crash leaves meanwhile; or the journal is as it was
 abbrev pub KeepsWhenCompacted : {D : Type 0} → (D → Option DiskState) → Journal D → Journal D → ChronicleState → Type 0
 KeepsWhenCompacted state old new c = ((hall : HallState) × IsCompacted c.hall hall × Changes (KeepsEither c hall) (state old.disk) (state new.disk)) ⊎ (new ≡ old)
+
+-- nothing is due, and nothing changed
+pub record IsNotDue (k : Compactor) (c : ChronicleState) (l : Compactor) (u : ChronicleState) : Type 0 where
+  pub early : length c.hall.history < k.due
+  pub same : (l ≡ k) × (u ≡ c)
+
+-- what the chronicle has now is as short as it gets, and the next compaction is due so long after it
+pub record IsDone (l : Compactor) (u : ChronicleState) : Type 0 where
+  pub due : l.due ≡ due_after (length u.hall.history)
+  pub put_off : l.put_off ≡ false
+
+-- the shorter history could not be kept: the chronicle is as it was, and the next compaction is due a tenth of the room further on
+pub record IsPutOff (c : ChronicleState) (l : Compactor) (u : ChronicleState) : Type 0 where
+  pub due : l.due ≡ due_again (length c.hall.history)
+  pub put_off : l.put_off ≡ true
+  pub same : u ≡ c
+
+-- so a compactor and a chronicle may be after a compaction was asked for
+abbrev pub IsPaced : Compactor → ChronicleState → Compactor → ChronicleState → Type 0
+IsPaced k c l u = IsNotDue k c l u ⊎ (k.due ≤ length c.hall.history × (IsDone l u ⊎ IsPutOff c l u))

@@ -4,8 +4,9 @@ ghost use Rattle.std.specs.Prelude.{◌≡◌, ◌≢◌, true, false, length, E
 ghost use Rattle.journal_disk.specs.Disks.{Changes};
 ghost use Rattle.journal_disk.specs.DiskState.{DiskState};
 ghost use Rattle.hall_compaction.specs.Compactions.{IsCompacted};
+ghost use Rattle.hall_compaction.specs.Dues.{due_again};
 ghost use Rattle.journal.specs.Chronicles.{chronicle_of};
-ghost use Rattle.journal.specs.Compactings.{KeepsEither, KeepsWhenCompacted, MayCompact, TakesHall};
+ghost use Rattle.journal.specs.Compactings.{IsPaced, KeepsEither, KeepsWhenCompacted, MayCompact, TakesHall};
 ghost use Rattle.journal.specs.OpenFaults.{IsOpenFault};
 ghost use Rattle.journal.specs.Journals.{Stands, KeepsAtAnyMoment, IsHallOf, IsMended, IsWritten, missing_in};
 
@@ -82,6 +83,17 @@ impl<D: Disk> Journal<D> {
     }
 }
 
+/// Puts a compaction off that could not be kept.
+fn put_off_unless(kept: bool, compactor: &mut Compactor, hall: &Hall)
+    ensures kept { kept ≡ true → compactor.new ≡ compactor.old }
+    ensures due { kept ≡ false → compactor.new.due ≡ due_again (length hall.now.history) }
+    ensures put_off { kept ≡ false → compactor.new.put_off ≡ true }
+{
+    if !kept {
+        compactor.put_off(hall);
+    }
+}
+
 impl<D: Disk> Journal<D> {
     /// A hall that was compacted of the chronicle's takes its place, and its record that of all that was written, in one step; so also what
     /// waited is handed on. `false` where an allocation failed or the record could not be written beside what there is, with nothing
@@ -124,7 +136,7 @@ impl<D: Disk> Journal<D> {
     }
 
     /// Compacts the chronicle's hall where that is due and gives a shorter history. Where the new record could not be written beside the
-    /// old one, the history goes on as it is.
+    /// old one, the history goes on as it is, and the compaction is put off.
     pub fn compact_when_due(
         &mut self,
         alloc: Global,
@@ -138,6 +150,9 @@ impl<D: Disk> Journal<D> {
         ensures any_moment { Stands D.state self.old chronicle.old → KeepsWhenCompacted D.state self.old self.new chronicle.old }
         ensures same { OnErr result (chronicle.new ≡ chronicle.old) }
         ensures ends { OnErr result (self.new.ended ≡ true) }
+
+        // Where it could not be written, nothing changed, and it is due again a tenth of the room further on.
+        ensures paced { OnOk result (IsPaced compactor.old chronicle.old compactor.new chronicle.new) }
     {
         if !compactor.is_due(chronicle.hall()) {
             return Ok(());
@@ -145,7 +160,8 @@ impl<D: Disk> Journal<D> {
         let Some(hall) = compactor.compacted(alloc, chronicle.hall()) else {
             return Ok(());
         };
-        self.compact(alloc, chronicle, hall)?;
+        let done = self.compact(alloc, chronicle, hall)?;
+        put_off_unless(done, compactor, chronicle.hall());
         Ok(())
     }
 }
@@ -213,6 +229,22 @@ impl<D: Disk> Journal<D> {
             journal: Journal { disk, ended: false },
             chronicle,
         })
+    }
+
+    /// Whether the bytes are still where they were written; after a fault nothing is ever written again.
+    pub fn look(&mut self) -> Result<(), JournalFault>
+        ensures same { OnOk result (self.new ≡ self.old) }
+        ensures ends { OnErr result (self.new.ended ≡ true) }
+        ensures over { self.old.ended ≡ true → (result ≡ Err JournalFault.Ended) × (self.new ≡ self.old) }
+        ensures goes_on { self.old.ended ≡ false → result ≢ Err JournalFault.Ended }
+    {
+        if self.ended {
+            return Err(JournalFault::Ended);
+        }
+        match self.disk.look() {
+            Ok(()) => Ok(()),
+            Err(fault) => Err(end(&mut self.ended, fault)),
+        }
     }
 
     /// The disk.

@@ -24,3 +24,5 @@ FailsInMemory StoreFault.Gap = Unit {0}
 FailsInMemory StoreFault.Lost = ⊥
 FailsInMemory StoreFault.Wrong = ⊥
 FailsInMemory StoreFault.TooLong = ⊥
+FailsInMemory StoreFault.NoSpace = ⊥
+FailsInMemory StoreFault.WentBack = ⊥

@@ -17,6 +17,10 @@ pub enum StoreFault {
     TooLong,
     /// Nothing stands at some place before this one.
     Gap,
+    /// The store has no room for more: its quota is used up.
+    NoSpace,
+    /// What was written or read at the place before this one does not stand there: the store was put back to an older state.
+    WentBack,
 }
 
 impl fmt::Display for StoreFault {
@@ -27,6 +31,8 @@ impl fmt::Display for StoreFault {
             StoreFault::Wrong => "the store answers wrongly",
             StoreFault::TooLong => "the store takes no entry of this length",
             StoreFault::Gap => "a place before this one is empty",
+            StoreFault::NoSpace => "etcdserver: mvcc: database space exceeded",
+            StoreFault::WentBack => "the log went back",
         })
     }
 }

@@ -21,6 +21,17 @@ const FOUND: &[u8] =
 const FOUND_TWO: &[u8] =
     b"HTTP/1.1 200 OK\r\nConnection: close\r\nContent-Length: 129\r\n\r\n{\"header\":{},\"kvs\":[{\"key\":\"bG9nLzAwMDAwMDAwMDAwMDAwNDI=\",\"value\":\"aGk=\"},{\"key\":\"bG9nLzAwMDAwMDAwMDAwMDAwNDM=\",\"value\":\"aG8=\"}]}";
 
+// `ho` at the place 43, and at the place 42.
+const FOUND_NEXT: &[u8] =
+    b"HTTP/1.1 200 OK\r\nConnection: close\r\nContent-Length: 75\r\n\r\n{\"header\":{},\"kvs\":[{\"key\":\"bG9nLzAwMDAwMDAwMDAwMDAwNDM=\",\"value\":\"aG8=\"}]}";
+
+const CHANGED: &[u8] =
+    b"HTTP/1.1 200 OK\r\nConnection: close\r\nContent-Length: 75\r\n\r\n{\"header\":{},\"kvs\":[{\"key\":\"bG9nLzAwMDAwMDAwMDAwMDAwNDI=\",\"value\":\"aG8=\"}]}";
+
+// A member of an etcd whose quota is used up.
+const NO_SPACE: &[u8] =
+    b"HTTP/1.1 429 Too Many Requests\r\nContent-Length: 62\r\n\r\n{\"error\":\"etcdserver: mvcc: database space exceeded\",\"code\":8}";
+
 // Something that is no answer.
 const OTHER: &[u8] = b"HTTP/1.1 200 OK\r\nConnection: close\r\nContent-Length: 2\r\n\r\n{}";
 
@@ -37,8 +48,8 @@ const AWAY: &[u8] = b"HTTP/1.1 503 No\r\nContent-Length: 0\r\n\r\n";
 /// Texts, of which each exchange takes the next: for what is put and found; for what stands behind and is read at once; a member that says
 /// nothing and one that does not serve, behind which the next is asked; wrong answers, behind which the one place is asked.
 const TEXTS: [&[u8]; 17] = [
-    WRITTEN, TAKEN, FOUND, TAKEN, FOUND_TWO, TAKEN, FOUND_TWO, SILENT, AWAY, WRITTEN, OTHER, FOUND,
-    TAKEN, FOUND, FOUND, SHORT, NO_LETTER,
+    WRITTEN, TAKEN, FOUND, FOUND, FOUND_TWO, FOUND_NEXT, FOUND_TWO, SILENT, AWAY, WRITTEN, OTHER,
+    FOUND, TAKEN, FOUND, FOUND, SHORT, NO_LETTER,
 ];
 
 /// A store over the texts.
@@ -108,4 +119,29 @@ fn an_answer_that_is_cut_is_none(rt: HostRuntime) {
         let got = got(rt.alloc(), &FOUND[..end]);
         assert!(rt; got == Ok((Err(StoreFault::Lost), true)), "cut at {end}");
     }
+}
+
+/// What a get answers of the place behind `hi`, where each text is this from then on.
+fn got_behind(alloc: Global, text: &[u8]) -> Result<Result<bool, StoreFault>, AllocError> {
+    let texts = [FOUND, text, text];
+    let mut etcd = store(alloc, &texts)?;
+    let mut entry = Vec::new(alloc);
+    let _ = etcd.get(42, &mut entry);
+    Ok(etcd.get(43, &mut entry))
+}
+
+#[test]
+fn a_log_that_went_back_is_told(rt: HostRuntime) {
+    assert!(rt; got_behind(rt.alloc(), FOUND) == Ok(Ok(false)));
+    assert!(rt; got_behind(rt.alloc(), FOUND_TWO) == Ok(Ok(true)));
+    assert!(rt; got_behind(rt.alloc(), TAKEN) == Ok(Err(StoreFault::WentBack)));
+    assert!(rt; got_behind(rt.alloc(), CHANGED) == Ok(Err(StoreFault::WentBack)));
+}
+
+#[test]
+fn a_quota_that_is_used_up_is_told(rt: HostRuntime) -> Result<(), AllocError> {
+    let texts = [NO_SPACE];
+    let mut etcd = store(rt.alloc(), &texts)?;
+    assert!(rt; etcd.put(42, b"hi") == Err(StoreFault::NoSpace));
+    Ok(())
 }

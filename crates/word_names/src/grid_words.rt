@@ -30,18 +30,18 @@ fn of_pairs(pairs: &[(u64, u64)], at: usize) -> (u64, u64)
 }
 
 /// One of the words that spell a record.
-fn spell_record(record: &Record, at: usize) -> u64
-    ensures word { result ≡ record_word record.now at }
-    ensures fits { FitsRecord record.now }
+fn spell_record(written: &Record, at: usize) -> u64
+    ensures word { result ≡ record_word written.now at }
+    ensures fits { FitsRecord written.now }
 {
-    let number = record.number;
-    let pairs = record.view.pairs();
+    let number = written.number;
+    let pairs = written.view.pairs();
     if at == 0 {
         pairs.len() as u64 + 1
     } else if at == 1 {
-        record.identity
+        written.identity
     } else if at == 2 {
-        record.value
+        written.value
     } else if at == 3 {
         number as u64
     } else if at < 68 {

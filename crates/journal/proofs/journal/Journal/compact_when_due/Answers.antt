@@ -5,15 +5,15 @@ use Rattle.journal.proofs.journal.Journal.compact_when_due.Goals as goal
 
 pub returns-clause-compacted : goal.returns-clause-compacted
 returns-clause-compacted g c =
-    may_compact _ c.in-Some.hall c.args.chronicle.now c.compact.new.chronicle (subst (λ (h : HallState). IsCompacted h c.in-Some.hall) c.hall-2.ensures c.in-Some.ensures.compacted) c.in_ok-compact.ensures.taken
+    may_compact _ c.in-Some.hall c.args.chronicle.now c.compact.new.chronicle (subst (λ (h : HallState). IsCompacted h c.in-Some.hall) c.hall-2.ensures c.in-Some.ensures.compacted) c.in_ok-done.ensures.taken
 
 pub returns-clause-stands : goal.returns-clause-stands
-returns-clause-stands g c = c.in_ok-compact.ensures.stands
+returns-clause-stands g c = c.in_ok-done.ensures.stands
 
 pub returns-clause-any_moment : goal.returns-clause-any_moment
 returns-clause-any_moment g c = λ stands.
     inl (c.in-Some.hall, subst (λ (h : HallState). IsCompacted h c.in-Some.hall) c.hall-2.ensures c.in-Some.ensures.compacted, c.compact.ensures.any_moment stands)
 
-pub returns-in_err-compact-clause-any_moment : goal.returns-in_err-compact-clause-any_moment
-returns-in_err-compact-clause-any_moment g c = λ stands.
+pub returns-in_err-done-clause-any_moment : goal.returns-in_err-done-clause-any_moment
+returns-in_err-done-clause-any_moment g c = λ stands.
     inl (c.in-Some.hall, subst (λ (h : HallState). IsCompacted h c.in-Some.hall) c.hall-2.ensures c.in-Some.ensures.compacted, c.compact.ensures.any_moment stands)
