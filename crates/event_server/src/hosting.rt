@@ -153,6 +153,7 @@ where
     let mut room = Room::new(alloc)?;
     let mut hosting = Hosting::new(rt, alloc, options, keep.most_ahead())?;
     hosting.tell_port(output)?;
+    hosting.tell_trouble(keep.trouble(), errors);
     for _ in rt.forever() {
         hosting.go_round(rt, service, keep, &mut room, errors)?;
         if hosting.is_over() {
@@ -236,8 +237,8 @@ impl Hosting {
         self.tell_full(errors);
         self.tell_tick(service, keep)?;
         self.serve(rt, service, keep, room)?;
-        self.tell_lost(errors);
         self.tell_trouble(keep.trouble(), errors);
+        self.tell_lost(errors);
         if self.is_report_due() {
             self.tell_tally(keep.tally(service), errors);
         }
@@ -417,12 +418,19 @@ impl Hosting {
             return;
         }
         self.said_lost = self.lost;
-        let text = if self.lost {
-            "slotctl: the log does not answer; clients that asked are closed\n"
-        } else {
-            "slotctl: the log answers again\n"
-        };
+        let text = self.text_of_lost();
         self.teller.tell(text.as_bytes(), errors);
+    }
+
+    // What is said of answers that are not learnt, or are again. Why they are not was said before, where the keeper knows that.
+    fn text_of_lost(&self) -> &'static str {
+        if !self.lost {
+            "slotctl: the log answers again\n"
+        } else if self.said_trouble {
+            "slotctl: clients that asked are closed\n"
+        } else {
+            "slotctl: the log does not answer; clients that asked are closed\n"
+        }
     }
 
     // Says once what is amiss with the keeper, each time that something comes to be.
