@@ -127,7 +127,7 @@ fn have_names<R: Threads + Sync>(rt: &R, alloc: Global, count: u64) -> Result<bo
 
 #[test]
 fn threads_have_names_of_their_own(rt: HostRuntime) {
-    for round in 0..15u64 {
+    for round in 0..300u64 {
         let count = 2 + round % 15;
         same(
             &rt,
