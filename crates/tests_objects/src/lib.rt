@@ -37,6 +37,4 @@ mod word_grid_tests;
 #[cfg(test)]
 mod word_machine_tests;
 #[cfg(test)]
-mod word_names_tests;
-#[cfg(test)]
 mod word_pool_tests;

@@ -2,11 +2,19 @@
 
 ghost use Rattle.std.specs.Prelude.{◌≡◌};
 
-use crate::common::same;
 use std::alloc::{AllocError, Global};
+use std::process::Abort;
 use std::thread::{self, Threads};
 use step_memory::Refusal;
 use word_names::{Dealer, FreshSeat, Names};
+
+/// What a trial tells of what was made: whether it goes so; or why it was not made.
+type Told = Result<bool, Refusal>;
+
+/// Stops a trial unless in this case of it, named by a row or a round, what it tells is what is due.
+fn same(rt: &impl Abort, case: usize, told: Told, due: Told) {
+    assert_eq!(rt; told, due, "case {case}");
+}
 
 /// The name of the next seat.
 fn name_next(names: &Names<Global>, dealer: &mut Dealer) -> Option<u64>
@@ -119,8 +127,13 @@ fn have_names<R: Threads + Sync>(rt: &R, alloc: Global, count: u64) -> Result<bo
 
 #[test]
 fn threads_have_names_of_their_own(rt: HostRuntime) {
-    for round in 0..150u64 {
+    for round in 0..300u64 {
         let count = 2 + round % 15;
-        same(&rt, round as usize, have_names(&rt, rt.alloc(), count), Ok(true));
+        same(
+            &rt,
+            round as usize,
+            have_names(&rt, rt.alloc(), count),
+            Ok(true),
+        );
     }
 }
