@@ -3,7 +3,7 @@ use Rattle.std.proofs.Common.{◌≡◌, ℕ, zero, suc, ◌+◌, List, [], ◌�
 use Rattle.bit_allocator.proofs.Common.{nat_tests, Registers, after_access, set_at-same, Competitor, Missed, Got, Stay, Seeking, Settled, probe_access, probe_reply, stay_of, with_stay, PoolState, fresh_pool, enter_refusal, Call, Probed, next, IsReply, pool}
 use Rattle.step_memory.specs.Runs.{Run}
 use Rattle.step_memory.proofs.RunLemmas.{run_more, run_keeps}
-use Rattle.step_memory.specs.Machine.{After}
+use Rattle.step_memory.specs.Machine.{Reaches}
 use Rattle.bit_allocator.specs.Acquired.{stay_calls, IsAcquired, GetsAfter, Gets}
 use Rattle.bit_allocator.proofs.Counts.{competitor}
 use Rattle.bit_allocator.proofs.StayOfLemmas.{stay_of-push, stay_of-with_stay}
@@ -57,5 +57,5 @@ acquired w id n bits may gets =
     }
 
 -- so a pool after some calls is after these and a stay
-pub acquired_after : (size : ℕ) (w new : PoolState) (r : List Call) (id n : ℕ) (a : IsAcquired w id n new) → After pool size w r → After pool size new (r ++ stay_calls id a.misses n)
+pub acquired_after : (size : ℕ) (w new : PoolState) (r : List Call) (id n : ℕ) (a : IsAcquired w id n new) → Reaches pool size w r → Reaches pool size new (r ++ stay_calls id a.misses n)
 acquired_after size w new r id n a after = record { started = after.started; run = run_on next IsReply (fresh_pool size) w new r (stay_calls id a.misses n) after.run a.run }

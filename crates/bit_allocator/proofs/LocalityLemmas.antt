@@ -7,19 +7,19 @@ use Rattle.step_memory.specs.Registers.{register_of, answer_of, after_access}
 use Rattle.step_memory.specs.Steps.{Spares, SetsOrClears}
 use Rattle.bit_allocator.specs.Stay.{probe_access, stay_probed, stay_found, probe_reply, leave_access}
 use Rattle.bit_allocator.specs.Widening.{widen_access}
-use Rattle.bit_allocator.specs.Locality.{IsLocal, OwnSteps, got_in, LookAlike, StandAlike, probe_steps, leave_steps}
+use Rattle.bit_allocator.specs.Locality.{ChangesOnly, OwnSteps, got_in, Indistinguishable, StandAlike, probe_steps, leave_steps}
 use Rattle.step_memory.proofs.LocalityLemmas.{answer_alike}
 use Rattle.bit_allocator.proofs.StayOfLemmas.{stay_of-with_stay, stay_of-without}
 
 module _ {O : Type 0} (steps : OwnSteps O) (id : ℕ) (w : PoolState) where
   -- a call that is refused changes nothing
-  pub refused_local : (why : Refusal) → IsLocal steps id w w (Err why)
+  pub refused_local : (why : Refusal) → ChangesOnly steps id w w (Err why)
   refused_local why = record { access = λ stay h. tt; reply = λ stay h. tt; own = λ stay h. tt; others = λ q n. refl; registers = λ stay h r spared. refl; absent = λ h. refl; size = refl }
 
   -- an accepted call of one who stands so
   accepted_local : (stay : Stay) (cs : List Competitor) → stay_of id w.competitors ≡ Some stay →
       ((q : ℕ) → stay_of q cs ≡ set_at (λ v. stay_of v w.competitors) id (steps.stay w.size stay (got_in steps w stay)) q) →
-      IsLocal steps id w (record { size = w.size; bits = after_access w.bits (steps.access w.size stay); competitors = cs }) (Ok (steps.reply w.size stay (got_in steps w stay)))
+      ChangesOnly steps id w (record { size = w.size; bits = after_access w.bits (steps.access w.size stay); competitors = cs }) (Ok (steps.reply w.size stay (got_in steps w stay)))
   accepted_local stay cs here stands =
       let own : (x : Stay) → stay_of id w.competitors ≡ Some x → stay ≡ x = λ x h. (let e : Some stay ≡ Some x = sym here ∙ h in cc) in
       let left : Option Stay = steps.stay w.size stay (got_in steps w stay) in
@@ -34,22 +34,22 @@ module _ {O : Type 0} (steps : OwnSteps O) (id : ℕ) (w : PoolState) where
       }
 
 module _ (id : ℕ) (w : PoolState) where
-  probe_local_by : (o : Option Stay) → stay_of id w.competitors ≡ o → IsLocal probe_steps id w (after_probe_by w id o) (probe_answer_by w o)
+  probe_local_by : (o : Option Stay) → stay_of id w.competitors ≡ o → ChangesOnly probe_steps id w (after_probe_by w id o) (probe_answer_by w o)
   probe_local_by None e = refused_local probe_steps id w NotCompeting
   probe_local_by (Some (Settled number)) e = refused_local probe_steps id w Holding
   probe_local_by (Some (Seeking next)) e =
       let new : Stay = stay_probed w.size (Seeking next) (got_by w (Seeking next)) in
       accepted_local probe_steps id w (Seeking next) (with_stay id new w.competitors) e (stay_of-with_stay w.competitors id new (ap is_some e))
 
-  pub probe_local : IsLocal probe_steps id w (after_probe w id) (probe_answer w id)
+  pub probe_local : ChangesOnly probe_steps id w (after_probe w id) (probe_answer w id)
   probe_local = probe_local_by (stay_of id w.competitors) refl
 
-  leave_local_by : (o : Option Stay) → stay_of id w.competitors ≡ o → IsLocal leave_steps id w (after_leave_by w id o) (number_by o)
+  leave_local_by : (o : Option Stay) → stay_of id w.competitors ≡ o → ChangesOnly leave_steps id w (after_leave_by w id o) (number_by o)
   leave_local_by None e = refused_local leave_steps id w NotCompeting
   leave_local_by (Some (Seeking next)) e = refused_local leave_steps id w NotHolding
   leave_local_by (Some (Settled number)) e = accepted_local leave_steps id w (Settled number) (without id w.competitors) e (stay_of-without w.competitors id)
 
-  pub leave_local : IsLocal leave_steps id w (after_leave w id) (number_answer w id)
+  pub leave_local : ChangesOnly leave_steps id w (after_leave w id) (number_answer w id)
   leave_local = leave_local_by (stay_of id w.competitors) refl
 
 -- where a competitor stands after its probe, and after it has left
@@ -74,7 +74,7 @@ module _ (id : ℕ) (w : PoolState) where
 
 module _ (id : ℕ) (one other : PoolState) where
   -- pools that look alike to a competitor answer it alike, and it stands alike in them afterwards
-  module _ (alike : LookAlike probe_steps id one other) where
+  module _ (alike : Indistinguishable probe_steps id one other) where
     probed_alike : (next : ℕ) → stay_of id one.competitors ≡ Some (Seeking next) →
         stay_probed one.size (Seeking next) (got_by one (Seeking next)) ≡ stay_probed other.size (Seeking next) (got_by other (Seeking next))
     probed_alike next here =
@@ -97,7 +97,7 @@ module _ (id : ℕ) (one other : PoolState) where
         stay_after_probe id one (stay_of id one.competitors) refl ∙ stands_alike (stay_of id one.competitors) refl
         ∙ ap (stay_probed_by other) alike.stay ∙ sym (stay_after_probe id other (stay_of id other.competitors) refl)
 
-  pub leave_stands : LookAlike leave_steps id one other → StandAlike id (after_leave one id) (after_leave other id)
+  pub leave_stands : Indistinguishable leave_steps id one other → StandAlike id (after_leave one id) (after_leave other id)
   leave_stands alike = stay_after_leave id one (stay_of id one.competitors) refl ∙ ap stay_left_by alike.stay ∙ sym (stay_after_leave id other (stay_of id other.competitors) refl)
 
 -- the accesses of a competitor set a bit, clear one, or reach none

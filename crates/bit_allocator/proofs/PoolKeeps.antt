@@ -8,7 +8,7 @@ use Rattle.step_memory.proofs.RunLemmas.{run_more, run_one, run_answers}
 use Rattle.bit_allocator.specs.Pool.{fresh_pool, enter_refusal, enter_answer, entered_unless, after_enter, probe_answer_by, after_probe_by, number_answer, number_by, probe_refusal_by, after_leave_by, widened_unless, after_widen, widen_answer}
 use Rattle.bit_allocator.specs.Widening.{widen_refusal, widen_access}
 use Rattle.bit_allocator.specs.PoolObject.{PoolObject, fresh_object, no_entry, number_in, Answers, after, IsRun}
-use Rattle.step_memory.specs.Machine.{After, Always, IsLawful, RefusesWhereDue, IsProved}
+use Rattle.step_memory.specs.Machine.{Reaches, OnEveryHistory, SatisfiesSpec, RefusesWhereDue, IsProved}
 use Rattle.step_memory.proofs.MachineLemmas.{always_by, machine_proved}
 use Rattle.bit_allocator.proofs.StayOfLemmas.{stay_of-without, length-identities}
 use Rattle.bit_allocator.proofs.Counts.{one, count, is_of, holds, count-some, count-without}
@@ -177,13 +177,13 @@ next_keeps first w r (Left id reply) s is = rw is (leave_keeps first w r s id (s
 next_keeps first w r (Widened more reply) s is = rw is (widen_keeps first w r s more)
 
 -- so it is after any calls
-pub stands : (w : PoolState) → Always pool (λ first r. Stands first w r) w
+pub stands : (w : PoolState) → OnEveryHistory pool (λ first r. Stands first w r) w
 stands w first r a =
     let fresh : Stands first (fresh_pool first) [] = record { object = fresh_object first; run = refl; tied = tied_fresh first; balanced = balanced_fresh first a.started.0 a.started.1 } in
     always_by pool (Stands first) (next_keeps first) first fresh w r a
 
 -- the law
-pub pool_law : (w : PoolState) → IsLawful pool w
+pub pool_law : (w : PoolState) → SatisfiesSpec pool w
 pool_law w first r a =
     let s = stands w first r a in
     let placed : (p n : ℕ) → s.object.held p ≡ Some n → (stay_of p w.competitors ≡ Some (Settled n)) × (1 ≤ n) × (n ≤ w.size) =
@@ -223,7 +223,7 @@ pub pool_proved : IsProved pool
 pool_proved = machine_proved pool pool_law due_always
 
 -- what is seen of the object
-pub tied_after : (first : ℕ) (w : PoolState) (r : List Call) (o : PoolObject) → After pool first w r → IsRun first r o → IsTied w.size w.competitors o
+pub tied_after : (first : ℕ) (w : PoolState) (r : List Call) (o : PoolObject) → Reaches pool first w r → IsRun first r o → IsTied w.size w.competitors o
 tied_after first w r o a is =
     let s = stands w first r a in
     let e : s.object ≡ o = run_one after Answers (fresh_object first) r s.object o s.run is in
@@ -243,7 +243,7 @@ holder_holds (c ∷ cs) n p apart h =
     let alone = apart p in
     grind (arith, nat_tests)
 
-pub holder_after : (first : ℕ) (w : PoolState) (r : List Call) (o : PoolObject) → After pool first w r → IsRun first r o → (n : ℕ) →
+pub holder_after : (first : ℕ) (w : PoolState) (r : List Call) (o : PoolObject) → Reaches pool first w r → IsRun first r o → (n : ℕ) →
     MatchOption (holder_in n w.competitors) ((p : ℕ) → o.held p ≢ Some n) (λ p. o.held p ≡ Some n)
 holder_after first w r o a is n =
     let t = tied_after first w r o a is in
@@ -254,5 +254,5 @@ holder_after first w r o a is n =
     ] refl
 
 -- what is answered of a number that is held is what the object says
-pub number_after : (first : ℕ) (w : PoolState) (r : List Call) (o : PoolObject) → After pool first w r → IsRun first r o → (p : ℕ) → number_answer w p ≡ number_in o p
+pub number_after : (first : ℕ) (w : PoolState) (r : List Call) (o : PoolObject) → Reaches pool first w r → IsRun first r o → (p : ℕ) → number_answer w p ≡ number_in o p
 number_after first w r o a is p = sym (number_in-is w.size w.competitors o (tied_after first w r o a is) p)

@@ -14,7 +14,7 @@ use Rattle.bit_allocator.specs.PoolState.{PoolState}
 use Rattle.bit_allocator.specs.Calls.{Call}
 use Rattle.bit_allocator.specs.Calls.Call.{Entered, Probed}
 use Rattle.bit_allocator.specs.Machine.{next, IsReply, pool}
-use Rattle.step_memory.specs.Machine.{After, Always, LeadsOn}
+use Rattle.step_memory.specs.Machine.{Reaches, OnEveryHistory, Extends}
 
 -- the calls of one who enters, misses so often and then gets a number
 abbrev pub stay_calls : ℕ → ℕ → ℕ → List Call
@@ -28,8 +28,8 @@ pub record IsAcquired (old : PoolState) (p n : ℕ) (new : PoolState) : Type 0 w
 -- every list of calls that leads to the old pool leads to the new one with the calls of a stay; where that is refused,
 -- with an `enter` that is
 abbrev pub LeadsByStay : ℕ → PoolState → PoolState → Result ℕ Refusal → Type 0
-LeadsByStay p old new (Ok n) = Always pool (λ size r. (misses : ℕ) × After pool size new (r ++ stay_calls p misses n)) old
-LeadsByStay p old new (Err why) = LeadsOn pool old new (Entered p (Err why))
+LeadsByStay p old new (Ok n) = OnEveryHistory pool (λ size r. (misses : ℕ) × Reaches pool size new (r ++ stay_calls p misses n)) old
+LeadsByStay p old new (Err why) = Extends pool old new (Entered p (Err why))
 
 -- a bit that was tested and set was clear
 abbrev pub was_clear : Answer (Unit {0}) → Bool

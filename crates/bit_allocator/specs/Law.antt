@@ -5,7 +5,7 @@ use Rattle.bit_allocator.specs.PoolObject.{PoolObject, IsRun, competes}
 
 -- the replies are those of the pool object, begun with this size, in order; no more compete than there are numbers at
 -- present, and what is held is one to one from those who compete into these numbers
-pub record KeepsPoolLaw (size : ℕ) (r : List Call) : Type 0 where
+pub record PoolSpec (size : ℕ) (r : List Call) : Type 0 where
   pub object : PoolObject
   pub run : IsRun size r object
   pub crowd : length object.competing ≤ object.size

@@ -45,7 +45,7 @@ module _ {O : Type 0} (steps : OwnSteps O) where
 
   -- an accepted call of p makes the one access that p's own state names; its reply and p's new state are functions of
   -- that state and the answer; nothing else changes, and where p does not compete no bit does
-  pub record IsLocal (p : ℕ) (old new : PoolState) (result : Result O Refusal) : Type 0 where
+  pub record ChangesOnly (p : ℕ) (old new : PoolState) (result : Result O Refusal) : Type 0 where
     pub access : (stay : Stay) → stay_of p old.competitors ≡ Some stay → OnOk result (new.bits ≡ after_access old.bits (steps.access old.size stay))
     pub reply : (stay : Stay) → stay_of p old.competitors ≡ Some stay → IfOk result (λ x. x ≡ steps.reply old.size stay (got_in old stay))
     pub own : (stay : Stay) → stay_of p old.competitors ≡ Some stay → OnOk result (stay_of p new.competitors ≡ steps.stay old.size stay (got_in old stay))
@@ -55,7 +55,7 @@ module _ {O : Type 0} (steps : OwnSteps O) where
     pub size : new.size ≡ old.size
 
   -- p stands alike in two pools of one size, and they have the same bit where p's own state names one
-  pub record LookAlike (p : ℕ) (one other : PoolState) : Type 0 where
+  pub record Indistinguishable (p : ℕ) (one other : PoolState) : Type 0 where
     pub size : one.size ≡ other.size
     pub stay : stay_of p one.competitors ≡ stay_of p other.competitors
     pub bit : (stay : Stay) → stay_of p one.competitors ≡ Some stay → AgreeAt (register_of one.bits) (register_of other.bits) (steps.access one.size stay)

@@ -5,7 +5,7 @@ use Rattle.step_memory.specs.Runs.{AnswersAsDue}
 use Rattle.bit_allocator.specs.PoolObject.{fresh_object, Answers, after}
 use Rattle.bit_allocator.specs.Calls.{Call}
 use Rattle.bit_allocator.specs.Calls.Call.{Entered, Probed, Left, Widened}
-use Rattle.bit_allocator.specs.Law.{KeepsPoolLaw}
+use Rattle.bit_allocator.specs.Law.{PoolSpec}
 use Rattle.bit_allocator.specs.PoolState.{PoolState}
 use Rattle.bit_allocator.specs.Pool.{fresh_pool, enter_answer, after_enter, probe_answer, after_probe, number_answer, after_leave, widen_answer, after_widen}
 
@@ -30,6 +30,6 @@ pool = record {
   first = fresh_pool;
   next = next;
   IsReply = IsReply;
-  KeepsLaw = KeepsPoolLaw;
+  Spec = PoolSpec;
   RefusesAsDue = λ size r. AnswersAsDue after Answers (fresh_object size) r;
 }

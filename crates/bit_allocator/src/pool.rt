@@ -6,11 +6,11 @@ ghost use Rattle.bit_allocator.specs.Stay.{IsWithin};
 ghost use Rattle.bit_allocator.specs.PoolState.{PoolState};
 ghost use Rattle.bit_allocator.specs.Pool.{fresh_pool, enter_refusal, enter_answer, after_enter, probe_refusal, probe_answer, after_probe, number_answer, after_leave, widen_answer, after_widen};
 ghost use Rattle.bit_allocator.specs.Widening.{widen_refusal};
-ghost use Rattle.bit_allocator.specs.Locality.{IsLocal, IsWidened, LookAlike, StandAlike, probe_steps, leave_steps};
+ghost use Rattle.bit_allocator.specs.Locality.{ChangesOnly, IsWidened, Indistinguishable, StandAlike, probe_steps, leave_steps};
 ghost use Rattle.bit_allocator.specs.Calls.Call.{Entered, Probed, Left, Widened};
 ghost use Rattle.bit_allocator.specs.PoolObject.{PoolObject, IsRun, number_in, IsHolderIn};
 ghost use Rattle.bit_allocator.specs.Machine.{pool};
-ghost use Rattle.step_memory.specs.Machine.{After, Always, IsLawful, LeadsOn};
+ghost use Rattle.step_memory.specs.Machine.{Reaches, OnEveryHistory, SatisfiesSpec, Extends};
 ghost use Rattle.bit_allocator.specs.Acquired.{IsAcquired, LeadsByStay, was_clear, Gets};
 
 use crate::competitor::Competitor;
@@ -91,7 +91,7 @@ impl<A: Allocator + Clone> Pool<A> {
     /// A pool of the numbers from 1 to `size`, which is from 1 to 64. All its room is taken here.
     pub fn new(alloc: A, size: u64) -> Result<Self, Refusal>
         ensures fresh { IfOk result (λ p. p ≡ fresh_pool size) }
-        ensures after { IfOk result (λ p. After pool size p []) }
+        ensures after { IfOk result (λ p. Reaches pool size p []) }
         ensures range { IsOk result → (1 ≤ size) × (size ≤ 64) }
         ensures below { size ≡ 0 → result ≡ Err Refusal.OutOfRange }
         ensures above { 64 < size → result ≡ Err Refusal.OutOfRange }
@@ -123,7 +123,7 @@ impl<A: Allocator> Pool<A> {
     /// Those who compete, in the order of entering.
     pub fn competitors(&self) -> &[Competitor]
         ensures value { result.now ≡ self.now.competitors }
-        ensures law { Always pool (λ size r. (o : PoolObject) → IsRun size r o → identities result.now ≡ o.competing) self.now }
+        ensures law { OnEveryHistory pool (λ size r. (o : PoolObject) → IsRun size r o → identities result.now ≡ o.competing) self.now }
     {
         self.competitors.as_slice()
     }
@@ -143,7 +143,7 @@ impl<A: Allocator> Pool<A> {
     pub fn number_of(&self, id: u64) -> Result<u8, Refusal>
         ensures answer { result ≡ number_answer self.now id }
         ensures range { IfOk result (λ n. (1 ≤ n) × (n ≤ self.now.size)) }
-        ensures law { Always pool (λ size r. (o : PoolObject) → IsRun size r o → result ≡ number_in o id) self.now }
+        ensures law { OnEveryHistory pool (λ size r. (o : PoolObject) → IsRun size r o → result ≡ number_in o id) self.now }
     {
         match self.stay_of(id) {
             None => Err(Refusal::NotCompeting),
@@ -155,7 +155,7 @@ impl<A: Allocator> Pool<A> {
     /// Who holds a number.
     pub fn holder_of(&self, number: u8) -> Option<u64>
         ensures value { result ≡ holder_in number self.now.competitors }
-        ensures law { Always pool (λ size r. (o : PoolObject) → IsRun size r o → IsHolderIn o number result) self.now }
+        ensures law { OnEveryHistory pool (λ size r. (o : PoolObject) → IsRun size r o → IsHolderIn o number result) self.now }
     {
         holder(self.competitors.as_slice(), number)
     }
@@ -182,8 +182,8 @@ impl<A: Allocator> Pool<A> {
         ensures answer { result ≡ enter_answer self.old id }
         ensures state { self.new ≡ after_enter self.old id }
         ensures refused { OnErr result (self.new ≡ self.old) }
-        ensures after { LeadsOn pool self.old self.new (Entered id result) }
-        ensures law { IsLawful pool self.new }
+        ensures after { Extends pool self.old self.new (Entered id result) }
+        ensures law { SatisfiesSpec pool self.new }
     {
         if let Some(refusal) = self.enter_refusal(id) {
             return Err(refusal);
@@ -211,15 +211,15 @@ impl<A: Allocator> Pool<A> {
         ensures answer { result ≡ probe_answer self.old id }
         ensures state { self.new ≡ after_probe self.old id }
         ensures refused { OnErr result (self.new ≡ self.old) }
-        ensures after { LeadsOn pool self.old self.new (Probed id result) }
-        ensures law { IsLawful pool self.new }
+        ensures after { Extends pool self.old self.new (Probed id result) }
+        ensures law { SatisfiesSpec pool self.new }
 
         // Nothing of the pool changes but this competitor and the bit that it names.
-        ensures local { IsLocal probe_steps id self.old self.new result }
+        ensures local { ChangesOnly probe_steps id self.old self.new result }
 
         // In another pool that looks alike to this competitor the answer is the same, and where it then stands.
-        ensures alike { (other : PoolState) → LookAlike probe_steps id self.old other → result ≡ probe_answer other id }
-        ensures stands_alike { (other : PoolState) → LookAlike probe_steps id self.old other → StandAlike id self.new (after_probe other id) }
+        ensures alike { (other : PoolState) → Indistinguishable probe_steps id self.old other → result ≡ probe_answer other id }
+        ensures stands_alike { (other : PoolState) → Indistinguishable probe_steps id self.old other → StandAlike id self.new (after_probe other id) }
     {
         let Some(i) = self.competitors.find(id) else {
             return Err(Refusal::NotCompeting);
@@ -242,7 +242,7 @@ impl<A: Allocator> Pool<A> {
         ensures refused { IfErr result (λ why. (enter_answer self.old id ≡ Err why) × (self.new ≡ self.old)) }
         ensures range { IfOk result (λ n. (1 ≤ n) × (n ≤ self.new.size)) }
         ensures after { LeadsByStay id self.old self.new result }
-        ensures law { IsLawful pool self.new }
+        ensures law { SatisfiesSpec pool self.new }
     {
         if let Some(refusal) = self.enter_refusal(id) {
             return Err(refusal);
@@ -259,15 +259,15 @@ impl<A: Allocator> Pool<A> {
         ensures answer { result ≡ number_answer self.old id }
         ensures state { self.new ≡ after_leave self.old id }
         ensures refused { OnErr result (self.new ≡ self.old) }
-        ensures after { LeadsOn pool self.old self.new (Left id result) }
-        ensures law { IsLawful pool self.new }
+        ensures after { Extends pool self.old self.new (Left id result) }
+        ensures law { SatisfiesSpec pool self.new }
 
         // Nothing of the pool changes but this competitor and the bit that it names.
-        ensures local { IsLocal leave_steps id self.old self.new result }
+        ensures local { ChangesOnly leave_steps id self.old self.new result }
 
         // In another pool that looks alike to this competitor the answer is the same, and where it then stands.
-        ensures alike { (other : PoolState) → LookAlike leave_steps id self.old other → result ≡ number_answer other id }
-        ensures stands_alike { (other : PoolState) → LookAlike leave_steps id self.old other → StandAlike id self.new (after_leave other id) }
+        ensures alike { (other : PoolState) → Indistinguishable leave_steps id self.old other → result ≡ number_answer other id }
+        ensures stands_alike { (other : PoolState) → Indistinguishable leave_steps id self.old other → StandAlike id self.new (after_leave other id) }
     {
         let number = self.number_of(id)?;
         let access = Stay::Settled(number).leave_access(self.size);
@@ -296,8 +296,8 @@ impl<A: Allocator> Pool<A> {
         ensures answer { result ≡ widen_answer self.old size }
         ensures state { self.new ≡ after_widen self.old size }
         ensures refused { OnErr result (self.new ≡ self.old) }
-        ensures after { LeadsOn pool self.old self.new (Widened size result) }
-        ensures law { IsLawful pool self.new }
+        ensures after { Extends pool self.old self.new (Widened size result) }
+        ensures law { SatisfiesSpec pool self.new }
 
         // No competitor stands elsewhere, and no bit changes but that of what was the last number.
         ensures local { IsWidened self.old self.new result }

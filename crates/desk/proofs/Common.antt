@@ -18,5 +18,5 @@ pub use Rattle.slot_array.specs.SlotCalls.{SlotCall}
 pub use Rattle.slot_array.specs.SlotCalls.SlotCall.{Pooled, Stored, Fetched, Extended}
 pub use Rattle.desk.specs.DeskState.{DeskState}
 pub use Rattle.desk.specs.DeskRun.{IsDeskRun, desk_terms}
-pub use Rattle.desk.specs.DeskCalls.{DeskCall, rename_calls, exchange, exchange_of, AfterDesk}
+pub use Rattle.desk.specs.DeskCalls.{DeskCall, rename_calls, exchange, exchange_of, ReachesDesk}
 pub use Rattle.desk.specs.DeskCalls.DeskCall.{Renamed, Slotted}

@@ -2,11 +2,11 @@
 use Rattle.std.proofs.Common.{◌≡◌, ℕ, zero, suc, ◌-◌, true, inl, inr, List, [], ◌∷◌, ◌++◌, map, replicate, Some, None, Result, Ok, Err, refl, sym, ap, subst, ◌∙◌, slice_get, slice_index}
 use Rattle.desk.proofs.Common.{Refusal, Call, Began, Stepped, begin_refusal, done_unless, KnownPlaces, SnapBounds, StepReply, WorldKind, Entered, Probed, Left, SlotCall, Pooled, Stored, Fetched, Extended, Event, ShownReply, DeskState, IsDeskRun, desk_terms, Renamed, Slotted}
 use Rattle.step_memory.specs.declared.refusal.Refusal.TheVariants as refusal
-use Rattle.step_memory.specs.Machine.{After}
+use Rattle.step_memory.specs.Machine.{Reaches}
 use Rattle.step_memory.proofs.MachineLemmas.{call_leads_on}
-use Rattle.rename_core.specs.Machine.{next, IsReply, renaming, IsLawfulWithin}
+use Rattle.rename_core.specs.Machine.{next, IsReply, renaming, SatisfiesSpecWithin}
 use Rattle.commands.specs.Config.{is_tree}
-use Rattle.rename_core.specs.Law.{KeepsRenameLaw}
+use Rattle.rename_core.specs.Law.{RenameSpec}
 use Rattle.rename_core.specs.RenameWorld.{rename_answer, step_refusal, may_lack}
 use Rattle.bit_allocator.specs.Pool.{enter_answer, probe_answer, number_answer, widen_answer}
 use Rattle.slot_array.specs.Slots.{stored_reply, IsFetched}
@@ -14,7 +14,7 @@ use Rattle.slot_array.specs.Machine.{slots, slots_next, IsSlotReply}
 use Rattle.slot_array.proofs.SlotsKeep.{slots_law, slot_there}
 use Rattle.commands.specs.declared.event.Event.TheVariants.{Begin, Step, Enter, Probe, Leave, Put, Get, Widen}
 use Rattle.commands.specs.declared.reply.Reply.TheVariants as reply
-use Rattle.desk.specs.DeskCalls.{DeskCall, rename_calls, slot_calls, exchange, exchange_of, BeginsSlots, BeginSlots, AfterDesk, LeadsBy}
+use Rattle.desk.specs.DeskCalls.{DeskCall, rename_calls, slot_calls, exchange, exchange_of, BeginsSlots, BeginSlots, ReachesDesk, LeadsBy}
 use Rattle.desk.specs.DeskRules.{fetched, call_for, next_over, reply_over, after_over, grows_over, grows_by, rules_over}
 use Rattle.desk.specs.Rules.{may_by}
 
@@ -51,23 +51,23 @@ index_of-get [] i v h = absurd (cc)
 index_of-get (x ∷ xs) zero v h = cc
 index_of-get (x ∷ xs) (suc i) v h = index_of-get xs i v h
 
-module _ {S R V U K : Type 0} (W : KnownPlaces S R V U K) (kind : WorldKind) (most limit size : ℕ) (w : DeskState S U K) (calls : List DeskCall) (a : AfterDesk W kind most limit size w calls) where
-  renamed_after : (h : Call StepReply) → IsReply W w.names h → AfterDesk W kind most limit size (next_over W w (Renamed h)) (calls ++ Renamed h ∷ [])
+module _ {S R V U K : Type 0} (W : KnownPlaces S R V U K) (kind : WorldKind) (most limit size : ℕ) (w : DeskState S U K) (calls : List DeskCall) (a : ReachesDesk W kind most limit size w calls) where
+  renamed_after : (h : Call StepReply) → IsReply W w.names h → ReachesDesk W kind most limit size (next_over W w (Renamed h)) (calls ++ Renamed h ∷ [])
   renamed_after h is = record {
     first = a.first;
     room = a.room;
-    names = subst (λ (xs : List (Call StepReply)). After (renaming W kind) (a.first, limit) (next W w.names h) xs) (sym (rename_calls-renamed calls h))
+    names = subst (λ (xs : List (Call StepReply)). Reaches (renaming W kind) (a.first, limit) (next W w.names h) xs) (sym (rename_calls-renamed calls h))
         (call_leads_on (renaming W kind) w.names (next W w.names h) h refl is (a.first, limit) (rename_calls calls) a.names);
-    slots = subst (λ (xs : List (SlotCall ℕ)). After slots (size, replicate size 0) w.slots xs) (sym (slot_calls-renamed calls h)) a.slots;
+    slots = subst (λ (xs : List (SlotCall ℕ)). Reaches slots (size, replicate size 0) w.slots xs) (sym (slot_calls-renamed calls h)) a.slots;
     new_slots = subst (λ (xs : List (SlotCall ℕ)). BeginSlots xs) (sym (slot_calls-renamed calls h)) a.new_slots;
   }
 
-  slotted_after : (h : SlotCall ℕ) → IsSlotReply w.slots h → BeginsSlots h → AfterDesk W kind most limit size (next_over W w (Slotted h)) (calls ++ Slotted h ∷ [])
+  slotted_after : (h : SlotCall ℕ) → IsSlotReply w.slots h → BeginsSlots h → ReachesDesk W kind most limit size (next_over W w (Slotted h)) (calls ++ Slotted h ∷ [])
   slotted_after h is new = record {
     first = a.first;
     room = a.room;
-    names = subst (λ (xs : List (Call StepReply)). After (renaming W kind) (a.first, limit) w.names xs) (sym (rename_calls-slotted calls h)) a.names;
-    slots = subst (λ (xs : List (SlotCall ℕ)). After slots (size, replicate size 0) (slots_next w.slots h) xs) (sym (slot_calls-slotted calls h))
+    names = subst (λ (xs : List (Call StepReply)). Reaches (renaming W kind) (a.first, limit) w.names xs) (sym (rename_calls-slotted calls h)) a.names;
+    slots = subst (λ (xs : List (SlotCall ℕ)). Reaches slots (size, replicate size 0) (slots_next w.slots h) xs) (sym (slot_calls-slotted calls h))
         (call_leads_on slots w.slots (slots_next w.slots h) h refl is (size, replicate size 0) (slot_calls calls) a.slots);
     new_slots = subst (λ (xs : List (SlotCall ℕ)). BeginSlots xs) (sym (slot_calls-slotted calls h)) (begin_more (slot_calls calls) h a.new_slots new);
   }
@@ -80,7 +80,7 @@ module _ {S R V U K : Type 0} (W : KnownPlaces S R V U K) (kind : WorldKind) (mo
   fetched_is p (Err why) holds = refl
 
   -- the call that an event is leads on
-  call_after : (e : Event) → AfterDesk W kind most limit size (after_over W w e) (calls ++ call_for W w e ∷ [])
+  call_after : (e : Event) → ReachesDesk W kind most limit size (after_over W w e) (calls ++ call_for W w e ∷ [])
   call_after (Begin p) = renamed_after (Began p (done_unless (begin_refusal w.names.snap p))) refl
   call_after (Step p) = renamed_after (Stepped p (rename_answer W w.names p)) (inl refl)
   call_after (Enter p) = slotted_after (Pooled (Entered p (enter_answer w.slots.pool p))) refl tt
@@ -96,8 +96,8 @@ module _ {S R V U K : Type 0} (W : KnownPlaces S R V U K) (kind : WorldKind) (mo
   call_spelled e = refl
 
   -- a step for which a growth was refused is a call too
-  lacking : (p : ℕ) → grows_over W w (Step p) ≡ true → AfterDesk W kind most limit size w (calls ++ Renamed (Stepped p (Err refusal.NoMemory)) ∷ [])
-  lacking p h = elim (step_refusal w.names p) as (λ o. step_refusal w.names p ≡ o → grows_by o (may_lack W w.names p) ≡ true → AfterDesk W kind most limit size w (calls ++ Renamed (Stepped p (Err refusal.NoMemory)) ∷ [])) [
+  lacking : (p : ℕ) → grows_over W w (Step p) ≡ true → ReachesDesk W kind most limit size w (calls ++ Renamed (Stepped p (Err refusal.NoMemory)) ∷ [])
+  lacking p h = elim (step_refusal w.names p) as (λ o. step_refusal w.names p ≡ o → grows_by o (may_lack W w.names p) ≡ true → ReachesDesk W kind most limit size w (calls ++ Renamed (Stepped p (Err refusal.NoMemory)) ∷ [])) [
     | None ↦ λ none may. renamed_after (Stepped p (Err refusal.NoMemory)) (inr (refl, (none, may)))
     | Some why ↦ λ some may. absurd (cc)
   ] refl h
@@ -111,7 +111,7 @@ module _ {S R V U K : Type 0} (W : KnownPlaces S R V U K) (kind : WorldKind) (mo
   goes_on e r u (inl m) = record {
     call = call_for W w e;
     spelled = call_spelled e ∙ ap (λ (x : ShownReply). exchange e x) (sym m.0);
-    after = subst (λ (x : DeskState S U K). AfterDesk W kind most limit size x (calls ++ call_for W w e ∷ [])) (sym m.1) (call_after e);
+    after = subst (λ (x : DeskState S U K). ReachesDesk W kind most limit size x (calls ++ call_for W w e ∷ [])) (sym m.1) (call_after e);
   }
   goes_on e r u (inr m) =
       subst (λ (x : DeskState S U K). LeadsBy W kind most limit size calls e r x) (sym m.1)
@@ -119,11 +119,11 @@ module _ {S R V U K : Type 0} (W : KnownPlaces S R V U K) (kind : WorldKind) (mo
 
 -- the exchanges of a desk's calls are a run, where its renaming world keeps the law within these bounds
 unfoldable pub is_run : {S R V U K : Type 0} (W : KnownPlaces S R V U K) (kind : WorldKind) (bounds : ℕ → SnapBounds) (most limit size : ℕ) (w : DeskState S U K) (calls : List DeskCall) →
-    IsLawfulWithin W kind bounds w.names → AfterDesk W kind most limit size w calls → IsDeskRun (desk_terms most limit (is_tree kind)) (bounds most) size (map exchange_of calls)
+    SatisfiesSpecWithin W kind bounds w.names → ReachesDesk W kind most limit size w calls → IsDeskRun (desk_terms most limit (is_tree kind)) (bounds most) size (map exchange_of calls)
 is_run W kind bounds most limit size w calls lawful a = record {
   calls = calls;
   spelled = refl;
-  names = subst (λ (m : ℕ). KeepsRenameLaw (desk_terms m limit (is_tree kind)) (bounds m) (rename_calls calls)) a.room (lawful (a.first, limit) (rename_calls calls) a.names);
+  names = subst (λ (m : ℕ). RenameSpec (desk_terms m limit (is_tree kind)) (bounds m) (rename_calls calls)) a.room (lawful (a.first, limit) (rename_calls calls) a.names);
   slots = slots_law w.slots (size, replicate size 0) (slot_calls calls) a.slots;
   new_slots = a.new_slots;
 }

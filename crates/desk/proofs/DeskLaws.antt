@@ -1,6 +1,6 @@
 -- a desk of either world keeps its laws
 use Rattle.std.proofs.Common.{◌≡◌, ℕ, ◌-◌, ◌*◌, ◌≤◌, true, inl, inr, List, [], map, replicate, Option, refl, sym, ap, subst, ◌∙◌, arith}
-use Rattle.desk.proofs.Common.{SnapBounds, WorldKind, Exchange, DeskCall, rename_calls, exchange_of, AfterDesk, DeskState}
+use Rattle.desk.proofs.Common.{SnapBounds, WorldKind, Exchange, DeskCall, rename_calls, exchange_of, ReachesDesk, DeskState}
 use Rattle.std.proofs.Math.ListN.{length-replicate}
 use Rattle.std.proofs.lemmas.Bool.Decides.{eqb_tells, leb_tells}
 use Rattle.snapshot_core.specs.Places.{KnownPlaces, PlacesLaws}
@@ -18,7 +18,7 @@ use Rattle.rename_core.specs.EmptyPlaces.{AreEmptyFor, grid_empty, tree_empty}
 use Rattle.commands.specs.declared.config.Config.{Config}
 use Rattle.commands.specs.declared.kind.WorldKind.TheVariants.{Rename, Tree}
 use Rattle.rename_core.specs.NamedPlaces.{PlacesAtOnce, GrowsAsTree}
-use Rattle.rename_core.specs.Machine.{IsLawfulWithin, fresh_over as fresh_names}
+use Rattle.rename_core.specs.Machine.{SatisfiesSpecWithin, fresh_over as fresh_names}
 use Rattle.rename_core.proofs.Sizes.{most_after}
 use Rattle.slot_array.proofs.SlotsKeep.{slots_proved}
 use Rattle.rename_core.specs.RenameWorld.{fresh_world, owner_by}
@@ -55,7 +55,7 @@ told_right most n r owner is = elim (eqb_tells n 0) [
 -- over places of one kind
 module _ {S R V U K : Type 0} (W : KnownPlaces S R V U K) where
   fresh_places : (kind : WorldKind) (made : ℕ → S) → AreEmptyFor W kind made → (c : Config) → c.world ≡ kind →
-      AfterDesk W kind c.m c.limit c.k (fresh_over (made c.m) c.m c.limit c.k) []
+      ReachesDesk W kind c.m c.limit c.k (fresh_over (made c.m) c.m c.limit c.k) []
   fresh_places kind made empty c serves =
       let e = empty c.m (subst (λ (k : WorldKind). c.m ≤ most_in k) serves c.in_range.1) in
       record {
@@ -68,10 +68,10 @@ module _ {S R V U K : Type 0} (W : KnownPlaces S R V U K) where
 
   -- the owner of a name was given it, among these exchanges
   owner_given : (kind : WorldKind) (bounds : ℕ → SnapBounds) (laws : PlacesLaws W) (may_grow : GrowsAsTree W kind) (at_once : PlacesAtOnce W) (most limit size : ℕ) (w : DeskState S U K) (calls : List DeskCall) →
-      IsLawfulWithin W kind bounds w.names → AfterDesk W kind most limit size w calls → (n : ℕ) → IsOwnerReply most (map exchange_of calls) n (owner_over w n)
+      SatisfiesSpecWithin W kind bounds w.names → ReachesDesk W kind most limit size w calls → (n : ℕ) → IsOwnerReply most (map exchange_of calls) n (owner_over w n)
   unfolding over.is_run
   owner_given kind bounds laws may_grow at_once most limit size w calls lawful a n =
-      let own : AfterDesk W kind (W.most_of a.first) limit size w calls = record { first = a.first; room = refl; names = a.names; slots = a.slots; new_slots = a.new_slots } in
+      let own : ReachesDesk W kind (W.most_of a.first) limit size w calls = record { first = a.first; room = refl; names = a.names; slots = a.slots; new_slots = a.new_slots } in
       let run = over.is_run W kind bounds (W.most_of a.first) limit size w calls lawful own in
       let owns = owner_is W laws kind may_grow at_once w.names n (a.first, limit) (rename_calls calls) a.names run.names.object run.names.run in
       let is = given.owner_is (desk_terms (W.most_of a.first) limit (is_tree kind)) (bounds (W.most_of a.first)) size (map exchange_of calls) run n (owner_by n w.names.rounds) owns in
@@ -79,8 +79,8 @@ module _ {S R V U K : Type 0} (W : KnownPlaces S R V U K) where
       subst (λ (m : ℕ). IsOwnerReply m (map exchange_of calls) n (owner_over w n)) room (told_right w.names.snap.most n (map exchange_of calls) (owner_by n w.names.rounds) is)
 
 pub fresh : BeginsDesk
-fresh c (OverGrid w) is = (is.0, subst (λ (x : _). AfterDesk grid_places Rename c.m c.limit c.k x []) (sym is.1) (fresh_places grid_places Rename fresh_grid grid_empty c is.0))
-fresh c (OverTree w) is = (is.0, subst (λ (x : _). AfterDesk tree_places Tree c.m c.limit c.k x []) (sym is.1) (fresh_places tree_places Tree new_tree tree_empty c is.0))
+fresh c (OverGrid w) is = (is.0, subst (λ (x : _). ReachesDesk grid_places Rename c.m c.limit c.k x []) (sym is.1) (fresh_places grid_places Rename fresh_grid grid_empty c is.0))
+fresh c (OverTree w) is = (is.0, subst (λ (x : _). ReachesDesk tree_places Tree c.m c.limit c.k x []) (sym is.1) (fresh_places tree_places Tree new_tree tree_empty c is.0))
 
 -- the fresh desk of a world in which names are given
 fresh_of : (c : Config) (kind : WorldKind) → c.world ≡ kind → gives_names kind ≡ true → IsFreshDesk c (fresh_in kind c)

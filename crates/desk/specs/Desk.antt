@@ -14,7 +14,7 @@ use Rattle.rename_core.specs.RenameWorld.{owner_by}
 use Rattle.commands.specs.declared.event.Event.{Event}
 use Rattle.commands.specs.Replies.{ShownReply}
 use Rattle.commands.specs.declared.reply.Reply.TheVariants as reply
-use Rattle.desk.specs.DeskCalls.{DeskCall, exchange, exchange_of, AfterDesk}
+use Rattle.desk.specs.DeskCalls.{DeskCall, exchange, exchange_of, ReachesDesk}
 use Rattle.desk.specs.DeskRules.{fresh_over, refusal_over, reply_over, after_over, grows_over}
 use Rattle.desk.specs.DeskState.{DeskState}
 use Rattle.desk.specs.DeskValue.{DeskValue}
@@ -72,8 +72,8 @@ IsFreshDesk config (OverTree w) = (config.world ≡ Tree) × (w ≡ fresh_over (
 
 -- a desk of this config after these calls
 abbrev pub IsAfterDesk : Config → DeskValue → List DeskCall → Type 0
-IsAfterDesk config (OverGrid w) calls = (config.world ≡ Rename) × AfterDesk grid_places Rename config.m config.limit config.k w calls
-IsAfterDesk config (OverTree w) calls = (config.world ≡ Tree) × AfterDesk tree_places Tree config.m config.limit config.k w calls
+IsAfterDesk config (OverGrid w) calls = (config.world ≡ Rename) × ReachesDesk grid_places Rename config.m config.limit config.k w calls
+IsAfterDesk config (OverTree w) calls = (config.world ≡ Tree) × ReachesDesk tree_places Tree config.m config.limit config.k w calls
 
 -- calls lead on to this desk by one that is this exchange
 pub record LeadsDesk (config : Config) (calls : List DeskCall) (e : Event) (r : ShownReply) (new : DeskValue) : Type 0 where

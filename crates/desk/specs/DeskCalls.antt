@@ -6,7 +6,7 @@ use Rattle.snapshot_core.specs.Places.{KnownPlaces}
 use Rattle.rename_core.specs.Reply.{StepReply}
 use Rattle.commands.specs.declared.kind.WorldKind.{WorldKind}
 use Rattle.rename_core.specs.Machine.{renaming}
-use Rattle.step_memory.specs.Machine.{After}
+use Rattle.step_memory.specs.Machine.{Reaches}
 use Rattle.bit_allocator.specs.Calls.Call.{Entered, Probed, Left, Widened}
 use Rattle.slot_array.specs.SlotCalls.{SlotCall}
 use Rattle.slot_array.specs.SlotCalls.SlotCall.{Pooled, Stored, Fetched, Extended}
@@ -62,15 +62,15 @@ BeginSlots (h ∷ r) = BeginsSlots h × BeginSlots r
 
 -- the desk is after these calls, for so many participants, rounds and numbers at the start: its renaming world is after
 -- those of renaming, and its slots, each 0 when it is new, after theirs
-pub record AfterDesk {S R V U K : Type 0} (W : KnownPlaces S R V U K) (kind : WorldKind) (most limit size : ℕ) (w : DeskState S U K) (calls : List DeskCall) : Type 0 where
+pub record ReachesDesk {S R V U K : Type 0} (W : KnownPlaces S R V U K) (kind : WorldKind) (most limit size : ℕ) (w : DeskState S U K) (calls : List DeskCall) : Type 0 where
   pub first : S
   pub room : W.most_of first ≡ most
-  pub names : After (renaming W kind) (first, limit) w.names (rename_calls calls)
-  pub slots : After slots (size, replicate size 0) w.slots (slot_calls calls)
+  pub names : Reaches (renaming W kind) (first, limit) w.names (rename_calls calls)
+  pub slots : Reaches slots (size, replicate size 0) w.slots (slot_calls calls)
   pub new_slots : BeginSlots (slot_calls calls)
 
 -- calls lead on by one that is this exchange
 pub record LeadsBy {S R V U K : Type 0} (W : KnownPlaces S R V U K) (kind : WorldKind) (most limit size : ℕ) (calls : List DeskCall) (e : Event) (r : ShownReply) (new : DeskState S U K) : Type 0 where
   pub call : DeskCall
   pub spelled : exchange_of call ≡ exchange e r
-  pub after : AfterDesk W kind most limit size new (calls ++ call ∷ [])
+  pub after : ReachesDesk W kind most limit size new (calls ++ call ∷ [])

@@ -5,9 +5,9 @@ use Rattle.snapshot_core.specs.Snapshot.{SnapBounds}
 use Rattle.snapshot_places.specs.Bounds.{grid_bounds, tree_bounds}
 use Rattle.commands.specs.declared.config.Config.{Config}
 use Rattle.commands.specs.Config.{is_tree}
-use Rattle.rename_core.specs.Law.{KeepsRenameLaw}
+use Rattle.rename_core.specs.Law.{RenameSpec}
 use Rattle.rename_core.specs.RenameObject.{RenameTerms}
-use Rattle.slot_array.specs.Law.{KeepsSlotsLaw}
+use Rattle.slot_array.specs.Law.{SlotsSpec}
 use Rattle.commands.specs.declared.exchange.Exchange.{Exchange}
 use Rattle.desk.specs.DeskCalls.{DeskCall, rename_calls, slot_calls, exchange_of, BeginSlots}
 
@@ -18,8 +18,8 @@ use Rattle.desk.specs.DeskCalls.{DeskCall, rename_calls, slot_calls, exchange_of
 pub record IsDeskRun (terms : RenameTerms) (bounds : SnapBounds) (size : ℕ) (r : List Exchange) : Type 0 where
   pub calls : List DeskCall
   pub spelled : map exchange_of calls ≡ r
-  pub names : KeepsRenameLaw terms bounds (rename_calls calls)
-  pub slots : KeepsSlotsLaw size (replicate size 0) (slot_calls calls)
+  pub names : RenameSpec terms bounds (rename_calls calls)
+  pub slots : SlotsSpec size (replicate size 0) (slot_calls calls)
   pub new_slots : BeginSlots (slot_calls calls)
 
 -- the numbers of the renaming object's law

@@ -6,7 +6,7 @@ use Rattle.json.specs.Json.{Json}
 use Rattle.base64.specs.Engines.{standard}
 use Rattle.base64.specs.GeneralPurpose.{decode_of}
 use Rattle.etcd_log.specs.Answers.{get_said}
-use Rattle.one_log.specs.declared.store_fault.StoreFault.{StoreFault}
+use Rattle.replicated_log.specs.declared.store_fault.StoreFault.{StoreFault}
 use Rattle.etcd_log.specs.Found.{HasUnread, IsUnread, SaysAt, SaysFound, SaysFrom}
 
 -- none behind this one

@@ -1,5 +1,5 @@
 -- The faults of a store that is reached over a network.
-use Rattle.one_log.specs.declared.store_fault.StoreFault.{StoreFault}
+use Rattle.replicated_log.specs.declared.store_fault.StoreFault.{StoreFault}
 
 abbrev pub IsOverNetwork : StoreFault → Type 0
 IsOverNetwork StoreFault.Memory = Unit {0}

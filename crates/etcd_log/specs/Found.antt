@@ -5,8 +5,8 @@ use Rattle.std.specs.declared.alloc.Global.{Global}
 use Rattle.json.specs.Json.{Json, document}
 use Rattle.base64.specs.Engines.{standard}
 use Rattle.base64.specs.GeneralPurpose.{decode_of, encode_of}
-use Rattle.one_log.specs.declared.store.Put.{Put}
-use Rattle.one_log.specs.declared.store.Put.TheVariants.{Written, Taken}
+use Rattle.replicated_log.specs.declared.store.Put.{Put}
+use Rattle.replicated_log.specs.declared.store.Put.TheVariants.{Written, Taken}
 use Rattle.etcd_log.specs.Answers.{get_said}
 use Rattle.etcd_log.specs.Keys.{key_of}
 

@@ -15,7 +15,7 @@ use crate::key::key64;
 use base64::DecodeAllocError;
 use base64::engine::general_purpose::STANDARD;
 use json::{Error, Scratch, Value};
-use one_log::{Put, StoreFault};
+use replicated_log::{Put, StoreFault};
 use std::alloc::Global;
 
 /// Whether a transaction put its value. None where the value is no answer to one.

@@ -3,7 +3,7 @@
 ghost use Rattle.std.specs.Prelude.{◌≡◌, ◌≢◌, ◌<◌, ◌++◌, [], ◌∷◌, ℕ, List, ⊤, Err, OnOk, IfErr};
 ghost use Rattle.std.specs.declared.vec.Vec.{Vec};
 ghost use Rattle.std.specs.declared.alloc.Global.{Global};
-ghost use Rattle.one_log.specs.declared.store.TheConstants.{MOST_PLACES};
+ghost use Rattle.replicated_log.specs.declared.store.TheConstants.{MOST_PLACES};
 ghost use Rattle.etcd_log.specs.Faults.{IsOverNetwork};
 
 use crate::answer::{read_get, read_put};
@@ -11,7 +11,7 @@ use crate::dial::Dial;
 use crate::exchange::exchange;
 use crate::request::{get_text, one_text, put_behind_text, put_text};
 use http1::{Client, Limits};
-use one_log::{MOST_PLACES, Put, Store, StoreFault};
+use replicated_log::{MOST_PLACES, Put, Store, StoreFault};
 use std::alloc::Global;
 
 /// The status of a response that answers.

@@ -5,7 +5,7 @@ ghost use Rattle.etcd_log.specs.Faults.{IsOverNetwork};
 
 use http1::{BodySize, Client, Event, Header};
 use httparse::spans::EMPTY_HEADER_SPAN;
-use one_log::StoreFault;
+use replicated_log::StoreFault;
 use std::alloc::Global;
 use std::io::{Read, Write};
 

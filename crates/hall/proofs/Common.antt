@@ -20,4 +20,4 @@ pub use Rattle.desk.specs.DeskValue.DeskValue.{OverGrid, OverTree}
 pub use Rattle.desk.specs.Names.{IsOwnerReply}
 pub use Rattle.desk.specs.Rules.{may_by}
 pub use Rattle.hall.specs.HallState.{HallState}
-pub use Rattle.hall.specs.Halls.{desk_of, IsLawful, full_unless, hall_refusal, longer, reply_unless, after_unless, HallMay, hall_of}
+pub use Rattle.hall.specs.Halls.{desk_of, SatisfiesSpec, full_unless, hall_refusal, longer, reply_unless, after_unless, HallMay, hall_of}

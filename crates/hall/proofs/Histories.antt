@@ -12,7 +12,7 @@ use Rattle.desk.specs.Desk.{fresh_desk, desk_rules, desk_reply, desk_after, desk
 use Rattle.desk.specs.DeskCalls.{DeskCall, exchange, exchange_of}
 use Rattle.desk.specs.DeskRun.{IsDeskRunOf}
 use Rattle.desk.proofs.DeskLaws as desk
-use Rattle.hall.specs.Halls.{desk_of, IsLawful, full_unless, hall_refusal, longer, reply_unless, after_unless, hall_reply, hall_after, HallMay}
+use Rattle.hall.specs.Halls.{desk_of, SatisfiesSpec, full_unless, hall_refusal, longer, reply_unless, after_unless, hall_reply, hall_after, HallMay}
 use Rattle.hall.specs.Replay.{replay, AreAccepted}
 
 -- accepted exchanges are calls
@@ -32,7 +32,7 @@ calls_of c w before (x ∷ xs) a run =
       after = subst (λ (l : List DeskCall). IsAfterDesk c (replay (desk_after w x.event) xs) l) (append_assoc before (one.call ∷ []) rest.calls) rest.after;
     }
 
-module _ (h : HallState) (lawful : IsLawful h) where
+module _ (h : HallState) (lawful : SatisfiesSpec h) where
   all_calls : AreCalls h.config (fresh_desk h.config) [] h.history
   all_calls =
       let first = desk.fresh h.config (fresh_desk h.config) ((desk.fresh_is h.config (fresh_desk h.config)).1 (record { named = lawful.named; is = refl })) in
@@ -95,10 +95,10 @@ refused_by r h = absurd (cc)
 pub record Grows (h : HallState) (e : Event) (r : ShownReply) (w : DeskValue) : Type 0 where
   pub reply : r ≡ desk_reply (desk_of h) e
   pub desk : w ≡ desk_of (longer h e)
-  pub lawful : IsLawful (longer h e)
+  pub lawful : SatisfiesSpec (longer h e)
   pub may : HallMay h e r (longer h e)
 
-module _ (h : HallState) (e : Event) (r : ShownReply) (w : DeskValue) (lawful : IsLawful h) (due : hall_refusal h e ≡ None) (may : may_by desk_rules (desk_of h) e r w) where
+module _ (h : HallState) (e : Event) (r : ShownReply) (w : DeskValue) (lawful : SatisfiesSpec h) (due : hall_refusal h e ≡ None) (may : may_by desk_rules (desk_of h) e r w) where
   free : desk_refusal (desk_of h) e ≡ None
   free = none_of_full (desk_refusal (desk_of h) e) _ due
 
@@ -135,14 +135,14 @@ pub lacks_so : (h : HallState) (e : Event) → hall_refusal h e ≡ None → Hal
 lacks_so h e due = inr (refl, refl, due)
 
 -- a refused event leaves a hall as it was
-refused_stays : (h u : HallState) (e : Event) (r : ShownReply) (o : Option Refusal) → IsLawful h → hall_refusal h e ≡ o → r ≡ reply_unless o h e → u ≡ after_unless o h e → is_refusal r ≡ true → u ≡ h
+refused_stays : (h u : HallState) (e : Event) (r : ShownReply) (o : Option Refusal) → SatisfiesSpec h → hall_refusal h e ≡ o → r ≡ reply_unless o h e → u ≡ after_unless o h e → is_refusal r ≡ true → u ≡ h
 refused_stays h u e r (Some why) lawful due told after refused = after
 refused_stays h u e r None lawful due told after refused =
     let free : desk_refusal (desk_of h) e ≡ None = none_of_full (desk_refusal (desk_of h) e) _ due in
     let why = refused_by r refused in
     absurd (not_refused h lawful e why.0 free (sym told ∙ why.1))
 
-pub kept_refused : (h u : HallState) (e : Event) (r : ShownReply) → IsLawful h → HallMay h e r u → is_refusal r ≡ true → u ≡ h
+pub kept_refused : (h u : HallState) (e : Event) (r : ShownReply) → SatisfiesSpec h → HallMay h e r u → is_refusal r ≡ true → u ≡ h
 kept_refused h u e r lawful (inl m) refused = refused_stays h u e r (hall_refusal h e) lawful refl m.0 m.1 refused
 kept_refused h u e r lawful (inr m) refused = m.1
 

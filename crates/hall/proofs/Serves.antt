@@ -1,6 +1,6 @@
 -- what a hall answers in turn
 use Rattle.std.proofs.Common.{◌≡◌, ℕ, ◌⊎◌, ◌++◌, nat_le, arith, Bool, true, false, cond, inl, inr, List, [], ◌∷◌, length, Option, Some, None, refl, sym, ap, subst, ◌∙◌, append_assoc}
-use Rattle.hall.proofs.Common.{append-nil, Refusal, Config, Event, Exchange, exchange, DeskValue, ShownReply, is_refusal, Runs, Turn, exchanges, Answered, Told, Ended, Misread, hall_of, desk_of, IsLawful, full_unless, hall_refusal, longer, reply_unless, after_unless, HallMay, HallState}
+use Rattle.hall.proofs.Common.{append-nil, Refusal, Config, Event, Exchange, exchange, DeskValue, ShownReply, is_refusal, Runs, Turn, exchanges, Answered, Told, Ended, Misread, hall_of, desk_of, SatisfiesSpec, full_unless, hall_refusal, longer, reply_unless, after_unless, HallMay, HallState}
 use Rattle.std.proofs.lemmas.Option.{same_Some}
 use Rattle.step_memory.specs.declared.refusal.Refusal.TheVariants as refusal
 use Rattle.commands.specs.declared.kind.WorldKind.{WorldKind}
@@ -24,7 +24,7 @@ not_wanting r h = refl
 -- over one event: the hall stays lawful; and room was wanting and the desk is the same, or the desk answered; the history
 -- gains the event where it was accepted, and nothing else
 pub record Moves (h : HallState) (e : Event) (r : ShownReply) (u : HallState) : Type 0 where
-  pub lawful : IsLawful u
+  pub lawful : SatisfiesSpec u
   pub desk : ((wants_room r ≡ true) × (desk_of u ≡ desk_of h)) ⊎ ((wants_room r ≡ false) × DeskWorldMay (desk_of h) (Take e) r (desk_of u))
   pub history : u.history ≡ h.history ++ accepted (exchange e r ∷ [])
 
@@ -35,7 +35,7 @@ full_is count why is = by_test (nat_le 1000000 count) is where
   by_test true p = ap is_of_room (sym (same_Some refusal.HistoryFull why p))
   by_test false p = absurd (cc)
 
-module _ (h : HallState) (e : Event) (lawful : IsLawful h) where
+module _ (h : HallState) (e : Event) (lawful : SatisfiesSpec h) where
   -- it was accepted
   moves_on : hall_refusal h e ≡ None → Moves h e (desk_reply (desk_of h) e) (longer h e)
   moves_on due =
@@ -80,7 +80,7 @@ module _ (h : HallState) (e : Event) (lawful : IsLawful h) where
   moves r u (inl m) = rw (m.0, m.1) (moves_by (desk_refusal (desk_of h) e) refl refl)
   moves r u (inr m) = rw (m.0, m.1) (moves_full refusal.NoMemory refl)
 
-desk_runs : (h u : HallState) (ts : List Turn) → IsLawful h → Runs HallServes h ts u → Runs DeskWorldMay (desk_of h) (with_room ts) (desk_of u)
+desk_runs : (h u : HallState) (ts : List Turn) → SatisfiesSpec h → Runs HallServes h ts u → Runs DeskWorldMay (desk_of h) (with_room ts) (desk_of u)
 desk_runs h u [] lawful run = ap desk_of run
 desk_runs h u (Answered x ∷ ts) lawful run =
     let one = moves h x.event lawful x.reply run.0 run.1 in
@@ -90,7 +90,7 @@ desk_runs h u (Answered x ∷ ts) lawful run =
       | inr m ↦ rw m.0 (desk_of run.0, m.1, rest)
     ]
 desk_runs h u (Told n r ∷ ts) lawful run =
-    let rest = desk_runs run.0 u ts (subst IsLawful (sym run.1.1) lawful) run.2 in
+    let rest = desk_runs run.0 u ts (subst SatisfiesSpec (sym run.1.1) lawful) run.2 in
     (desk_of run.0, (run.1.0, ap desk_of run.1.1), rest)
 desk_runs h u (Ended ∷ ts) lawful run = desk_runs h u ts lawful run
 desk_runs h u (Misread bad ∷ ts) lawful run = desk_runs h u ts lawful run
@@ -112,7 +112,7 @@ accepted-one x xs = elim (is_refusal x.reply) as (λ b. cond b (accepted xs) (x 
 ]
 
 -- the history gains the accepted events with their replies
-pub history : (h u : HallState) (ts : List Turn) → IsLawful h → Runs HallServes h ts u → u.history ≡ h.history ++ accepted (exchanges ts)
+pub history : (h u : HallState) (ts : List Turn) → SatisfiesSpec h → Runs HallServes h ts u → u.history ≡ h.history ++ accepted (exchanges ts)
 history h u [] lawful run = ap (λ (v : HallState). v.history) (sym run) ∙ sym (append-nil h.history)
 history h u (Answered x ∷ ts) lawful run =
     let one = moves h x.event lawful x.reply run.0 run.1 in
@@ -120,7 +120,7 @@ history h u (Answered x ∷ ts) lawful run =
     rest ∙ ap (λ (l : List Exchange). l ++ accepted (exchanges ts)) one.history ∙ append_assoc h.history (accepted (x ∷ [])) (accepted (exchanges ts))
     ∙ ap (λ (l : List Exchange). h.history ++ l) (sym (accepted-one x (exchanges ts)))
 history h u (Told n r ∷ ts) lawful run =
-    let rest = history run.0 u ts (subst IsLawful (sym run.1.1) lawful) run.2 in
+    let rest = history run.0 u ts (subst SatisfiesSpec (sym run.1.1) lawful) run.2 in
     rest ∙ ap (λ (v : HallState). v.history ++ accepted (exchanges ts)) run.1.1
 history h u (Ended ∷ ts) lawful run = history h u ts lawful run
 history h u (Misread bad ∷ ts) lawful run = history h u ts lawful run

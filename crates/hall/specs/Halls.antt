@@ -22,7 +22,7 @@ abbrev pub desk_of : HallState → DeskValue
 desk_of h = replay (fresh_desk h.config) h.history
 
 -- names are given in the hall's world, and the history is one of accepted events with the replies that were due, at most 1,000,000
-pub record IsLawful (h : HallState) : Type 0 where
+pub record SatisfiesSpec (h : HallState) : Type 0 where
   pub named : gives_names h.config.world ≡ true
   pub accepted : AreAccepted (fresh_desk h.config) h.history
   pub few : length h.history ≤ 1000000

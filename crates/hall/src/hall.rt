@@ -5,7 +5,7 @@ ghost use Rattle.commands.specs.Config.{gives_names};
 ghost use Rattle.desk.specs.Desk.{owner_reply};
 ghost use Rattle.desk.specs.Names.{IsOwnerReply};
 ghost use Rattle.commands.specs.Replies.{with_view};
-ghost use Rattle.hall.specs.Halls.{hall_of, desk_of, IsLawful, hall_refusal, HallMay};
+ghost use Rattle.hall.specs.Halls.{hall_of, desk_of, SatisfiesSpec, hall_refusal, HallMay};
 
 use crate::log::Log;
 use commands::{Config, Event, Exchange, Reply};
@@ -47,11 +47,11 @@ impl Model for Hall {
 
     ghost Value = { HallState };
 
-    ghost use Rattle.hall.specs.Halls.{hall_of, desk_of, IsLawful};
+    ghost use Rattle.hall.specs.Halls.{hall_of, desk_of, SatisfiesSpec};
 
     ghost view = { λ h. hall_of h.config h.history.items };
 
-    ghost invariant = { λ h. (h.held.desk ≡ desk_of (hall_of h.config h.history.items)) × IsLawful (hall_of h.config h.history.items) };
+    ghost invariant = { λ h. (h.held.desk ≡ desk_of (hall_of h.config h.history.items)) × SatisfiesSpec (hall_of h.config h.history.items) };
 }
 
 impl Hall {
@@ -78,7 +78,7 @@ impl Hall {
     /// What the hall was opened for.
     pub fn config(&self) -> Config
         ensures config { result ≡ self.now.config }
-        ensures lawful { IsLawful self.now }
+        ensures lawful { SatisfiesSpec self.now }
     {
         self.config
     }
@@ -87,7 +87,7 @@ impl Hall {
     pub fn len(&self) -> usize
         ensures count { result ≡ length self.now.history }
         ensures most { result ≤ 1000000 }
-        ensures lawful { IsLawful self.now }
+        ensures lawful { SatisfiesSpec self.now }
     {
         self.history.len()
     }

@@ -10,7 +10,7 @@ ghost use Rattle.schedule_player.specs.IsTalk.{IsTalk};
 ghost use Rattle.player.specs.Runs.{Runs};
 ghost use Rattle.player.specs.Turns.{Turn, exchanges};
 ghost use Rattle.hall.specs.GoesOn.{GoesOn};
-ghost use Rattle.hall.specs.Halls.{IsLawful, HallMay, hall_refusal};
+ghost use Rattle.hall.specs.Halls.{SatisfiesSpec, HallMay, hall_refusal};
 ghost use Rattle.hall.specs.HallState.{HallState};
 ghost use Rattle.hall.specs.Serving.{HallServes, HasServed, with_room, accepted};
 
@@ -28,8 +28,8 @@ pub fn law_of_hall(hall: &Hall)
 /// gained the event with its reply where it was accepted, and nothing else; a refused event leaves the hall as it was; a
 /// beginning is accepted by `ok` alone; and where a hall refuses nothing its history has room for one more.
 pub fn law_of_events()
-    ensures goes_on { (h u : HallState) (e : Event) (r : ShownReply) → IsLawful h → HallMay h e r u → GoesOn h e r u }
-    ensures refused { (h u : HallState) (e : Event) (r : ShownReply) → IsLawful h → HallMay h e r u → is_refusal r ≡ true → u ≡ h }
+    ensures goes_on { (h u : HallState) (e : Event) (r : ShownReply) → SatisfiesSpec h → HallMay h e r u → GoesOn h e r u }
+    ensures refused { (h u : HallState) (e : Event) (r : ShownReply) → SatisfiesSpec h → HallMay h e r u → is_refusal r ≡ true → u ≡ h }
     ensures begins { (h u : HallState) (id : ℕ) (r : ShownReply) → HallMay h (Event.Begin id) r u → is_refusal r ≡ false → r ≡ Reply.Ok }
     ensures room { (h : HallState) (e : Event) → hall_refusal h e ≡ None → length h.history < 1000000 }
 {}
@@ -39,5 +39,5 @@ pub fn law_of_events()
 /// events with their replies.
 pub fn law_of_serving()
     ensures talk { (c : Config) → gives_names c.world ≡ true → (u : HallState) (ts : List Turn) → HasServed c ts u → IsTalk c (with_room ts) }
-    ensures history { (h u : HallState) (ts : List Turn) → IsLawful h → Runs HallServes h ts u → u.history ≡ h.history ++ accepted (exchanges ts) }
+    ensures history { (h u : HallState) (ts : List Turn) → SatisfiesSpec h → Runs HallServes h ts u → u.history ≡ h.history ++ accepted (exchanges ts) }
 {}

@@ -11,7 +11,7 @@ pub use Rattle.commands.specs.Replies.{ShownReply, is_refusal, with_view}
 pub use Rattle.desk.specs.Desk.{owner_reply}
 pub use Rattle.desk.specs.DeskCalls.{exchange}
 pub use Rattle.hall.specs.HallState.{HallState}
-pub use Rattle.hall.specs.Halls.{desk_of, IsLawful, HallMay, hall_of}
+pub use Rattle.hall.specs.Halls.{desk_of, SatisfiesSpec, HallMay, hall_of}
 pub use Rattle.hall_callers.specs.declared.kept.Kept.{Kept}
 pub use Rattle.hall_callers.specs.CallerState.{CallerState}
 pub use Rattle.hall_callers.specs.Kepts.{IsTaken, IsSound, Fits, KeepsUnless}

@@ -1,6 +1,6 @@
 -- what callers kept stands in the history, which goes on
 use Rattle.std.proofs.Common.{◌≡◌, ℕ, ◌+◌, ◌<◌, ◌≤◌, Bool, true, false, cond, List, [], ◌∷◌, ◌++◌, All, length, Some, slice_get, refl, sym, ap, subst, ◌∙◌, arith, length-append, replicate}
-use Rattle.hall_callers.proofs.Common.{slice_get_within, Config, Event, Exchange, exchange, ShownReply, is_refusal, Kept, CallerState, hall_of, IsLawful, HallMay, HallState, kept_of, Fits, KeepsUnless, IsTaken, IsSound}
+use Rattle.hall_callers.proofs.Common.{slice_get_within, Config, Event, Exchange, exchange, ShownReply, is_refusal, Kept, CallerState, hall_of, SatisfiesSpec, HallMay, HallState, kept_of, Fits, KeepsUnless, IsTaken, IsSound}
 use Rattle.std.proofs.lemmas.List.{replicate_more}
 use Rattle.std.proofs.lemmas.List.Elements.{All-push, All-weaker}
 use mathlib.Core.List.{IsPrefix}
@@ -40,7 +40,7 @@ fits_more xs ks x fits =
     All-push (λ (k : Kept). slice_get (xs ++ x ∷ []) k.place ≡ Some k.exchange) ks (kept_of (length xs) x) (fits_longer xs (xs ++ x ∷ []) ks (x ∷ [], refl) fits) (stands_last xs x)
 
 -- what was kept stands in the history of the hall that answered, with what is kept of the answer
-pub stands_by : (h : HallState) (e : Event) (r : ShownReply) (u : HallState) (ks : List Kept) → IsLawful h → Fits h.history ks → HallMay h e r u → Fits u.history (cond (is_refusal r) ks (ks ++ kept_of (length h.history) (exchange e r) ∷ []))
+pub stands_by : (h : HallState) (e : Event) (r : ShownReply) (u : HallState) (ks : List Kept) → SatisfiesSpec h → Fits h.history ks → HallMay h e r u → Fits u.history (cond (is_refusal r) ks (ks ++ kept_of (length h.history) (exchange e r) ∷ []))
 stands_by h e r u ks lawful fits may =
     elim (is_refusal r) as (λ b. is_refusal r ≡ b → Fits u.history (cond b ks (ks ++ kept_of (length h.history) (exchange e r) ∷ []))) [
       | true ↦ λ is. rw (stays_by h e r u lawful may is) fits
@@ -53,7 +53,7 @@ keeps_by false ks place e r above = record { place = place; above = above; is = 
 
 module _ (c : Config) (h : HallState) (e : Event) (r : ShownReply) (u : HallState) (s t : CallerState) where
   -- the hall of a lawful history, of which a caller has seen a prefix, answers it
-  pub taken : h.config ≡ c → IsLawful h → IsPrefix s.seen h.history → Fits s.seen s.kept → HallMay h e r u → t.seen ≡ u.history → t.kept ≡ cond (is_refusal r) s.kept (s.kept ++ kept_of (length h.history) (exchange e r) ∷ []) → IsTaken c s e r t
+  pub taken : h.config ≡ c → SatisfiesSpec h → IsPrefix s.seen h.history → Fits s.seen s.kept → HallMay h e r u → t.seen ≡ u.history → t.kept ≡ cond (is_refusal r) s.kept (s.kept ++ kept_of (length h.history) (exchange e r) ∷ []) → IsTaken c s e r t
   taken of lawful longer fits may seen kept =
       let stand : Fits h.history s.kept = fits_longer s.seen h.history s.kept longer fits in
       let before : hall_of c h.history ≡ h = ap (λ (d : Config). hall_of d h.history) (sym of) in
@@ -62,7 +62,7 @@ module _ (c : Config) (h : HallState) (e : Event) (r : ShownReply) (u : HallStat
       record {
         answer = record {
           history = h.history;
-          lawful = subst IsLawful (sym before) lawful;
+          lawful = subst SatisfiesSpec (sym before) lawful;
           longer = longer;
           answer = subst (λ (k : HallState). HallMay k e r (hall_of c t.seen)) (sym before) (subst (λ (k : HallState). HallMay h e r k) (sym (ap (hall_of c) seen ∙ after)) may);
         };
@@ -70,11 +70,11 @@ module _ (c : Config) (h : HallState) (e : Event) (r : ShownReply) (u : HallStat
         stands = rw (seen, kept) (stands_by h e r u s.kept lawful stand may);
       }
 
-  pub taken_refused : h.config ≡ c → IsLawful h → IsPrefix s.seen h.history → Fits s.seen s.kept → HallMay h e r u → is_refusal r ≡ true → t.seen ≡ u.history → t.kept ≡ s.kept → IsTaken c s e r t
+  pub taken_refused : h.config ≡ c → SatisfiesSpec h → IsPrefix s.seen h.history → Fits s.seen s.kept → HallMay h e r u → is_refusal r ≡ true → t.seen ≡ u.history → t.kept ≡ s.kept → IsTaken c s e r t
   taken_refused of lawful longer fits may refused seen kept =
       taken of lawful longer fits may seen (kept ∙ ap (λ (b : Bool). cond b s.kept (s.kept ++ kept_of (length h.history) (exchange e r) ∷ [])) (sym refused))
 
-  pub taken_accepted : h.config ≡ c → IsLawful h → IsPrefix s.seen h.history → Fits s.seen s.kept → HallMay h e r u → is_refusal r ≡ false → t.seen ≡ u.history → t.kept ≡ s.kept ++ kept_of (length h.history) (exchange e r) ∷ [] → IsTaken c s e r t
+  pub taken_accepted : h.config ≡ c → SatisfiesSpec h → IsPrefix s.seen h.history → Fits s.seen s.kept → HallMay h e r u → is_refusal r ≡ false → t.seen ≡ u.history → t.kept ≡ s.kept ++ kept_of (length h.history) (exchange e r) ∷ [] → IsTaken c s e r t
   taken_accepted of lawful longer fits may accepted seen kept =
       taken of lawful longer fits may seen (kept ∙ ap (λ (b : Bool). cond b s.kept (s.kept ++ kept_of (length h.history) (exchange e r) ∷ [])) (sym accepted))
 
@@ -89,16 +89,16 @@ seen_after c s t e r one =
     let m : GoesOn (hall_of c one.answer.history) e r (hall_of c t.seen) = goes_on (hall_of c one.answer.history) (hall_of c t.seen) e r one.answer.lawful one.answer.answer in
     prefix_trans s.seen one.answer.history t.seen one.answer.longer (accepted (exchange e r ∷ []), sym m.history)
 
-pub lawful_of : (c : Config) (h : HallState) → h.config ≡ c → IsLawful h → IsLawful (hall_of c h.history)
-lawful_of c h of lawful = subst IsLawful (ap (λ (d : Config). hall_of d h.history) of) lawful
+pub lawful_of : (c : Config) (h : HallState) → h.config ≡ c → SatisfiesSpec h → SatisfiesSpec (hall_of c h.history)
+lawful_of c h of lawful = subst SatisfiesSpec (ap (λ (d : Config). hall_of d h.history) of) lawful
 
 -- what a caller's type says of what it has kept and seen
 pub record Stands (c : Config) (seen : List Exchange) (ks : List Kept) (next : ℕ) : Type 0 where
   pub within : next ≤ length seen
   pub fits : Fits seen ks
-  pub lawful : IsLawful (hall_of c seen)
+  pub lawful : SatisfiesSpec (hall_of c seen)
 
-module _ (c : Config) (h : HallState) (seen : List Exchange) (ks : List Kept) (next : ℕ) (of : h.config ≡ c) (lawful : IsLawful h) (longer : IsPrefix seen h.history) (fits : Fits seen ks) (within : next ≤ length seen) where
+module _ (c : Config) (h : HallState) (seen : List Exchange) (ks : List Kept) (next : ℕ) (of : h.config ≡ c) (lawful : SatisfiesSpec h) (longer : IsPrefix seen h.history) (fits : Fits seen ks) (within : next ≤ length seen) where
   -- it has seen the whole history
   pub stands_seen : Stands c h.history ks next
   stands_seen = record {
@@ -114,16 +114,16 @@ module _ (c : Config) (h : HallState) (seen : List Exchange) (ks : List Kept) (n
       record {
         within = omega (arith, length-append h.history (exchange e r ∷ []));
         fits = fits_more h.history ks (exchange e r) (fits_longer seen h.history ks longer fits);
-        lawful = subst (λ (l : List Exchange). IsLawful (hall_of c l)) (goes_by h e r u lawful may accepted) (lawful_of c u (m.config ∙ of) m.lawful);
+        lawful = subst (λ (l : List Exchange). SatisfiesSpec (hall_of c l)) (goes_by h e r u lawful may accepted) (lawful_of c u (m.config ∙ of) m.lawful);
       }
 
 -- it has seen the front, which is the whole history
-pub stands_answered : (c : Config) (h : HallState) (seen front now : List Exchange) (ks : List Kept) (next : ℕ) → h.config ≡ c → IsLawful h → front ≡ h.history → IsPrefix seen front → now ≡ front → Fits seen ks → next ≤ length seen → Stands c now ks next
+pub stands_answered : (c : Config) (h : HallState) (seen front now : List Exchange) (ks : List Kept) (next : ℕ) → h.config ≡ c → SatisfiesSpec h → front ≡ h.history → IsPrefix seen front → now ≡ front → Fits seen ks → next ≤ length seen → Stands c now ks next
 stands_answered c h seen front now ks next of lawful whole longer again fits within =
     subst (λ (l : List Exchange). Stands c l ks next) (sym (again ∙ whole)) (stands_seen c h seen ks next of lawful (subst (IsPrefix seen) whole longer) fits within)
 
 -- a refused event leaves the hall, and what the caller has kept, as they were
-pub taken_unchanged : (c : Config) (h : HallState) (e : Event) (r : ShownReply) (s t : CallerState) (front : List Exchange) → h.config ≡ c → IsLawful h → front ≡ h.history → IsPrefix s.seen front → Fits s.seen s.kept → HallMay h e r h → is_refusal r ≡ true → t.seen ≡ front → t.kept ≡ s.kept → IsTaken c s e r t
+pub taken_unchanged : (c : Config) (h : HallState) (e : Event) (r : ShownReply) (s t : CallerState) (front : List Exchange) → h.config ≡ c → SatisfiesSpec h → front ≡ h.history → IsPrefix s.seen front → Fits s.seen s.kept → HallMay h e r h → is_refusal r ≡ true → t.seen ≡ front → t.kept ≡ s.kept → IsTaken c s e r t
 taken_unchanged c h e r s t front of lawful whole longer fits may refused seen kept =
     taken_refused c h e r h s t of lawful (subst (IsPrefix s.seen) whole longer) fits may refused (seen ∙ whole) kept
 

@@ -9,13 +9,13 @@ use Rattle.commands.specs.declared.exchange.Exchange.{Exchange}
 use Rattle.commands.specs.Replies.{ShownReply}
 use Rattle.commands.specs.declared.reply.Reply.TheVariants as reply
 use Rattle.desk.specs.Desk.{owner_reply}
-use Rattle.hall.specs.Halls.{hall_of, desk_of, IsLawful, HallMay}
+use Rattle.hall.specs.Halls.{hall_of, desk_of, SatisfiesSpec, HallMay}
 
 -- The lock's history was lawful for its config, and what the caller had seen was a prefix of it; the hall of that history gives this
 -- reply to the event, and the caller has now seen what its history is then
 pub record IsAnswered (c : Config) (seen : List Exchange) (e : Event) (r : ShownReply) (now : List Exchange) : Type 0 where
   pub history : List Exchange
-  pub lawful : IsLawful (hall_of c history)
+  pub lawful : SatisfiesSpec (hall_of c history)
   pub longer : IsPrefix seen history
   pub answer : HallMay (hall_of c history) e r (hall_of c now)
 
@@ -27,5 +27,5 @@ pub record IsRefusedBegin (c : Config) (id : ℕ) (why : Refusal) : Type 0 where
 -- some hall of a lawful history, of this config, tells this of a name
 pub record IsSomeOwner (c : Config) (number : ℕ) (r : ShownReply) : Type 0 where
   pub history : List Exchange
-  pub lawful : IsLawful (hall_of c history)
+  pub lawful : SatisfiesSpec (hall_of c history)
   pub answer : r ≡ owner_reply (desk_of (hall_of c history)) number

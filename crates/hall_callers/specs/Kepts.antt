@@ -12,7 +12,7 @@ use Rattle.commands.specs.declared.config.Config.{Config}
 use Rattle.desk.specs.Desk.{owner_reply}
 use Rattle.hall_callers.specs.Answers.{IsAnswered}
 use Rattle.hall_callers.specs.CallerState.{CallerState, caller_of}
-use Rattle.hall.specs.Halls.{hall_of, desk_of, IsLawful}
+use Rattle.hall.specs.Halls.{hall_of, desk_of, SatisfiesSpec}
 use Rattle.hall_callers.specs.KeptLogs.{kept_of}
 
 -- the places rise, from the first bound on, and stay below the second
@@ -45,11 +45,11 @@ Fits history ks = All (λ k. slice_get history k.place ≡ Some k.exchange) ks
 -- has seen, which is a lawful history
 abbrev pub IsClerk : Config → ℕ → ℕ → List Kept → ℕ → List Exchange → Type 0
 IsClerk c parts amount ks next seen =
-    (parts ≡ 1) × (amount ≡ length ks) × (rises 0 ks next ≡ true) × (next ≤ length seen) × Fits seen ks × IsLawful (hall_of c seen)
+    (parts ≡ 1) × (amount ≡ length ks) × (rises 0 ks next ≡ true) × (next ≤ length seen) × Fits seen ks × SatisfiesSpec (hall_of c seen)
 
 -- a clerk that was just opened has kept nothing, and has seen this history, which is lawful
 abbrev pub IsNew : Config → List Exchange → CallerState → Type 0
-IsNew c history s = (s ≡ caller_of [] history) × IsLawful (hall_of c s.seen)
+IsNew c history s = (s ≡ caller_of [] history) × SatisfiesSpec (hall_of c s.seen)
 
 -- each place of the history was kept once, with the exchange there, and no other place
 pub record IsJust (history : List Exchange) (kepts : List (List Kept)) : Type 0 where
@@ -72,7 +72,7 @@ pub record IsTaken (c : Config) (s : CallerState) (e : Event) (r : ShownReply) (
 
 -- who has a name was told to a caller as the lock's hall tells it, whose history the caller has now seen
 pub record IsTold (c : Config) (s : CallerState) (number : ℕ) (r : ShownReply) (t : CallerState) : Type 0 where
-  pub lawful : IsLawful (hall_of c t.seen)
+  pub lawful : SatisfiesSpec (hall_of c t.seen)
   pub longer : IsPrefix s.seen t.seen
   pub answer : r ≡ owner_reply (desk_of (hall_of c t.seen)) number
   pub same : t.kept ≡ s.kept
@@ -80,5 +80,5 @@ pub record IsTold (c : Config) (s : CallerState) (number : ℕ) (r : ShownReply)
 
 -- what a caller has seen is a lawful history of this config, in which all that it has kept stands at its place
 pub record IsSound (c : Config) (s : CallerState) : Type 0 where
-  pub lawful : IsLawful (hall_of c s.seen)
+  pub lawful : SatisfiesSpec (hall_of c s.seen)
   pub stands : Fits s.seen s.kept

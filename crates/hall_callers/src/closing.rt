@@ -3,7 +3,7 @@
 ghost use Rattle.std.specs.Prelude.{◌≡◌, All, replicate, ◌+◌, ◌++◌, length, map, true, false, slice_get, slice_set, slice_index_or, vec_len, IfSome};
 ghost use Rattle.hall_callers.specs.Kepts.{IsJust};
 ghost use Rattle.hall_callers.specs.Marks.{IsMarked, AreMarked};
-ghost use Rattle.hall.specs.Halls.{IsLawful};
+ghost use Rattle.hall.specs.Halls.{SatisfiesSpec};
 
 use crate::kept::Kept;
 use crate::kept_log::KeptLog;
@@ -182,7 +182,7 @@ impl<L: LockName> Locked<L> {
 
     /// Whether each place of the history was kept by just one of these callers, and no other place.
     pub fn agrees(&mut self, sessions: &Vec<Session<L>>, clerks: &Vec<Clerk<L>>) -> bool
-        ensures lawful { IsLawful self.new.hall }
+        ensures lawful { SatisfiesSpec self.new.hall }
         ensures hall { self.new.hall ≡ self.old.hall }
         ensures opened { self.new.opened ≡ self.old.opened }
         ensures just { result ≡ true → IsJust self.new.hall.history (map (λ s. s.clerk.kept) sessions.now.items ++ map (λ c. c.kept) clerks.now.items) }

@@ -6,7 +6,7 @@ ghost use Rattle.hall_callers.specs.Acts.{event_of};
 ghost use Rattle.commands.specs.Replies.{is_refusal, with_view};
 ghost use Rattle.hall_callers.specs.Answers.{IsRefusedBegin, IsSomeOwner};
 ghost use Rattle.hall_callers.specs.CallerState.{caller_of};
-ghost use Rattle.hall.specs.Halls.{hall_of, hall_refusal, HallMay, IsLawful};
+ghost use Rattle.hall.specs.Halls.{hall_of, hall_refusal, HallMay, SatisfiesSpec};
 ghost use Rattle.hall_callers.specs.Kepts.{IsNew, IsOpened, IsTaken, IsTold};
 
 use crate::act::Act;
@@ -25,7 +25,7 @@ impl<L: LockName> Clerk<L> {
     /// One who has kept nothing, and has seen the history so far.
     fn new(kept: KeptLog, share: Share<L>, seen: Front<L, Exchange>) -> Clerk<L>
         requires share { (kept.items ≡ []) × (share.parts ≡ 1) × (share.amount ≡ 0) }
-        requires lawful { IsLawful (hall_of L.config seen) }
+        requires lawful { SatisfiesSpec (hall_of L.config seen) }
         ensures { result ≡ caller_of [] seen }
     {
         Clerk {

@@ -18,7 +18,7 @@ use Rattle.desk.specs.DeskCalls.{exchange}
 use Rattle.desk.specs.DeskRules.{fresh_over}
 use Rattle.desk.specs.DeskValue.{DeskValue}
 use Rattle.desk.specs.DeskValue.DeskValue.{OverGrid, OverTree}
-use Rattle.hall.specs.Halls.{hall_of, desk_of, IsLawful, hall_refusal, full_unless, longer, reply_unless, after_unless, HallMay}
+use Rattle.hall.specs.Halls.{hall_of, desk_of, SatisfiesSpec, hall_refusal, full_unless, longer, reply_unless, after_unless, HallMay}
 use Rattle.hall.specs.HallState.{HallState}
 use Rattle.hall.specs.Replay.{replay, AreAccepted}
 use Rattle.hall_compaction.specs.declared.rebuilding.Rebuilding.{Rebuilding}
@@ -137,7 +137,7 @@ none_sorted h new old is copied fresh = record {
 }
 
 -- one more event is sorted
-module _ (h : HallState) (n : ℕ) (x : Exchange) (at : slice_get h.history n ≡ Some x) (lawful : IsLawful h) where
+module _ (h : HallState) (n : ℕ) (x : Exchange) (at : slice_get h.history n ≡ Some x) (lawful : SatisfiesSpec h) where
   was : WasAccepted (desk_of (after_first n h)) x
   was = accepted_at (fresh_desk h.config) h.history n x lawful.accepted at
 

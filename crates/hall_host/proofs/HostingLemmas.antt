@@ -15,7 +15,7 @@ use Rattle.player.specs.Shared.{all_turns, turns_of}
 use Rattle.player.specs.TalkerState.{TalkerState}
 use Rattle.player.specs.Turns.{Turn, exchanges}
 use Rattle.player.specs.Turns.Turn.{Answered, Told, Ended, Misread}
-use Rattle.hall.specs.Halls.{HallMay, IsLawful, after_unless, hall_refusal}
+use Rattle.hall.specs.Halls.{HallMay, SatisfiesSpec, after_unless, hall_refusal}
 use Rattle.hall.specs.HallState.{HallState}
 use Rattle.hall.specs.Serving.{HallServes, accepted}
 use Rattle.journal.specs.declared.journal.Journal.{Journal}
@@ -101,9 +101,9 @@ module _ {C : Type 0} (on : Seating C) where
   told_at turns (Some x) None (Some z) a d took sends was is = elim took [ ]
 
   module _ {D : Type 0} (state : D → Option DiskState)
-      (history : (h u : HallState) (ts : List Turn) → IsLawful h → Runs HallServes h ts u → u.history ≡ h.history ++ accepted (exchanges ts))
+      (history : (h u : HallState) (ts : List Turn) → SatisfiesSpec h → Runs HallServes h ts u → u.history ≡ h.history ++ accepted (exchanges ts))
       (between : (c : ChronicleState) (s : DiskState) → HasSynced c s → c.told ≤ length c.hall.history → KeepsHandedOn c s s) where
-    pub hosted : (k l : Recorded D) (c u : ChronicleState) (seats seats' : List (Option C)) → IsLawful c.hall → c.told ≤ length c.hall.history → Stands state k.journal c →
+    pub hosted : (k l : Recorded D) (c u : ChronicleState) (seats seats' : List (Option C)) → SatisfiesSpec c.hall → c.told ≤ length c.hall.history → Stands state k.journal c →
         (t : LoopTurn on ChronicleServes (KeptBy state) k c seats l u seats') →
         IsHosted on state t.log k.journal c seats l.journal u seats'
     hosted k l c u seats seats' lawful few stands t =

@@ -7,7 +7,7 @@ use Rattle.player.specs.Runs.{Runs}
 use Rattle.player.specs.Turns.{Turn, exchanges}
 use Rattle.player.specs.Turns.Turn.{Answered, Told, Ended, Misread}
 use Rattle.hall.specs.GoesOn.{GoesOn}
-use Rattle.hall.specs.Halls.{HallMay, IsLawful}
+use Rattle.hall.specs.Halls.{HallMay, SatisfiesSpec}
 use Rattle.hall.specs.HallState.{HallState}
 use Rattle.hall.specs.Serving.{HallServes, accepted}
 use Rattle.journal.specs.ChronicleState.{ChronicleState}
@@ -21,27 +21,27 @@ use Rattle.hall_host.specs.Kept.{IsKept, KeptBy, MayCompactHall, Rests}
 use Rattle.hall_host.proofs.HostingLemmas.{after_compacting, follows, same_told, still_stands}
 
 -- whether compacted or not
-compacted_lawful : (h u : HallState) → MayCompactHall h u → IsLawful h → IsLawful u × (u.config ≡ h.config)
-compacted_lawful h u (inl same) lawful = (subst IsLawful (sym same) lawful, ap (λ (x : HallState). x.config) same)
+compacted_lawful : (h u : HallState) → MayCompactHall h u → SatisfiesSpec h → SatisfiesSpec u × (u.config ≡ h.config)
+compacted_lawful h u (inl same) lawful = (subst SatisfiesSpec (sym same) lawful, ap (λ (x : HallState). x.config) same)
 compacted_lawful h u (inr done) lawful = (done.lawful, done.config)
 
 module _ {D : Type 0} (state : D → Option DiskState)
-    (goes_on : (h u : HallState) (e : Event) (r : ShownReply) → IsLawful h → HallMay h e r u → GoesOn h e r u)
-    (history : (h u : HallState) (ts : List Turn) → IsLawful h → Runs HallServes h ts u → u.history ≡ h.history ++ accepted (exchanges ts)) where
+    (goes_on : (h u : HallState) (e : Event) (r : ShownReply) → SatisfiesSpec h → HallMay h e r u → GoesOn h e r u)
+    (history : (h u : HallState) (ts : List Turn) → SatisfiesSpec h → Runs HallServes h ts u → u.history ≡ h.history ++ accepted (exchanges ts)) where
   -- what is done to a chronicle and its keeper
   abbrev LongServed : Recorded D → ChronicleState → List Deed → Recorded D → ChronicleState → Type 0
   LongServed k c deeds l u = AllDone ChronicleServes (λ j w lines i v. Rests j w i v) (KeptBy state) (λ j w i v. Rests j w i v) k c deeds l u
 
   -- a lawful hall answers turns as a lawful one
-  lawful_run : (h u : HallState) (ts : List Turn) → IsLawful h → Runs HallServes h ts u → IsLawful u
-  lawful_run h u [] lawful run = subst IsLawful run lawful
+  lawful_run : (h u : HallState) (ts : List Turn) → SatisfiesSpec h → Runs HallServes h ts u → SatisfiesSpec u
+  lawful_run h u [] lawful run = subst SatisfiesSpec run lawful
   lawful_run h u (Answered x ∷ ts) lawful run = lawful_run run.0 u ts ((goes_on h run.0 x.event x.reply lawful run.1).lawful) run.2
-  lawful_run h u (Told n r ∷ ts) lawful run = lawful_run run.0 u ts (subst IsLawful (sym run.1.1) lawful) run.2
+  lawful_run h u (Told n r ∷ ts) lawful run = lawful_run run.0 u ts (subst SatisfiesSpec (sym run.1.1) lawful) run.2
   lawful_run h u (Ended ∷ ts) lawful run = lawful_run h u ts lawful run
   lawful_run h u (Misread bad ∷ ts) lawful run = lawful_run h u ts lawful run
 
   -- after a turn of the loop
-  served_once : (k l : Recorded D) (c told u : ChronicleState) (ts : List Turn) → IsLawful c.hall → c.told ≤ length c.hall.history → Stands state k.journal c →
+  served_once : (k l : Recorded D) (c told u : ChronicleState) (ts : List Turn) → SatisfiesSpec c.hall → c.told ≤ length c.hall.history → Stands state k.journal c →
       Runs ChronicleServes c ts told → IsKept state k.journal told l.journal u → WasHosted state c l.journal u
   served_once k l c told u ts lawful few stands run kept =
       let way = follows c told ts run in
@@ -62,7 +62,7 @@ module _ {D : Type 0} (state : D → Option DiskState)
       subst (λ (j : Recorded D). LongServed j c deeds l u) rests.0 (subst (λ (v : ChronicleState). LongServed mid v deeds l u) rests.1 done)
 
   -- and after any number of them
-  served_long : (deeds : List Deed) (k l : Recorded D) (c u : ChronicleState) → IsLawful c.hall → c.told ≤ length c.hall.history → Stands state k.journal c →
+  served_long : (deeds : List Deed) (k l : Recorded D) (c u : ChronicleState) → SatisfiesSpec c.hall → c.told ≤ length c.hall.history → Stands state k.journal c →
       LongServed k c deeds l u → WasHosted state c l.journal u
   served_long [] k l c u lawful few stands done =
       subst (λ (j : Recorded D). WasHosted state c j.journal u) (sym done.0) (subst (λ (v : ChronicleState). WasHosted state c k.journal v) (sym done.1) (record { lawful = lawful; config = refl; few = few; stands = stands }))
@@ -73,6 +73,6 @@ module _ {D : Type 0} (state : D → Option DiskState)
       let rest = served_long deeds done.0 l done.1 u once.lawful once.few once.stands done.3 in
       record { lawful = rest.lawful; config = rest.config ∙ once.config; few = rest.few; stands = rest.stands }
 
-  pub was_hosted : (k l : Recorded D) (c u : ChronicleState) → IsLawful c.hall → c.told ≤ length c.hall.history → Stands state k.journal c →
+  pub was_hosted : (k l : Recorded D) (c u : ChronicleState) → SatisfiesSpec c.hall → c.told ≤ length c.hall.history → Stands state k.journal c →
       WasServed ChronicleServes (λ j w lines i v. Rests j w i v) (KeptBy state) (λ j w i v. Rests j w i v) k c l u → WasHosted state c l.journal u
   was_hosted k l c u lawful few stands served = served_long served.0 k l c u lawful few stands served.1

@@ -7,7 +7,7 @@ use Rattle.player.specs.Says.{Spoke}
 use Rattle.player.specs.Shared.{TurnLog, all_turns, turns_of}
 use Rattle.player.specs.Texts.{replies_of}
 use Rattle.player.specs.Turns.{Turn, exchanges}
-use Rattle.hall.specs.Halls.{IsLawful}
+use Rattle.hall.specs.Halls.{SatisfiesSpec}
 use Rattle.hall.specs.HallState.{HallState}
 use Rattle.hall.specs.Serving.{accepted}
 use Rattle.journal.specs.declared.journal.Journal.{Journal}
@@ -36,7 +36,7 @@ pub record IsTold {C : Type 0} (on : Seating C) (turns : List Turn) (a d : C) : 
 -- A chronicle that was served for a while, turn after turn: its hall is lawful and of the same config, and header and journal are the record
 -- of what was handed on of it, and synced
 pub record WasHosted {D : Type 0} (state : D → Option DiskState) (c : ChronicleState) (j' : Journal D) (u : ChronicleState) : Type 0 where
-  pub lawful : IsLawful u.hall
+  pub lawful : SatisfiesSpec u.hall
   pub config : u.hall.config ≡ c.hall.config
   pub few : u.told ≤ length u.hall.history
   pub stands : Stands state j' u

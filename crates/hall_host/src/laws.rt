@@ -1,7 +1,7 @@
 //! What a turn of the loop is over a hall and its journal.
 
 ghost use Rattle.std.specs.Prelude.{◌≤◌, List, Option, length};
-ghost use Rattle.hall.specs.Halls.{IsLawful};
+ghost use Rattle.hall.specs.Halls.{SatisfiesSpec};
 ghost use Rattle.journal.specs.ChronicleState.{ChronicleState};
 ghost use Rattle.journal.specs.Chronicles.{ChronicleServes};
 ghost use Rattle.journal.specs.Journals.{Stands};
@@ -18,7 +18,7 @@ use journal_disk::Disk;
 /// A law, which runs nothing, of what `event_server::host` does to a chronicle whose journal stands, kept by `Recorded`, as long as it runs: at
 /// its end header and journal are the record of what was handed on of a lawful hall of the same config, and synced.
 pub fn law_of_hosted_journals<D: Disk>()
-    ensures { (k l : Recorded D) (c u : ChronicleState) → IsLawful c.hall → c.told ≤ length c.hall.history → Stands D.state k.journal c →
+    ensures { (k l : Recorded D) (c u : ChronicleState) → SatisfiesSpec c.hall → c.told ≤ length c.hall.history → Stands D.state k.journal c →
         WasServed ChronicleServes (λ j w lines i v. Rests j w i v) (KeptBy D.state) (λ j w i v. Rests j w i v) k c l u →
         WasHosted D.state c l.journal u }
 {
@@ -31,7 +31,7 @@ pub fn law_of_hosted_journals<D: Disk>()
 /// when replies are sent; each connection is told the replies to its own lines; and a crash leaves all that was answered (`law_of_crashes`).
 pub fn law_of_hosting<C, D: Disk>()
     ensures { (on : Seating C) (k l : Recorded D) (c u : ChronicleState) (seats after : List (Option C)) →
-        IsLawful c.hall → c.told ≤ length c.hall.history → Stands D.state k.journal c →
+        SatisfiesSpec c.hall → c.told ≤ length c.hall.history → Stands D.state k.journal c →
         (t : LoopTurn on ChronicleServes (KeptBy D.state) k c seats l u after) →
         IsHosted on D.state t.log k.journal c seats l.journal u after }
 {

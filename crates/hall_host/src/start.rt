@@ -12,7 +12,7 @@ use hall_compaction::Compactor;
 use hall_log::{LogKeeper, Pause, Tape};
 use journal::{Journal, Opened};
 use journal_disk::{Disk, FileDisk};
-use one_log::Store;
+use replicated_log::Store;
 use std::alloc::{AllocGlobal, Global};
 use std::fs::File;
 use std::io::Write;

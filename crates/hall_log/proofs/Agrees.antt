@@ -4,7 +4,7 @@ use Rattle.hall_log.proofs.Common.{ShownReply, NoneRefusedGrowth, Runs, Answered
 use Rattle.step_memory.specs.declared.refusal.Refusal.TheVariants as refusal
 use Rattle.commands.specs.declared.event.Event.{Event}
 use Rattle.commands.specs.declared.reply.Reply.TheVariants as reply
-use Rattle.one_log.specs.Groups.{IsDetermined}
+use Rattle.replicated_log.specs.Groups.{IsDetermined}
 use Rattle.player.specs.Turns.{Turn, asked}
 use Rattle.hall.specs.Halls.{HallMay}
 

@@ -1,7 +1,7 @@
 -- a turn over a tape is one over the hall whose answers it says
 use Rattle.std.proofs.Common.{◌≡◌, ℕ, true, false, List, [], ◌∷◌, ◌++◌, Option, inl, inr, sym, ap, subst, ◌∙◌, arith}
 use Rattle.hall_log.proofs.Common.{append-nil, Config, ShownReply, Request, Take, OwnerOf, Runs, Turn, Answered, Told, Ended, Misread, HallState, HallServes, HallApplies, TapeSays, said, TapeState}
-use Rattle.one_log.specs.ReplicaState.{ReplicaState}
+use Rattle.replicated_log.specs.ReplicaState.{ReplicaState}
 use Rattle.player.specs.Shared.{all_turns}
 use Rattle.event_server.specs.Seats.{LoopTurn, Seating}
 use Rattle.hall_log.specs.Hosted.{IsHostedOverLog, IsLearnt, IsUsedUp}

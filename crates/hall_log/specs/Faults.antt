@@ -1,11 +1,11 @@
 -- faults behind which nothing more is served
 use Rattle.std.specs.Prelude.{Option, Some, None}
-use Rattle.one_log.specs.declared.serve_fault.Cause.{Cause}
-use Rattle.one_log.specs.declared.serve_fault.Cause.TheVariants as cause
-use Rattle.one_log.specs.declared.serve_fault.ServeFault.{ServeFault}
-use Rattle.one_log.specs.declared.serve_fault.ServeFault.TheVariants as serve
-use Rattle.one_log.specs.declared.store_fault.StoreFault.{StoreFault}
-use Rattle.one_log.specs.declared.store_fault.StoreFault.TheVariants as store
+use Rattle.replicated_log.specs.declared.serve_fault.Cause.{Cause}
+use Rattle.replicated_log.specs.declared.serve_fault.Cause.TheVariants as cause
+use Rattle.replicated_log.specs.declared.serve_fault.ServeFault.{ServeFault}
+use Rattle.replicated_log.specs.declared.serve_fault.ServeFault.TheVariants as serve
+use Rattle.replicated_log.specs.declared.store_fault.StoreFault.{StoreFault}
+use Rattle.replicated_log.specs.declared.store_fault.StoreFault.TheVariants as store
 use Rattle.hall_log.specs.declared.log_fault.LogFault.{LogFault}
 use Rattle.hall_log.specs.declared.log_fault.LogFault.TheVariants as fault
 

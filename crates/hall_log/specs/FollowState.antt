@@ -1,6 +1,6 @@
 -- what contracts see of a hall that follows a log
 use Rattle.commands.specs.declared.config.Config.{Config}
-use Rattle.one_log.specs.ReplicaState.{ReplicaState}
+use Rattle.replicated_log.specs.ReplicaState.{ReplicaState}
 use Rattle.hall.specs.HallState.{HallState}
 
 -- the replica, the store of the log, and what the hall was opened for

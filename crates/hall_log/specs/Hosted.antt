@@ -1,10 +1,10 @@
 -- a turn of the loop over a tape that was learnt of a log
 use Rattle.std.specs.Prelude.{◌≡◌, ◌≤◌, ◌<◌, ◌⊎◌, ℕ, List, [], ◌∷◌, ◌++◌, length, false, Option}
 use Rattle.commands.specs.declared.config.Config.{Config}
-use Rattle.one_log.specs.Places.{Keeps}
-use Rattle.one_log.specs.Replicas.{IsDueAt, Leads, StandsFrom}
-use Rattle.one_log.specs.ReplicaState.{ReplicaState}
-use Rattle.one_log.specs.declared.store.TheConstants.{MOST_PLACES}
+use Rattle.replicated_log.specs.Places.{Keeps}
+use Rattle.replicated_log.specs.Replicas.{IsDueAt, Leads, StandsFrom}
+use Rattle.replicated_log.specs.ReplicaState.{ReplicaState}
+use Rattle.replicated_log.specs.declared.store.TheConstants.{MOST_PLACES}
 use Rattle.player.specs.Shared.{TurnLog}
 use Rattle.hall.specs.HallState.{HallState}
 use Rattle.hall.specs.Halls.{hall_of}

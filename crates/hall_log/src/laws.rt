@@ -2,10 +2,10 @@
 
 ghost use Rattle.std.specs.Prelude.{◌≡◌, ℕ, List, [], Option, false};
 ghost use Rattle.commands.specs.declared.config.Config.{Config};
-ghost use Rattle.one_log.specs.Groups.{IsDetermined};
-ghost use Rattle.one_log.specs.Places.{stands_in};
-ghost use Rattle.one_log.specs.Replicas.{IsReplica};
-ghost use Rattle.one_log.specs.ReplicaState.{ReplicaState};
+ghost use Rattle.replicated_log.specs.Groups.{IsDetermined};
+ghost use Rattle.replicated_log.specs.Places.{stands_in};
+ghost use Rattle.replicated_log.specs.Replicas.{IsReplica};
+ghost use Rattle.replicated_log.specs.ReplicaState.{ReplicaState};
 ghost use Rattle.hall.specs.HallState.{HallState};
 ghost use Rattle.hall.specs.Halls.{hall_of};
 ghost use Rattle.event_server.specs.Seats.{LoopTurn, Seating};
@@ -15,7 +15,7 @@ ghost use Rattle.hall_log.specs.Said.{TapeSays};
 ghost use Rattle.hall_log.specs.TapeState.{TapeState};
 
 use crate::machine::HallMachine;
-use one_log::{Store, law_of_agreement};
+use replicated_log::{Store, law_of_agreement};
 
 /// A law, which runs nothing: what a hall says to an entry, and the hall after it, are determined by the entry and the hall before it; so
 /// halls of one config that have applied a log up to one place are the same, whichever machines they are on.

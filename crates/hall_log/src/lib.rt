@@ -1,6 +1,6 @@
 //! A hall whose history is a log that several machines share.
 //!
-//! `HallMachine` is a hall as the machine of a `one_log::Replica`: an entry of the log is a first line, a token of its own, and then lines
+//! `HallMachine` is a hall as the machine of a `replicated_log::Replica`: an entry of the log is a first line, a token of its own, and then lines
 //! of commands, which are played over the hall in order (`HallApplies`). What the hall says is put on a `Tape`, which as a service says it
 //! again, to whoever asks for the same in the same order (`TapeSays`).
 //!

@@ -3,7 +3,7 @@
 ghost use Rattle.std.specs.Prelude.{◌≡◌};
 ghost use Rattle.hall_log.specs.Faults.{fault_of, fault_of_cause, fault_of_store};
 
-use one_log::{Cause, ServeFault, StoreFault};
+use replicated_log::{Cause, ServeFault, StoreFault};
 use std::error::Error;
 use std::fmt;
 use step_memory::Refusal;

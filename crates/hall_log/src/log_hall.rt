@@ -1,10 +1,10 @@
 //! A hall that follows a log.
 
 ghost use Rattle.std.specs.Prelude.{◌≡◌, ◌<◌, ◌≤◌, ◌+◌, ◌⊎◌, true, false, Ok, Err, OnOk, OnErr, IfOk, []};
-ghost use Rattle.one_log.specs.Places.{Contradicts, Keeps};
-ghost use Rattle.one_log.specs.Replicas.{IsDueAt};
-ghost use Rattle.one_log.specs.declared.serve_fault.Cause.TheVariants.{Busy};
-ghost use Rattle.one_log.specs.declared.serve_fault.ServeFault.TheVariants.{Unknown};
+ghost use Rattle.replicated_log.specs.Places.{Contradicts, Keeps};
+ghost use Rattle.replicated_log.specs.Replicas.{IsDueAt};
+ghost use Rattle.replicated_log.specs.declared.serve_fault.Cause.TheVariants.{Busy};
+ghost use Rattle.replicated_log.specs.declared.serve_fault.ServeFault.TheVariants.{Unknown};
 ghost use Rattle.hall.specs.Halls.{hall_of};
 ghost use Rattle.hall_log.specs.Entries.{HallApplies};
 ghost use Rattle.hall_log.specs.Hosted.{IsAtEnd};
@@ -14,7 +14,7 @@ use crate::machine::HallMachine;
 use crate::tape::Tape;
 use commands::Config;
 use hall::Hall;
-use one_log::{Cause, Replica, ServeFault, Store, StoreFault, law_of_following};
+use replicated_log::{Cause, Replica, ServeFault, Store, StoreFault, law_of_following};
 use std::alloc::Global;
 use std::marker::Model;
 use step_memory::Refusal;
@@ -34,7 +34,7 @@ impl<S: Store> Model for LogHall<S> {
 
     ghost Value = { FollowState S };
 
-    ghost use Rattle.one_log.specs.Replicas.{IsReplica};
+    ghost use Rattle.replicated_log.specs.Replicas.{IsReplica};
     ghost use Rattle.hall.specs.Halls.{hall_of};
     ghost use Rattle.hall_log.specs.Entries.{HallApplies};
 

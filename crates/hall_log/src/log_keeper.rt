@@ -2,7 +2,7 @@
 
 ghost use Rattle.std.specs.Prelude.{◌≡◌, ◌≢◌, ◌+◌, ◌≤◌, ◌<◌, [], true, false, Ok, OnOk, IfOk, All};
 ghost use Rattle.std.specs.String.{string_bytes};
-ghost use Rattle.one_log.specs.Places.{Keeps};
+ghost use Rattle.replicated_log.specs.Places.{Keeps};
 ghost use Rattle.hall_log.specs.Entries.{behind_first_line, first_line_of};
 ghost use Rattle.hall_log.specs.Hosted.{IsAtEnd, IsServed};
 ghost use Rattle.hall_log.specs.Said.{tape_of};
@@ -14,7 +14,7 @@ use crate::tape::Tape;
 use commands::Config;
 use event_server::{Ahead, Keep, Tally};
 use hall::Hall;
-use one_log::{Cause, MOST_BATCH, MOST_PLACES, ServeFault, Store, StoreFault};
+use replicated_log::{Cause, MOST_BATCH, MOST_PLACES, ServeFault, Store, StoreFault};
 use std::alloc::{AllocError, Global};
 
 /// What ends a line.

@@ -15,7 +15,7 @@ use Rattle.desk.specs.NamedAlone.{stepped_more, steps_of}
 use Rattle.desk.specs.NamedAmong.{goes_on, EndsSoon}
 use Rattle.desk.specs.Names.{begun_in}
 use Rattle.desk.proofs.NamedAmong.{names_soon_among}
-use Rattle.hall.specs.Halls.{hall_of, IsLawful}
+use Rattle.hall.specs.Halls.{hall_of, SatisfiesSpec}
 use Rattle.hall.specs.GoesOn.{GoesOn}
 use Rattle.hall.proofs.HallLaws.{goes_on as hall_goes_on, goes_by}
 use Rattle.hall.proofs.Histories.{history_run}
@@ -40,7 +40,7 @@ one_step p r accepted = let own : (p == p) ≡ true = (Decides-eqb p p).1 refl i
 
 -- so many steps of a session are in the history that it has seen, by the last of which it went on
 pub record HasGoneOn (c : Config) (id count : ℕ) (t : CallerState) : Type 0 where
-  lawful : IsLawful (hall_of c t.seen)
+  lawful : SatisfiesSpec (hall_of c t.seen)
   before : List Exchange
   said : ShownReply
   last : before ++ exchange (Step id) said ∷ [] ≡ t.seen
@@ -69,7 +69,7 @@ some_steps : (bounds : SnapBounds) (b : ℕ) → 1 ≤ steps_among bounds b
 some_steps bounds b = let k = mul-le 1 1 (most_proposals b + 1) (2 * bounds.scanning b + 1) (omega arith) (omega arith) in omega arith
 
 module _ (c : Config) (id turns : ℕ) (t : CallerState) where
-  ends_soon : IsLawful (hall_of c t.seen) → EndsSoon (desk_terms c.m c.limit (is_tree c.world)) (desk_bounds (is_tree c.world) c.m) t.seen
+  ends_soon : SatisfiesSpec (hall_of c t.seen) → EndsSoon (desk_terms c.m c.limit (is_tree c.world)) (desk_bounds (is_tree c.world) c.m) t.seen
   ends_soon lawful =
       let run : IsDeskRunOf c t.seen = history_run (hall_of c t.seen) lawful in
       names_soon_among (desk_terms c.m c.limit (is_tree c.world)) (desk_bounds (is_tree c.world) c.m) c.k t.seen run

@@ -2,7 +2,7 @@
 
 ghost use Rattle.std.specs.Prelude.{◌≡◌, ◌++◌, map, IfOk, IfErr};
 ghost use Rattle.hall_callers.specs.Kepts.{IsJust};
-ghost use Rattle.hall.specs.Halls.{IsLawful};
+ghost use Rattle.hall.specs.Halls.{SatisfiesSpec};
 
 use crate::lock::HallLock;
 use hall_callers::{Clerk, Closed, LockName, Session};
@@ -28,7 +28,7 @@ impl<L: LockName> HallLock<L> {
         sessions: Vec<Session<L>>,
         clerks: Vec<Clerk<L>>,
     ) -> Result<Closed<L>, Missing<L>>
-        ensures lawful { IfOk result (λ c. IsLawful c.hall) }
+        ensures lawful { IfOk result (λ c. SatisfiesSpec c.hall) }
         ensures config { IfOk result (λ c. c.hall.config ≡ L.config) }
         ensures all { IfOk result (λ c. c.whole.parts ≡ 1000001) }
         ensures just { IfOk result (λ c. IsJust c.hall.history (map (λ s. s.clerk.kept) sessions.items ++ map (λ c. c.kept) clerks.items)) }

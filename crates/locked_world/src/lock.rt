@@ -5,7 +5,7 @@ ghost use Rattle.commands.specs.Config.{gives_names};
 ghost use Rattle.hall_callers.specs.Acts.{event_of};
 ghost use Rattle.commands.specs.Replies.{with_view};
 ghost use Rattle.hall_callers.specs.Answers.{IsRefusedBegin, IsSomeOwner};
-ghost use Rattle.hall.specs.Halls.{hall_of, IsLawful};
+ghost use Rattle.hall.specs.Halls.{hall_of, SatisfiesSpec};
 ghost use Rattle.hall_callers.specs.Kepts.{IsOpened, IsTaken, IsTold};
 
 use commands::{Config, Event, Exchange, Reply};
@@ -46,7 +46,7 @@ impl<L: LockName> HallLock<L> {
 
     /// Opens a clerk, who has kept nothing. `Full` where 1,000,000 callers were opened.
     pub fn clerk<R: Wait>(&self, rt: &R, alloc: Global) -> Result<Clerk<L>, Refusal>
-        ensures new { IfOk result (λ c. (c.kept ≡ []) × IsLawful (hall_of L.config c.seen)) }
+        ensures new { IfOk result (λ c. (c.kept ≡ []) × SatisfiesSpec (hall_of L.config c.seen)) }
         ensures refused { IfErr result (λ why. (why ≡ Refusal.Full) ⊎ (why ≡ Refusal.NoMemory)) }
     {
         self.locked.lock(rt).open(alloc)

@@ -8,7 +8,7 @@ use lib.ListN.{get_elem?}
 use Rattle.splitter.specs.declared.stage.Stage.TheVariants.{Outside, WroteX, SawClear, WroteY, Gone}
 use Rattle.splitter.specs.Stage.{has_entered, has_set, x_after, y_after, stage_after}
 use Rattle.splitter.proofs.DoorKept.{kept}
-use Rattle.raw_parts.specs.SplitterRule.{IsLawful, IsShown, IsAmong, IsLast, Meets, Shows, IsKept, KeepsRule}
+use Rattle.raw_parts.specs.SplitterRule.{SatisfiesSpec, IsShown, IsAmong, IsLast, Meets, Shows, IsKept, KeepsRule}
 use Rattle.raw_parts.specs.SplitterSteps.{IsUnderRule, MovesOn, after_access, moved_on, turn_after, met_after}
 use Rattle.raw_parts.proofs.Numbered.{each_map}
 use Rattle.raw_parts.proofs.Views.{each_set, there_still, at_after}
@@ -27,7 +27,7 @@ entered_after p WroteX x y = elim (y == 0) as (λ t. has_entered (cond t SawClea
 entered_after p WroteY x y = elim (x == p) as (λ t. has_entered (cond t (Gone Stop) (Gone Down)) ≡ true) [ true ↦ refl | false ↦ refl ]
 entered_after p s x y = refl
 
-module _ (seats x y p : ℕ) (stage : ℕ → Stage) (h : IsLawful seats x y stage) (within : (0 < p) × (p ≤ seats)) where
+module _ (seats x y p : ℕ) (stage : ℕ → Stage) (h : SatisfiesSpec seats x y stage) (within : (0 < p) × (p ≤ seats)) where
   -- whoever stands in X has begun still
   begun_still : (s : Stage) → x ≢ 0 → has_entered (set_at stage p (stage_after p s x y) x) ≡ true
   begun_still s ne = set_at-cases stage p (stage_after p s x y) (λ v. has_entered v ≡ true) x (λ _. entered_after p s x y) (λ _. h.begun ne)
@@ -41,7 +41,7 @@ module _ (seats x y p : ℕ) (stage : ℕ → Stage) (h : IsLawful seats x y sta
   begun_after (Gone way) ne = begun_still (Gone way) ne
 
   -- the words and the stages after the access are lawful
-  lawful_after : (s : Stage) → stage p ≡ s → IsLawful seats (x_after p s x) (y_after s y) (set_at stage p (stage_after p s x y))
+  lawful_after : (s : Stage) → stage p ≡ s → SatisfiesSpec seats (x_after p s x) (y_after s y) (set_at stage p (stage_after p s x y))
   lawful_after s is = record {
     door = kept x y stage p h.door s is;
     seated = λ q. set_at-cases stage p (stage_after p s x y) (λ v. has_entered v ≡ true → (0 < q) × (q ≤ seats)) q
@@ -69,7 +69,7 @@ same_turn Outside turn old h = absurd (cc)
 same_turn s turn old h = refl
 
 -- what stands in X and Y, the stages and turns, and the visit of word p at the stage a, which makes an access
-module _ (n x y p : ℕ) (stage : ℕ → Stage) (turn : ℕ → ℕ) (lawful : IsLawful n x y stage) (last : IsLast x stage turn) (a : Stage) (is : stage p ≡ a) where
+module _ (n x y p : ℕ) (stage : ℕ → Stage) (turn : ℕ → ℕ) (lawful : SatisfiesSpec n x y stage) (last : IsLast x stage turn) (a : Stage) (is : stage p ≡ a) where
   -- the turn that a visit gets where it begins now
   abbrev pub next_turn : ℕ
   next_turn = suc (turn x)
@@ -112,7 +112,7 @@ module _ (n x y p : ℕ) (stage : ℕ → Stage) (turn : ℕ → ℕ) (lawful : 
       omega arith
 
 -- and where it begins now, it is the last
-pub last_after : (n x y p : ℕ) (stage : ℕ → Stage) (turn : ℕ → ℕ) (lawful : IsLawful n x y stage) (last : IsLast x stage turn) (a : Stage) (is : stage p ≡ a)
+pub last_after : (n x y p : ℕ) (stage : ℕ → Stage) (turn : ℕ → ℕ) (lawful : SatisfiesSpec n x y stage) (last : IsLast x stage turn) (a : Stage) (is : stage p ≡ a)
     → IsLast (x_after p a x) (stages n x y p stage turn lawful last a is) (turns n x y p stage turn lawful last a is)
 last_after n x y p stage turn lawful last Outside is q h ne =
     let was = begun_before n x y p stage turn lawful last Outside is q ne h in
@@ -207,7 +207,7 @@ module _ (n k x y acc tu met : ℕ) (stage : ℕ → Stage) (turn : ℕ → ℕ)
       (λ z. let b = ne_eqb x (own_word k) z in let t = h z in rw b ((t.0.0, t.0.1, z), t.1, t.2))
 
 -- who set Y where it is not clear, or 0
-setter_or_none : (n x y : ℕ) (stage : ℕ → Stage) → IsLawful n x y stage → (setter : ℕ) × (y ≢ 0 → has_set (stage setter) ≡ true)
+setter_or_none : (n x y : ℕ) (stage : ℕ → Stage) → SatisfiesSpec n x y stage → (setter : ℕ) × (y ≢ 0 → has_set (stage setter) ≡ true)
 setter_or_none n x y stage h = dite (ℕ_discrete y 0) (λ z. (0, λ ne. absurd (ne z))) (λ z. let w = h.door.setter z in (w.0, λ _. w.1))
 
 module _ (n m k seat acc tu met : ℕ) (words : List ℕ) (views : List SplitterView) (h : IsKept n words views) where

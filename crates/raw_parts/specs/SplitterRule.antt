@@ -1,5 +1,5 @@
 -- The rule of a splitter over raw words: how its two words and the views of all its seats agree between any two steps.
--- What agrees is what `DoorIsLawful` says of any splitter (Moir and Anderson 1995). At most one stopped, and then no other
+-- What agrees is what `DoorSatisfiesSpec` says of any splitter (Moir and Anderson 1995). At most one stopped, and then no other
 -- that is between its reading of Y and its end stands in X. Where Y is clear no one has set it and no one went right, else
 -- someone has set it. X names one who has not gone down, once anyone has begun. That the words of a table and the views
 -- of its seats keep this is this project's profile, and so is that a view names whom its visit met.
@@ -11,15 +11,15 @@ use Rattle.splitter.specs.declared.way.Way.TheVariants.{Right, Down}
 use Rattle.splitter.specs.declared.stage.Stage.{Stage}
 use Rattle.splitter.specs.declared.stage.Stage.TheVariants.{Gone}
 use Rattle.splitter.specs.Stage.{has_entered, has_set}
-use Rattle.splitter.specs.Invariant.{DoorIsLawful}
+use Rattle.splitter.specs.Invariant.{DoorSatisfiesSpec}
 use Rattle.raw_parts.specs.declared.splitter_view.Visit.{Visit}
 use Rattle.raw_parts.specs.declared.splitter_view.SplitterView.{SplitterView}
 use Rattle.raw_parts.specs.Numbered.{Each, NoneTwice}
 use Rattle.raw_parts.specs.SplitterView.{own_word, view_of}
 
 -- what stands in X and in Y agrees with how far the visit of each seat has come
-pub record IsLawful (seats x y : ℕ) (stage : ℕ → Stage) : Type 0 where
-  pub door : DoorIsLawful x y stage
+pub record SatisfiesSpec (seats x y : ℕ) (stage : ℕ → Stage) : Type 0 where
+  pub door : DoorSatisfiesSpec x y stage
   -- only what seats write into X enters, so 0 does not
   pub seated : (word : ℕ) → has_entered (stage word) ≡ true → (0 < word) × (word ≤ seats)
   -- where X is not 0, it names one who has begun
@@ -70,7 +70,7 @@ pub record IsKept (seats : ℕ) (words : List ℕ) (views : List SplitterView) :
   pub y : ℕ
   pub words_are : words ≡ x ∷ y ∷ []
   pub stage : ℕ → Stage
-  pub lawful : IsLawful seats x y stage
+  pub lawful : SatisfiesSpec seats x y stage
   pub turn : ℕ → ℕ
   pub last : IsLast x stage turn
   pub seat_of : ℕ → ℕ

@@ -1,6 +1,6 @@
 -- what a seat can tell of the end of a participant, and what two that tell so show
 use Rattle.std.proofs.Common.{◌≡◌, ℕ, ⊎_elim, Some, None, subst, sym, refl, ap, ◌∙◌, List, [], ◌∷◌, ◌++◌, length, set, Bool}
-use Rattle.record_machine.proofs.Common.{Size, no_size, Splits, Joins, Each, each_set, each_pushed, Call, Stand, SeatView, view_of, lone_view, RecordLaw, After, IsEnding, Shows, IsRunning, KeepsRun, IsUnderRule, WordsId}
+use Rattle.record_machine.proofs.Common.{Size, no_size, Splits, Joins, Each, each_set, each_pushed, Call, Stand, SeatView, view_of, lone_view, RecordLaw, Reaches, IsEnding, Shows, IsRunning, KeepsRun, IsUnderRule, WordsId}
 use mathlib.Core.Option.{some}
 use lib.ListN.{get_elem?}
 use Rattle.atomic_table.proofs.Lists.{at_set}
@@ -54,7 +54,7 @@ module _ {P R V O : Type 0} (law : RecordLaw P R V O) where
           (tells n (length (set s.views seat (view_of m [] (b ∷ [])))) m s.words h.out h.w h.r h.seat_of (a ∷ []) (own.0, tt)))
 
   -- after one list of calls both were told what the claims say
-  pub have_told : ((size : Size) (w : law.State) (r : List (Call law.X)) → law.Holds size w r → After law.machine (law.start_of size) w r) → (m : Size) (a b : ClaimId O) → a.words.size ≡ m → IsUnderRule law (view_of m [] (ending_at a.number a.outcome ∷ ending_at b.number b.outcome ∷ [])) → HaveTold law a b
+  pub have_told : ((size : Size) (w : law.State) (r : List (Call law.X)) → law.Holds size w r → Reaches law.machine (law.start_of size) w r) → (m : Size) (a b : ClaimId O) → a.words.size ≡ m → IsUnderRule law (view_of m [] (ending_at a.number a.outcome ∷ ending_at b.number b.outcome ∷ [])) → HaveTold law a b
   have_told known m a b same u =
       let all = (u.kept.shown u.seat _ u.there).endings in
       let holds = subst (λ (n : Size). law.Holds n u.kept.w u.kept.r) (sym same) u.kept.holds in

@@ -6,7 +6,7 @@ pub use Rattle.step_memory.proofs.SetAtLemmas.{set_at-same, set_at-other, set_at
 pub use Rattle.step_memory.specs.Count.{count_to}
 pub use Rattle.step_memory.specs.Calls.{Call, outcome_in, steps_of, begun_in}
 pub use Rattle.step_memory.specs.Calls.Call.{Began, Stepped}
-pub use Rattle.step_memory.specs.Machine.{After}
+pub use Rattle.step_memory.specs.Machine.{Reaches}
 pub use Rattle.step_memory.specs.Note.{ends}
 pub use Rattle.step_memory.specs.Steps.{ProgramSteps}
 pub use Rattle.step_memory.specs.declared.access.Access.{Access}

@@ -1,6 +1,6 @@
 -- what the rule says of participants that have ended
 use Rattle.std.proofs.Common.{◌≡◌, ◌-◌, ◌≤◌, ℕ, false, inl, inr, List, [], ◌∷◌, None, subst, sym, refl, ap, ◌∙◌, arith, is_some}
-use Rattle.record_machine.proofs.Common.{Me, SeatView, Size, own, view_of, lone_view, unbegun, unbegun_from, undealt_from, RecordLaw, Call, steps_of, After, IsStand, IsUnder, IsUnderRule, HasEnded, WordsId, ended_at}
+use Rattle.record_machine.proofs.Common.{Me, SeatView, Size, own, view_of, lone_view, unbegun, unbegun_from, undealt_from, RecordLaw, Call, steps_of, Reaches, IsStand, IsUnder, IsUnderRule, HasEnded, WordsId, ended_at}
 use Rattle.std.proofs.lemmas.Bool.Decides.{leb_tells}
 use Rattle.atomic_table.specs.Seated.{TableId}
 use Rattle.raw_parts.proofs.Numbered.{of_numbered}
@@ -31,7 +31,7 @@ module _ {P O : Type 0} where
       let first : v ≡ undealt_from dealt (size_in views) = cc in
       first ∙ ap (λ (x : DealerId). undealt_from x.dealt x.words.size) is ∙ ap (λ (x : WordsId). undealt_from d.dealt x.size) of
 
-module _ {P R V O : Type 0} (law : RecordLaw P R V O) (known : (size : Size) (w : law.State) (r : List (Call law.X)) → law.Holds size w r → After law.machine (law.start_of size) w r) where
+module _ {P R V O : Type 0} (law : RecordLaw P R V O) (known : (size : Size) (w : law.State) (r : List (Call law.X)) → law.Holds size w r → Reaches law.machine (law.start_of size) w r) where
   -- one list of calls led to both ends
   pub have_run : (m : Size) (a b : EndedRun P O) (written other_written slot other_slot : ℕ) (read other_read : List ℕ) → a.words.size ≡ m
       → IsUnderRule law (view_of m (ended_at a.number a.program a.outcome a.accesses a.entered written slot read ∷ ended_at b.number b.program b.outcome b.accesses b.entered other_written other_slot other_read ∷ []) []) → HaveRun law a b

@@ -2,7 +2,7 @@
 use Rattle.atomic_table.specs.Seated.{TableId}
 use Rattle.std.specs.Prelude.{ℕ, ◌≡◌, ◌≢◌, ◌≤◌, true, List, [], ◌∷◌, Some}
 use Rattle.step_memory.specs.Calls.{Call, steps_of, begun_in}
-use Rattle.step_memory.specs.Machine.{After}
+use Rattle.step_memory.specs.Machine.{Reaches}
 use Rattle.record_machine.specs.declared.seat_view.Stand.{Stand}
 use Rattle.record_machine.specs.declared.seat_view.SeatView.{SeatView}
 use Rattle.record_machine.specs.SeatViews.{own, no_size, lone_view}
@@ -119,7 +119,7 @@ module _ {P R V O : Type 0} (law : RecordLaw P R V O) where
     pub w : law.State
     pub r : List (Call law.X)
     pub holds : law.Holds e.words.size w r
-    pub after : After law.machine (law.start_of e.words.size) w r
+    pub after : Reaches law.machine (law.start_of e.words.size) w r
     pub stands : law.self w (own e.number) ≡ Some (record { identity = own e.number; program = e.program; ended = true })
     pub outcome_is : law.outcome_of (own e.number) r ≡ Some e.outcome
     pub accesses_are : e.accesses ≡ steps_of (own e.number) r
@@ -131,7 +131,7 @@ module _ {P R V O : Type 0} (law : RecordLaw P R V O) where
     pub w : law.State
     pub r : List (Call law.X)
     pub holds : law.Holds a.words.size w r
-    pub after : After law.machine (law.start_of a.words.size) w r
+    pub after : Reaches law.machine (law.start_of a.words.size) w r
     pub apart : a.number ≢ b.number
     pub one_stands : law.self w (own a.number) ≡ Some (record { identity = own a.number; program = a.program; ended = true })
     pub other_stands : law.self w (own b.number) ≡ Some (record { identity = own b.number; program = b.program; ended = true })
@@ -143,6 +143,6 @@ module _ {P R V O : Type 0} (law : RecordLaw P R V O) where
     pub w : law.State
     pub r : List (Call law.X)
     pub holds : law.Holds a.words.size w r
-    pub after : After law.machine (law.start_of a.words.size) w r
+    pub after : Reaches law.machine (law.start_of a.words.size) w r
     pub one : law.outcome_of (own a.number) r ≡ Some a.outcome
     pub other : law.outcome_of (own b.number) r ≡ Some b.outcome

@@ -9,7 +9,7 @@ use Rattle.step_memory.specs.declared.participant.Participant.{Participant}
 use Rattle.step_memory.specs.Note.{ends}
 use Rattle.step_memory.specs.Steps.{ProgramSteps, Spares}
 use Rattle.step_memory.specs.Calls.{Call, outcome_in, steps_of, begun_in}
-use Rattle.step_memory.specs.Machine.{Machine, After}
+use Rattle.step_memory.specs.Machine.{Machine, Reaches}
 use Rattle.record_machine.specs.declared.size.Size.{Size}
 
 -- The machine: its states and calls, where it starts, what stands in its registers, where each identity stands, what its calls told one at
@@ -114,7 +114,7 @@ module _ {P R V O : Type 0} (program : ProgramSteps P R V O) (law : RecordLaw P 
   -- `own`: each access of who has not ended is one that words can serve. `within`, `apart`: each register has a word of its own. `small`:
   -- there are few words. `long`, `spelled`: words spell what fits
   pub record IsSound : Type 0 where
-    pub after : (size : Size) (w : law.State) (r : List (Call law.X)) → law.Holds size w r → After law.machine (law.start_of size) w r
+    pub after : (size : Size) (w : law.State) (r : List (Call law.X)) → law.Holds size w r → Reaches law.machine (law.start_of size) w r
     pub fresh : (size : Size) → law.MayStart size → IsFresh size
     pub takes : (size : Size) (w : law.State) (r : List (Call law.X)) → law.Holds size w r → (p : ℕ) (o : Option (Participant P)) → p ≢ 0 → law.self w p ≡ o → GoesOn o →
         begun_in r + one_more o ≤ size.most → IsOnce size w r p o (program_at size p o)

@@ -4,7 +4,7 @@ pub use Rattle.step_memory.specs.declared.refusal.Refusal.{Refusal}
 pub use Rattle.step_memory.specs.declared.refusal.Refusal.TheVariants.{NotBegun, Finished, NoMemory}
 pub use Rattle.step_memory.specs.Calls.{lacked_memory, Call, steps_by}
 pub use Rattle.step_memory.specs.Calls.Call.{Stepped, Began}
-pub use Rattle.step_memory.specs.Machine.{After}
+pub use Rattle.step_memory.specs.Machine.{Reaches}
 pub use Rattle.step_memory.proofs.MachineLemmas.{call_leads_on}
 pub use Rattle.step_memory.proofs.SetAtLemmas.{set_at-same, set_at-other}
 pub use Rattle.step_memory.specs.View.{value_of, IsRising}

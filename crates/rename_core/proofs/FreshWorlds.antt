@@ -3,7 +3,7 @@ use Rattle.std.proofs.Common.{◌≡◌, ◌≤◌, ◌⊎◌, inl, ℕ, Bool, t
 use Rattle.rename_core.proofs.Common.{Refusal, NoMemory, KnownPlaces, WorldKind, RenameState, renaming}
 use Rattle.rename_core.specs.Machine.{IsFresh}
 use Rattle.rename_core.specs.RenameWorld.{fresh_world}
-use Rattle.step_memory.specs.Machine.{After, IsLawful}
+use Rattle.step_memory.specs.Machine.{Reaches, SatisfiesSpec}
 use Rattle.step_memory.specs.declared.refusal.Refusal.TheVariants.{OutOfRange}
 
 module _ {S R V U K : Type 0} (W : KnownPlaces S R V U K) (kind : WorldKind) (first : S) (most limit : ℕ) (new : W.ties.IsNew first) (room : W.most_of first ≡ most) where
@@ -12,11 +12,11 @@ module _ {S R V U K : Type 0} (W : KnownPlaces S R V U K) (kind : WorldKind) (fi
   are_fresh (Ok w) is = record { first = first; new = new; room = room; is = is }
   are_fresh (Err why) is = tt
 
-  pub are_started : 1 ≤ limit → limit ≤ 1000000 → (r : Result (RenameState S U K) Refusal) → IfOk r (λ w. w ≡ fresh_world first most limit) → IfOk r (λ w. After (renaming W kind) (first, limit) w [])
+  pub are_started : 1 ≤ limit → limit ≤ 1000000 → (r : Result (RenameState S U K) Refusal) → IfOk r (λ w. w ≡ fresh_world first most limit) → IfOk r (λ w. Reaches (renaming W kind) (first, limit) w [])
   are_started low high (Ok w) is = record { started = record { new = new; low = low; high = high }; run = rw room is }
   are_started low high (Err why) is = tt
 
-  pub are_lawful : ((w : RenameState S U K) → IsLawful (renaming W kind) w) → (r : Result (RenameState S U K) Refusal) → IfOk r (λ w. IsLawful (renaming W kind) w)
+  pub are_lawful : ((w : RenameState S U K) → SatisfiesSpec (renaming W kind) w) → (r : Result (RenameState S U K) Refusal) → IfOk r (λ w. SatisfiesSpec (renaming W kind) w)
   are_lawful law (Ok w) = law w
   are_lawful law (Err why) = tt
 

@@ -11,5 +11,5 @@ mod Clocked
 mod Names
 pub mod NamedPlaces
 mod FreshWorlds
-pub mod AfterCalls
+pub mod ReachesByCalls
 pub mod PlacesLaw

@@ -9,7 +9,7 @@ use Rattle.step_memory.specs.Calls.{reply_of}
 use Rattle.step_memory.proofs.ParticipantLemmas.{participant_of-put, identity_of}
 use Rattle.step_memory.proofs.StepLemmas.{going_after, lacks_or_not}
 use Rattle.snapshot_core.specs.SnapWorld.{SnapState, asked, clients_over, told, scan_refusal_by, update_refusal_by, snap_answer_by, after_snap_step}
-use Rattle.rename_core.specs.Locality.{client_of, round_of, wished, asked_unless, access_of, got_in, follow_by, IsLocal}
+use Rattle.rename_core.specs.Locality.{client_of, round_of, wished, asked_unless, access_of, got_in, follow_by, ChangesOnly}
 
 -- who is put in is found there, and no other has changed
 put_own : {P : Type 0} (ps : List (Participant P)) (new v : Participant P) → participant_of new.identity ps ≡ Some v → participant_of new.identity (with_participant new ps) ≡ Some new
@@ -80,7 +80,7 @@ module _ {S R V U K : Type 0} (W : KnownPlaces S R V U K) where
 
   module _ (spared : (m : S) (a : Access R V) (x : R) → Spares a x → W.memory.register (W.memory.after m a) x ≡ W.memory.register m x) (w : RenameState S U K) (p : ℕ) where
     -- what is refused changes nothing
-    pub refused_local : (why : Refusal) → IsLocal W p w w (Err why)
+    pub refused_local : (why : Refusal) → ChangesOnly W p w w (Err why)
     refused_local why = record {
       access = λ c h. tt;
       reply = λ c r h k. tt;
@@ -132,7 +132,7 @@ module _ {S R V U K : Type 0} (W : KnownPlaces S R V U K) where
       follow_is : (d : Client U K) (r : Round) → c ≡ d → v.program ≡ r → follow ≡ follow_by W p w.limit d r (got_in W w.snap.memory d)
       follow_is d r e f = ap (λ (x : SnapReply). followed v.program p x w.limit) a.answer ∙ ap (λ (x : Client U K). follow_by W p w.limit x v.program (got_in W w.snap.memory x)) e ∙ ap (λ (x : Round). follow_by W p w.limit d x (got_in W w.snap.memory d)) f
 
-      pub accepted_local : IsLocal W p w (after_follow W w p follow) (Ok follow.reply)
+      pub accepted_local : ChangesOnly W p w (after_follow W w p follow) (Ok follow.reply)
       accepted_local = record {
         access = λ d h. memory_is ∙ ap (λ (x : Client U K). W.memory.after w.snap.memory (access_of W x)) (client_is d h);
         reply = λ d r h k. ap (λ (x : Follow). x.reply) (follow_is d r (client_is d h) (round_is r k));
@@ -145,24 +145,24 @@ module _ {S R V U K : Type 0} (W : KnownPlaces S R V U K) where
       }
 
     module _ (v : Participant Round) (here : participant_of p w.rounds ≡ Some v) where
-      told_local : (answer : Result SnapReply Refusal) → snap_told W w p ≡ answer → IsLocal W p w (after_told W w p v.program answer) (answer_told W w p v.program answer)
+      told_local : (answer : Result SnapReply Refusal) → snap_told W w p ≡ answer → ChangesOnly W p w (after_told W w p v.program answer) (answer_told W w p v.program answer)
       told_local (Ok reply) e = accepted_local v here reply (accepted w.snap p reply e)
       told_local (Err why) e = refused_local why
 
-      open_local : (why : Option Refusal) → IsLocal W p w (after_open W w p v.program why) (answer_open W w p v.program why)
+      open_local : (why : Option Refusal) → ChangesOnly W p w (after_open W w p v.program why) (answer_open W w p v.program why)
       open_local None = told_local (snap_told W w p) refl
       open_local (Some why) = refused_local why
 
     -- every step is local
-    pub step_local : IsLocal W p w (after_rename_step W w p) (rename_answer W w p)
-    step_local = elim (participant_of p w.rounds) as (λ z. participant_of p w.rounds ≡ z → IsLocal W p w (after_by W w p (option_map (λ u. u.program) z)) (answer_by W w p (option_map (λ u. u.program) z))) [
+    pub step_local : ChangesOnly W p w (after_rename_step W w p) (rename_answer W w p)
+    step_local = elim (participant_of p w.rounds) as (λ z. participant_of p w.rounds ≡ z → ChangesOnly W p w (after_by W w p (option_map (λ u. u.program) z)) (answer_by W w p (option_map (λ u. u.program) z))) [
       | None ↦ λ h. refused_local NotBegun
       | Some v ↦ λ h. open_local v h (stage_refusal v.program.stage)
     ] refl
 
   -- and so is every call of it
   pub local_call : ((m : S) (a : Access R V) (x : R) → Spares a x → W.memory.register (W.memory.after m a) x ≡ W.memory.register m x) → (w new : RenameState S U K) (p : ℕ) (reply : Result StepReply Refusal) →
-      (reply ≢ Err NoMemory → new ≡ after_rename_step W w p) → (reply ≢ Err NoMemory → reply ≡ rename_answer W w p) → (reply ≡ Err NoMemory → new ≡ w) → IsLocal W p w new reply
+      (reply ≢ Err NoMemory → new ≡ after_rename_step W w p) → (reply ≢ Err NoMemory → reply ≡ rename_answer W w p) → (reply ≡ Err NoMemory → new ≡ w) → ChangesOnly W p w new reply
   local_call spared w new p reply state answer kept = elim (lacks_or_not reply) [
     | inl e ↦ rw (kept e, e) (refused_local spared w p NoMemory)
     | inr n ↦ rw (state n, answer n) (step_local spared w p)

@@ -3,7 +3,7 @@ use Rattle.std.proofs.Common.{◌≡◌, ℕ, ◌+◌, ◌*◌, ◌==◌, true, 
 use Rattle.std.proofs.lemmas.Nat.{mul-le}
 use Rattle.rename_core.proofs.Common.{PlacesLaws, KnownPlaces, is_tree, WorldKind, Allows, after, new_object, RenameState, name_in, owner_by, shown_by}
 use Rattle.snapshot_core.specs.SnapWorld.{SnapState, may_lack_memory}
-use Rattle.step_memory.specs.Machine.{IsLawful, RefusesWhereDue, IsProved}
+use Rattle.step_memory.specs.Machine.{SatisfiesSpec, RefusesWhereDue, IsProved}
 use Rattle.step_memory.proofs.MachineLemmas.{machine_proved}
 use Rattle.step_memory.proofs.RunLemmas.{run_answers}
 use Rattle.rename_core.specs.Machine.{renaming, IsName, IsOwnerOf, IsLastMoment, AnswersUnrefused, MakesOwnAccess, terms_of}
@@ -19,7 +19,7 @@ module _ {S R V U K : Type 0} (W : KnownPlaces S R V U K) (laws : PlacesLaws W) 
   by_collects : (most : ℕ) → MayBeNamed W (is_tree kind) most (all_reads most)
   by_collects most = record { laws = laws; fits = λ b some l. omega arith; may_grow = λ s p h. may_grow s.snap p h; at_once = at_once; longer = λ b. mul-le (b + 1) (W.ties.reads most b) (b + 1 + 1) (W.ties.reads most (b + 1)) (omega arith) (laws.rising most b) }
 
-  pub law_always : (w : RenameState S U K) → IsLawful (renaming W kind) w
+  pub law_always : (w : RenameState S U K) → SatisfiesSpec (renaming W kind) w
   law_always w first r a = rename_law W kind (all_reads (W.most_of first.0)) first (by_collects (W.most_of first.0)) w r a
 
   due_always : (w : RenameState S U K) → RefusesWhereDue (renaming W kind) w

@@ -1,11 +1,11 @@
 -- every renaming world keeps the law of renaming
 use Rattle.std.proofs.Common.{◌≤◌, None, is_some, IsOk, ◌≡◌, ◌+◌, false, ℕ, ◌==◌, Bool, true, List, [], ◌∷◌, ◌++◌, Option, Some, refl, sym, ap, ◌∙◌, arith, option_map, option_and_then}
-use Rattle.rename_core.proofs.Common.{Call, Began, Stepped, Participant, NotBegun, participant_of, Run, PlacesLaws, BoundsScans, KnownPlaces, Client, StandsAt, GoesBusy, goes_busy, client_of, access_of, snapshot, SnapCall, snap_next, IsSnapReply, is_tree, WorldKind, StepReply, Round, Stage, Placing, Proposing, Looking, Settled, Over, After, RenameState, name_in, name_by, owner_by, shown_by, step_refusal, rename_answer, may_lack, name_at, stage_refusal, standing_by}
+use Rattle.rename_core.proofs.Common.{Call, Began, Stepped, Participant, NotBegun, participant_of, Run, PlacesLaws, BoundsScans, KnownPlaces, Client, StandsAt, GoesBusy, goes_busy, client_of, access_of, snapshot, SnapCall, snap_next, IsSnapReply, is_tree, WorldKind, StepReply, Round, Stage, Placing, Proposing, Looking, Settled, Over, Reaches, RenameState, name_in, name_by, owner_by, shown_by, step_refusal, rename_answer, may_lack, name_at, stage_refusal, standing_by}
 use Rattle.step_memory.proofs.RunLemmas.{run_more, run_keeps, run_one}
 use Rattle.snapshot_core.specs.SnapWorld.{SnapState, IsAccessFor}
 use Rattle.snapshot_core.proofs.Following.{own_access_holds}
 use Rattle.snapshot_core.specs.Snapshot.{IsMoment, SnapObject, SnapBounds, bounds_over, observed, Allows as SnapAllows, new_object as new_snap}
-use Rattle.rename_core.specs.Law.{KeepsRenameLaw}
+use Rattle.rename_core.specs.Law.{RenameSpec}
 use Rattle.rename_core.specs.Pace.{Pace, InTime, new_pace, paced, IsPaced}
 use Rattle.rename_core.specs.Machine.{next, IsReply, fresh_over, IsRenameStart, renaming, terms_of}
 use Rattle.rename_core.specs.RenameObject.{RenameTerms, RenameObject, new_object, Allows, after, IsRun, IsOwner}
@@ -114,7 +114,7 @@ module _ {S R V U K : Type 0} (W : KnownPlaces S R V U K) (kind : WorldKind) (sc
 
 -- every world after some calls keeps the law
 module _ {S R V U K : Type 0} (W : KnownPlaces S R V U K) (kind : WorldKind) (scanning : ℕ → ℕ) (first : S × ℕ) (named : MayBeNamed W (is_tree kind) (W.most_of first.0) scanning)
-    (w : RenameState S U K) (r : List (Call StepReply)) (a : After (renaming W kind) first w r) where
+    (w : RenameState S U K) (r : List (Call StepReply)) (a : Reaches (renaming W kind) first w r) where
   -- the world has room for as many as its places have
   pub most_is : W.most_of first.0 ≡ w.snap.most
   most_is = sym (most_after W (fresh_over W first) r w a.run)
@@ -122,7 +122,7 @@ module _ {S R V U K : Type 0} (W : KnownPlaces S R V U K) (kind : WorldKind) (sc
   k : Holds W kind scanning first named a.started w r
   k = holds W kind scanning first named a.started w r a.run
 
-  pub rename_law : KeepsRenameLaw (terms_of W kind first) (bounds_over W first.0 scanning) r
+  pub rename_law : RenameSpec (terms_of W kind first) (bounds_over W first.0 scanning) r
   rename_law = record {
     object = k.object;
     run = k.run;
@@ -177,7 +177,7 @@ module _ {S R V U K : Type 0} (W : KnownPlaces S R V U K) (kind : WorldKind) (sc
   joined_law = k.tied.joined
 
   -- the calls of the snapshot object that have led to this
-  pub snap_after : (calls : List SnapCall) × After (snapshot W) first.0 w.snap calls
+  pub snap_after : (calls : List SnapCall) × Reaches (snapshot W) first.0 w.snap calls
   snap_after = (k.tied.tie.calls, k.tied.tie.world)
 
   -- a step of one who has something to do is answered

@@ -12,7 +12,7 @@ use Rattle.rename_core.specs.Ends.{EndsAmong}
 -- The replies are those of the renaming object, in order. No two have one name, and where b have begun, each name is from
 -- 1 to 2b - 1. One identity's replies come in their order, and in time; and who
 -- steps alone is soon named; and rounds end, whoever steps
-pub record KeepsRenameLaw (terms : RenameTerms) (bounds : SnapBounds) (r : List (Call StepReply)) : Type 0 where
+pub record RenameSpec (terms : RenameTerms) (bounds : SnapBounds) (r : List (Call StepReply)) : Type 0 where
   pub object : RenameObject
   pub run : IsRun terms r object
   pub one_to_one : AreDistinct object.name

@@ -52,7 +52,7 @@ module _ {S R V U K : Type 0} (W : KnownPlaces S R V U K) where
 
   -- an accepted step of p makes the one access that p's own client names; its reply and p's new local state are functions
   -- of p's local state, the round limit and the answer; and nothing else changes
-  pub record IsLocal (p : ℕ) (old new : RenameState S U K) (result : Result StepReply Refusal) : Type 0 where
+  pub record ChangesOnly (p : ℕ) (old new : RenameState S U K) (result : Result StepReply Refusal) : Type 0 where
     pub access : (c : Client U K) → client_of p old ≡ Some c → OnOk result (new.snap.memory ≡ W.memory.after old.snap.memory (access_of c))
     pub reply : (c : Client U K) (r : Round) → client_of p old ≡ Some c → round_of p old ≡ Some r → IfOk result (λ x. x ≡ (follow_by p old.limit c r (got_in old.snap.memory c)).reply)
     pub client : (c : Client U K) (r : Round) → client_of p old ≡ Some c → round_of p old ≡ Some r → OnOk result (client_of p new ≡ Some (client_by p old.limit c r (got_in old.snap.memory c)))

@@ -4,7 +4,7 @@ use Rattle.step_memory.specs.declared.refusal.Refusal.TheVariants.{NoMemory}
 use Rattle.step_memory.specs.World.{begin_refusal, done_unless}
 use Rattle.step_memory.specs.Calls.{Call, lacked_memory}
 use Rattle.step_memory.specs.Calls.Call.{Began, Stepped}
-use Rattle.step_memory.specs.Machine.{Machine, After, Always}
+use Rattle.step_memory.specs.Machine.{Machine, Reaches, OnEveryHistory}
 use Rattle.step_memory.specs.Runs.{AnswersAsDue}
 use Rattle.snapshot_core.specs.declared.client.Client.{Client}
 use Rattle.snapshot_core.specs.Snapshot.{SnapBounds, IsMoment, bounds_over}
@@ -13,7 +13,7 @@ use Rattle.commands.specs.declared.kind.WorldKind.{WorldKind}
 use Rattle.rename_core.specs.Reply.{StepReply}
 use Rattle.commands.specs.Config.{is_tree}
 use Rattle.rename_core.specs.Locality.{client_of, round_of, access_of}
-use Rattle.rename_core.specs.Law.{KeepsRenameLaw}
+use Rattle.rename_core.specs.Law.{RenameSpec}
 use Rattle.snapshot_core.specs.Places.{KnownPlaces}
 use Rattle.rename_core.specs.RenameObject.{RenameTerms, RenameObject, IsRun, IsOwner, Allows, after, new_object}
 use Rattle.rename_core.specs.RenameState.{RenameState}
@@ -70,17 +70,17 @@ module _ {S R V U K : Type 0} (W : KnownPlaces S R V U K) where
       first = fresh_over;
       next = next;
       IsReply = IsReply;
-      KeepsLaw = λ first r. KeepsRenameLaw (terms_of kind first) (bounds_for first) r;
+      Spec = λ first r. RenameSpec (terms_of kind first) (bounds_for first) r;
       RefusesAsDue = λ first r. AnswersAsDue after (Allows (terms_of kind first)) new_object r;
     }
 
     -- every list of calls that leads to this world keeps the law within these bounds, which go by the most participants
-    abbrev pub IsLawfulWithin : (ℕ → SnapBounds) → RenameState S U K → Type 0
-    IsLawfulWithin bounds w = Always renaming (λ first r. KeepsRenameLaw (terms_of kind first) (bounds (W.most_of first.0)) r) w
+    abbrev pub SatisfiesSpecWithin : (ℕ → SnapBounds) → RenameState S U K → Type 0
+    SatisfiesSpecWithin bounds w = OnEveryHistory renaming (λ first r. RenameSpec (terms_of kind first) (bounds (W.most_of first.0)) r) w
 
     -- of the object that may answer every list of calls that leads to this world
     abbrev pub InObject : (RenameObject → Type 0) → RenameState S U K → Type 0
-    InObject Holds w = Always renaming (λ first r. (o : RenameObject) → IsRun (terms_of kind first) r o → Holds o) w
+    InObject Holds w = OnEveryHistory renaming (λ first r. (o : RenameObject) → IsRun (terms_of kind first) r o → Holds o) w
 
     -- what is answered of names agrees with the replies: the name of an identity, the owner of a name, the last moment
     abbrev pub IsName : RenameState S U K → ℕ → Option ℕ → Type 0
@@ -94,17 +94,17 @@ module _ {S R V U K : Type 0} (W : KnownPlaces S R V U K) where
 
     -- after every list of calls, p's step may want memory only where this holds
     abbrev pub LacksOnly : RenameState S U K → ℕ → Type 0 → Type 0
-    LacksOnly w p Holds = Always renaming (λ first r. may_lack W w p ≡ true → Holds) w
+    LacksOnly w p Holds = OnEveryHistory renaming (λ first r. may_lack W w p ≡ true → Holds) w
 
     -- p's next access is one for what it has to do
     abbrev pub MakesOwnAccess : RenameState S U K → ℕ → Type 0
-    MakesOwnAccess w p = Always renaming (λ first r. (c : Client U K) → client_of p w ≡ Some c → IsAccessFor W w.snap.memory c c.pending (access_of W c)) w
+    MakesOwnAccess w p = OnEveryHistory renaming (λ first r. (c : Client U K) → client_of p w ≡ Some c → IsAccessFor W w.snap.memory c c.pending (access_of W c)) w
 
     -- p's step is answered where its round does not refuse it
     abbrev pub AnswersUnrefused : RenameState S U K → ℕ → Type 0
-    AnswersUnrefused w p = Always renaming (λ first r. step_refusal w p ≡ None → IsOk (rename_answer W w p)) w
+    AnswersUnrefused w p = OnEveryHistory renaming (λ first r. step_refusal w p ≡ None → IsOk (rename_answer W w p)) w
 
     -- after every two lists of calls, where worlds are of one size, p would begin as the same
     abbrev pub BeginsTheSame : ℕ → Type 0
-    BeginsTheSame p = (w x : RenameState S U K) (first other : S × ℕ) (r s : List (Call StepReply)) → After renaming first w r → After renaming other x s → w.snap.most ≡ x.snap.most →
+    BeginsTheSame p = (w x : RenameState S U K) (first other : S × ℕ) (r s : List (Call StepReply)) → Reaches renaming first w r → Reaches renaming other x s → w.snap.most ≡ x.snap.most →
         begin_refusal w.snap p ≡ None → begin_refusal x.snap p ≡ None → (client_of p (after_rename_begin W w p) ≡ client_of p (after_rename_begin W x p)) × (round_of p (after_rename_begin W w p) ≡ round_of p (after_rename_begin W x p))

@@ -10,7 +10,7 @@ ghost use Rattle.snapshot_places.specs.TreeTies.{tree_places};
 ghost use Rattle.rename_core.specs.Alone.{steps_alone};
 ghost use Rattle.rename_core.specs.Ends.{steps_among};
 ghost use Rattle.proposal_rounds.specs.Rounds.{most_proposals};
-ghost use Rattle.rename_core.specs.Machine.{renaming, KeepsSizes, AnswersUnrefused, IsLawfulWithin, LacksOnly, BeginsTheSame};
+ghost use Rattle.rename_core.specs.Machine.{renaming, KeepsSizes, AnswersUnrefused, SatisfiesSpecWithin, LacksOnly, BeginsTheSame};
 ghost use Rattle.step_memory.specs.Machine.{IsProved};
 ghost use Rattle.rename_core.specs.RenameState.{RenameState};
 ghost use Rattle.rename_core.specs.RenameWorld.{may_lack};
@@ -40,7 +40,7 @@ pub fn law_of_renaming_calls<W: RenamePlaces<A>, A: Allocator>()
 /// a proposal within one step more; and of m, one who steps alone is named within 4m + 11G + 1. No step wants memory, and
 /// what `begin` gives is a function of the identity and of the most participants alone.
 pub fn grid_rename_law<A: Allocator + Clone>(world: &RenameWorld<Grid<A>, A>)
-    ensures law { IsLawfulWithin grid_places kind.Rename grid_bounds world.now }
+    ensures law { SatisfiesSpecWithin grid_places kind.Rename grid_bounds world.now }
     ensures ample { (id : ℕ) → may_lack grid_places world.now id ≡ false }
     ensures alike { (id : ℕ) → BeginsTheSame grid_places kind.Rename id }
 {
@@ -52,7 +52,7 @@ pub fn grid_rename_law<A: Allocator + Clone>(world: &RenameWorld<Grid<A>, A>)
 /// within one step more; and of m, one who steps alone is named within 5m + 11(6m - 2) + 1. Only a step that makes a node
 /// may want memory, and what `begin` gives is a function of the identity and of the most participants alone.
 pub fn tree_rename_law<A: Allocator + Clone>(world: &RenameWorld<TreePlaces<A>, A>)
-    ensures law { IsLawfulWithin tree_places kind.Tree tree_bounds world.now }
+    ensures law { SatisfiesSpecWithin tree_places kind.Tree tree_bounds world.now }
     ensures makes { (id : ℕ) → LacksOnly tree_places kind.Tree world.now id (MakesNode world.now.snap id) }
     ensures alike { (id : ℕ) → BeginsTheSame tree_places kind.Tree id }
 {
@@ -63,7 +63,7 @@ pub fn tree_rename_law<A: Allocator + Clone>(world: &RenameWorld<TreePlaces<A>, 
 /// renaming, after every list of calls: nobody takes a step to its place, and a view comes within m(m + 1) steps. No step
 /// wants memory.
 pub fn fixed_rename_law<A: Allocator>(world: &RenameWorld<Fixed<A>, A>)
-    ensures law { IsLawfulWithin fixed_places kind.Rename fixed_bounds world.now }
+    ensures law { SatisfiesSpecWithin fixed_places kind.Rename fixed_bounds world.now }
     ensures ample { (id : ℕ) → may_lack fixed_places world.now id ≡ false }
 {
     let _world = world;

@@ -5,9 +5,9 @@ ghost use Rattle.step_memory.specs.Participant.{AreDistinct, index_of, program_o
 ghost use Rattle.step_memory.specs.World.{begin_refusal, done_unless};
 ghost use Rattle.step_memory.specs.Calls.Call.{Began, Stepped};
 ghost use Rattle.commands.specs.Config.{is_played_over, most_in};
-ghost use Rattle.rename_core.specs.Locality.{IsLocal};
+ghost use Rattle.rename_core.specs.Locality.{ChangesOnly};
 ghost use Rattle.rename_core.specs.Machine.{renaming, IsFresh, MakesOwnAccess, IsName, IsOwnerOf, IsLastMoment};
-ghost use Rattle.step_memory.specs.Machine.{After, IsLawful, LeadsOn};
+ghost use Rattle.step_memory.specs.Machine.{Reaches, SatisfiesSpec, Extends};
 ghost use Rattle.rename_core.specs.Round.{standing_by};
 ghost use Rattle.rename_core.specs.Reply.{outcome_with};
 ghost use Rattle.rename_core.specs.RenameWorld.{fresh_world, step_refusal, refusal_by, name_in, name_by, owner_by, shown_with, shown_by, after_rename_begin, rename_answer, after_rename_step, LacksMemory};
@@ -208,13 +208,13 @@ where
         ensures no_memory { result ≡ Err Refusal.NoMemory → LacksMemory ⟦<W as Known>⟧.places self.old id }
 
         // The law, over every list of calls and replies that the world may be after.
-        ensures after { LeadsOn (renaming ⟦<W as Known>⟧.places W.world) self.old self.new (Stepped id result) }
-        ensures law { IsLawful (renaming ⟦<W as Known>⟧.places W.world) self.new }
+        ensures after { Extends (renaming ⟦<W as Known>⟧.places W.world) self.old self.new (Stepped id result) }
+        ensures law { SatisfiesSpec (renaming ⟦<W as Known>⟧.places W.world) self.new }
 
         // Reply and own state are functions of the own state and the access's answer, and nothing else changes. After every
         // list of calls the access is one for what the participant does: on its way to a place a read, a write or none, which
         // leaves each segment as it is, in a scan a read, at the end of an update the write of its own segment.
-        ensures local { IsLocal ⟦<W as Known>⟧.places id self.old self.new result }
+        ensures local { ChangesOnly ⟦<W as Known>⟧.places id self.old self.new result }
         ensures own { MakesOwnAccess ⟦<W as Known>⟧.places W.world self.old id }
     {
         let mut view = View::new();
@@ -229,9 +229,9 @@ where
         ensures state { result ≢ Err Refusal.NoMemory → self.new ≡ after_rename_step ⟦<W as Known>⟧.places self.old id }
         ensures refused { OnErr result (self.new ≡ self.old) }
         ensures no_memory { result ≡ Err Refusal.NoMemory → LacksMemory ⟦<W as Known>⟧.places self.old id }
-        ensures after { LeadsOn (renaming ⟦<W as Known>⟧.places W.world) self.old self.new (Stepped id (outcome_with result view.new)) }
-        ensures law { IsLawful (renaming ⟦<W as Known>⟧.places W.world) self.new }
-        ensures local { IsLocal ⟦<W as Known>⟧.places id self.old self.new (outcome_with result view.new) }
+        ensures after { Extends (renaming ⟦<W as Known>⟧.places W.world) self.old self.new (Stepped id (outcome_with result view.new)) }
+        ensures law { SatisfiesSpec (renaming ⟦<W as Known>⟧.places W.world) self.new }
+        ensures local { ChangesOnly ⟦<W as Known>⟧.places id self.old self.new (outcome_with result view.new) }
         ensures own { MakesOwnAccess ⟦<W as Known>⟧.places W.world self.old id }
     {
         self.take_step(id, view)
@@ -263,8 +263,8 @@ where
         ensures no_access { self.new.snap.memory ≡ self.old.snap.memory }
 
         // The law, over every list of calls and replies that the world may be after.
-        ensures after { LeadsOn (renaming ⟦<W as Known>⟧.places W.world) self.old self.new (Began id result) }
-        ensures law { IsLawful (renaming ⟦<W as Known>⟧.places W.world) self.new }
+        ensures after { Extends (renaming ⟦<W as Known>⟧.places W.world) self.old self.new (Began id result) }
+        ensures law { SatisfiesSpec (renaming ⟦<W as Known>⟧.places W.world) self.new }
     {
         self.take_begin(id)
     }
@@ -283,8 +283,8 @@ where
         ensures fresh { IfOk result (λ w. IsFresh ⟦<W as Known>⟧.places config.m config.limit w) }
         ensures out_of_range { result ≡ Err Refusal.OutOfRange ↔ (is_played_over config.world W.world ≡ false) }
         ensures only { IfErr result (λ why. (why ≡ Refusal.NoMemory) ⊎ (why ≡ Refusal.OutOfRange)) }
-        ensures after { IfOk result (λ w. After (renaming ⟦<W as Known>⟧.places W.world) (W.empty_for config.m, config.limit) w []) }
-        ensures law { IfOk result (λ w. IsLawful (renaming ⟦<W as Known>⟧.places W.world) w) }
+        ensures after { IfOk result (λ w. Reaches (renaming ⟦<W as Known>⟧.places W.world) (W.empty_for config.m, config.limit) w []) }
+        ensures law { IfOk result (λ w. SatisfiesSpec (renaming ⟦<W as Known>⟧.places W.world) w) }
     {
         if !config.world.is_played_over(W::world()) {
             return Err(Refusal::OutOfRange);

@@ -6,7 +6,7 @@ use Rattle.std.proofs.Math.Nat.{mul-le-mul}
 use Rattle.std.proofs.Math.Pow.{pow_mono}
 use Rattle.step_memory.specs.Calls.{Call, lacked_memory}
 use Rattle.step_memory.specs.World.{begin_refusal, done_unless}
-use Rattle.step_memory.specs.Machine.{After}
+use Rattle.step_memory.specs.Machine.{Reaches}
 use Rattle.step_memory.proofs.MachineLemmas.{call_leads_on}
 use Rattle.snapshot_core.specs.Machine.{snapshot}
 use Rattle.snapshot_core.specs.declared.client.Client.{Client}
@@ -48,7 +48,7 @@ use Rattle.bit_allocator.specs.Pool.{enter_answer, probe_answer, number_answer, 
 use Rattle.commands.specs.declared.event.Event.TheVariants as event
 use Rattle.commands.specs.declared.reply.Reply.TheVariants as reply
 use Rattle.desk.specs.Desk.{desk_reply, IsAfterDesk}
-use Rattle.desk.specs.DeskCalls.{DeskCall, AfterDesk, rename_calls}
+use Rattle.desk.specs.DeskCalls.{DeskCall, ReachesDesk, rename_calls}
 use Rattle.desk.specs.DeskState.{DeskState}
 use Rattle.desk.specs.DeskValue.DeskValue.{OverGrid, OverTree}
 use Rattle.desk.specs.DeskRules.{reply_over, fetched}
@@ -77,7 +77,7 @@ module _ {S R V U K : Type 0} (W : KnownPlaces S R V U K) (laws : PlacesLaws W) 
   -- some calls of the snapshot object lead here
   record ComesFrom (first : S) (s : SnapState S U K) : Type 0 where
     calls : List SnapCall
-    after : After (snapshot W) first s calls
+    after : Reaches (snapshot W) first s calls
 
   called : (first : S) (s : SnapState S U K) (h : SnapCall) → ComesFrom first s → IsSnapReply W s h → ComesFrom first (snap_next W s h)
   called first s h k right = record { calls = k.calls ++ h ∷ []; after = call_leads_on (snapshot W) s (snap_next W s h) h refl right first k.calls k.after }
@@ -114,7 +114,7 @@ module _ {S R V U K : Type 0} (W : KnownPlaces S R V U K) (laws : PlacesLaws W) 
   run_so first w u [] k e = subst (λ (x : RenameState S U K). ComesFrom first x.snap) (sym e) k
   run_so first w u (h ∷ r) k e = run_so first (next W w h) u r (next_so first w h k) e.1
 
-  after_so : (kind : WorldKind) (w : RenameState S U K) (first : S × ℕ) (r : List (Call StepReply)) → After (renaming W kind) first w r → ComesFrom first.0 w.snap
+  after_so : (kind : WorldKind) (w : RenameState S U K) (first : S × ℕ) (r : List (Call StepReply)) → Reaches (renaming W kind) first w r → ComesFrom first.0 w.snap
   after_so kind w first r a = run_so first.0 _ w r (record { calls = []; after = record { started = tt; run = refl } }) a.run
 
   -- a step that tells a place is one of the snapshot object that does
@@ -151,7 +151,7 @@ module _ {S R V U K : Type 0} (W : KnownPlaces S R V U K) (laws : PlacesLaws W) 
           | Some v ↦ λ is e. low s.memory (length s.participants) (ways_of s.participants) consistent p v.program.walker (ap way_now is) place e
         ] refl
 
-    place_low : (kind : WorldKind) (w : RenameState S U K) (first : S × ℕ) (r : List (Call StepReply)) → After (renaming W kind) first w r → (p place : ℕ) → rename_answer W w p ≡ Ok (step.Placed place) → place < 2 ^ 64
+    place_low : (kind : WorldKind) (w : RenameState S U K) (first : S × ℕ) (r : List (Call StepReply)) → Reaches (renaming W kind) first w r → (p place : ℕ) → rename_answer W w p ≡ Ok (step.Placed place) → place < 2 ^ 64
     unfolding called
     place_low kind w first r a p place e =
         let told : snap_told W w p ≡ Ok (snap.Placed place) = answer_place w p place (program_of p w.rounds) e in
@@ -166,7 +166,7 @@ module _ {S R V U K : Type 0} (W : KnownPlaces S R V U K) (laws : PlacesLaws W) 
     step_low place (Ok (step.Placed x)) e = (let same : x ≡ place = cc in ap (λ (y : ℕ). Ok (step.Placed y)) same)
     step_low place answer e = absurd (cc)
 
-    over_low : (kind : WorldKind) (most limit size : ℕ) (w : DeskState S U K) (calls : List DeskCall) → AfterDesk W kind most limit size w calls → (e : Event) (place : ℕ) → reply_over W w e ≡ reply.Place place → place < 2 ^ 64
+    over_low : (kind : WorldKind) (most limit size : ℕ) (w : DeskState S U K) (calls : List DeskCall) → ReachesDesk W kind most limit size w calls → (e : Event) (place : ℕ) → reply_over W w e ≡ reply.Place place → place < 2 ^ 64
     over_low kind most limit size w calls a (event.Begin p) place e = absurd (done_other (done_unless (begin_refusal w.names.snap p)) place e)
     over_low kind most limit size w calls a (event.Step p) place e = place_low kind w.names (a.first, limit) (rename_calls calls) a.names p place (step_low place (rename_answer W w.names p) e)
     over_low kind most limit size w calls a (event.Enter p) place e = absurd (done_other (enter_answer w.slots.pool p) place e)

@@ -1,6 +1,6 @@
 -- the rules and the law of a grid's world
 use Rattle.std.proofs.Common.{◌≡◌, ◌≤◌, ◌∙◌, ℕ, List, Option, Some, None, sym, arith}
-use Rattle.splitter_grid.specs.Law.{KeepsGridLaw}
+use Rattle.splitter_grid.specs.Law.{GridSpec}
 use Rattle.splitter_grid.specs.Machine.{GridState, fresh, grid_parts}
 use Rattle.commands.specs.declared.config.Config.{Config}
 use Rattle.commands.specs.declared.kind.WorldKind.TheVariants.{Grid}
@@ -25,7 +25,7 @@ grid_fresh c w = (c.world ≡ Grid) × (w ≡ fresh c.m)
 
 -- places in a grid are distinct, and within the first diagonals, as many as have begun
 abbrev pub IsGridRun : List Exchange → Type 0
-IsGridRun r = IsCallRun place_reply KeepsGridLaw r
+IsGridRun r = IsCallRun place_reply GridSpec r
 
 -- what is said in turn in a world of this config
 abbrev pub IsGridTalk : Config → List Turn → Type 0

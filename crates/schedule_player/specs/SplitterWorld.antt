@@ -2,7 +2,7 @@
 use Rattle.std.proofs.Common.{◌≡◌, ◌∙◌, List, Option, Some, None, sym}
 use Rattle.splitter.specs.declared.way.Way.{Way}
 use Rattle.splitter.specs.declared.way.Way.TheVariants.{Stop, Right, Down}
-use Rattle.splitter.specs.Law.{KeepsSplitterLaw}
+use Rattle.splitter.specs.Law.{SplitterSpec}
 use Rattle.splitter.specs.Machine.{SplitterState, fresh, splitter_parts}
 use Rattle.commands.specs.declared.config.Config.{Config}
 use Rattle.commands.specs.declared.exchange.Exchange.{Exchange}
@@ -27,7 +27,7 @@ splitter_fresh c w = w ≡ fresh c.m
 
 -- of all that visit one splitter at most one stops; not all go right, and not all go down
 abbrev pub IsSplitterRun : List Exchange → Type 0
-IsSplitterRun r = IsCallRun way_reply KeepsSplitterLaw r
+IsSplitterRun r = IsCallRun way_reply SplitterSpec r
 
 -- what is said in turn in a world of this config
 abbrev pub IsSplitterTalk : Config → List Turn → Type 0

@@ -136,30 +136,30 @@ module _ {T X : Type 0} (rules : VisitRules T X) where
       let cut = runs-cut (visit_may rules) w u front (Told n r ∷ back) (subst (λ (l : List Turn). Runs (visit_may rules) w l u) is run) in
       no_name_right most (exchanges front) cut.0 cut.2.0 n r cut.2.1
 
-  module _ (After : T → List (Call X) → Type 0)
-      (begun : (t : T) (r : List (Call X)) (p : ℕ) → After t r → After (rules.begun t p) (r ++ Began p (rules.begins t p) ∷ []))
-      (stepped : (t : T) (r : List (Call X)) (p : ℕ) → After t r → After (rules.stepped t p) (r ++ Stepped p (rules.steps t p) ∷ []))
-      (lacked : (t : T) (r : List (Call X)) (p : ℕ) → After t r → rules.lacks t p ≡ true → After t (r ++ Stepped p (Err refusal.NoMemory) ∷ [])) where
-    one_step_call : (w u : T) (before : List (Call X)) (p : ℕ) (a : ShownReply) → After w before → step_may rules w p a u →
-        (call : Call X) × (let x : Exchange = record { event = Step p; reply = a } in exchange_of rules.shown call ≡ x) × After u (before ++ call ∷ [])
+  module _ (Reaches : T → List (Call X) → Type 0)
+      (begun : (t : T) (r : List (Call X)) (p : ℕ) → Reaches t r → Reaches (rules.begun t p) (r ++ Began p (rules.begins t p) ∷ []))
+      (stepped : (t : T) (r : List (Call X)) (p : ℕ) → Reaches t r → Reaches (rules.stepped t p) (r ++ Stepped p (rules.steps t p) ∷ []))
+      (lacked : (t : T) (r : List (Call X)) (p : ℕ) → Reaches t r → rules.lacks t p ≡ true → Reaches t (r ++ Stepped p (Err refusal.NoMemory) ∷ [])) where
+    one_step_call : (w u : T) (before : List (Call X)) (p : ℕ) (a : ShownReply) → Reaches w before → step_may rules w p a u →
+        (call : Call X) × (let x : Exchange = record { event = Step p; reply = a } in exchange_of rules.shown call ≡ x) × Reaches u (before ++ call ∷ [])
     one_step_call w u before p a after (inl m) = (
       Stepped p (rules.steps w p),
       ap (λ (r : ShownReply). let x : Exchange = record { event = Step p; reply = r } in x) (sym m.0),
-      subst (λ (t : T). After t (before ++ Stepped p (rules.steps w p) ∷ [])) (sym m.1) (stepped w before p after),
+      subst (λ (t : T). Reaches t (before ++ Stepped p (rules.steps w p) ∷ [])) (sym m.1) (stepped w before p after),
     )
     one_step_call w u before p a after (inr m) = (
       Stepped p (Err refusal.NoMemory),
       ap (λ (r : ShownReply). let x : Exchange = record { event = Step p; reply = r } in x) (sym m.0),
-      subst (λ (t : T). After t (before ++ Stepped p (Err refusal.NoMemory) ∷ [])) (sym m.1) (lacked w before p after m.2),
+      subst (λ (t : T). Reaches t (before ++ Stepped p (Err refusal.NoMemory) ∷ [])) (sym m.1) (lacked w before p after m.2),
     )
 
     -- one exchange is one call
-    one_call : (w u : T) (before : List (Call X)) (e : Event) (a : ShownReply) → After w before → visit_may rules w (Take e) a u →
-        (call : Call X) × (let x : Exchange = record { event = e; reply = a } in exchange_of rules.shown call ≡ x) × After u (before ++ call ∷ [])
+    one_call : (w u : T) (before : List (Call X)) (e : Event) (a : ShownReply) → Reaches w before → visit_may rules w (Take e) a u →
+        (call : Call X) × (let x : Exchange = record { event = e; reply = a } in exchange_of rules.shown call ≡ x) × Reaches u (before ++ call ∷ [])
     one_call w u before (Begin p) a after m = (
       Began p (rules.begins w p),
       ap (λ (r : ShownReply). let x : Exchange = record { event = Begin p; reply = r } in x) (sym m.0),
-      subst (λ (t : T). After t (before ++ Began p (rules.begins w p) ∷ [])) (sym m.1) (begun w before p after),
+      subst (λ (t : T). Reaches t (before ++ Began p (rules.begins w p) ∷ [])) (sym m.1) (begun w before p after),
     )
     one_call w u before (Step p) a after m = one_step_call w u before p a after m
     one_call w u before (Enter p) a after m = absurd m
@@ -170,22 +170,22 @@ module _ {T X : Type 0} (rules : VisitRules T X) where
     one_call w u before (Widen more) a after m = absurd m
 
     -- the exchanges of a run are calls
-    calls_of_run : (w u : T) (before : List (Call X)) (ts : List Turn) → After w before → Runs (visit_may rules) w ts u →
-        (calls : List (Call X)) × (map (exchange_of rules.shown) calls ≡ exchanges ts) × After u (before ++ calls)
-    calls_of_run w u before [] after run = ([], refl, subst (λ (l : List (Call X)). After u l) (sym (append-nil before)) (subst (λ (t : T). After t before) run after))
+    calls_of_run : (w u : T) (before : List (Call X)) (ts : List Turn) → Reaches w before → Runs (visit_may rules) w ts u →
+        (calls : List (Call X)) × (map (exchange_of rules.shown) calls ≡ exchanges ts) × Reaches u (before ++ calls)
+    calls_of_run w u before [] after run = ([], refl, subst (λ (l : List (Call X)). Reaches u l) (sym (append-nil before)) (subst (λ (t : T). Reaches t before) run after))
     calls_of_run w u before (Answered x ∷ ts) after run =
         let one = one_call w run.0 before x.event x.reply after run.1 in
         let rest = calls_of_run run.0 u (before ++ one.0 ∷ []) ts one.2 run.2 in (
           one.0 ∷ rest.0,
           ap (λ (y : Exchange). y ∷ map (exchange_of rules.shown) rest.0) one.1 ∙ ap (λ (l : List Exchange). x ∷ l) rest.1,
-          subst (λ (l : List (Call X)). After u l) (append_assoc before (one.0 ∷ []) rest.0) rest.2,
+          subst (λ (l : List (Call X)). Reaches u l) (append_assoc before (one.0 ∷ []) rest.0) rest.2,
         )
-    calls_of_run w u before (Told n r ∷ ts) after run = calls_of_run run.0 u before ts (subst (λ (t : T). After t before) (sym (no_name_kept w run.0 n r run.1)) after) run.2
+    calls_of_run w u before (Told n r ∷ ts) after run = calls_of_run run.0 u before ts (subst (λ (t : T). Reaches t before) (sym (no_name_kept w run.0 n r run.1)) after) run.2
     calls_of_run w u before (Ended ∷ ts) after run = calls_of_run w u before ts after run
     calls_of_run w u before (Misread bad ∷ ts) after run = calls_of_run w u before ts after run
 
-    pub call_run : (KeepsLaw : List (Call X) → Type 0) → ((t : T) (r : List (Call X)) → After t r → KeepsLaw r) → (w u : T) → After w [] → (ts : List Turn) → Runs (visit_may rules) w ts u →
-        IsCallRun rules.shown KeepsLaw (exchanges ts)
-    call_run KeepsLaw law w u first ts run =
+    pub call_run : (Spec : List (Call X) → Type 0) → ((t : T) (r : List (Call X)) → Reaches t r → Spec r) → (w u : T) → Reaches w [] → (ts : List Turn) → Runs (visit_may rules) w ts u →
+        IsCallRun rules.shown Spec (exchanges ts)
+    call_run Spec law w u first ts run =
         let calls = calls_of_run w u [] ts first run in
         record { calls = calls.0; spelled = calls.1; law = law u calls.0 calls.2 }

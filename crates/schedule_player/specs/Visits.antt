@@ -71,7 +71,7 @@ exchange_of shown (Began p answer) = record { event = Begin p; reply = done_repl
 exchange_of shown (Stepped p answer) = record { event = Step p; reply = said_reply shown answer }
 
 -- exchanges that are calls which keep a law
-pub record IsCallRun {X : Type 0} (shown : X → ShownReply) (KeepsLaw : List (Call X) → Type 0) (r : List Exchange) : Type 0 where
+pub record IsCallRun {X : Type 0} (shown : X → ShownReply) (Spec : List (Call X) → Type 0) (r : List Exchange) : Type 0 where
   pub calls : List (Call X)
   pub spelled : map (exchange_of shown) calls ≡ r
-  pub law : KeepsLaw calls
+  pub law : Spec calls

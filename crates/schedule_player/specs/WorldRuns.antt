@@ -4,7 +4,7 @@ use Rattle.std.proofs.lemmas.Bool.{and_parts}
 use Rattle.step_memory.specs.declared.refusal.Refusal.TheVariants as refusal
 use Rattle.step_memory.specs.Calls.{reply_of}
 use Rattle.step_memory.specs.Calls.Call.{Stepped}
-use Rattle.step_memory.specs.Machine.{After, IsProved}
+use Rattle.step_memory.specs.Machine.{Reaches, IsProved}
 use Rattle.step_memory.specs.World.{after_begin, after_step, begin_refusal, done_unless, step_answer, may_refuse_step}
 use Rattle.step_memory.specs.WorldMachine.{WorldParts, world_machine, fresh_world}
 use Rattle.step_memory.specs.WorldState.{WorldState}
@@ -24,10 +24,10 @@ fits_in kind c is = subst (λ (k : WorldKind). c.m ≤ most_in k) is c.in_range.
 
 module _ {P S R V O X : Type 0} (parts : WorldParts P S R V O X) (shown : X → ShownReply) where
   pub world_lawful : IsProved (world_machine parts) → (most : ℕ) (w u : WorldState S P) → parts.MayStart most → w ≡ fresh_world parts most →
-      (ts : List Turn) → Runs (visit_may (world_rules parts shown)) w ts u → IsCallRun shown parts.KeepsLaw (exchanges ts)
+      (ts : List Turn) → Runs (visit_may (world_rules parts shown)) w ts u → IsCallRun shown parts.Spec (exchanges ts)
   world_lawful proved most w u may fresh ts run =
-      call_run (world_rules parts shown) (After (world_machine parts) most)
+      call_run (world_rules parts shown) (Reaches (world_machine parts) most)
       (λ t r p a. begin_leads_on parts t (after_begin t p (parts.start p)) p (done_unless (begin_refusal t p)) refl refl most r a)
       (λ t r p a. step_leads_on parts t (after_step parts.program parts.memory t p) p (reply_of parts.shown (step_answer parts.program parts.memory t p)) refl refl most r a)
       (λ t r p a lack. proved.call t t (Stepped p (Err refusal.NoMemory)) refl (inr (refl, (and_parts parts.grows (may_refuse_step parts.program parts.memory t p) lack).1)) most r a)
-      parts.KeepsLaw (λ t r a. proved.law t most r a) w u (subst (λ (t : WorldState S P). After (world_machine parts) most t []) (sym fresh) (proved.fresh most may)) ts run
+      parts.Spec (λ t r a. proved.law t most r a) w u (subst (λ (t : WorldState S P). Reaches (world_machine parts) most t []) (sym fresh) (proved.fresh most may)) ts run

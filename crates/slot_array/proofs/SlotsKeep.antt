@@ -11,7 +11,7 @@ use Rattle.bit_allocator.specs.Calls.{Call}
 use Rattle.bit_allocator.specs.Calls.Call.{Entered, Probed, Left, Widened}
 use Rattle.bit_allocator.specs.PoolObject.{PoolObject, competes, fresh_object, Answers, after, number_in, IsRun}
 use Rattle.bit_allocator.specs.Machine.{next, IsReply, pool}
-use Rattle.step_memory.specs.Machine.{After, Always, IsLawful, RefusesWhereDue, IsProved}
+use Rattle.step_memory.specs.Machine.{Reaches, OnEveryHistory, SatisfiesSpec, RefusesWhereDue, IsProved}
 use Rattle.step_memory.proofs.MachineLemmas.{always_by, machine_proved}
 use Rattle.bit_allocator.proofs.PoolKeeps.{pool_proved, number_after}
 use Rattle.slot_array.specs.SlotCalls.{SlotCall, pool_calls}
@@ -40,7 +40,7 @@ length-stored_in (Err refusal) value values = refl
 record Stands {T : Type 0} (size : ℕ) (first : List T) (s : SlotsState T) (r : List (SlotCall T)) : Type 0 where
   object : SlotsObject T
   run : IsSlotsRun size first r object
-  pool : After pool size s.pool (pool_calls r)
+  pool : Reaches pool size s.pool (pool_calls r)
   pool_run : IsRun size (pool_calls r) object.pool
   values : object.values ≡ s.values
   many : length object.values ≡ object.pool.size
@@ -78,7 +78,7 @@ module _ {T : Type 0} (size : ℕ) (first : List T) (s : SlotsState T) (r : List
   held_is p = number_after size s.pool (pool_calls r) t.object.pool t.pool t.pool_run p
 
   -- the pool and its object go on by a call of the pool
-  pool_on : (h : Call) → IsReply s.pool h → After pool size (next s.pool h) (pool_calls r ++ h ∷ [])
+  pool_on : (h : Call) → IsReply s.pool h → Reaches pool size (next s.pool h) (pool_calls r ++ h ∷ [])
   pool_on h is = pool_proved.call s.pool (next s.pool h) h refl is size (pool_calls r) t.pool
 
   pool_right : (h : Call) → IsReply s.pool h → Answers t.object.pool h
@@ -97,7 +97,7 @@ module _ {T : Type 0} (size : ℕ) (first : List T) (s : SlotsState T) (r : List
       record {
         object = slots_after t.object (Pooled h);
         run = gone_on (Pooled h) (pool_answers s.pool t.object.pool h own (pool_right h is));
-        pool = subst (λ (xs : List Call). After pool size (next s.pool h) xs) (sym (pool_calls-append r (Pooled h ∷ []))) (pool_on h is);
+        pool = subst (λ (xs : List Call). Reaches pool size (next s.pool h) xs) (sym (pool_calls-append r (Pooled h ∷ []))) (pool_on h is);
         pool_run = subst (λ (xs : List Call). IsRun size xs (after t.object.pool h)) (sym (pool_calls-append r (Pooled h ∷ []))) (pool_run_on h is);
         values = t.values;
         many = t.many ∙ sym (size_kept s.pool t.object.pool h own);
@@ -110,7 +110,7 @@ module _ {T : Type 0} (size : ℕ) (first : List T) (s : SlotsState T) (r : List
       record {
         object = slots_after t.object (Extended more value reply);
         run = gone_on (Extended more value reply) right;
-        pool = subst (λ (xs : List Call). After pool size (after_widen s.pool more) xs) (sym (pool_calls-append r (Extended more value reply ∷ []))) (pool_on h is);
+        pool = subst (λ (xs : List Call). Reaches pool size (after_widen s.pool more) xs) (sym (pool_calls-append r (Extended more value reply ∷ []))) (pool_on h is);
         pool_run = subst (λ (xs : List Call). IsRun size xs (after t.object.pool h)) (sym (pool_calls-append r (Extended more value reply ∷ []))) (pool_run_on h is);
         values = ap (λ (xs : List T). extended_in reply more value xs) t.values ∙ ap (λ (k : Result (Unit {0}) Refusal). extended_in k more value s.values) is;
         many = many_extended t.object.pool more value t.object.values reply t.many right;
@@ -122,7 +122,7 @@ module _ {T : Type 0} (size : ℕ) (first : List T) (s : SlotsState T) (r : List
       record {
         object = slots_after t.object (Stored p value reply);
         run = gone_on (Stored p value reply) (is ∙ ap stored_reply held);
-        pool = subst (λ (xs : List Call). After pool size s.pool xs) (sym (pool_calls-other r (Stored p value reply) refl)) t.pool;
+        pool = subst (λ (xs : List Call). Reaches pool size s.pool xs) (sym (pool_calls-other r (Stored p value reply) refl)) t.pool;
         pool_run = subst (λ (xs : List Call). IsRun size xs t.object.pool) (sym (pool_calls-other r (Stored p value reply) refl)) t.pool_run;
         values = ap (λ (xs : List T). stored_in (number_in t.object.pool p) value xs) t.values ∙ ap (λ (k : Result ℕ Refusal). stored_in k value s.values) (sym held);
         many = length-stored_in (number_in t.object.pool p) value t.object.values ∙ t.many;
@@ -135,7 +135,7 @@ module _ {T : Type 0} (size : ℕ) (first : List T) (s : SlotsState T) (r : List
       record {
         object = t.object;
         run = gone_on (Fetched p reply) right;
-        pool = subst (λ (xs : List Call). After pool size s.pool xs) (sym (pool_calls-other r (Fetched p reply) refl)) t.pool;
+        pool = subst (λ (xs : List Call). Reaches pool size s.pool xs) (sym (pool_calls-other r (Fetched p reply) refl)) t.pool;
         pool_run = subst (λ (xs : List Call). IsRun size xs t.object.pool) (sym (pool_calls-other r (Fetched p reply) refl)) t.pool_run;
         values = t.values;
         many = t.many;
@@ -148,7 +148,7 @@ next_keeps size first s r (Fetched p reply) t is = fetched_keeps size first s r 
 next_keeps size first s r (Extended more value reply) t is = extended_keeps size first s r t more value reply is
 
 -- so it is after any calls
-stands : {T : Type 0} (s : SlotsState T) → Always slots (λ first r. Stands first.0 first.1 s r) s
+stands : {T : Type 0} (s : SlotsState T) → OnEveryHistory slots (λ first r. Stands first.0 first.1 s r) s
 stands {T} s first r a =
     let fresh : SlotsState T = record { pool = fresh_pool first.0; values = first.1 } in
     let begun : Stands first.0 first.1 fresh [] = record {
@@ -162,7 +162,7 @@ stands {T} s first r a =
     always_by slots (Stands first.0 first.1) (next_keeps first.0 first.1) first begun s r a
 
 -- the law
-pub slots_law : {T : Type 0} (s : SlotsState T) → IsLawful slots s
+pub slots_law : {T : Type 0} (s : SlotsState T) → SatisfiesSpec slots s
 slots_law s first r a =
     let t = stands s first r a in
     record { object = t.object; run = t.run; pool = pool_proved.law s.pool first.0 (pool_calls r) t.pool; slots = t.many }
@@ -178,7 +178,7 @@ pub slots_proved : {T : Type 0} → IsProved (slots {T = T})
 slots_proved = machine_proved slots slots_law slots_due
 
 -- the pool is after its part of the calls
-pub pool_after : {T : Type 0} (s : SlotsState T) → Always slots (λ first r. After pool first.0 s.pool (pool_calls r)) s
+pub pool_after : {T : Type 0} (s : SlotsState T) → OnEveryHistory slots (λ first r. Reaches pool first.0 s.pool (pool_calls r)) s
 pool_after s first r a = (stands s first r a).pool
 
 -- a list has something at each place below its length
@@ -194,7 +194,7 @@ held_of o p n h = elim (competes o p) as (λ b. cond (not b) (Err NotCompeting) 
 ] h
 
 -- a number that is held has a slot
-pub slot_there : {T : Type 0} (s : SlotsState T) (id n : ℕ) → number_answer s.pool id ≡ Ok n → Always slots (λ first r. (v : T) × (slot n s.values ≡ Some v)) s
+pub slot_there : {T : Type 0} (s : SlotsState T) (id n : ℕ) → number_answer s.pool id ≡ Ok n → OnEveryHistory slots (λ first r. (v : T) × (slot n s.values ≡ Some v)) s
 slot_there s id n holds first r a =
     let size = first.0 in
     let t = stands s first r a in

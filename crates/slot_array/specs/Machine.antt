@@ -11,7 +11,7 @@ use Rattle.slot_array.specs.SlotsState.{SlotsState}
 use Rattle.slot_array.specs.SlotCalls.{SlotCall}
 use Rattle.slot_array.specs.SlotCalls.SlotCall.{Pooled, Stored, Fetched, Extended}
 use Rattle.slot_array.specs.SlotsObject.{SlotAnswers, slots_after, fresh_slots}
-use Rattle.slot_array.specs.Law.{KeepsSlotsLaw}
+use Rattle.slot_array.specs.Law.{SlotsSpec}
 use Rattle.slot_array.specs.Slots.{stored_reply, IsFetched, after_put, after_extend}
 
 -- the slots after a call
@@ -42,6 +42,6 @@ slots = record {
   first = λ first. record { pool = fresh_pool first.0; values = first.1 };
   next = slots_next;
   IsReply = IsSlotReply;
-  KeepsLaw = λ first. KeepsSlotsLaw first.0 first.1;
+  Spec = λ first. SlotsSpec first.0 first.1;
   RefusesAsDue = λ first. AnswersAsDue slots_after SlotAnswers (fresh_slots first.0 first.1);
 }

@@ -5,8 +5,8 @@ ghost use Rattle.std.specs.Result.{result_map_both};
 ghost use Rattle.bit_allocator.specs.Calls.Call.{Entered, Probed, Left};
 ghost use Rattle.bit_allocator.specs.Pool.{enter_answer, after_enter, probe_answer, after_probe, number_answer, after_leave, widen_answer};
 ghost use Rattle.bit_allocator.specs.Machine.{pool as pool_machine};
-ghost use Rattle.step_memory.specs.Machine.{After, Always, IsLawful, LeadsOn};
-ghost use Rattle.bit_allocator.specs.Locality.{IsLocal, IsWidened, LookAlike, StandAlike, probe_steps, leave_steps};
+ghost use Rattle.step_memory.specs.Machine.{Reaches, OnEveryHistory, SatisfiesSpec, Extends};
+ghost use Rattle.bit_allocator.specs.Locality.{ChangesOnly, IsWidened, Indistinguishable, StandAlike, probe_steps, leave_steps};
 ghost use Rattle.bit_allocator.specs.PoolState.{PoolState};
 ghost use Rattle.slot_array.specs.SlotCalls.{pool_calls};
 ghost use Rattle.slot_array.specs.SlotCalls.SlotCall.{Pooled, Stored, Fetched, Extended};
@@ -59,7 +59,7 @@ impl<T: Drop, A: Allocator> Slots<T, A> {
     pub fn new(pool: Pool<A>, values: Vec<T, A>) -> Result<Self, NoMemory>
         requires { vec_len values ≡ pool.size }
         ensures state { IfOk result (λ s. s ≡ record { pool = pool; values = values.items }) }
-        ensures after { IfOk result (λ s. (size : ℕ) → After pool_machine size pool [] → After slots (size, values.items) s []) }
+        ensures after { IfOk result (λ s. (size : ℕ) → Reaches pool_machine size pool [] → Reaches slots (size, values.items) s []) }
         ensures room { 64 ≤ vec_capacity values → IsOk result }
     {
         let mut values = values;
@@ -73,7 +73,7 @@ impl<T: Drop, A: Allocator> Slots<T, A> {
     /// The pool.
     pub fn pool(&self) -> &Pool<A>
         ensures pool { result.now ≡ self.now.pool }
-        ensures after { Always slots (λ first r. After pool_machine first.0 result.now (pool_calls r)) self.now }
+        ensures after { OnEveryHistory slots (λ first r. Reaches pool_machine first.0 result.now (pool_calls r)) self.now }
     {
         &self.pool
     }
@@ -91,8 +91,8 @@ impl<T: Drop, A: Allocator> Slots<T, A> {
         ensures answer { result ≡ enter_answer self.old.pool id }
         ensures state { self.new ≡ record self.old { pool = after_enter self.old.pool id } }
         ensures refused { OnErr result (self.new ≡ self.old) }
-        ensures after { LeadsOn slots self.old self.new (Pooled (Entered id result)) }
-        ensures law { IsLawful slots self.new }
+        ensures after { Extends slots self.old self.new (Pooled (Entered id result)) }
+        ensures law { SatisfiesSpec slots self.new }
     {
         self.pool.enter(id)
     }
@@ -103,14 +103,14 @@ impl<T: Drop, A: Allocator> Slots<T, A> {
         ensures answer { result ≡ probe_answer self.old.pool id }
         ensures state { self.new ≡ record self.old { pool = after_probe self.old.pool id } }
         ensures refused { OnErr result (self.new ≡ self.old) }
-        ensures after { LeadsOn slots self.old self.new (Pooled (Probed id result)) }
-        ensures law { IsLawful slots self.new }
+        ensures after { Extends slots self.old self.new (Pooled (Probed id result)) }
+        ensures law { SatisfiesSpec slots self.new }
 
         // Nothing of the pool changes but this competitor and the bit that it names, and in another pool that looks alike to
         // this competitor the answer is the same, and where it then stands.
-        ensures local { IsLocal probe_steps id self.old.pool self.new.pool result }
-        ensures alike { (other : PoolState) → LookAlike probe_steps id self.old.pool other → result ≡ probe_answer other id }
-        ensures stands_alike { (other : PoolState) → LookAlike probe_steps id self.old.pool other → StandAlike id self.new.pool (after_probe other id) }
+        ensures local { ChangesOnly probe_steps id self.old.pool self.new.pool result }
+        ensures alike { (other : PoolState) → Indistinguishable probe_steps id self.old.pool other → result ≡ probe_answer other id }
+        ensures stands_alike { (other : PoolState) → Indistinguishable probe_steps id self.old.pool other → StandAlike id self.new.pool (after_probe other id) }
     {
         self.pool.probe(id)
     }
@@ -121,14 +121,14 @@ impl<T: Drop, A: Allocator> Slots<T, A> {
         ensures answer { result ≡ number_answer self.old.pool id }
         ensures state { self.new ≡ record self.old { pool = after_leave self.old.pool id } }
         ensures refused { OnErr result (self.new ≡ self.old) }
-        ensures after { LeadsOn slots self.old self.new (Pooled (Left id result)) }
-        ensures law { IsLawful slots self.new }
+        ensures after { Extends slots self.old self.new (Pooled (Left id result)) }
+        ensures law { SatisfiesSpec slots self.new }
 
         // Nothing of the pool changes but this competitor and the bit that it names, and in another pool that looks alike to
         // this competitor the answer is the same, and where it then stands.
-        ensures local { IsLocal leave_steps id self.old.pool self.new.pool result }
-        ensures alike { (other : PoolState) → LookAlike leave_steps id self.old.pool other → result ≡ number_answer other id }
-        ensures stands_alike { (other : PoolState) → LookAlike leave_steps id self.old.pool other → StandAlike id self.new.pool (after_leave other id) }
+        ensures local { ChangesOnly leave_steps id self.old.pool self.new.pool result }
+        ensures alike { (other : PoolState) → Indistinguishable leave_steps id self.old.pool other → result ≡ number_answer other id }
+        ensures stands_alike { (other : PoolState) → Indistinguishable leave_steps id self.old.pool other → StandAlike id self.new.pool (after_leave other id) }
     {
         self.pool.leave(id)
     }
@@ -141,8 +141,8 @@ impl<T: Drop, A: Allocator> Slots<T, A> {
         ensures state { self.new ≡ after_put self.old id value }
         ensures changes { ChangesOwnSlot id value self.old self.new }
         ensures refused { OnErr result (self.new ≡ self.old) }
-        ensures after { LeadsOn slots self.old self.new (Stored id value result) }
-        ensures law { IsLawful slots self.new }
+        ensures after { Extends slots self.old self.new (Stored id value result) }
+        ensures law { SatisfiesSpec slots self.new }
     {
         let number = self.pool.number_of(id)?;
         self.values[usize::from(number) - 1] = value;
@@ -154,8 +154,8 @@ impl<T: Drop, A: Allocator> Slots<T, A> {
     #[tactic(auto, using(crate::proofs::SlotsKeep::slots_law))]
     pub fn get(&self, id: u64) -> Result<&T, Refusal>
         ensures answer { IsFetched self.now.values (number_answer self.now.pool id) (result_map_both (λ value. value.now) (λ refusal. refusal) result) }
-        ensures after { LeadsOn slots self.now self.now (Fetched id (result_map_both (λ value. value.now) (λ refusal. refusal) result)) }
-        ensures law { IsLawful slots self.now }
+        ensures after { Extends slots self.now self.now (Fetched id (result_map_both (λ value. value.now) (λ refusal. refusal) result)) }
+        ensures law { SatisfiesSpec slots self.now }
     {
         let number = self.pool.number_of(id)?;
         Ok(&self.values[usize::from(number) - 1])
@@ -171,8 +171,8 @@ impl<T: Copy, A: Allocator> Slots<T, A> {
         ensures state { self.new ≡ after_extend self.old size value }
         ensures fills { IfOk result (λ done. FillsNewSlots size value self.old self.new) }
         ensures refused { OnErr result (self.new ≡ self.old) }
-        ensures after { LeadsOn slots self.old self.new (Extended size value result) }
-        ensures law { IsLawful slots self.new }
+        ensures after { Extends slots self.old self.new (Extended size value result) }
+        ensures law { SatisfiesSpec slots self.new }
 
         // No competitor stands elsewhere, and no bit changes but that of what was the last number.
         ensures local { IsWidened self.old.pool self.new.pool result }

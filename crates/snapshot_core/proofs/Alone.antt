@@ -3,12 +3,12 @@ use Rattle.std.proofs.Common.{◌≡◌, ◌≢◌, ℕ, zero, suc, ◌+◌, ◌
 use Rattle.snapshot_core.proofs.Common.{cases_Bool, eqb_tells, reply_of, Answer, Participant, ends, participant_of, program_of, with_participant, set_at, participant_of-put, set_at-same, Client, Pending, Nothing, Places, Scans, Update, Writing, SnapReply, is_idle, access_for, after_for, note_for, note_after, pending_after, KnownPlaces, PlacesLaws, value_for, scan_after, scan_view, SnapCall, snapshot, Stepped, SnapObject, new_object, observed, Allows, Absent, Idle, Placing, Scanning, Updating, SnapState, told, clients_over, snap_answer, after_snap_step, way_now, ways_of}
 use Rattle.step_memory.specs.declared.access.Access.{Access}
 use Rattle.step_memory.specs.declared.access.Access.TheVariants.{Read, Nothing as Idling}
-use Rattle.step_memory.specs.Locality.{LookAlike}
+use Rattle.step_memory.specs.Locality.{Indistinguishable}
 use Rattle.step_memory.specs.Steps.{answer_from, AgreeAt}
 use Rattle.step_memory.proofs.RunLemmas.{run_replays}
 use Rattle.step_memory.proofs.StepLemmas.{ended_after, going_answer, going_after}
 use Rattle.snapshot_core.specs.Alone.{EndsAlone, most_reads, EndsSoon, EndsSoonAlone, EndsAlike}
-use Rattle.step_memory.specs.Machine.{After}
+use Rattle.step_memory.specs.Machine.{Reaches}
 use Rattle.snapshot_core.specs.Standing.{is_quiet}
 use Rattle.snapshot_core.proofs.Collecting.{has_room}
 use Rattle.snapshot_core.proofs.Dues.{bounds_with}
@@ -203,7 +203,7 @@ module _ {S R V U K : Type 0} (known : KnownPlaces S R V U K) (laws : PlacesLaws
   t = record { known = known; laws = laws }
 
   module _ (first : S) (is_new : known.ties.IsNew first) (p : ℕ) where
-    ends_by : (c n : ℕ) (w : SnapState S U K) (r : List SnapCall) → After (snapshot known) first w r → most_reads known w ≡ c → (v : Participant (Client U K)) → participant_of p w.participants ≡ Some v →
+    ends_by : (c n : ℕ) (w : SnapState S U K) (r : List SnapCall) → Reaches (snapshot known) first w r → most_reads known w ≡ c → (v : Participant (Client U K)) → participant_of p w.participants ≡ Some v →
         LeftFor t c w.memory v.program v.program.pending n → EndsAlone known w p n
     ends_by c zero w r a most v there left =
         let k = after_all known laws w first r is_new a in
@@ -220,7 +220,7 @@ module _ {S R V U K : Type 0} (known : KnownPlaces S R V U K) (laws : PlacesLaws
               (after_stepped known w (after t w k.object k.tied p v there c most) p (Ok reply) (sym state) (sym answer) first r a) most (new t w k.object k.tied p v there c most) (there_after t w k.object k.tied p v there c most) on))
         ]
 
-    module _ (w : SnapState S U K) (r : List SnapCall) (a : After (snapshot known) first w r) where
+    module _ (w : SnapState S U K) (r : List SnapCall) (a : Reaches (snapshot known) first w r) where
       abbrev c : ℕ
       c = most_reads known w
 
@@ -301,7 +301,7 @@ module _ {S R V U K : Type 0} (t : KnownPlaces S R V U K) (p : ℕ) where
   pub ends_alike : (w other : SnapState S U K) → EndsAlike t w other p
   ends_alike w other e k zero h = absurd h
   ends_alike w other e k (suc n) h =
-      let alike : LookAlike (clients_over t) t.memory p w other = record { participant = sym k; register = λ v there. rw e (agrees (t.memory.register w.memory) ((clients_over t).next v.program)) } in
+      let alike : Indistinguishable (clients_over t) t.memory p w other = record { participant = sym k; register = λ v there. rw e (agrees (t.memory.register w.memory) ((clients_over t).next v.program)) } in
       elim h [
         | inl last ↦ inl (last.0, sym (snap_alike t w other p alike) ∙ last.1, last.2)
         | inr on ↦ inr (ends_alike (after_snap_step t w p) (after_snap_step t other p) (memory_alike w other e k) (sym (stays_alike t w (after_snap_step t w p) p refl other alike)) n on)

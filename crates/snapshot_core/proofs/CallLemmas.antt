@@ -5,7 +5,7 @@ use Rattle.snapshot_core.specs.declared.client.Pending.TheVariants.{Nothing, Pla
 use Rattle.step_memory.specs.World.{begin_refusal, done_unless, step_answer, after_step}
 use Rattle.step_memory.proofs.StepLemmas.{lacks_or_not}
 use Rattle.snapshot_core.proofs.SnapWorldLemmas.{after_stepped}
-use Rattle.step_memory.specs.Machine.{LeadsOn}
+use Rattle.step_memory.specs.Machine.{Extends}
 use Rattle.step_memory.proofs.MachineLemmas.{call_leads_on}
 use Rattle.step_memory.specs.Locality.{ReadsNext, IsTaken}
 use Rattle.snapshot_core.specs.SnapWorld.{SnapState, after_snap_begin, scan_refusal, update_refusal, after_scan, after_update, told, clients_over, snap_answer, after_snap_step, may_lack_memory}
@@ -20,19 +20,19 @@ kept_at P (Err why) h e = h
 
 module _ {S R V U K : Type 0} (t : KnownPlaces S R V U K) where
   -- a call that is no step leads on
-  pub begun_leads_on : (w new : SnapState S U K) (id : ℕ) (reply : Result (Unit {0}) Refusal) → new ≡ after_snap_begin t w id → reply ≡ done_unless (begin_refusal w id) → LeadsOn (snapshot t) w new (Began id reply)
+  pub begun_leads_on : (w new : SnapState S U K) (id : ℕ) (reply : Result (Unit {0}) Refusal) → new ≡ after_snap_begin t w id → reply ≡ done_unless (begin_refusal w id) → Extends (snapshot t) w new (Began id reply)
   begun_leads_on w new id reply = call_leads_on (snapshot t) w new (Began id reply)
 
-  pub updated_leads_on : (w new : SnapState S U K) (id value : ℕ) (reply : Result (Unit {0}) Refusal) → new ≡ after_update w id value → reply ≡ done_unless (update_refusal w id) → LeadsOn (snapshot t) w new (Updated id value reply)
+  pub updated_leads_on : (w new : SnapState S U K) (id value : ℕ) (reply : Result (Unit {0}) Refusal) → new ≡ after_update w id value → reply ≡ done_unless (update_refusal w id) → Extends (snapshot t) w new (Updated id value reply)
   updated_leads_on w new id value reply = call_leads_on (snapshot t) w new (Updated id value reply)
 
-  pub scanned_leads_on : (w new : SnapState S U K) (id : ℕ) (reply : Result (Unit {0}) Refusal) → new ≡ after_scan w id → reply ≡ done_unless (scan_refusal w id) → LeadsOn (snapshot t) w new (Scanned id reply)
+  pub scanned_leads_on : (w new : SnapState S U K) (id : ℕ) (reply : Result (Unit {0}) Refusal) → new ≡ after_scan w id → reply ≡ done_unless (scan_refusal w id) → Extends (snapshot t) w new (Scanned id reply)
   scanned_leads_on w new id reply = call_leads_on (snapshot t) w new (Scanned id reply)
 
   -- one more step
   pub after_step_call : (w new : SnapState S U K) (id : ℕ) (reply : Result SnapReply Refusal) →
       (reply ≢ Err NoMemory → new ≡ after_snap_step t w id) → (reply ≢ Err NoMemory → reply ≡ snap_answer t w id) →
-      (reply ≡ Err NoMemory → (new ≡ w) × (may_lack_memory t w id ≡ true)) → LeadsOn (snapshot t) w new (Stepped id reply)
+      (reply ≡ Err NoMemory → (new ≡ w) × (may_lack_memory t w id ≡ true)) → Extends (snapshot t) w new (Stepped id reply)
   after_step_call w new id reply e is lack = elim (lacks_or_not reply) [
     | inr goes ↦ after_stepped t w new id reply (e goes) (is goes)
     | inl h ↦

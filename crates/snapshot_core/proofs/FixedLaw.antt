@@ -6,8 +6,8 @@ use Rattle.snapshot_core.specs.declared.fixed.FixedWalker.{FixedWalker}
 use Rattle.snapshot_core.specs.declared.fixed.FixedWalk.{FixedWalk}
 use Rattle.snapshot_core.specs.FixedTies.{IsEmptyRow, fixed_places, fresh_row, fixed_bounds}
 use Rattle.snapshot_core.specs.FixedProofs.{fixed_laws}
-use Rattle.snapshot_core.specs.Snapshot.{KeepsSnapshotLaw}
-use Rattle.snapshot_core.specs.Machine.{IsLawfulFrom}
+use Rattle.snapshot_core.specs.Snapshot.{SnapshotSpec}
+use Rattle.snapshot_core.specs.Machine.{SatisfiesSpecFrom}
 use Rattle.snapshot_core.proofs.Following.{law_holds}
 
 pub empty_at : (m x : ℕ) → get_or (replicate m None) x None ≡ (let nothing : Option Record = None in nothing)
@@ -24,8 +24,8 @@ fits_row m b some l =
     let product = mul-le-mul_right m up in
     omega arith
 
-pub fixed_law : (w : SnapState (List (Option Record)) FixedWalker FixedWalk) → w.most ≤ 16 → IsLawfulFrom fixed_places (fresh_row w.most) (fixed_bounds w.most) w
+pub fixed_law : (w : SnapState (List (Option Record)) FixedWalker FixedWalk) → w.most ≤ 16 → SatisfiesSpecFrom fixed_places (fresh_row w.most) (fixed_bounds w.most) w
 fixed_law w few r a =
     let many : length (fresh_row w.most) ≡ w.most = length-replicate w.most (let nothing : Option Record = None in nothing) in
-    subst (λ (m : ℕ). KeepsSnapshotLaw (record { most = m; placing = λ b. 0; scanning = λ b. w.most * (w.most + 1); collecting = m }) r) many
+    subst (λ (m : ℕ). SnapshotSpec (record { most = m; placing = λ b. 0; scanning = λ b. w.most * (w.most + 1); collecting = m }) r) many
     (law_holds fixed_places fixed_laws w (fresh_row w.most) r a (empty_row w.most few) (λ b. w.most * (w.most + 1)) (rw many (fits_row w.most)))

@@ -12,7 +12,7 @@ use Rattle.snapshot_core.specs.Client.{first_pending, is_idle, scanning, updatin
 use Rattle.snapshot_core.specs.SnapWorld.{SnapState, place_in, beginner_at, scan_refusal, update_refusal, scan_refusal_by, update_refusal_by, asked, after_scan, after_update, told, clients_over, snap_answer, after_snap_step, way_now, ways_of}
 use Rattle.snapshot_core.specs.SnapCalls.{SnapCall, next, IsReply}
 use Rattle.snapshot_core.specs.Machine.{snapshot, MakesOwnAccess, BeginsTheSame, HasDistinctPlaces, IsConsistentAfter, KeepsTold}
-use Rattle.step_memory.specs.Machine.{After, IsLawful, RefusesWhereDue, IsProved}
+use Rattle.step_memory.specs.Machine.{Reaches, SatisfiesSpec, RefusesWhereDue, IsProved}
 use Rattle.step_memory.proofs.MachineLemmas.{machine_proved}
 use Rattle.snapshot_core.specs.Places.{KnownPlaces, PlacesLaws, BeginsAlike, BoundsScans, KeepsWalks, HasGoneOn, value_for}
 use Rattle.snapshot_core.specs.Snapshot.{Task, SnapObject, SnapBounds, IsMoment, new_object, since_of, with_task, with_update, observed, AllowsStep, Allows, bounds_over}
@@ -498,7 +498,7 @@ module _ {S R V U K : Type 0} (t : LawfulPlaces S R V U K) (scans : ℕ → ℕ)
         ];
       }
 
-  pub holds_after : (first : S) → t.known.ties.IsNew first → BoundsScans t.known (t.known.most_of first) scans → (w : SnapState S U K) (r : List SnapCall) → After (snapshot t.known) first w r → Holds (t.known.most_of first) w r
+  pub holds_after : (first : S) → t.known.ties.IsNew first → BoundsScans t.known (t.known.most_of first) scans → (w : SnapState S U K) (r : List SnapCall) → Reaches (snapshot t.known) first w r → Holds (t.known.most_of first) w r
   holds_after first new fits w r a =
       let start : Holds (t.known.most_of first) (record { memory = first; most = t.known.most_of first; participants = [] }) [] = record { object = new_object; run = refl; tied = tied_new t first new; same_most = refl; answered = λ p x c. absurd (let l = c.1 in omega arith) } in
       run_keeps next_of IsReplyOf (Holds (t.known.most_of first)) (holds_on (t.known.most_of first) fits) (record { memory = first; most = t.known.most_of first; participants = [] }) [] r w start a.run
@@ -516,10 +516,10 @@ module _ {S R V U K : Type 0} (known : KnownPlaces S R V U K) (laws : PlacesLaws
   all_reads first b = (b + 1) * known.ties.reads (known.most_of first) b
 
   -- after every list of calls
-  pub after_all : (w : SnapState S U K) (first : S) (r : List SnapCall) → known.ties.IsNew first → After (snapshot known) first w r → Holds lawful (all_reads first) (known.most_of first) w r
+  pub after_all : (w : SnapState S U K) (first : S) (r : List SnapCall) → known.ties.IsNew first → Reaches (snapshot known) first w r → Holds lawful (all_reads first) (known.most_of first) w r
   after_all w first r new a = holds_after lawful (all_reads first) first new (λ b some l. omega arith) w r a
 
-  pub law_holds : (w : SnapState S U K) → IsLawful (snapshot known) w
+  pub law_holds : (w : SnapState S U K) → SatisfiesSpec (snapshot known) w
   law_holds w first r a new scans fits = let k = holds_after lawful scans first new fits w r a in (k.object, k.run)
 
   due_holds : (w : SnapState S U K) → RefusesWhereDue (snapshot known) w
@@ -548,7 +548,7 @@ module _ {S R V U K : Type 0} (known : KnownPlaces S R V U K) (laws : PlacesLaws
   pub own_access_holds : (w : SnapState S U K) (p : ℕ) → MakesOwnAccess known w p
   own_access_holds w p first r a new c is = let k = after_all w first r new a in access_tied lawful w k.object k.tied p c is
 
-  size_kept : (w : SnapState S U K) (first : S) (r : List SnapCall) → known.ties.IsNew first → After (snapshot known) first w r → known.most_of w.memory ≡ known.most_of first
+  size_kept : (w : SnapState S U K) (first : S) (r : List SnapCall) → known.ties.IsNew first → Reaches (snapshot known) first w r → known.most_of w.memory ≡ known.most_of first
   size_kept w first r new a = let k = after_all w first r new a in sym k.tied.most ∙ k.same_most
 
   -- who begins is the same after any calls

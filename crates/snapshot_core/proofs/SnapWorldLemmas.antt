@@ -3,9 +3,9 @@ use Rattle.std.proofs.Common.{◌≡◌, ℕ, true, false, cond, Option, Some, N
 use Rattle.snapshot_core.proofs.Common.{Refusal, Finished, program_of, lacked_memory, reply_of, snapshot, Participant, Client, SnapReply, KnownPlaces, is_idle, scanning, updating, SnapCall, next, Began, Updated, Scanned, Stepped}
 use Rattle.step_memory.specs.World.{begin_refusal, begun_unless, step_answer, after_step}
 use Rattle.step_memory.proofs.StepLemmas.{most_stepped, lacks_none}
-use Rattle.step_memory.specs.Machine.{LeadsOn}
+use Rattle.step_memory.specs.Machine.{Extends}
 use Rattle.step_memory.proofs.MachineLemmas.{call_leads_on}
-use Rattle.step_memory.specs.Locality.{LookAlike, StandAlike}
+use Rattle.step_memory.specs.Locality.{Indistinguishable, StandAlike}
 use Rattle.step_memory.proofs.LocalityLemmas.{answers_alike, stand_alike}
 use Rattle.snapshot_core.specs.SnapWorld.{SnapState, beginner_at, scan_refusal, update_refusal, asked, told, clients_over, snap_answer, snap_answer_by, after_snap_step, after_snap_by, StaysAlike}
 
@@ -30,7 +30,7 @@ module _ {S R V U K : Type 0} (t : KnownPlaces S R V U K) where
   snap_lacks_none w id (Some c) = elim (is_idle c.pending) as (λ b. lacked_memory (cond b (Err Finished) (reply_of told (step_answer (clients_over t) t.memory w id))) ≡ false) [ true ↦ refl | false ↦ lacks_none (clients_over t) t.memory told w id ]
 
   -- one more step for which no growth was refused
-  pub after_stepped : (w new : SnapState S U K) (id : ℕ) (reply : Result SnapReply Refusal) → new ≡ after_snap_step t w id → reply ≡ snap_answer t w id → LeadsOn (snapshot t) w new (Stepped id reply)
+  pub after_stepped : (w new : SnapState S U K) (id : ℕ) (reply : Result SnapReply Refusal) → new ≡ after_snap_step t w id → reply ≡ snap_answer t w id → Extends (snapshot t) w new (Stepped id reply)
   after_stepped w new id reply e is =
       let goes : lacked_memory reply ≡ false = ap lacked_memory is ∙ snap_lacks_none w id (program_of id w.participants) in
       call_leads_on (snapshot t) w new (Stepped id reply) (e ∙ rw goes refl) (inl is)
@@ -42,17 +42,17 @@ module _ {S R V U K : Type 0} (t : KnownPlaces S R V U K) where
   pub busy_answer : (w : SnapState S U K) (id : ℕ) (c : Client U K) → Some c ≡ program_of id w.participants → is_idle c.pending ≡ false → snap_answer t w id ≡ reply_of told (step_answer (clients_over t) t.memory w id)
   busy_answer w id c h busy = let e = sym h in rw (e, busy) refl
 
-  answer_by_alike : (w other : SnapState S U K) (p : ℕ) → LookAlike (clients_over t) t.memory p w other → (o : Option (Client U K)) → snap_answer_by t w p o ≡ snap_answer_by t other p o
+  answer_by_alike : (w other : SnapState S U K) (p : ℕ) → Indistinguishable (clients_over t) t.memory p w other → (o : Option (Client U K)) → snap_answer_by t w p o ≡ snap_answer_by t other p o
   answer_by_alike w other p alike None = refl
   answer_by_alike w other p alike (Some c) = ap (λ (x : Result SnapReply Refusal). cond (is_idle c.pending) (Err Finished) x) (ap (reply_of told) (answers_alike (clients_over t) t.memory p w other alike))
 
   -- what a participant is answered depends on what it sees
-  pub snap_alike : (w other : SnapState S U K) (p : ℕ) → LookAlike (clients_over t) t.memory p w other → snap_answer t w p ≡ snap_answer t other p
+  pub snap_alike : (w other : SnapState S U K) (p : ℕ) → Indistinguishable (clients_over t) t.memory p w other → snap_answer t w p ≡ snap_answer t other p
   snap_alike w other p alike =
       let same : program_of p w.participants ≡ program_of p other.participants = ap (option_map (λ (v : Participant (Client U K)). v.program)) alike.participant in
       rw (← same) (answer_by_alike w other p alike (program_of p w.participants))
 
-  stand_by : (w other : SnapState S U K) (p : ℕ) → LookAlike (clients_over t) t.memory p w other → (o : Option (Client U K)) → StandAlike p (after_snap_by t w p o) (after_snap_by t other p o)
+  stand_by : (w other : SnapState S U K) (p : ℕ) → Indistinguishable (clients_over t) t.memory p w other → (o : Option (Client U K)) → StandAlike p (after_snap_by t w p o) (after_snap_by t other p o)
   stand_by w other p alike None = alike.participant
   stand_by w other p alike (Some c) = elim (is_idle c.pending) as (λ b. StandAlike p (cond b w (after_step (clients_over t) t.memory w p)) (cond b other (after_step (clients_over t) t.memory other p))) [
     | true ↦ alike.participant

@@ -3,8 +3,8 @@ use Rattle.std.specs.Prelude.{◌≡◌, ◌≢◌, ◌≤◌, ℕ, zero, suc, �
 use Rattle.step_memory.specs.Participant.{participant_of}
 use Rattle.snapshot_core.specs.declared.client.SnapReply.{SnapReply}
 use Rattle.snapshot_core.specs.Places.{KnownPlaces}
-use Rattle.snapshot_core.specs.Machine.{AlwaysFromNew}
-use Rattle.snapshot_core.specs.Snapshot.{SnapObject, SnapBounds, KeepsSnapshotLaw}
+use Rattle.snapshot_core.specs.Machine.{OnEveryHistoryFromNew}
+use Rattle.snapshot_core.specs.Snapshot.{SnapObject, SnapBounds, SnapshotSpec}
 use Rattle.snapshot_core.specs.Snapshot.Task.{Absent, Scanning, Updating}
 use Rattle.snapshot_core.specs.SnapWorld.{SnapState, snap_answer, after_snap_step}
 use Rattle.snapshot_core.specs.Standing.{is_quiet}
@@ -34,7 +34,7 @@ module _ {S R V U K : Type 0} (t : KnownPlaces S R V U K) where
 
   -- after every list of calls
   abbrev pub EndsSoonAlone : SnapState S U K → ℕ → Type 0
-  EndsSoonAlone w p = AlwaysFromNew t (λ first r. (bounds : SnapBounds) (law : KeepsSnapshotLaw bounds r) → EndsSoon w law.0 p) w
+  EndsSoonAlone w p = OnEveryHistoryFromNew t (λ first r. (bounds : SnapBounds) (law : SnapshotSpec bounds r) → EndsSoon w law.0 p) w
 
   -- what others do meanwhile changes nothing of this, where they write nothing
   abbrev pub EndsAlike : SnapState S U K → SnapState S U K → ℕ → Type 0

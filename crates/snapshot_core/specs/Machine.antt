@@ -1,7 +1,7 @@
 -- a snapshot object as a machine, and what is said of it after its calls
 use Rattle.std.specs.Prelude.{◌≡◌, ℕ, List, length, Some, Result, Ok, Contains}
 use Rattle.step_memory.specs.Distinct.{AreDistinct}
-use Rattle.step_memory.specs.Machine.{Machine, After, Always, LeadsOn}
+use Rattle.step_memory.specs.Machine.{Machine, Reaches, OnEveryHistory, Extends}
 use Rattle.step_memory.specs.Participant.{program_of}
 use Rattle.step_memory.specs.Runs.{AnswersAsDue}
 use Rattle.snapshot_core.specs.declared.client.Client.{Client}
@@ -12,7 +12,7 @@ use Rattle.snapshot_core.specs.Places.{KnownPlaces, BoundsScans}
 use Rattle.snapshot_core.specs.SnapWorld.{SnapState, place_in, ways_of, beginner_at, clients_over, snap_answer, after_snap_step, IsAccessFor}
 use Rattle.snapshot_core.specs.SnapCalls.{SnapCall, fresh_over, next, IsReply}
 use Rattle.snapshot_core.specs.SnapCalls.SnapCall.{Stepped}
-use Rattle.snapshot_core.specs.Snapshot.{SnapBounds, KeepsSnapshotLaw, bounds_over, observed, Allows, new_object}
+use Rattle.snapshot_core.specs.Snapshot.{SnapBounds, SnapshotSpec, bounds_over, observed, Allows, new_object}
 
 module _ {S R V U K : Type 0} (t : KnownPlaces S R V U K) where
   -- where nothing was written at first, this holds within all bounds that leave room for as many collects as there may be
@@ -26,39 +26,39 @@ module _ {S R V U K : Type 0} (t : KnownPlaces S R V U K) where
     first = fresh_over t;
     next = next t;
     IsReply = IsReply t;
-    KeepsLaw = λ first r. WithinBounds first (λ bounds. KeepsSnapshotLaw bounds r);
+    Spec = λ first r. WithinBounds first (λ bounds. SnapshotSpec bounds r);
     RefusesAsDue = λ first r. WithinBounds first (λ bounds. AnswersAsDue observed (Allows bounds) new_object r);
   }
 
   -- so it is of every list of calls that leads to this object from places in which nothing was written
-  abbrev pub AlwaysFromNew : (S → List SnapCall → Type 0) → SnapState S U K → Type 0
-  AlwaysFromNew Holds w = Always snapshot (λ first r. t.ties.IsNew first → Holds first r) w
+  abbrev pub OnEveryHistoryFromNew : (S → List SnapCall → Type 0) → SnapState S U K → Type 0
+  OnEveryHistoryFromNew Holds w = OnEveryHistory snapshot (λ first r. t.ties.IsNew first → Holds first r) w
 
   -- every list of calls that leads to this object from a fresh one over this memory keeps the law within these bounds
-  abbrev pub IsLawfulFrom : S → SnapBounds → SnapState S U K → Type 0
-  IsLawfulFrom first bounds w = (r : List SnapCall) → After snapshot first w r → KeepsSnapshotLaw bounds r
+  abbrev pub SatisfiesSpecFrom : S → SnapBounds → SnapState S U K → Type 0
+  SatisfiesSpecFrom first bounds w = (r : List SnapCall) → Reaches snapshot first w r → SnapshotSpec bounds r
 
   -- p's next access is one for what it has to do
   abbrev pub MakesOwnAccess : SnapState S U K → ℕ → Type 0
-  MakesOwnAccess w p = AlwaysFromNew (λ first r. (c : Client U K) → program_of p w.participants ≡ Some c → IsAccessFor t w.memory c c.pending ((clients_over t).next c)) w
+  MakesOwnAccess w p = OnEveryHistoryFromNew (λ first r. (c : Client U K) → program_of p w.participants ≡ Some c → IsAccessFor t w.memory c c.pending ((clients_over t).next c)) w
 
   -- after every two lists of calls over places of one size, p would begin as the same
   abbrev pub BeginsTheSame : ℕ → Type 0
   BeginsTheSame p = (first other : S) (w x : SnapState S U K) (r s : List SnapCall) → t.ties.IsNew first → t.ties.IsNew other → t.most_of first ≡ t.most_of other →
-      After snapshot first w r → After snapshot other x s → beginner_at t w p ≡ beginner_at t x p
+      Reaches snapshot first w r → Reaches snapshot other x s → beginner_at t w p ≡ beginner_at t x p
 
   -- no two have one place
   abbrev pub HasDistinctPlaces : SnapState S U K → Type 0
-  HasDistinctPlaces w = AlwaysFromNew (λ first r. AreDistinct (place_in t w)) w
+  HasDistinctPlaces w = OnEveryHistoryFromNew (λ first r. AreDistinct (place_in t w)) w
 
   -- the memory agrees with the ways of those who have begun
   abbrev pub IsConsistentAfter : SnapState S U K → Type 0
-  IsConsistentAfter w = AlwaysFromNew (λ first r. t.ties.IsConsistent w.memory (length w.participants) (ways_of w.participants)) w
+  IsConsistentAfter w = OnEveryHistoryFromNew (λ first r. t.ties.IsConsistent w.memory (length w.participants) (ways_of w.participants)) w
 
   -- who was told its place has it
   abbrev pub KeepsTold : SnapState S U K → ℕ → Type 0
-  KeepsTold w p = AlwaysFromNew (λ first r. (place : ℕ) → Contains r (Stepped p (Ok (Placed place))) → place_in t w p ≡ Some place) w
+  KeepsTold w p = OnEveryHistoryFromNew (λ first r. (place : ℕ) → Contains r (Stepped p (Ok (Placed place))) → place_in t w p ≡ Some place) w
 
   -- a step of p that is answered as it is due, and leaves what it is to leave, leads on
-  abbrev pub StepLeadsOn : SnapState S U K → ℕ → Type 0
-  StepLeadsOn w p = (new : SnapState S U K) (reply : Result SnapReply Refusal) → new ≡ after_snap_step t w p → reply ≡ snap_answer t w p → LeadsOn snapshot w new (Stepped p reply)
+  abbrev pub StepExtends : SnapState S U K → ℕ → Type 0
+  StepExtends w p = (new : SnapState S U K) (reply : Result SnapReply Refusal) → new ≡ after_snap_step t w p → reply ≡ snap_answer t w p → Extends snapshot w new (Stepped p reply)

@@ -8,7 +8,7 @@ use Rattle.step_memory.specs.declared.refusal.Refusal.{Refusal}
 use Rattle.step_memory.specs.declared.refusal.Refusal.TheVariants.{AlreadyBegun, NotBegun, Finished, Spent}
 use Rattle.step_memory.specs.declared.participant.Participant.{Participant}
 use Rattle.step_memory.specs.Participant.{participant_of, program_of}
-use Rattle.step_memory.specs.Locality.{LookAlike, StandAlike}
+use Rattle.step_memory.specs.Locality.{Indistinguishable, StandAlike}
 use Rattle.step_memory.specs.Steps.{ProgramSteps, ReadsOrWrites}
 use Rattle.step_memory.specs.WorldState.{WorldState}
 use Rattle.step_memory.specs.World.{after_begin, after_set, step_answer, after_step, may_refuse_step}
@@ -134,8 +134,8 @@ module _ {S R V U K : Type 0} (t : KnownPlaces S R V U K) where
 
   -- in each object that looks alike to p the answer is the same
   abbrev pub AnswersAlike : SnapState S U K → ℕ → Result SnapReply Refusal → Type 0
-  AnswersAlike w p reply = (other : SnapState S U K) → LookAlike clients_over t.memory p w other → reply ≡ snap_answer other p
+  AnswersAlike w p reply = (other : SnapState S U K) → Indistinguishable clients_over t.memory p w other → reply ≡ snap_answer other p
 
   -- and p, which stands in this new object, then stands alike there
   abbrev pub StaysAlike : SnapState S U K → SnapState S U K → ℕ → Type 0
-  StaysAlike w new p = (other : SnapState S U K) → LookAlike clients_over t.memory p w other → StandAlike p new (after_snap_step other p)
+  StaysAlike w new p = (other : SnapState S U K) → Indistinguishable clients_over t.memory p w other → StandAlike p new (after_snap_step other p)

@@ -183,8 +183,8 @@ Allows bounds o (Stepped p (Ok reply)) = AllowsStep bounds o p reply
 Allows bounds o (Stepped p (Err why)) = (step_due bounds o p ≡ Some why) ⊎ LacksMemory bounds o p why
 
 -- these calls, with these replies, are those of a snapshot object whose steps keep these bounds
-abbrev pub KeepsSnapshotLaw : SnapBounds → List SnapCall → Type 0
-KeepsSnapshotLaw bounds r = (o : SnapObject) × Run observed (Allows bounds) new_object r o
+abbrev pub SnapshotSpec : SnapBounds → List SnapCall → Type 0
+SnapshotSpec bounds r = (o : SnapObject) × Run observed (Allows bounds) new_object r o
 
 -- the bounds over these places, with this one on scans
 abbrev pub bounds_over : {S R V U K : Type 0} → KnownPlaces S R V U K → S → (ℕ → ℕ) → SnapBounds
@@ -197,4 +197,4 @@ bounds_over t first scanning = record {
 
 -- every prefix of a list that keeps the law within these bounds keeps it
 abbrev pub HoldsOfPrefixes : SnapBounds → Type 0
-HoldsOfPrefixes bounds = (r more : List SnapCall) → KeepsSnapshotLaw bounds (r ++ more) → KeepsSnapshotLaw bounds r
+HoldsOfPrefixes bounds = (r more : List SnapCall) → SnapshotSpec bounds (r ++ more) → SnapshotSpec bounds r

@@ -3,7 +3,7 @@
 ghost use Rattle.std.specs.Prelude.{ℕ};
 ghost use Rattle.snapshot_core.specs.Alone.{EndsSoonAlone, EndsAlike};
 ghost use Rattle.snapshot_core.specs.Places.{BeginsAlike};
-ghost use Rattle.snapshot_core.specs.Machine.{snapshot, MakesOwnAccess, BeginsTheSame, HasDistinctPlaces, IsConsistentAfter, KeepsTold, StepLeadsOn};
+ghost use Rattle.snapshot_core.specs.Machine.{snapshot, MakesOwnAccess, BeginsTheSame, HasDistinctPlaces, IsConsistentAfter, KeepsTold, StepExtends};
 ghost use Rattle.snapshot_core.specs.Snapshot.{SnapBounds, HoldsOfPrefixes};
 ghost use Rattle.step_memory.specs.Machine.{IsProved};
 ghost use Rattle.snapshot_core.specs.SnapWorld.{SnapState, snap_answer, after_snap_step, LacksOnWay, AnswersAlike, StaysAlike};
@@ -27,7 +27,7 @@ pub fn law_of_snapshot_calls<W: Places>()
     ensures consistent { (w : SnapState W W.Walker W.Walk) → IsConsistentAfter ⟦<W as Known>⟧.places w }
     ensures sure { (w : SnapState W W.Walker W.Walk) (p : ℕ) → LacksOnWay ⟦<W as Known>⟧.places w p }
     ensures own { (w : SnapState W W.Walker W.Walk) (p : ℕ) → MakesOwnAccess ⟦<W as Known>⟧.places w p }
-    ensures leads { (w : SnapState W W.Walker W.Walk) (p : ℕ) → StepLeadsOn ⟦<W as Known>⟧.places w p }
+    ensures leads { (w : SnapState W W.Walker W.Walk) (p : ℕ) → StepExtends ⟦<W as Known>⟧.places w p }
     ensures answered { (w : SnapState W W.Walker W.Walk) (p : ℕ) → AnswersAlike ⟦<W as Known>⟧.places w p (snap_answer ⟦<W as Known>⟧.places w p) }
     ensures stays { (w : SnapState W W.Walker W.Walk) (p : ℕ) → StaysAlike ⟦<W as Known>⟧.places w (after_snap_step ⟦<W as Known>⟧.places w p) p }
     ensures alike { BeginsAlike ⟦<W as Known>⟧.places → (p : ℕ) → BeginsTheSame ⟦<W as Known>⟧.places p }

@@ -2,14 +2,14 @@
 
 ghost use Rattle.std.specs.Prelude.{◌≡◌, ◌≢◌, [], IfOk, IfSome, OnErr, Err, Ok, None, true, false};
 ghost use Rattle.std.specs.Option.{option_copied};
-ghost use Rattle.step_memory.specs.Locality.{IsLocal};
+ghost use Rattle.step_memory.specs.Locality.{ChangesOnly};
 ghost use Rattle.step_memory.specs.Participant.{program_of};
 ghost use Rattle.step_memory.specs.Taken.{told_in};
 ghost use Rattle.step_memory.specs.World.{begin_refusal, done_unless};
 ghost use Rattle.snapshot_core.specs.SnapWorld.{place_in, after_snap_begin, scan_refusal, update_refusal, after_scan, after_update, clients_over, snap_answer, after_snap_step, may_lack_memory, IsOnWay, AnswersAlike, StaysAlike, told_of_way};
 ghost use Rattle.snapshot_core.specs.Machine.{snapshot, MakesOwnAccess, HasDistinctPlaces, KeepsTold};
 ghost use Rattle.snapshot_core.specs.SnapCalls.{fresh_over};
-ghost use Rattle.step_memory.specs.Machine.{After, IsLawful, LeadsOn};
+ghost use Rattle.step_memory.specs.Machine.{Reaches, SatisfiesSpec, Extends};
 ghost use Rattle.snapshot_core.specs.SnapCalls.SnapCall.{Began, Updated, Scanned, Stepped};
 
 use crate::{Client, Known, MOST_UPDATES, OnWay, PlaceWalker, Places, SnapReply, ToScan, ToUpdate};
@@ -83,8 +83,8 @@ where
     /// refused.
     pub fn new(alloc: A, places: W) -> Result<Self, Refusal>
         ensures fresh { IfOk result (λ w. w ≡ fresh_over ⟦<W as Known>⟧.places places) }
-        ensures after { IfOk result (λ w. After (snapshot ⟦<W as Known>⟧.places) places w []) }
-        ensures law { IfOk result (λ w. IsLawful (snapshot ⟦<W as Known>⟧.places) w) }
+        ensures after { IfOk result (λ w. Reaches (snapshot ⟦<W as Known>⟧.places) places w []) }
+        ensures law { IfOk result (λ w. SatisfiesSpec (snapshot ⟦<W as Known>⟧.places) w) }
         ensures no_memory { OnErr result (result ≡ Err Refusal.NoMemory) }
     {
         let most = places.most();
@@ -100,8 +100,8 @@ where
         ensures state { self.new ≡ after_snap_begin ⟦<W as Known>⟧.places self.old id }
         ensures refused { OnErr result (self.new ≡ self.old) }
         ensures no_access { self.new.memory ≡ self.old.memory }
-        ensures after { LeadsOn (snapshot ⟦<W as Known>⟧.places) self.old self.new (Began id result) }
-        ensures law { IsLawful (snapshot ⟦<W as Known>⟧.places) self.new }
+        ensures after { Extends (snapshot ⟦<W as Known>⟧.places) self.old self.new (Began id result) }
+        ensures law { SatisfiesSpec (snapshot ⟦<W as Known>⟧.places) self.new }
     {
         let begun = self.world.participants().len();
         let places = self.world.memory();
@@ -116,8 +116,8 @@ where
         ensures state { self.new ≡ after_update self.old id value }
         ensures refused { OnErr result (self.new ≡ self.old) }
         ensures no_access { self.new.memory ≡ self.old.memory }
-        ensures after { LeadsOn (snapshot ⟦<W as Known>⟧.places) self.old self.new (Updated id value result) }
-        ensures law { IsLawful (snapshot ⟦<W as Known>⟧.places) self.new }
+        ensures after { Extends (snapshot ⟦<W as Known>⟧.places) self.old self.new (Updated id value result) }
+        ensures law { SatisfiesSpec (snapshot ⟦<W as Known>⟧.places) self.new }
     {
         let Some(client) = self.world.program(id) else {
             return Err(Refusal::NotBegun);
@@ -138,8 +138,8 @@ where
         ensures state { self.new ≡ after_scan self.old id }
         ensures refused { OnErr result (self.new ≡ self.old) }
         ensures no_access { self.new.memory ≡ self.old.memory }
-        ensures after { LeadsOn (snapshot ⟦<W as Known>⟧.places) self.old self.new (Scanned id result) }
-        ensures law { IsLawful (snapshot ⟦<W as Known>⟧.places) self.new }
+        ensures after { Extends (snapshot ⟦<W as Known>⟧.places) self.old self.new (Scanned id result) }
+        ensures law { SatisfiesSpec (snapshot ⟦<W as Known>⟧.places) self.new }
     {
         let Some(client) = self.world.program(id) else {
             return Err(Refusal::NotBegun);
@@ -157,9 +157,9 @@ where
         ensures answer { result ≡ true → snap_answer ⟦<W as Known>⟧.places self.old id ≡ Ok SnapReply.Quiet }
         ensures state { result ≡ true → self.new ≡ after_snap_step ⟦<W as Known>⟧.places self.old id }
         ensures kept { result ≡ false → self.new ≡ self.old }
-        ensures local { result ≡ true → IsLocal (clients_over ⟦<W as Known>⟧.places) W.steps id self.old self.new }
-        ensures after { result ≡ true → LeadsOn (snapshot ⟦<W as Known>⟧.places) self.old self.new (Stepped id (Ok SnapReply.Quiet)) }
-        ensures law { IsLawful (snapshot ⟦<W as Known>⟧.places) self.new }
+        ensures local { result ≡ true → ChangesOnly (clients_over ⟦<W as Known>⟧.places) W.steps id self.old self.new }
+        ensures after { result ≡ true → Extends (snapshot ⟦<W as Known>⟧.places) self.old self.new (Stepped id (Ok SnapReply.Quiet)) }
+        ensures law { SatisfiesSpec (snapshot ⟦<W as Known>⟧.places) self.new }
     {
         self.world.read_on(id)
     }
@@ -172,9 +172,9 @@ where
         ensures state { IfSome (told_in result) (λ _. self.new ≡ after_snap_step ⟦<W as Known>⟧.places self.old id) }
         ensures kept { told_in result ≡ None → self.new ≡ self.old }
         ensures no_memory { OnErr result (may_lack_memory ⟦<W as Known>⟧.places self.old id ≡ true) }
-        ensures local { IfSome (told_in result) (λ _. IsLocal (clients_over ⟦<W as Known>⟧.places) W.steps id self.old self.new) }
-        ensures after { IfSome (told_in result) (λ note. LeadsOn (snapshot ⟦<W as Known>⟧.places) self.old self.new (Stepped id (Ok (told_of_way note)))) }
-        ensures law { IsLawful (snapshot ⟦<W as Known>⟧.places) self.new }
+        ensures local { IfSome (told_in result) (λ _. ChangesOnly (clients_over ⟦<W as Known>⟧.places) W.steps id self.old self.new) }
+        ensures after { IfSome (told_in result) (λ note. Extends (snapshot ⟦<W as Known>⟧.places) self.old self.new (Stepped id (Ok (told_of_way note)))) }
+        ensures law { SatisfiesSpec (snapshot ⟦<W as Known>⟧.places) self.new }
     {
         self.world.take::<OnWay>(id)
     }
@@ -186,7 +186,7 @@ where
         ensures state { result ≢ Err Refusal.NoMemory → self.new ≡ after_snap_step ⟦<W as Known>⟧.places self.old id }
         ensures refused { OnErr result (self.new ≡ self.old) }
         ensures no_memory { result ≡ Err Refusal.NoMemory → may_lack_memory ⟦<W as Known>⟧.places self.old id ≡ true }
-        ensures local { IsLocal (clients_over ⟦<W as Known>⟧.places) W.steps id self.old self.new }
+        ensures local { ChangesOnly (clients_over ⟦<W as Known>⟧.places) W.steps id self.old self.new }
         ensures alike { result ≢ Err Refusal.NoMemory → AnswersAlike ⟦<W as Known>⟧.places self.old id result }
     {
         let Some(client) = self.world.program(id) else {
@@ -210,14 +210,14 @@ where
         ensures refused { OnErr result (self.new ≡ self.old) }
         ensures on_way { result ≡ Err Refusal.NoMemory → IsOnWay ⟦<W as Known>⟧.places self.old id }
         ensures no_memory { result ≡ Err Refusal.NoMemory → may_lack_memory ⟦<W as Known>⟧.places self.old id ≡ true }
-        ensures after { LeadsOn (snapshot ⟦<W as Known>⟧.places) self.old self.new (Stepped id result) }
-        ensures law { IsLawful (snapshot ⟦<W as Known>⟧.places) self.new }
+        ensures after { Extends (snapshot ⟦<W as Known>⟧.places) self.old self.new (Stepped id result) }
+        ensures law { SatisfiesSpec (snapshot ⟦<W as Known>⟧.places) self.new }
 
         // Nothing of the object changes but this participant and the register that it names, and in another one that
         // looks alike to this participant the answer is the same, and where the participant then stands. The access is
         // one for what it has to do: on its way to its place a read, a write or none, which leaves each segment as it is, in
         // a scan a read, at the end of an update the write of its own segment.
-        ensures local { IsLocal (clients_over ⟦<W as Known>⟧.places) W.steps id self.old self.new }
+        ensures local { ChangesOnly (clients_over ⟦<W as Known>⟧.places) W.steps id self.old self.new }
         ensures alike { result ≢ Err Refusal.NoMemory → AnswersAlike ⟦<W as Known>⟧.places self.old id result }
         ensures stands_alike { result ≢ Err Refusal.NoMemory → StaysAlike ⟦<W as Known>⟧.places self.old self.new id }
         ensures own { MakesOwnAccess ⟦<W as Known>⟧.places self.old id }

@@ -12,7 +12,7 @@ use Rattle.snapshot_places.specs.Bounds.{grid_bounds}
 use Rattle.snapshot_places.specs.GridProofs.{grid_laws}
 use Rattle.snapshot_core.specs.Places.{BeginsAlike, BoundsScans}
 use Rattle.snapshot_core.specs.SnapWorld.{SnapState}
-use Rattle.snapshot_core.specs.Machine.{IsLawfulFrom}
+use Rattle.snapshot_core.specs.Machine.{SatisfiesSpecFrom}
 use Rattle.snapshot_core.proofs.FixedLaw.{empty_at}
 use Rattle.snapshot_core.proofs.Following.{law_holds}
 
@@ -32,7 +32,7 @@ fits_grid m b some l =
     let product = mul-le-mul_right (segments_for m) up in
     omega arith
 
-pub grid_law : (w : SnapState GridState GridWalker GridWalk) → w.most ≤ 16 → IsLawfulFrom grid_places (fresh_grid w.most) (grid_bounds w.most) w
+pub grid_law : (w : SnapState GridState GridWalker GridWalk) → w.most ≤ 16 → SatisfiesSpecFrom grid_places (fresh_grid w.most) (grid_bounds w.most) w
 grid_law w few r a = law_holds grid_places grid_laws w (fresh_grid w.most) r a (empty_grid w.most few) (λ b. segments_for w.most * (segments_for w.most + 1)) (fits_grid w.most)
 
 -- every way begins at the corner, and every walk over as many segments as the size asks for

@@ -19,7 +19,7 @@ use Rattle.snapshot_core.specs.declared.client.Client.{Client}
 use Rattle.snapshot_core.specs.declared.client.Pending.TheVariants.{Placing}
 use Rattle.snapshot_core.specs.Places.{BeginsAlike, BoundsScans}
 use Rattle.snapshot_core.specs.SnapWorld.{SnapState, clients_over, ways_of}
-use Rattle.snapshot_core.specs.Machine.{IsLawfulFrom}
+use Rattle.snapshot_core.specs.Machine.{SatisfiesSpecFrom}
 use Rattle.snapshot_core.proofs.Following.{law_holds, consistent_holds}
 use Rattle.snapshot_core.proofs.SureSteps.{lacks_on_way}
 
@@ -37,7 +37,7 @@ pub tree_alike : BeginsAlike tree_places
 tree_alike = record { way = λ b c p. refl; walk = λ t other b c ways others i k size. refl }
 
 module _ (w : SnapState TreeState TreeWalker TreeWalk) where
-  pub tree_law : w.most ≤ 64 → IsLawfulFrom tree_places (new_tree w.most) (tree_bounds w.most) w
+  pub tree_law : w.most ≤ 64 → SatisfiesSpecFrom tree_places (new_tree w.most) (tree_bounds w.most) w
   tree_law few r a = law_holds tree_places tree_laws w (new_tree w.most) r a (is_new w.most few) (λ b. (b + 1) * (6 * b - 2)) (fits_tree w.most)
 
 module _ (w : SnapState TreeState TreeWalker TreeWalk) (new : IsFromNewTree w) where

@@ -7,7 +7,7 @@ use Rattle.splitter_tree.specs.TreeSteps.{tree_steps}
 use Rattle.snapshot_core.specs.declared.client.Client.{Client}
 use Rattle.snapshot_core.specs.declared.client.Pending.TheVariants.{Placing}
 use Rattle.snapshot_core.specs.SnapWorld.{SnapState, ways_of, may_lack_memory}
-use Rattle.step_memory.specs.Machine.{After}
+use Rattle.step_memory.specs.Machine.{Reaches}
 use Rattle.snapshot_core.specs.Machine.{snapshot}
 use Rattle.snapshot_core.specs.SnapCalls.{SnapCall}
 use Rattle.snapshot_places.specs.declared.tree_walker.TreeWalker.{TreeWalker}
@@ -25,7 +25,7 @@ pub record MakesNode (w : SnapState TreeState TreeWalker TreeWalk) (p : ℕ) : T
 
 -- some list of calls leads to this object from one over a tree of no node, for at most 64
 abbrev pub IsFromNewTree : SnapState TreeState TreeWalker TreeWalk → Type 0
-IsFromNewTree w = (w.most ≤ 64) × (r : List SnapCall) × After (snapshot tree_places) (new_tree w.most) w r
+IsFromNewTree w = (w.most ≤ 64) × (r : List SnapCall) × Reaches (snapshot tree_places) (new_tree w.most) w r
 
 -- the nodes and the walks keep the law of the tree
 abbrev pub KeepsTree : SnapState TreeState TreeWalker TreeWalk → Type 0

@@ -2,7 +2,7 @@
 
 ghost use Rattle.std.specs.Prelude.{◌≡◌, ◌≤◌, ℕ, false};
 ghost use Rattle.snapshot_core.specs.Places.{BeginsAlike, BoundsScans};
-ghost use Rattle.snapshot_core.specs.Machine.{HasDistinctPlaces, IsLawfulFrom};
+ghost use Rattle.snapshot_core.specs.Machine.{HasDistinctPlaces, SatisfiesSpecFrom};
 ghost use Rattle.snapshot_core.specs.SnapWorld.{may_lack_memory, LacksOnWay};
 ghost use Rattle.snapshot_places.specs.Bounds.{grid_bounds, tree_bounds};
 ghost use Rattle.snapshot_places.specs.Grid.{fresh_grid};
@@ -21,7 +21,7 @@ use std::alloc::Allocator;
 /// begun, a place comes within 4b steps, and over G segments a scan takes at most G(G + 1) steps and an update one more.
 /// No step wants memory, and all who begin under one identity are alike. A fresh grid is one in which nothing was written.
 pub fn grid_snapshot_law<A: Allocator>(world: &SnapWorld<Grid<A>, A>)
-    ensures law { world.now.most ≤ 16 → IsLawfulFrom grid_places (fresh_grid world.now.most) (grid_bounds world.now.most) world.now }
+    ensures law { world.now.most ≤ 16 → SatisfiesSpecFrom grid_places (fresh_grid world.now.most) (grid_bounds world.now.most) world.now }
     ensures fits { BoundsScans grid_places world.now.most (grid_bounds world.now.most).scanning }
     ensures distinct { HasDistinctPlaces grid_places world.now }
     ensures ample { (id : ℕ) → may_lack_memory grid_places world.now id ≡ false }
@@ -37,7 +37,7 @@ pub fn grid_snapshot_law<A: Allocator>(world: &SnapWorld<Grid<A>, A>)
 /// nodes were made. Only a step that makes a node may want memory, and all who begin under one identity are alike. A new
 /// tree is one in which nothing was written.
 pub fn tree_snapshot_law<A: Allocator + Clone>(world: &SnapWorld<TreePlaces<A>, A>)
-    ensures law { world.now.most ≤ 64 → IsLawfulFrom tree_places (new_tree world.now.most) (tree_bounds world.now.most) world.now }
+    ensures law { world.now.most ≤ 64 → SatisfiesSpecFrom tree_places (new_tree world.now.most) (tree_bounds world.now.most) world.now }
     ensures fits { BoundsScans tree_places world.now.most (tree_bounds world.now.most).scanning }
     ensures distinct { HasDistinctPlaces tree_places world.now }
     ensures nodes { IsFromNewTree world.now → KeepsTree world.now }

@@ -6,5 +6,5 @@ pub use Rattle.splitter.specs.declared.way.Way.TheVariants.{Stop, Right, Down}
 pub use Rattle.splitter.specs.declared.stage.Stage.{Stage}
 pub use Rattle.splitter.specs.declared.stage.Stage.TheVariants.{Outside, WroteX, SawClear, WroteY, Gone}
 pub use Rattle.splitter.specs.Stage.{went_right, went_down, stage_after}
-pub use Rattle.splitter.specs.Invariant.{DoorIsLawful, IsSplitter}
+pub use Rattle.splitter.specs.Invariant.{DoorSatisfiesSpec, IsSplitter}
 pub use Rattle.splitter.specs.declared.visitor.Visitor.{Visitor}

@@ -1,6 +1,6 @@
 -- each access keeps the law of one splitter
 use Rattle.std.proofs.Common.{◌≡◌, ◌≢◌, ℕ, true, false, inl, inr, refl, sym, subst, ◌∙◌, arith}
-use Rattle.splitter.proofs.Common.{eqb_tells, Stop, Right, Down, Stage, Outside, WroteX, SawClear, WroteY, Gone, DoorIsLawful, IsSplitter, set_at}
+use Rattle.splitter.proofs.Common.{eqb_tells, Stop, Right, Down, Stage, Outside, WroteX, SawClear, WroteY, Gone, DoorSatisfiesSpec, IsSplitter, set_at}
 use Rattle.splitter.specs.Stage.{has_entered, has_set, is_between, has_stopped, went_right, went_down, x_after, y_after, stage_after}
 use Rattle.step_memory.proofs.SetAtLemmas.{set_at-same, set_at-other, set_at-cases, set_at-as_is}
 use Rattle.splitter.proofs.Changed.{passed_before, passes_still, passes_too, fails_still}
@@ -16,7 +16,7 @@ stopped_set (Gone Stop) h = refl
 stopped_set s h = absurd (cc)
 
 -- a lawful splitter keeps the law
-pub law_of : (x y : ℕ) (stage : ℕ → Stage) → DoorIsLawful x y stage → IsSplitter stage
+pub law_of : (x y : ℕ) (stage : ℕ → Stage) → DoorSatisfiesSpec x y stage → IsSplitter stage
 law_of x y stage d = record {
   one_stops = λ p q h k. d.one p q (rw h refl) (rw k refl);
   not_all_right = λ p e. elim (eqb_tells y 0) [
@@ -27,7 +27,7 @@ law_of x y stage d = record {
 }
 
 -- an empty splitter is lawful
-pub lawful_new : (x : ℕ) → DoorIsLawful x 0 (λ p. Outside)
+pub lawful_new : (x : ℕ) → DoorSatisfiesSpec x 0 (λ p. Outside)
 lawful_new x = record {
   unset = λ _ p. refl;
   none_right = λ _ p. refl;
@@ -38,9 +38,9 @@ lawful_new x = record {
   one = λ p q h k. absurd (cc);
 }
 
-module _ (x y : ℕ) (stage : ℕ → Stage) (p : ℕ) (d : DoorIsLawful x y stage) where
+module _ (x y : ℕ) (stage : ℕ → Stage) (p : ℕ) (d : DoorSatisfiesSpec x y stage) where
   -- the first access: p writes X
-  wrote_x : stage p ≡ Outside → DoorIsLawful p y (set_at stage p WroteX)
+  wrote_x : stage p ≡ Outside → DoorSatisfiesSpec p y (set_at stage p WroteX)
   wrote_x s = record {
     unset = λ h q. fails_still stage p WroteX has_set refl q (d.unset h q);
     none_right = λ h q. fails_still stage p WroteX went_right refl q (d.none_right h q);
@@ -52,7 +52,7 @@ module _ (x y : ℕ) (stage : ℕ → Stage) (p : ℕ) (d : DoorIsLawful x y sta
   }
 
   -- the second: p sees Y clear
-  saw_clear : stage p ≡ WroteX → y ≡ 0 → DoorIsLawful x y (set_at stage p SawClear)
+  saw_clear : stage p ≡ WroteX → y ≡ 0 → DoorSatisfiesSpec x y (set_at stage p SawClear)
   saw_clear s z = record {
     unset = λ h q. fails_still stage p SawClear has_set refl q (d.unset h q);
     none_right = λ h q. fails_still stage p SawClear went_right refl q (d.none_right h q);
@@ -67,7 +67,7 @@ module _ (x y : ℕ) (stage : ℕ → Stage) (p : ℕ) (d : DoorIsLawful x y sta
   }
 
   -- or it sees it set, and goes right
-  turned_right : stage p ≡ WroteX → y ≢ 0 → DoorIsLawful x y (set_at stage p (Gone Right))
+  turned_right : stage p ≡ WroteX → y ≢ 0 → DoorSatisfiesSpec x y (set_at stage p (Gone Right))
   turned_right s n = record {
     unset = λ h. absurd (n h);
     none_right = λ h. absurd (n h);
@@ -79,7 +79,7 @@ module _ (x y : ℕ) (stage : ℕ → Stage) (p : ℕ) (d : DoorIsLawful x y sta
   }
 
   -- the third: p sets Y
-  wrote_y : stage p ≡ SawClear → DoorIsLawful x 1 (set_at stage p WroteY)
+  wrote_y : stage p ≡ SawClear → DoorSatisfiesSpec x 1 (set_at stage p WroteY)
   wrote_y s = record {
     unset = λ h. absurd (omega arith);
     none_right = λ h. absurd (omega arith);
@@ -98,7 +98,7 @@ module _ (x y : ℕ) (stage : ℕ → Stage) (p : ℕ) (d : DoorIsLawful x y sta
   is_set s h = let m : has_set (stage p) ≡ true = rw s in let n : has_set (stage p) ≡ false = d.unset h p in cc
 
   -- the fourth: p finds itself in X, and stops
-  stopped : stage p ≡ WroteY → x ≡ p → DoorIsLawful x y (set_at stage p (Gone Stop))
+  stopped : stage p ≡ WroteY → x ≡ p → DoorSatisfiesSpec x y (set_at stage p (Gone Stop))
   stopped s own = record {
     unset = λ h. absurd (is_set s h);
     none_right = λ h. absurd (is_set s h);
@@ -113,7 +113,7 @@ module _ (x y : ℕ) (stage : ℕ → Stage) (p : ℕ) (d : DoorIsLawful x y sta
   }
 
   -- or it finds another, and goes down
-  turned_down : stage p ≡ WroteY → x ≢ p → DoorIsLawful x y (set_at stage p (Gone Down))
+  turned_down : stage p ≡ WroteY → x ≢ p → DoorSatisfiesSpec x y (set_at stage p (Gone Down))
   turned_down s other = record {
     unset = λ h. absurd (is_set s h);
     none_right = λ h. absurd (is_set s h);
@@ -125,9 +125,9 @@ module _ (x y : ℕ) (stage : ℕ → Stage) (p : ℕ) (d : DoorIsLawful x y sta
   }
 
   -- any access of p keeps the law. One that has gone makes none
-  pub kept : (s : Stage) → stage p ≡ s → DoorIsLawful (x_after p s x) (y_after s y) (set_at stage p (stage_after p s x y))
+  pub kept : (s : Stage) → stage p ≡ s → DoorSatisfiesSpec (x_after p s x) (y_after s y) (set_at stage p (stage_after p s x y))
   kept Outside s = wrote_x s
   kept WroteX s = elim (eqb_tells y 0) [ inl w ↦ rw w.0 (saw_clear s w.1) | inr w ↦ rw w.0 (turned_right s w.1) ]
   kept SawClear s = wrote_y s
   kept WroteY s = elim (eqb_tells x p) [ inl w ↦ rw w.0 (stopped s w.1) | inr w ↦ rw w.0 (turned_down s w.1) ]
-  kept (Gone way) s = subst (λ (f : ℕ → Stage). DoorIsLawful x y f) (sym (set_at-as_is stage p (Gone way) (sym s))) d
+  kept (Gone way) s = subst (λ (f : ℕ → Stage). DoorSatisfiesSpec x y f) (sym (set_at-as_is stage p (Gone way) (sym s))) d

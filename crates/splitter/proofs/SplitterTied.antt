@@ -1,6 +1,6 @@
 -- what ties a splitter's world to the calls that it is after
 use Rattle.std.proofs.Common.{◌≡◌, ◌≢◌, ℕ, ◌+◌, ◌<◌, ◌≤◌, true, false, cond, ◌==◌, inl, inr, List, [], ◌∷◌, ◌++◌, length, Option, Some, None, Result, Ok, Err, IfOk, refl, sym, ap, subst, ◌∙◌, arith, is_some, option_map, IsSome}
-use Rattle.splitter.proofs.Common.{eqb_tells, set_at, set_at-cases, Stop, Right, Down, Stage, Outside, WroteX, SawClear, WroteY, Gone, Visitor, DoorIsLawful, IsSplitter}
+use Rattle.splitter.proofs.Common.{eqb_tells, set_at, set_at-cases, Stop, Right, Down, Stage, Outside, WroteX, SawClear, WroteY, Gone, Visitor, DoorSatisfiesSpec, IsSplitter}
 use Rattle.std.proofs.Math.Path.{fun_ext}
 use Rattle.step_memory.specs.declared.participant.Participant.{Participant}
 use Rattle.step_memory.specs.Note.{ends}
@@ -14,7 +14,7 @@ use Rattle.step_memory.specs.Told.{Tells}
 use Rattle.step_memory.proofs.ToldLemmas.{told_quiet, told_stepped}
 use Rattle.step_memory.specs.Due.{EndsOnce}
 use Rattle.step_memory.proofs.DueLemmas.{outcomes_tell, never_grows}
-use Rattle.step_memory.specs.Machine.{After, IsProved, IsLawful, RefusesWhereDue, LeadsOn}
+use Rattle.step_memory.specs.Machine.{Reaches, IsProved, SatisfiesSpec, RefusesWhereDue, Extends}
 use Rattle.step_memory.proofs.WorldMachineLemmas.{IsTie, tied_after, world_proved, begin_leads_on, step_leads_on, never_lacks, new_after, stays_alike}
 use Rattle.splitter.specs.Laws.{StaysAlike}
 use Rattle.step_memory.specs.World.{after_begin, begin_refusal, done_unless, may_refuse_step}
@@ -22,7 +22,7 @@ use Rattle.step_memory.specs.declared.refusal.Refusal.{Refusal}
 use Rattle.splitter.specs.declared.way.Way.{Way}
 use Rattle.splitter.specs.Stage.{has_entered, is_gone, x_after, y_after, stage_after}
 use Rattle.splitter.specs.Visitor.{visitor_steps, access_of, stage_by, note_at, note_after, word_of, IsAccessOf}
-use Rattle.splitter.specs.Law.{IsSplit, HasEntered, WentBy, KeepsSplitterLaw}
+use Rattle.splitter.specs.Law.{IsSplit, HasEntered, WentBy, SplitterSpec}
 use Rattle.splitter.specs.Machine.{SplitterState, fresh, visit_of, splitter, splitter_parts, step_reply, world_after_step}
 use Rattle.splitter.proofs.DoorKept.{kept, law_of, lawful_new}
 use Rattle.splitter.proofs.VisitorAccess.{is_access_of}
@@ -60,7 +60,7 @@ pub record IsVisitOf (p : ℕ) (v : Participant (Visitor ℕ)) : Type 0 where
 pub record IsTied (w : SplitterState) (r : List (Call (Option Way))) : Type 0 where
   registers : length w.memory.values ≡ 2
   visits : (p : ℕ) (v : Participant (Visitor ℕ)) → participant_of p w.participants ≡ Some v → IsVisitOf p v
-  door : DoorIsLawful (word_of w.memory 0) (word_of w.memory 1) (stages w.participants)
+  door : DoorSatisfiesSpec (word_of w.memory 0) (word_of w.memory 1) (stages w.participants)
   told : Tells way_at accesses accesses (stages w.participants) r
 
 steps_are : (w : SplitterState) (r : List (Call (Option Way))) → IsTied w r → (p : ℕ) → steps_of p r ≡ accesses (stages w.participants p)
@@ -258,7 +258,7 @@ other_accesses Stop h = refl
 other_accesses Right h = absurd (h refl)
 other_accesses Down h = refl
 
-tied_law : (w : SplitterState) (r : List (Call (Option Way))) → IsTied w r → EndsOnce is_some r → KeepsSplitterLaw r
+tied_law : (w : SplitterState) (r : List (Call (Option Way))) → IsTied w r → EndsOnce is_some r → SplitterSpec r
 unfolding accesses
 tied_law w r t once =
     let split = split_by w r t in
@@ -282,22 +282,22 @@ tie = record { tells = outcomes_tell; grows = never_grows; new = λ most may. ti
 pub splitter_proved : IsProved splitter
 splitter_proved = world_proved splitter_parts IsTied tie
 
-pub visits_always : (most : ℕ) (w : SplitterState) (r : List (Call (Option Way))) → After splitter most w r → (p : ℕ) (v : Participant (Visitor ℕ)) → participant_of p w.participants ≡ Some v → IsVisitOf p v
+pub visits_always : (most : ℕ) (w : SplitterState) (r : List (Call (Option Way))) → Reaches splitter most w r → (p : ℕ) (v : Participant (Visitor ℕ)) → participant_of p w.participants ≡ Some v → IsVisitOf p v
 visits_always most w r a = (tied_after splitter_parts IsTied tie most w r a).visits
 
-pub splitter_law : (w : SplitterState) → IsLawful splitter w
+pub splitter_law : (w : SplitterState) → SatisfiesSpec splitter w
 splitter_law w = splitter_proved.law w
 
 pub splitter_due : (w : SplitterState) → RefusesWhereDue splitter w
 splitter_due w = splitter_proved.due w
 
-pub splitter_opens : (most : ℕ) (r : Result SplitterState Refusal) → IfOk r (λ w. w ≡ fresh most) → IfOk r (λ w. After splitter most w [])
+pub splitter_opens : (most : ℕ) (r : Result SplitterState Refusal) → IfOk r (λ w. w ≡ fresh most) → IfOk r (λ w. Reaches splitter most w [])
 splitter_opens most = new_after splitter_parts most tt
 
-pub splitter_begins : (w new : SplitterState) (id : ℕ) (reply : Result (Unit {0}) Refusal) → new ≡ after_begin w id (visit_of id) → reply ≡ done_unless (begin_refusal w id) → LeadsOn splitter w new (Began id reply)
+pub splitter_begins : (w new : SplitterState) (id : ℕ) (reply : Result (Unit {0}) Refusal) → new ≡ after_begin w id (visit_of id) → reply ≡ done_unless (begin_refusal w id) → Extends splitter w new (Began id reply)
 splitter_begins = begin_leads_on splitter_parts
 
-pub splitter_steps : (w new : SplitterState) (id : ℕ) (reply : Result (Option Way) Refusal) → new ≡ world_after_step w id → reply ≡ step_reply w id → LeadsOn splitter w new (Stepped id reply)
+pub splitter_steps : (w new : SplitterState) (id : ℕ) (reply : Result (Option Way) Refusal) → new ≡ world_after_step w id → reply ≡ step_reply w id → Extends splitter w new (Stepped id reply)
 splitter_steps = step_leads_on splitter_parts
 
 -- no step lacks memory

@@ -1,6 +1,6 @@
 -- walks from door to door, by how far the visit to a door has come
 use Rattle.std.proofs.Common.{◌≡◌, ◌↔◌, ℕ, ◌+◌, ◌≤◌, ◌==◌, ◌⊎◌, true, false, cond, inl, inr, Option, Some, None, refl, sym, ap, arith, IsSome}
-use Rattle.splitter.proofs.Common.{Stop, Right, Down, Stage, Outside, WroteX, SawClear, WroteY, Gone, DoorIsLawful, went_right, went_down, stage_after}
+use Rattle.splitter.proofs.Common.{Stop, Right, Down, Stage, Outside, WroteX, SawClear, WroteY, Gone, DoorSatisfiesSpec, went_right, went_down, stage_after}
 use Rattle.step_memory.specs.declared.note.Note.{Note}
 use Rattle.step_memory.specs.declared.note.Note.TheVariants.{Quiet, Said, Ended}
 use Rattle.step_memory.specs.Calls.{outcome_in}
@@ -42,7 +42,7 @@ place_is k (Gone Stop) place h = (refl, let e : k ≡ place = cc in sym e)
 place_is k s place h = absurd (cc)
 
 -- two whose visits to lawful doors have one place are one
-pub one_at_place : (x_of y_of : ℕ → ℕ) (stage : ℕ → ℕ → Stage) → ((k : ℕ) → DoorIsLawful (x_of k) (y_of k) (stage k)) →
+pub one_at_place : (x_of y_of : ℕ → ℕ) (stage : ℕ → ℕ → Stage) → ((k : ℕ) → DoorSatisfiesSpec (x_of k) (y_of k) (stage k)) →
     (p q i j place : ℕ) → place_at_door i (stage i p) ≡ Some place → place_at_door j (stage j q) ≡ Some place → p ≡ q
 one_at_place x_of y_of stage lawful p q i j place h k =
     let at_i = place_is i (stage i p) place h in

@@ -6,7 +6,7 @@ use Rattle.splitter.specs.Stage.{has_entered, has_set, is_between, has_stopped, 
 use Rattle.splitter.specs.Law.{IsSplit}
 
 -- what stands in X, what stands in Y and the visits agree
-pub record DoorIsLawful (x y : ℕ) (stage : ℕ → Stage) : Type 0 where
+pub record DoorSatisfiesSpec (x y : ℕ) (stage : ℕ → Stage) : Type 0 where
   -- while Y is clear no one has set it and no one has gone right
   pub unset : y ≡ 0 → (p : ℕ) → has_set (stage p) ≡ false
   pub none_right : y ≡ 0 → (p : ℕ) → went_right (stage p) ≡ false

@@ -30,7 +30,7 @@ WentBy r p way = outcome_of p r ≡ Some way
 -- the law over calls and replies: those who entered are split, and who enters alone stops; a visit ends at its fourth
 -- step or earlier, at its second where it goes right and else at its fourth; and no one makes a step after its visit has
 -- ended
-pub record KeepsSplitterLaw (r : List (Call (Option Way))) : Type 0 where
+pub record SplitterSpec (r : List (Call (Option Way))) : Type 0 where
   pub split : IsSplit (HasEntered r) (WentBy r)
   pub at_most_four : (p : ℕ) → steps_of p r ≤ 4
   pub fourth_ends : (p : ℕ) → steps_of p r ≡ 4 → IsSome (outcome_of p r)

@@ -1,23 +1,23 @@
 -- what the laws of this crate say, each under a name
 use Rattle.splitter.specs.Visitor.{visitor_steps}
 use Rattle.step_memory.specs.Registers.{memory_steps}
-use Rattle.step_memory.specs.Locality.{LookAlike, StandAlike}
+use Rattle.step_memory.specs.Locality.{Indistinguishable, StandAlike}
 use Rattle.std.specs.Prelude.{◌≡◌, ◌+◌, ◌≤◌, ◌⊎◌, false, ℕ, Option, Some, None, IsSome}
 use Rattle.splitter.specs.declared.stage.Stage.{Stage}
 use Rattle.splitter.specs.declared.stage.Stage.TheVariants.{Gone}
 use Rattle.splitter.specs.declared.way.Way.TheVariants.{Right, Down}
 use Rattle.splitter.specs.Walk.{gone_on, note_at_door, place_at_door, accesses_at}
-use Rattle.splitter.specs.Invariant.{DoorIsLawful}
+use Rattle.splitter.specs.Invariant.{DoorSatisfiesSpec}
 use Rattle.splitter.specs.Machine.{SplitterState, world_after_step}
 use Rattle.splitter.specs.Stage.{went_right, went_down, x_after, y_after, stage_after}
 use Rattle.step_memory.specs.Calls.{outcome_in}
 use Rattle.step_memory.specs.SetAt.{set_at}
 
 -- an access of a visit keeps the law of its splitter
-abbrev pub KeepsDoorLaw : Type 0
-KeepsDoorLaw =
-    (x y : ℕ) (stage : ℕ → Stage) (p : ℕ) → DoorIsLawful x y stage →
-    DoorIsLawful (x_after p (stage p) x) (y_after (stage p) y) (set_at stage p (stage_after p (stage p) x y))
+abbrev pub DoorSpec : Type 0
+DoorSpec =
+    (x y : ℕ) (stage : ℕ → Stage) (p : ℕ) → DoorSatisfiesSpec x y stage →
+    DoorSatisfiesSpec (x_after p (stage p) x) (y_after (stage p) y) (set_at stage p (stage_after p (stage p) x y))
 
 -- a walk stands at its door still, or before the next one on the right or down
 abbrev pub GoesOn : (W : Type 0) → Type 0
@@ -35,7 +35,7 @@ TellsPlace W =
 -- two whose visits to lawful doors have one place are one
 abbrev pub HasOneAtPlace : Type 0
 HasOneAtPlace =
-    (x_of y_of : ℕ → ℕ) (stage : ℕ → ℕ → Stage) → ((k : ℕ) → DoorIsLawful (x_of k) (y_of k) (stage k)) →
+    (x_of y_of : ℕ → ℕ) (stage : ℕ → ℕ → Stage) → ((k : ℕ) → DoorSatisfiesSpec (x_of k) (y_of k) (stage k)) →
     (p q i j place : ℕ) → place_at_door i (stage i p) ≡ Some place → place_at_door j (stage j q) ≡ Some place → p ≡ q
 
 -- who has made four accesses at a door, and has not left it, has its place
@@ -50,4 +50,4 @@ CountsOneMore =
 
 -- who stands in the new world stands alike after its step in each world that looks alike to it
 abbrev pub StaysAlike : SplitterState → SplitterState → ℕ → Type 0
-StaysAlike old new id = (other : SplitterState) → LookAlike visitor_steps memory_steps id old other → StandAlike id new (world_after_step other id)
+StaysAlike old new id = (other : SplitterState) → Indistinguishable visitor_steps memory_steps id old other → StandAlike id new (world_after_step other id)

@@ -10,7 +10,7 @@ use Rattle.step_memory.specs.Machine.{Machine}
 use Rattle.step_memory.specs.WorldMachine.{WorldParts, world_machine}
 use Rattle.splitter.specs.declared.way.Way.{Way}
 use Rattle.splitter.specs.declared.visitor.Visitor.{Visitor}
-use Rattle.splitter.specs.Law.{KeepsSplitterLaw}
+use Rattle.splitter.specs.Law.{SplitterSpec}
 use Rattle.splitter.specs.Visitor.{visitor_at, visitor_steps}
 
 -- the registers, the most participants, and their visits
@@ -48,7 +48,7 @@ splitter_parts = record {
   grows = false;
   MayStart = λ most. Unit {0};
   empty = λ most. empty_door;
-  KeepsLaw = KeepsSplitterLaw;
+  Spec = SplitterSpec;
 }
 
 abbrev pub splitter : Machine ℕ SplitterState (Call (Option Way))

@@ -1,11 +1,11 @@
 //! Laws of the splitter, which run nothing: of one splitter, whoever uses it, and of the calls of its world.
 
 ghost use Rattle.std.specs.Prelude.{◌≡◌, ◌≢◌, ◌↔◌, ℕ, ◌<◌, ◌≤◌, true, length, Some};
-ghost use Rattle.splitter.specs.Laws.{KeepsDoorLaw, GoesOn, TellsPlace, HasOneAtPlace, FourthPlaces, CountsOneMore};
+ghost use Rattle.splitter.specs.Laws.{DoorSpec, GoesOn, TellsPlace, HasOneAtPlace, FourthPlaces, CountsOneMore};
 ghost use Rattle.splitter.specs.declared.stage.Stage.{Stage};
 ghost use Rattle.splitter.specs.declared.visitor.Visitor.{Visitor};
 ghost use Rattle.splitter.specs.declared.way.Way.{Way};
-ghost use Rattle.splitter.specs.Invariant.{DoorIsLawful, IsSplitter};
+ghost use Rattle.splitter.specs.Invariant.{DoorSatisfiesSpec, IsSplitter};
 ghost use Rattle.splitter.specs.Machine.{splitter};
 ghost use Rattle.splitter.specs.Stage.{went_down, went_right};
 ghost use Rattle.splitter.specs.Visitor.{IsAccessOf, access_of};
@@ -20,9 +20,9 @@ ghost use Rattle.step_memory.specs.declared.note.Note.TheVariants.{Ended};
 /// A law, which runs nothing: a splitter that no one has entered is lawful, each access of a visit keeps it so, and a
 /// lawful one keeps the law of the splitter. Structures of many splitters stand on this.
 pub fn law_of_one_door()
-    ensures fresh { (x : ℕ) → DoorIsLawful x 0 (λ p. Stage.Outside) }
-    ensures kept { KeepsDoorLaw }
-    ensures law { (x y : ℕ) (stage : ℕ → Stage) → DoorIsLawful x y stage → IsSplitter stage }
+    ensures fresh { (x : ℕ) → DoorSatisfiesSpec x 0 (λ p. Stage.Outside) }
+    ensures kept { DoorSpec }
+    ensures law { (x y : ℕ) (stage : ℕ → Stage) → DoorSatisfiesSpec x y stage → IsSplitter stage }
 {}
 
 /// A law, which runs nothing: who went right is gone by that way, and so is who went down.

@@ -6,8 +6,8 @@ ghost use Rattle.splitter.specs.Machine.{SplitterState, fresh, splitter, visit_o
 ghost use Rattle.splitter.specs.Visitor.{visitor_steps};
 ghost use Rattle.step_memory.specs.Calls.Call.{Began, Stepped};
 ghost use Rattle.step_memory.specs.Calls.{outcome_in, reply_of};
-ghost use Rattle.step_memory.specs.Locality.{IsLocal, LookAlike};
-ghost use Rattle.step_memory.specs.Machine.{After, IsLawful, LeadsOn, RefusesWhereDue};
+ghost use Rattle.step_memory.specs.Locality.{ChangesOnly, Indistinguishable};
+ghost use Rattle.step_memory.specs.Machine.{Reaches, SatisfiesSpec, Extends, RefusesWhereDue};
 ghost use Rattle.step_memory.specs.Registers.{memory_steps};
 ghost use Rattle.step_memory.specs.World.{after_begin, begin_refusal, done_unless};
 
@@ -37,8 +37,8 @@ impl<A: Allocator + Clone> SplitterWorld<A> {
     #[tactic(auto, using(crate::proofs::SplitterTied::splitter_contracts))]
     pub fn new(alloc: A, most: usize) -> Result<Self, Refusal>
         ensures fresh { IfOk result (λ w. w ≡ fresh most) }
-        ensures after { IfOk result (λ w. After splitter most w []) }
-        ensures law { IfOk result (λ w. IsLawful splitter w) }
+        ensures after { IfOk result (λ w. Reaches splitter most w []) }
+        ensures law { IfOk result (λ w. SatisfiesSpec splitter w) }
         ensures range { IsOk result → (1 ≤ most) × (most ≤ 16) }
         ensures out_of_range { result ≡ Err Refusal.OutOfRange ↔ ((most < 1) ⊎ (16 < most)) }
         ensures only { IfErr result (λ r. (r ≡ Refusal.NoMemory) ⊎ (r ≡ Refusal.OutOfRange)) }
@@ -58,8 +58,8 @@ impl<A: Allocator + Clone> SplitterWorld<A> {
         ensures refused { OnErr result (self.new ≡ self.old) }
 
         // The law, over every list of calls and replies that the world may be after.
-        ensures after { LeadsOn splitter self.old self.new (Began id result) }
-        ensures law { IsLawful splitter self.new }
+        ensures after { Extends splitter self.old self.new (Began id result) }
+        ensures law { SatisfiesSpec splitter self.new }
         ensures due { RefusesWhereDue splitter self.new }
     {
         self.world.begin(id, Visitor::new(id, 0, 1))
@@ -75,13 +75,13 @@ impl<A: Allocator + Clone> SplitterWorld<A> {
 
         // Nothing of the world changes but this visit and the register that it names, and in another world that looks
         // alike to this visit the answer is the same, and where the visit then stands.
-        ensures local { IsLocal visitor_steps memory_steps id self.old self.new }
-        ensures alike { (other : SplitterState) → LookAlike visitor_steps memory_steps id self.old other → result ≡ step_reply other id }
+        ensures local { ChangesOnly visitor_steps memory_steps id self.old self.new }
+        ensures alike { (other : SplitterState) → Indistinguishable visitor_steps memory_steps id self.old other → result ≡ step_reply other id }
         ensures stands_alike { StaysAlike self.old self.new id }
 
         // The law, over every list of calls and replies that the world may be after.
-        ensures after { LeadsOn splitter self.old self.new (Stepped id result) }
-        ensures law { IsLawful splitter self.new }
+        ensures after { Extends splitter self.old self.new (Stepped id result) }
+        ensures law { SatisfiesSpec splitter self.new }
         ensures due { RefusesWhereDue splitter self.new }
     {
         self.world.step(id).map(Note::outcome)

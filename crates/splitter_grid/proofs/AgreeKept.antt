@@ -3,7 +3,7 @@ use Rattle.std.proofs.Common.{◌≡◌, ◌≢◌, ℕ, zero, suc, ◌<◌, ◌
 use Rattle.splitter_grid.proofs.Common.{eqb_tells, set_at, Stage, Outside, WroteX, SawClear, WroteY, Gone, has_entered, went_right, went_down, x_after, y_after, stage_after, Walker, door_number, number_of, door_at, walker_at, walk_of, visit_on}
 use Rattle.step_memory.proofs.SetAtLemmas.{set_at-same, set_at-other, set_at-cases}
 use Rattle.splitter.specs.declared.way.Way.TheVariants.{Stop, Right, Down}
-use Rattle.splitter.specs.Invariant.{DoorIsLawful}
+use Rattle.splitter.specs.Invariant.{DoorSatisfiesSpec}
 use Rattle.splitter.proofs.DoorKept.{kept, lawful_new}
 use Rattle.splitter_grid.specs.Invariant.{StandsAt, IsWalkOf, DoorsAgree}
 use Rattle.splitter_grid.proofs.DepthBound.{tightened}
@@ -64,10 +64,10 @@ module _ (b : ℕ) (x_of y_of : ℕ → ℕ) (walker : ℕ → Option Walker) (g
   stage' = visited g.stage at p after
 
   -- the doors after the step
-  doors_after : (j : ℕ) → DoorIsLawful (set_at x_of at (x_after p v.visitor.stage (x_of at)) j) (set_at y_of at (y_after v.visitor.stage (y_of at)) j) (stage' j)
+  doors_after : (j : ℕ) → DoorSatisfiesSpec (set_at x_of at (x_after p v.visitor.stage (x_of at)) j) (set_at y_of at (y_after v.visitor.stage (y_of at)) j) (stage' j)
   unfolding visited
   doors_after j = elim (eqb_tells j at) [
-    | inl e ↦ subst (λ (i : ℕ). DoorIsLawful (set_at x_of at (x_after p v.visitor.stage (x_of at)) i) (set_at y_of at (y_after v.visitor.stage (y_of at)) i) (set_at g.stage at (set_at (g.stage at) p after) i)) (sym e.1)
+    | inl e ↦ subst (λ (i : ℕ). DoorSatisfiesSpec (set_at x_of at (x_after p v.visitor.stage (x_of at)) i) (set_at y_of at (y_after v.visitor.stage (y_of at)) i) (set_at g.stage at (set_at (g.stage at) p after) i)) (sym e.1)
         (rw (set_at-same x_of at (x_after p v.visitor.stage (x_of at)), set_at-same y_of at (y_after v.visitor.stage (y_of at)), set_at-same g.stage at (set_at (g.stage at) p after))
         (kept (x_of at) (y_of at) (g.stage at) p (g.doors at) v.visitor.stage (g.walks p v is).here))
     | inr e ↦ rw (set_at-other x_of at (x_after p v.visitor.stage (x_of at)) j e.1, set_at-other y_of at (y_after v.visitor.stage (y_of at)) j e.1, set_at-other g.stage at (set_at (g.stage at) p after) j e.1) (g.doors j)

@@ -5,7 +5,7 @@ use Rattle.step_memory.specs.declared.refusal.Refusal.TheVariants.{NotBegun, Fin
 use Rattle.step_memory.specs.Participant.{participant_of}
 use Rattle.step_memory.specs.World.{begin_refusal, begun_unless, after_begin, after_step_by, step_answer_by}
 use Rattle.step_memory.specs.Calls.{Call, next, IsReply, outcome_in, reply_of, lacked_memory}
-use Rattle.step_memory.specs.Machine.{After}
+use Rattle.step_memory.specs.Machine.{Reaches}
 use Rattle.step_memory.proofs.MachineLemmas.{after_none, call_leads_on}
 use Rattle.step_memory.proofs.RunLemmas.{run_gathers}
 use Rattle.step_memory.proofs.WorldKeeps.{stepped}
@@ -101,7 +101,7 @@ module _ (w : GridState) (past : List (Call (Option ℕ))) (t : IsTied w past) w
 -- an identity stands in X of just the doors that were entered
 pub written_entered : (w : GridState) → ShowsWhatWasEntered w
 written_entered w most r a k =
-    let over = run_gathers next_of IsReplyOf (After grid most) (λ u past h b is. call_leads_on grid u (next_of u h) h refl is most past b) (λ u h. Enters u h k) (λ u. x_in u.memory k ≢ 0)
+    let over = run_gathers next_of IsReplyOf (Reaches grid most) (λ u past h b is. call_leads_on grid u (next_of u h) h refl is most past b) (λ u h. Enters u h k) (λ u. x_in u.memory k ≢ 0)
     (λ u past h b is. one_call u past (tied_always u most past b) h is k) (fresh most) [] r w (after_none grid most a.started) a.run in
     let unwritten : x_in (empty_doors most) k ≡ 0 = get_or-replicate_same (most * (most + 1)) (2 * k) 0 in
     (λ some. elim (over.0 some) [ inl yes_entered ↦ yes_entered | inr written ↦ absurd (written unwritten) ], λ yes_entered. over.1 (inl yes_entered))

@@ -11,14 +11,14 @@ use Rattle.step_memory.specs.Told.{Tells}
 use Rattle.step_memory.proofs.ToldLemmas.{told_quiet, told_begun, told_stepped}
 use Rattle.step_memory.specs.Due.{EndsOnce}
 use Rattle.step_memory.proofs.DueLemmas.{outcomes_tell, never_grows, no_second_end}
-use Rattle.step_memory.specs.Machine.{After, Always, IsProved, IsLawful, RefusesWhereDue, LeadsOn}
+use Rattle.step_memory.specs.Machine.{Reaches, OnEveryHistory, IsProved, SatisfiesSpec, RefusesWhereDue, Extends}
 use Rattle.step_memory.proofs.WorldMachineLemmas.{IsTie, tied_after, world_proved, begin_leads_on, step_leads_on, never_lacks, new_after, stays_alike}
 use Rattle.step_memory.specs.World.{after_begin, begin_refusal, done_unless, may_refuse_step}
 use Rattle.splitter_grid.specs.Laws.{StaysAlike}
 use Rattle.splitter.specs.Walk.{note_at_door}
 use Rattle.splitter.specs.Visitor.{stage_by}
 use Rattle.splitter_grid.specs.Machine.{GridState, fresh, grid, grid_parts, place_in, step_reply, world_after_step}
-use Rattle.splitter_grid.specs.Law.{KeepsGridLaw}
+use Rattle.splitter_grid.specs.Law.{GridSpec}
 use Rattle.splitter_grid.proofs.ConsistentKept.{consistent_new, begun, gone_on}
 use Rattle.splitter_grid.proofs.GridLaw.{grid_law, nearer, place_told}
 
@@ -119,7 +119,7 @@ tied_new most few = record {
 }
 
 -- the steps of one are at most the accesses that its walk may have made, so the law of the walks is that of the calls
-tied_law : (w : GridState) (r : List (Call (Option ℕ))) → IsTied w r → EndsOnce is_some r → KeepsGridLaw r
+tied_law : (w : GridState) (r : List (Call (Option ℕ))) → IsTied w r → EndsOnce is_some r → GridSpec r
 tied_law w r t once =
     let law : IsGrid (length w.participants) w.memory (walkers w.participants) = grid_law w.most (length w.participants) w.memory (walkers w.participants) t.consistent in
     record {
@@ -137,40 +137,40 @@ tie = record { tells = outcomes_tell; grows = never_grows; new = tied_new; kept 
 pub grid_proved : IsProved grid
 grid_proved = world_proved grid_parts IsTied tie
 
-pub tied_always : (w : GridState) → Always grid (λ most r. IsTied w r) w
+pub tied_always : (w : GridState) → OnEveryHistory grid (λ most r. IsTied w r) w
 tied_always w = λ most r a. tied_after grid_parts IsTied tie most w r a
 
 -- nobody is told a second place
-pub one_place_told : (p a b : ℕ) (before between rest : List (Call (Option ℕ))) → KeepsGridLaw (before ++ Stepped p (Ok (Some a)) ∷ (between ++ Stepped p (Ok (Some b)) ∷ rest)) → ⊥
+pub one_place_told : (p a b : ℕ) (before between rest : List (Call (Option ℕ))) → GridSpec (before ++ Stepped p (Ok (Some a)) ∷ (between ++ Stepped p (Ok (Some b)) ∷ rest)) → ⊥
 one_place_told p a b before between rest law = no_second_end is_some p (Some a) (Some b) before between rest refl law.ends_once
 
 -- the place at which a walk has ended is the one that was answered
-pub place_always : (w : GridState) (p : ℕ) → Always grid (λ most r. place_in w p ≡ outcome_of p r) w
+pub place_always : (w : GridState) (p : ℕ) → OnEveryHistory grid (λ most r. place_in w p ≡ outcome_of p r) w
 place_always w p most r a = sym ((tied_always w most r a).told.outcomes p)
 
 -- the law of the doors
-pub grid_always : (w : GridState) → Always grid (λ most r. IsGrid (begun_in r) w.memory (walkers w.participants)) w
+pub grid_always : (w : GridState) → OnEveryHistory grid (λ most r. IsGrid (begun_in r) w.memory (walkers w.participants)) w
 grid_always w most r a =
     let t = tied_always w most r a in
     rw t.begun_is (grid_law w.most (length w.participants) w.memory (walkers w.participants) t.consistent)
 
-pub grid_law_of : (w : GridState) → IsLawful grid w
+pub grid_law_of : (w : GridState) → SatisfiesSpec grid w
 grid_law_of w = grid_proved.law w
 
 pub grid_due : (w : GridState) → RefusesWhereDue grid w
 grid_due w = grid_proved.due w
 
-pub grid_opens : (most : ℕ) (r : Result GridState Refusal) → most ≤ 64 → IfOk r (λ w. w ≡ fresh most) → IfOk r (λ w. After grid most w [])
+pub grid_opens : (most : ℕ) (r : Result GridState Refusal) → most ≤ 64 → IfOk r (λ w. w ≡ fresh most) → IfOk r (λ w. Reaches grid most w [])
 grid_opens most r few = new_after grid_parts most few r
 
 -- no step lacks memory
 pub grid_fits : (w : GridState) (id : ℕ) → may_refuse_step walker_steps memory_steps w id ≡ false
 grid_fits = never_lacks grid_parts (λ m a. refl)
 
-pub grid_begins : (w new : GridState) (id : ℕ) (reply : Result (Unit {0}) Refusal) → new ≡ after_begin w id (walk_of id) → reply ≡ done_unless (begin_refusal w id) → LeadsOn grid w new (Began id reply)
+pub grid_begins : (w new : GridState) (id : ℕ) (reply : Result (Unit {0}) Refusal) → new ≡ after_begin w id (walk_of id) → reply ≡ done_unless (begin_refusal w id) → Extends grid w new (Began id reply)
 grid_begins = begin_leads_on grid_parts
 
-pub grid_steps : (w new : GridState) (id : ℕ) (reply : Result (Option ℕ) Refusal) → new ≡ world_after_step w id → reply ≡ step_reply w id → LeadsOn grid w new (Stepped id reply)
+pub grid_steps : (w new : GridState) (id : ℕ) (reply : Result (Option ℕ) Refusal) → new ≡ world_after_step w id → reply ≡ step_reply w id → Extends grid w new (Stepped id reply)
 grid_steps = step_leads_on grid_parts
 
 pub grid_stays : (w new : GridState) (id : ℕ) → new ≡ world_after_step w id → StaysAlike w new id

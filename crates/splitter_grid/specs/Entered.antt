@@ -4,7 +4,7 @@ use Rattle.std.specs.Prelude.{◌≡◌, ◌≢◌, ◌↔◌, ℕ, List, Option
 use Rattle.step_memory.specs.Count.{count_to}
 use Rattle.step_memory.specs.Participant.{program_of}
 use Rattle.step_memory.specs.Registers.{memory_steps}
-use Rattle.step_memory.specs.Machine.{Always}
+use Rattle.step_memory.specs.Machine.{OnEveryHistory}
 use Rattle.step_memory.specs.Runs.{HappensFrom}
 use Rattle.step_memory.specs.Calls.{Call, next, outcome_in}
 use Rattle.step_memory.specs.Calls.Call.{Began, Stepped}
@@ -30,7 +30,7 @@ WasEntered most r k = EntersFrom (fresh most) r k
 
 -- after any calls that lead to this world X of a door is not 0 exactly where the door was entered
 abbrev pub ShowsWhatWasEntered : GridState → Type 0
-ShowsWhatWasEntered w = Always grid (λ most r. (k : ℕ) → (x_in w.memory k ≢ 0) ↔ WasEntered most r k) w
+ShowsWhatWasEntered w = OnEveryHistory grid (λ most r. (k : ℕ) → (x_in w.memory k ≢ 0) ↔ WasEntered most r k) w
 
 -- how many doors were entered
 abbrev pub entered_count : GridState → ℕ

@@ -5,7 +5,7 @@ use Rattle.step_memory.specs.RegisterState.{Registers}
 use Rattle.splitter.specs.declared.stage.Stage.{Stage}
 use Rattle.splitter.specs.declared.stage.Stage.TheVariants.{Outside}
 use Rattle.splitter.specs.Stage.{has_entered, went_right, went_down}
-use Rattle.splitter.specs.Invariant.{DoorIsLawful}
+use Rattle.splitter.specs.Invariant.{DoorSatisfiesSpec}
 use Rattle.splitter.specs.Visitor.{word_of}
 use Rattle.splitter_grid.specs.declared.walker.Walker.{Walker}
 use Rattle.splitter_grid.specs.Door.{door_number, number_of, IsDoorWithin}
@@ -59,7 +59,7 @@ pub record DoorsAgree (limit b : ℕ) (x_of y_of : ℕ → ℕ) (walker : ℕ �
   pub walks : (p : ℕ) (u : Walker) → walker p ≡ Some u → IsWalkOf stage reached p u
   pub absent : (p : ℕ) → walker p ≡ None → (k : ℕ) → stage k p ≡ Outside
   -- each door is a lawful splitter, and who stands in its X has entered
-  pub doors : (k : ℕ) → DoorIsLawful (x_of k) (y_of k) (stage k)
+  pub doors : (k : ℕ) → DoorSatisfiesSpec (x_of k) (y_of k) (stage k)
   pub entered : (k : ℕ) → x_of k ≢ 0 → has_entered (stage k (x_of k)) ≡ true
   -- who entered a door stands there still, or has left it for a door that was reached
   pub left : (d c p : ℕ) → c ≤ d → has_entered (stage (door_number d c) p) ≡ true →

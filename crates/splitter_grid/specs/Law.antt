@@ -8,7 +8,7 @@ use Rattle.splitter_grid.specs.Door.{IsDoorWithin}
 -- Where b have begun: places are distinct. Row and column of the door of a place are together at most b - 1. Nobody makes
 -- more than 4b accepted steps, and who has made so many, and any, has a place. No one makes a step after it was told its
 -- place
-pub record KeepsGridLaw (r : List (Call (Option ℕ))) : Type 0 where
+pub record GridSpec (r : List (Call (Option ℕ))) : Type 0 where
   pub distinct : AreDistinct (λ p. outcome_of p r)
   pub within : (p place : ℕ) → outcome_of p r ≡ Some place → IsDoorWithin (begun_in r) place
   pub at_most : (p : ℕ) → steps_of p r ≤ 4 * begun_in r

@@ -1,10 +1,10 @@
 -- what the laws of this crate say, each under a name
-use Rattle.step_memory.specs.Locality.{LookAlike, StandAlike}
+use Rattle.step_memory.specs.Locality.{Indistinguishable, StandAlike}
 use Rattle.std.specs.Prelude.{◌≡◌, ◌≢◌, ℕ, ◌+◌, ◌*◌, ◌≤◌, ◌<◌, length, Option, Some, None, ◌∷◌, ◌++◌, List, Ok, Err, false, is_some}
 use Rattle.splitter.specs.Visitor.{word_of}
 use Rattle.splitter_grid.specs.Invariant.{IsConsistent}
 use Rattle.splitter_grid.specs.Machine.{GridState, world_after_step}
-use Rattle.splitter_grid.specs.Law.{KeepsGridLaw}
+use Rattle.splitter_grid.specs.Law.{GridSpec}
 use Rattle.splitter_grid.specs.Walk.{walk_of, next_access, walker_after, accesses_of, place_of, walker_steps}
 use Rattle.splitter_grid.specs.declared.walker.Walker.{Walker}
 use Rattle.step_memory.specs.Calls.{Call}
@@ -54,7 +54,7 @@ HasBegun = (most b : ℕ) (m : Registers ℕ) (walker : ℕ → Option Walker) (
 abbrev pub TellsOnePlace : Type 0
 TellsOnePlace =
     (p a b : ℕ) (before between rest : List (Call (Option ℕ))) →
-    KeepsGridLaw (before ++ Stepped p (Ok (Some a)) ∷ (between ++ Stepped p (Ok (Some b)) ∷ rest)) → ⊥
+    GridSpec (before ++ Stepped p (Ok (Some a)) ∷ (between ++ Stepped p (Ok (Some b)) ∷ rest)) → ⊥
 
 -- the first to begin is not refused
 abbrev pub LetsTheFirstIn : Type 0
@@ -63,4 +63,4 @@ LetsTheFirstIn =
 
 -- who stands in the new world stands alike after its step in each world that looks alike to it
 abbrev pub StaysAlike : GridState → GridState → ℕ → Type 0
-StaysAlike old new id = (other : GridState) → LookAlike walker_steps memory_steps id old other → StandAlike id new (world_after_step other id)
+StaysAlike old new id = (other : GridState) → Indistinguishable walker_steps memory_steps id old other → StandAlike id new (world_after_step other id)

@@ -9,7 +9,7 @@ use Rattle.step_memory.specs.Participant.{program_of}
 use Rattle.step_memory.specs.Calls.{Call, outcome_in, reply_of}
 use Rattle.step_memory.specs.Machine.{Machine}
 use Rattle.step_memory.specs.WorldMachine.{WorldParts, world_machine}
-use Rattle.splitter_grid.specs.Law.{KeepsGridLaw}
+use Rattle.splitter_grid.specs.Law.{GridSpec}
 use Rattle.splitter_grid.specs.declared.walker.Walker.{Walker}
 use Rattle.splitter_grid.specs.Walk.{walk_of, walker_steps, place_by}
 
@@ -44,7 +44,7 @@ grid_parts = record {
   grows = false;
   MayStart = λ most. most ≤ 64;
   empty = empty_doors;
-  KeepsLaw = KeepsGridLaw;
+  Spec = GridSpec;
 }
 
 abbrev pub grid : Machine ℕ GridState (Call (Option ℕ))

@@ -8,7 +8,7 @@ ghost use Rattle.splitter_grid.specs.Machine.{empty_doors, GridState, grid, plac
 ghost use Rattle.splitter_grid.specs.Walk.{next_access, walker_after, walker_note, place_of};
 ghost use Rattle.splitter_grid.specs.declared.walker.Walker.{Walker};
 ghost use Rattle.step_memory.specs.Calls.{outcome_of};
-ghost use Rattle.step_memory.specs.Machine.{Always, IsProved};
+ghost use Rattle.step_memory.specs.Machine.{OnEveryHistory, IsProved};
 ghost use Rattle.step_memory.specs.RegisterState.{Registers};
 ghost use Rattle.step_memory.specs.Steps.{ReadsOrWrites};
 ghost use Rattle.step_memory.specs.declared.access.Answer.{Answer};
@@ -42,5 +42,5 @@ pub fn law_of_grid_calls()
     ensures own { (u : Walker) → ReadsOrWrites (next_access u) }
     ensures one_place { TellsOnePlace }
     ensures not_refused { LetsTheFirstIn }
-    ensures places { (w : GridState) (id : ℕ) → Always grid (λ most r. place_in w id ≡ outcome_of id r) w }
+    ensures places { (w : GridState) (id : ℕ) → OnEveryHistory grid (λ most r. place_in w id ≡ outcome_of id r) w }
 {}

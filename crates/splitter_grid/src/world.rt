@@ -9,8 +9,8 @@ ghost use Rattle.splitter_grid.specs.Walk.{walk_of, walker_steps};
 ghost use Rattle.step_memory.specs.Calls.{outcome_in, outcome_of, begun_in, reply_of};
 ghost use Rattle.step_memory.specs.Calls.Call.{Began, Stepped};
 ghost use Rattle.step_memory.specs.declared.refusal.Refusal.{Refusal};
-ghost use Rattle.step_memory.specs.Locality.{IsLocal, LookAlike};
-ghost use Rattle.step_memory.specs.Machine.{After, Always, IsLawful, LeadsOn, RefusesWhereDue};
+ghost use Rattle.step_memory.specs.Locality.{ChangesOnly, Indistinguishable};
+ghost use Rattle.step_memory.specs.Machine.{Reaches, OnEveryHistory, SatisfiesSpec, Extends, RefusesWhereDue};
 ghost use Rattle.step_memory.specs.Registers.{memory_steps};
 ghost use Rattle.step_memory.specs.World.{after_begin, begin_refusal, done_unless};
 
@@ -44,8 +44,8 @@ impl<A: Allocator + Clone> GridWorld<A> {
     #[tactic(auto, using(crate::proofs::GridTied::grid_contracts))]
     pub fn new(alloc: A, most: usize) -> Result<Self, Refusal>
         ensures fresh { IfOk result (λ w. w ≡ fresh most) }
-        ensures after { IfOk result (λ w. After grid most w []) }
-        ensures law { IfOk result (λ w. IsLawful grid w) }
+        ensures after { IfOk result (λ w. Reaches grid most w []) }
+        ensures law { IfOk result (λ w. SatisfiesSpec grid w) }
         ensures range { IsOk result → (1 ≤ most) × (most ≤ 16) }
         ensures out_of_range { result ≡ Err Refusal.OutOfRange ↔ ((most < 1) ⊎ (16 < most)) }
         ensures only { IfErr result (λ r. (r ≡ Refusal.NoMemory) ⊎ (r ≡ Refusal.OutOfRange)) }
@@ -65,8 +65,8 @@ impl<A: Allocator + Clone> GridWorld<A> {
         ensures refused { OnErr result (self.new ≡ self.old) }
 
         // The law, over every list of calls and replies that the world may be after.
-        ensures after { LeadsOn grid self.old self.new (Began id result) }
-        ensures law { IsLawful grid self.new }
+        ensures after { Extends grid self.old self.new (Began id result) }
+        ensures law { SatisfiesSpec grid self.new }
         ensures due { RefusesWhereDue grid self.new }
     {
         self.world.begin(id, Walker::new(id, Door::corner()))
@@ -82,13 +82,13 @@ impl<A: Allocator + Clone> GridWorld<A> {
 
         // Nothing of the world changes but this walk and the register that it names, and in another world that looks
         // alike to this walk the answer is the same, and where the walk then stands.
-        ensures local { IsLocal walker_steps memory_steps id self.old self.new }
-        ensures alike { (other : GridState) → LookAlike walker_steps memory_steps id self.old other → result ≡ step_reply other id }
+        ensures local { ChangesOnly walker_steps memory_steps id self.old self.new }
+        ensures alike { (other : GridState) → Indistinguishable walker_steps memory_steps id self.old other → result ≡ step_reply other id }
         ensures stands_alike { StaysAlike self.old self.new id }
 
         // The law, over every list of calls and replies that the world may be after.
-        ensures after { LeadsOn grid self.old self.new (Stepped id result) }
-        ensures law { IsLawful grid self.new }
+        ensures after { Extends grid self.old self.new (Stepped id result) }
+        ensures law { SatisfiesSpec grid self.new }
         ensures due { RefusesWhereDue grid self.new }
     {
         self.world.step(id).map(Note::outcome)
@@ -97,7 +97,7 @@ impl<A: Allocator + Clone> GridWorld<A> {
     /// The place of a participant, once its walk has ended: the one that was answered.
     pub fn place_of(&self, id: u64) -> Option<Place>
         ensures value { result ≡ place_in self.now id }
-        ensures answered { Always grid (λ most r. result ≡ outcome_of id r) self.now }
+        ensures answered { OnEveryHistory grid (λ most r. result ≡ outcome_of id r) self.now }
     {
         self.world.program(id)?.place()
     }
@@ -109,8 +109,8 @@ impl<A: Allocator + Clone> GridWorld<A> {
         // The law, over every list of calls and replies that the world may be after: the doors counted are those that
         // were entered, and all of them lie on the first diagonals, as many as participants have begun.
         ensures entered { ShowsWhatWasEntered self.now }
-        ensures within { Always grid (λ most r. (k : ℕ) → WasEntered most r k → IsDoorWithin (begun_in r) k) self.now }
-        ensures few { Always grid (λ most r. 2 * result ≤ begun_in r * (begun_in r + 1)) self.now }
+        ensures within { OnEveryHistory grid (λ most r. (k : ℕ) → WasEntered most r k → IsDoorWithin (begun_in r) k) self.now }
+        ensures few { OnEveryHistory grid (λ most r. 2 * result ≤ begun_in r * (begun_in r + 1)) self.now }
     {
         let memory = self.world.memory();
         let mut entered = 0;

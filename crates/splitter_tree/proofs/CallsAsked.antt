@@ -8,7 +8,7 @@ use Rattle.splitter_tree.specs.TreeWorld.{place_answer, place_answer_by, after_p
 use Rattle.splitter_tree.proofs.StoreLemmas.{store_goes_well}
 use Rattle.step_memory.specs.Calls.{reply_of}
 use Rattle.step_memory.specs.World.{step_answer, after_step, may_refuse_by, may_refuse_step, set_answer, set_answer_by}
-use Rattle.step_memory.specs.Locality.{LookAlike}
+use Rattle.step_memory.specs.Locality.{Indistinguishable}
 use Rattle.step_memory.proofs.LocalityLemmas.{answers_alike}
 
 -- a read of a collect makes no node
@@ -62,7 +62,7 @@ module _ (w : TreeWorldState) (id : ℕ) where
         record { answer = is ∙ ap (reply_of view_told) (answer made) ∙ rw (here, on) refl; state = after made ∙ rw (here, on) refl }
 
 -- what a participant is answered depends on what it sees
-module _ (w other : TreeWorldState) (id : ℕ) (alike : LookAlike client_steps tree_steps id w other) where
+module _ (w other : TreeWorldState) (id : ℕ) (alike : Indistinguishable client_steps tree_steps id w other) where
   same_program : program_of id w.participants ≡ program_of id other.participants
   same_program = ap (option_map (λ p. p.program)) alike.participant
 

@@ -5,7 +5,7 @@ use Rattle.step_memory.proofs.ParticipantLemmas.{participant_of-push, length-wit
 use Rattle.step_memory.proofs.SetAtLemmas.{set_at-same, set_at-other, set_at-cases, same_in}
 use Rattle.step_memory.proofs.Roster.{eqb_flip}
 use Rattle.step_memory.proofs.RunLemmas.{run_keeps, run_more, run_one}
-use Rattle.splitter_tree.specs.CollectLaw.{CollectObject, new_object, one_begun, goes_on, observed, ShowsValues, most_steps, AllowsStep, Allows, KeepsCollectLaw}
+use Rattle.splitter_tree.specs.CollectLaw.{CollectObject, new_object, one_begun, goes_on, observed, ShowsValues, most_steps, AllowsStep, Allows, CollectSpec}
 use Rattle.splitter_tree.proofs.CallCases.{IsStep, got_on, walked_on, read_by, turned, step_cases, store_cases, collect_begin_cases, collect_step_cases}
 use Rattle.splitter_tree.proofs.DueTied.{IsCounted, collecting_in, collects_from-push, call_counted, counted_new}
 use Rattle.splitter_tree.proofs.nodes.ConsistentKept.{segments}
@@ -228,7 +228,7 @@ module _ {S : Type 0} (memory : MemorySteps S TreeRegister TreeValue) (tree : Is
 
 -- calls that a world may be after keep the law of collects
 module _ {S : Type 0} (memory : MemorySteps S TreeRegister TreeValue) (tree : IsTreeMemory memory) (first : S) (most : ℕ) (w : TreeState S) (r : List TreeCall) (few : most ≤ 64) (empty : IsEmptyTree memory first) (after : Run (next memory) (IsReply memory) (fresh_over memory (first, most)) r w) where
-  pub collect_law : KeepsCollectLaw r
+  pub collect_law : CollectSpec r
   collect_law = let x = run_observed memory tree most first w r few empty after in (x.o, x.run)
 
   -- a collect that is under way has made so many steps, and found so many nodes marked

@@ -1,6 +1,6 @@
 -- each call of a tree's world is refused exactly where the calls before it make it due
 use Rattle.std.proofs.Common.{◌≡◌, ◌≢◌, ◌≤◌, ℕ, Bool, true, false, cond, not, ◌&&◌, ◌||◌, ◌==◌, ◌⊎◌, inl, inr, List, [], ◌∷◌, ◌++◌, Option, Some, None, Result, Err, refl, sym, ap, ◌∙◌, ne_eqb, is_some}
-use Rattle.splitter_tree.proofs.WorldCommon.{Decides-eqb, Read, Write, Participant, Refusal, Finished, Record, participant_of, beginner, MemorySteps, run_keeps, Run, set_at-cases, participant_of-push, let_in, TreeRegister, Mark, TreeValue, Collect, Client, Task, Placing, Nothing, Storing, IsTreeMemory, IsEmptyTree, next_access, walker_note, place_of, collect_reads, collect_after, collect_view, TreeState, asking_refusal, after_store, after_collect_begin, after_collecting, may_lack_memory, fresh_over, TreeCall, next, IsReply, TreeBegan, TreeStepped, Stored, CollectBegan, CollectStepped, way_calls, KeepsPlacesLaw}
+use Rattle.splitter_tree.proofs.WorldCommon.{Decides-eqb, Read, Write, Participant, Refusal, Finished, Record, participant_of, beginner, MemorySteps, run_keeps, Run, set_at-cases, participant_of-push, let_in, TreeRegister, Mark, TreeValue, Collect, Client, Task, Placing, Nothing, Storing, IsTreeMemory, IsEmptyTree, next_access, walker_note, place_of, collect_reads, collect_after, collect_view, TreeState, asking_refusal, after_store, after_collect_begin, after_collecting, may_lack_memory, fresh_over, TreeCall, next, IsReply, TreeBegan, TreeStepped, Stored, CollectBegan, CollectStepped, way_calls, PlacesSpec}
 use Rattle.std.proofs.Math.Bool.{or-false}
 use Rattle.step_memory.specs.World.{begin_refusal, begun_unless, done_unless, may_refuse_by}
 use Rattle.step_memory.specs.Calls.Call.{Began, Stepped}
@@ -223,7 +223,7 @@ module _ {S : Type 0} (memory : MemorySteps S TreeRegister TreeValue) (tree : Is
   world_counted first w r empty few a = run_keeps (next memory) (IsReply memory) IsCounted call_counted (fresh_over memory (first, most)) [] r w (counted_new first empty few) a
 
   -- the law of the places
-  pub places_law : (first : S) (w : TreeState S) (r : List TreeCall) → IsEmptyTree memory first → most ≤ 64 → Run (next memory) (IsReply memory) (fresh_over memory (first, most)) r w → KeepsPlacesLaw r
+  pub places_law : (first : S) (w : TreeState S) (r : List TreeCall) → IsEmptyTree memory first → most ≤ 64 → Run (next memory) (IsReply memory) (fresh_over memory (first, most)) r w → PlacesSpec r
   places_law first w r empty few a =
       let t = world_counted first w r empty few a in
       law_of_tied memory tree w r t.tied (ends_once is_some most true (way_calls r) t.way)

@@ -4,7 +4,7 @@ use Rattle.splitter_tree.proofs.WorldCommon.{Write, Participant, Record, partici
 use Rattle.step_memory.specs.Steps.{ReadsOrWrites}
 use Rattle.splitter.specs.Visitor.{access_at, access_of}
 use Rattle.splitter_tree.specs.Walk.{in_words, place_of, StandsAtNode}
-use Rattle.step_memory.specs.Machine.{Always}
+use Rattle.step_memory.specs.Machine.{OnEveryHistory}
 use Rattle.splitter_tree.proofs.TreeProved.{tied}
 
 own_words : (id : ℕ) (x y : TreeRegister) (s : Stage) → ReadsOrWrites (in_words (access_at id x y s))
@@ -47,7 +47,7 @@ own_segment c Placing place value stands h = absurd (not_on_the_way c.walker c.w
 own_segment c (Storing x) place value stands h = at_its_place (place_of c.walker) (record_of c x) place value h
 own_segment c t place value stands h = absurd (cc)
 
-pub all_stand : (w : TreeWorldState) (p : ℕ) (v : Participant Client) → participant_of p w.participants ≡ Some v → Always tree (λ first r. StandsAtNode v.program.walker) w
+pub all_stand : (w : TreeWorldState) (p : ℕ) (v : Participant Client) → participant_of p w.participants ≡ Some v → OnEveryHistory tree (λ first r. StandsAtNode v.program.walker) w
 all_stand w p v here first r a =
     let walk = (tied tree_steps w first r a).consistent.agree.walks p v.program.walker (rw here refl) in
     record { x = walk.x; y = walk.y }

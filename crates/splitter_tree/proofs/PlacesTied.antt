@@ -1,6 +1,6 @@
 -- what ties the places of a tree's world to the calls that it is after
 use Rattle.std.proofs.Common.{◌≡◌, ◌≢◌, ℕ, suc, ◌≤◌, Bool, true, false, cond, not, inl, inr, List, [], ◌∷◌, ◌++◌, length, Option, Some, None, Result, Ok, Err, refl, sym, ap, subst, ◌∙◌, arith, length-append, is_some}
-use Rattle.splitter_tree.proofs.WorldCommon.{fun_ext, Read, Answer, Note, Quiet, Participant, Record, Refusal, participant_of, beginner, MemorySteps, Spares, set_at, begin_refusal, begun_unless, done_unless, EndsOnce, run_keeps, participant_of-push, length-with_participant, TreeRegister, Mark, X, Y, Contents, TreeValue, word_in, Walker, Collect, Client, Task, Placing, Nothing, Storing, IsTreeMemory, IsEmptyTree, walk_of, next_access, walker_after, walker_note, place_of, place_by, client_of, is_placing, is_placed, collecting, collecting_after, with_task, write_at, record_of, task_after, collect_reads, collect_after, collect_view, TreeState, Run, fresh_over, TreeCall, next, IsReply, TreeBegan, TreeStepped, Stored, CollectBegan, CollectStepped, IsTree, IsConsistent, accesses_by, way_calls, KeepsPlacesLaw, walker_in, walkers}
+use Rattle.splitter_tree.proofs.WorldCommon.{fun_ext, Read, Answer, Note, Quiet, Participant, Record, Refusal, participant_of, beginner, MemorySteps, Spares, set_at, begin_refusal, begun_unless, done_unless, EndsOnce, run_keeps, participant_of-push, length-with_participant, TreeRegister, Mark, X, Y, Contents, TreeValue, word_in, Walker, Collect, Client, Task, Placing, Nothing, Storing, IsTreeMemory, IsEmptyTree, walk_of, next_access, walker_after, walker_note, place_of, place_by, client_of, is_placing, is_placed, collecting, collecting_after, with_task, write_at, record_of, task_after, collect_reads, collect_after, collect_view, TreeState, Run, fresh_over, TreeCall, next, IsReply, TreeBegan, TreeStepped, Stored, CollectBegan, CollectStepped, IsTree, IsConsistent, accesses_by, way_calls, PlacesSpec, walker_in, walkers}
 use Rattle.std.proofs.lemmas.List.{append-nil}
 use Rattle.step_memory.specs.Calls.{Call, steps_by, outcome_by, outcome_in, begun_in, begun_by}
 use Rattle.step_memory.specs.Calls.Call.{Began, Stepped}
@@ -222,7 +222,7 @@ module _ {S : Type 0} (memory : MemorySteps S TreeRegister TreeValue) (tree : Is
   tree_of_tied w r t = subst (λ (n : ℕ). IsTree memory n w.memory (walkers w.participants)) (sym t.begun_is) (tree_law memory w.most (length w.participants) w.memory (walkers w.participants) t.consistent)
 
   -- the steps of one are at most the accesses that its walk may have made, so the law of the walks is that of the calls
-  pub law_of_tied : (w : TreeState S) (r : List TreeCall) → IsTied w r → EndsOnce is_some (way_calls r) → KeepsPlacesLaw r
+  pub law_of_tied : (w : TreeState S) (r : List TreeCall) → IsTied w r → EndsOnce is_some (way_calls r) → PlacesSpec r
   law_of_tied w r t once =
       let law = tree_of_tied w r t in
       record {

@@ -2,12 +2,12 @@
 use Rattle.std.proofs.Common.{◌≡◌, ◌≢◌, ℕ, true, false, Option, Some, None, Result, Ok, Err, inl, inr, refl, sym, ap, ◌∙◌, is_some, option_map, option_and_then}
 use Rattle.splitter_tree.proofs.WorldCommon.{Note, Participant, Record, Refusal, NoMemory, participant_of, program_of, beginner, MemorySteps, set_at, participant_of-put, set_at-same, set_at-other, TreeRegister, TreeValue, Client, place_of, client_steps, storing, write_at, record_of, NodeMap, tree_steps, may_refuse}
 use Rattle.step_memory.specs.declared.note.Note.TheVariants.{Said}
-use Rattle.step_memory.specs.Locality.{IsLocal}
+use Rattle.step_memory.specs.Locality.{ChangesOnly}
 use Rattle.step_memory.specs.World.{after_set, step_answer, may_refuse_step}
 use Rattle.step_memory.proofs.StepLemmas.{lacks_or_not}
 use Rattle.splitter_tree.specs.declared.client.TreeReply.{TreeReply}
 use Rattle.splitter_tree.specs.declared.client.TreeReply.TheVariants.{Stored}
-use Rattle.splitter_tree.specs.TreeWorld.{TreeState, IsLocalStore}
+use Rattle.splitter_tree.specs.TreeWorld.{TreeState, ChangesOnlyStore}
 use Rattle.splitter_tree.proofs.PlacesTied.{write_spares}
 
 there : (o : Option (Participant Client)) (c : Client) → Some c ≡ option_map (λ p. p.program) o → is_some o ≡ true
@@ -37,7 +37,7 @@ store_goes_well w v id value c some e result why is answer lacks = elim (lacks_o
 ]
 
 pub local_store : {S : Type 0} (memory : MemorySteps S TreeRegister TreeValue) (w v new : TreeState S) (id value : ℕ) (c : Client) →
-    Some c ≡ program_of id w.participants → v ≡ after_set w id (storing c value) → IsLocal client_steps memory id v new → IsLocalStore memory id w new
+    Some c ≡ program_of id w.participants → v ≡ after_set w id (storing c value) → ChangesOnly client_steps memory id v new → ChangesOnlyStore memory id w new
 local_store memory w v new id value c some e local = record {
   most = local.most ∙ ap (λ u. u.most) e;
   others = λ q n. local.others q n ∙ ap (λ u. participant_of q u.participants) e ∙ asked_put w id value c some q ∙ set_at-other (λ k. participant_of k w.participants) id (Some (beginner id (storing c value))) q n;
@@ -47,5 +47,5 @@ local_store memory w v new id value c some e local = record {
       ∙ ap (λ u. memory.register u.memory r) e;
 }
 
-pub unchanged_store : {S : Type 0} (memory : MemorySteps S TreeRegister TreeValue) (w : TreeState S) (id : ℕ) → IsLocalStore memory id w w
+pub unchanged_store : {S : Type 0} (memory : MemorySteps S TreeRegister TreeValue) (w : TreeState S) (id : ℕ) → ChangesOnlyStore memory id w w
 unchanged_store memory w id = record { most = refl; others = λ q n. refl; registers = λ r h. refl }

@@ -1,6 +1,6 @@
 -- the world of a tree is proved
 use Rattle.std.proofs.Common.{◌≡◌, ◌≢◌, ◌≤◌, ℕ, Bool, true, false, cond, inl, inr, List, [], ◌∷◌, ◌++◌, Option, Some, None, Result, Ok, Err, refl, sym, ap, subst, ◌∙◌, arith, ne_eqb, option_map, option_and_then, is_some, nat_le}
-use Rattle.splitter_tree.proofs.WorldCommon.{nat_tests, KeepsPlacesLaw, way_calls, walker_in, TreeCall, Began, Stepped, Stored, CollectBegan, CollectStepped, tree_steps, empty_tree, TreeRegister, TreeValue, TreeRefusesAsDue, place_of, place_by, Client, EndsOnce, client_steps, is_placing, is_collecting, place_told, MemorySteps, Refusal, NoMemory, Finished, participant_of, program_of, Participant}
+use Rattle.splitter_tree.proofs.WorldCommon.{nat_tests, PlacesSpec, way_calls, walker_in, TreeCall, Began, Stepped, Stored, CollectBegan, CollectStepped, tree_steps, empty_tree, TreeRegister, TreeValue, TreeRefusesAsDue, place_of, place_by, Client, EndsOnce, client_steps, is_placing, is_collecting, place_told, MemorySteps, Refusal, NoMemory, Finished, participant_of, program_of, Participant}
 use Rattle.splitter_tree.specs.Machine.{TreeWorldState, HasLawfulNodes, fresh_over, tree, tree_over}
 use Rattle.splitter_tree.specs.TreeWorld.{TreeState, after_tree_begin, asking_refusal, place_answer, place_answer_by, after_placing, after_placing_by, may_lack_memory, after_store, after_collect_begin, view_answer, after_collecting, after_collecting_by}
 use Rattle.splitter_tree.proofs.CollectSteps.{collect_law}
@@ -9,21 +9,21 @@ use Rattle.splitter_tree.proofs.DueTied.{world_counted, places_law}
 use Rattle.splitter_tree.proofs.TreeMemoryLemmas.{tree_memory, tree_empty}
 use Rattle.step_memory.specs.Calls.{Call, outcome_of, lacked_memory, reply_of}
 use Rattle.step_memory.specs.Calls.Call.{Stepped as WayStepped}
-use Rattle.step_memory.specs.Machine.{After, Always, IsLawful, LeadsOn, RefusesWhereDue, IsProved}
+use Rattle.step_memory.specs.Machine.{Reaches, OnEveryHistory, SatisfiesSpec, Extends, RefusesWhereDue, IsProved}
 use Rattle.step_memory.specs.World.{begin_refusal, done_unless, step_answer, after_step}
 use Rattle.splitter_tree.specs.WorldLaws.{StaysAlikeOnWay, StaysAlikeCollecting}
 use Rattle.step_memory.proofs.StepLemmas.{lacks_none, lacks_or_not}
-use Rattle.step_memory.specs.Locality.{LookAlike, StandAlike}
+use Rattle.step_memory.specs.Locality.{Indistinguishable, StandAlike}
 use Rattle.step_memory.proofs.LocalityLemmas.{stand_alike}
 use Rattle.step_memory.proofs.DueLemmas.{no_second_end}
 use Rattle.step_memory.proofs.MachineLemmas.{call_leads_on, machine_proved}
 
 module _ {S : Type 0} (memory : MemorySteps S TreeRegister TreeValue) where
   -- a world is tied to its calls
-  pub tied : (w : TreeState S) (first : S × ℕ) (r : List TreeCall) (a : After (tree_over memory) first w r) → IsTied memory a.started.tree w r
+  pub tied : (w : TreeState S) (first : S × ℕ) (r : List TreeCall) (a : Reaches (tree_over memory) first w r) → IsTied memory a.started.tree w r
   tied w first r a = tied_after memory a.started.tree first.0 first.1 w r a.started.empty a.started.few a.run
 
-  law_always : (w : TreeState S) → IsLawful (tree_over memory) w
+  law_always : (w : TreeState S) → SatisfiesSpec (tree_over memory) w
   law_always w first r a = record {
     places = places_law memory a.started.tree first.1 first.0 w r a.started.empty a.started.few a.run;
     collects = collect_law memory a.started.tree first.0 first.1 w r a.started.few a.started.empty a.run;
@@ -35,7 +35,7 @@ module _ {S : Type 0} (memory : MemorySteps S TreeRegister TreeValue) where
   pub trees_proved : IsProved (tree_over memory)
   trees_proved = machine_proved (tree_over memory) law_always due_always
 
-pub tree_law : (w : TreeWorldState) → IsLawful tree w
+pub tree_law : (w : TreeWorldState) → SatisfiesSpec tree w
 tree_law = law_always tree_steps
 
 pub tree_due : (w : TreeWorldState) → RefusesWhereDue tree w
@@ -45,7 +45,7 @@ pub tree_nodes : (w : TreeWorldState) → HasLawfulNodes w
 tree_nodes w first r a = tree_of_tied tree_steps a.started.tree w r (tied tree_steps w first r a)
 
 -- each call leads on
-pub tree_begins : (w new : TreeWorldState) (id : ℕ) (reply : Result (Unit {0}) Refusal) → new ≡ after_tree_begin w id → reply ≡ done_unless (begin_refusal w id) → LeadsOn tree w new (Began id reply)
+pub tree_begins : (w new : TreeWorldState) (id : ℕ) (reply : Result (Unit {0}) Refusal) → new ≡ after_tree_begin w id → reply ≡ done_unless (begin_refusal w id) → Extends tree w new (Began id reply)
 tree_begins w new id reply = call_leads_on tree w new (Began id reply)
 
 lacks_no_place : (w : TreeWorldState) (id : ℕ) (o : Option Client) → lacked_memory (place_answer_by tree_steps w id o) ≡ false
@@ -54,7 +54,7 @@ lacks_no_place w id (Some c) = elim (is_placing c.task) as (λ b. lacked_memory 
     [ true ↦ lacks_none client_steps tree_steps place_told w id | false ↦ refl ]
 
 pub tree_goes_on : (w new : TreeWorldState) (id : ℕ) (reply : Result (Option ℕ) Refusal) → (reply ≢ Err NoMemory → new ≡ after_placing tree_steps w id) → (reply ≢ Err NoMemory → reply ≡ place_answer tree_steps w id) →
-    (reply ≡ Err NoMemory → new ≡ w) → (reply ≡ Err NoMemory → may_lack_memory tree_steps w id ≡ true) → LeadsOn tree w new (Stepped id reply)
+    (reply ≡ Err NoMemory → new ≡ w) → (reply ≡ Err NoMemory → may_lack_memory tree_steps w id ≡ true) → Extends tree w new (Stepped id reply)
 tree_goes_on w new id reply state answer kept lack = elim (lacks_or_not reply) [
   | inr goes ↦
       let fine : lacked_memory reply ≡ false = ap lacked_memory (answer goes) ∙ lacks_no_place w id (program_of id w.participants) in
@@ -64,18 +64,18 @@ tree_goes_on w new id reply state answer kept lack = elim (lacks_or_not reply) [
       call_leads_on tree w new (Stepped id reply) (kept lacks ∙ rw lacked refl) (inr (lacks, lack lacks))
 ]
 
-pub tree_stores : (w new : TreeWorldState) (id value : ℕ) (reply : Result (Unit {0}) Refusal) → new ≡ after_store tree_steps w id value → reply ≡ done_unless (asking_refusal w id) → LeadsOn tree w new (Stored id value reply)
+pub tree_stores : (w new : TreeWorldState) (id value : ℕ) (reply : Result (Unit {0}) Refusal) → new ≡ after_store tree_steps w id value → reply ≡ done_unless (asking_refusal w id) → Extends tree w new (Stored id value reply)
 tree_stores w new id value reply = call_leads_on tree w new (Stored id value reply)
 
-pub tree_collects : (w new : TreeWorldState) (id : ℕ) (reply : Result (Unit {0}) Refusal) → new ≡ after_collect_begin w id → reply ≡ done_unless (asking_refusal w id) → LeadsOn tree w new (CollectBegan id reply)
+pub tree_collects : (w new : TreeWorldState) (id : ℕ) (reply : Result (Unit {0}) Refusal) → new ≡ after_collect_begin w id → reply ≡ done_unless (asking_refusal w id) → Extends tree w new (CollectBegan id reply)
 tree_collects w new id reply = call_leads_on tree w new (CollectBegan id reply)
 
 pub tree_reads_on : (w new : TreeWorldState) (id : ℕ) (reply : Result (Option (List (ℕ × ℕ))) Refusal) → new ≡ after_collecting tree_steps w id → reply ≡ view_answer tree_steps w id →
-    LeadsOn tree w new (CollectStepped id reply)
+    Extends tree w new (CollectStepped id reply)
 tree_reads_on w new id reply = call_leads_on tree w new (CollectStepped id reply)
 
 -- where a participant stands after its step in two worlds that look alike to it
-module _ (w other : TreeWorldState) (id : ℕ) (alike : LookAlike client_steps tree_steps id w other) where
+module _ (w other : TreeWorldState) (id : ℕ) (alike : Indistinguishable client_steps tree_steps id w other) where
   same_program : program_of id w.participants ≡ program_of id other.participants
   same_program = ap (option_map (λ p. p.program)) alike.participant
 
@@ -108,7 +108,7 @@ tree_stays_collecting w new id e other h = ap (λ (v : TreeWorldState). particip
 pub ruleset tree_contracts = (tree_law, tree_due, tree_nodes, tree_begins, tree_stays, tree_stays_collecting)
 
 -- a tree of no nodes is after no call
-pub tree_starts : (most : ℕ) (w : TreeWorldState) → w ≡ fresh_over tree_steps (empty_tree, most) → most ≤ 64 → After tree (empty_tree, most) w []
+pub tree_starts : (most : ℕ) (w : TreeWorldState) → w ≡ fresh_over tree_steps (empty_tree, most) → most ≤ 64 → Reaches tree (empty_tree, most) w []
 tree_starts most w is few = record { started = record { tree = tree_memory; empty = tree_empty; few = few }; run = is }
 
 place_by_walk : (o : Option (Participant Client)) → option_and_then (λ c. place_of c.walker) (option_map (λ p. p.program) o) ≡ place_by (walker_in o)
@@ -116,11 +116,11 @@ place_by_walk None = refl
 place_by_walk (Some p) = refl
 
 -- the place of a participant is the one that was answered
-pub place_answered : (w : TreeWorldState) (id : ℕ) → Always tree (λ first r. option_and_then (λ c. place_of c.walker) (program_of id w.participants) ≡ outcome_of id (way_calls r)) w
+pub place_answered : (w : TreeWorldState) (id : ℕ) → OnEveryHistory tree (λ first r. option_and_then (λ c. place_of c.walker) (program_of id w.participants) ≡ outcome_of id (way_calls r)) w
 place_answered w id first r a = place_by_walk (participant_of id w.participants) ∙ sym ((tied tree_steps w first r a).told.outcomes id)
 
 -- nobody is told a second place
-pub one_place_told : (p a b : ℕ) (before between rest : List TreeCall) → KeepsPlacesLaw (before ++ Stepped p (Ok (Some a)) ∷ (between ++ Stepped p (Ok (Some b)) ∷ rest)) → ⊥
+pub one_place_told : (p a b : ℕ) (before between rest : List TreeCall) → PlacesSpec (before ++ Stepped p (Ok (Some a)) ∷ (between ++ Stepped p (Ok (Some b)) ∷ rest)) → ⊥
 one_place_told p a b before between rest law =
     let later : TreeCall = Stepped p (Ok (Some b)) in
     let way : way_calls (before ++ Stepped p (Ok (Some a)) ∷ (between ++ later ∷ rest)) ≡ way_calls before ++ WayStepped p (Ok (Some a)) ∷ (way_calls between ++ WayStepped p (Ok (Some b)) ∷ way_calls rest) =

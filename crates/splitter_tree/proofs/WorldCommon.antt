@@ -41,7 +41,7 @@ pub use Rattle.splitter_tree.specs.TreeCalls.TreeCall.{Stepped, Began as TreeBeg
 pub use Rattle.splitter_tree.specs.declared.register.TreeRegister.TheVariants.{Mark, X, Y, Contents}
 pub use Rattle.splitter_tree.specs.TreeMemory.{IsTreeMemory, IsEmptyTree, word_in, segment_in, mark_at, segment_at}
 pub use Rattle.splitter_tree.specs.Machine.{fresh_over, TreeWorldState, tree}
-pub use Rattle.splitter_tree.specs.PlacesLaw.{way_calls, KeepsPlacesLaw, walker_in, walkers}
+pub use Rattle.splitter_tree.specs.PlacesLaw.{way_calls, PlacesSpec, walker_in, walkers}
 pub use Rattle.splitter_tree.specs.TreeDue.{collects_after, collects, TreeRefusesAsDue}
 pub use Rattle.splitter_tree.specs.declared.register.TreeValue.TheVariants.{Word, Contents as Held}
 pub use Rattle.splitter_tree.specs.TreeSteps.{tree_steps, NodeMap, may_refuse, empty_tree}

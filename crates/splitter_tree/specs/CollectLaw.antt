@@ -80,5 +80,5 @@ Allows o (CollectStepped p (Ok shown)) = (o.collects p ≡ true) × AllowsStep o
 Allows o t = Unit {0}
 
 -- these calls, with these replies, keep the law of collects
-abbrev pub KeepsCollectLaw : List TreeCall → Type 0
-KeepsCollectLaw r = (o : CollectObject) × Run observed Allows new_object r o
+abbrev pub CollectSpec : List TreeCall → Type 0
+CollectSpec r = (o : CollectObject) × Run observed Allows new_object r o

@@ -5,7 +5,7 @@ use Rattle.step_memory.specs.Steps.{MemorySteps}
 use Rattle.splitter.specs.declared.stage.Stage.{Stage}
 use Rattle.splitter.specs.declared.stage.Stage.TheVariants.{Outside}
 use Rattle.splitter.specs.Stage.{has_entered, went_right, went_down}
-use Rattle.splitter.specs.Invariant.{DoorIsLawful}
+use Rattle.splitter.specs.Invariant.{DoorSatisfiesSpec}
 use Rattle.splitter.specs.Walk.{accesses_at}
 use Rattle.splitter_tree.specs.declared.register.TreeRegister.{TreeRegister}
 use Rattle.splitter_tree.specs.declared.register.TreeRegister.TheVariants.{X, Y}
@@ -45,7 +45,7 @@ pub record NodesAgree (b : ℕ) (mark x_of y_of : ℕ → ℕ) (walker : ℕ →
   pub walks : (p : ℕ) (u : Walker) → walker p ≡ Some u → IsWalkOf mark stage came p u
   pub absent : (p : ℕ) → walker p ≡ None → (k : ℕ) → stage k p ≡ Outside
   -- each node has a lawful splitter
-  pub splitters : (k : ℕ) → DoorIsLawful (x_of k) (y_of k) (stage k)
+  pub splitters : (k : ℕ) → DoorSatisfiesSpec (x_of k) (y_of k) (stage k)
   -- who entered a node's splitter came to the node, and who came to a node has begun
   pub entered : (k p : ℕ) → has_entered (stage k p) ≡ true → came k p ≡ true
   pub listed : (k p : ℕ) → came k p ≡ true → (i : ℕ) × (i < length identities) × (get_or identities i 0 ≡ p)

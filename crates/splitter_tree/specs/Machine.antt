@@ -1,13 +1,13 @@
 -- the world of a tree as a machine, and what is said of its nodes after its calls
 use Rattle.std.specs.Prelude.{ℕ, ◌≤◌, List, []}
-use Rattle.step_memory.specs.Machine.{Machine, Always}
+use Rattle.step_memory.specs.Machine.{Machine, OnEveryHistory}
 use Rattle.step_memory.specs.Steps.{MemorySteps}
 use Rattle.step_memory.specs.Calls.{begun_in}
 use Rattle.splitter_tree.specs.declared.register.TreeRegister.{TreeRegister}
 use Rattle.splitter_tree.specs.declared.register.TreeValue.{TreeValue}
-use Rattle.splitter_tree.specs.CollectLaw.{KeepsCollectLaw}
+use Rattle.splitter_tree.specs.CollectLaw.{CollectSpec}
 use Rattle.splitter_tree.specs.Invariant.{IsTree}
-use Rattle.splitter_tree.specs.PlacesLaw.{KeepsPlacesLaw, way_calls, walkers}
+use Rattle.splitter_tree.specs.PlacesLaw.{PlacesSpec, way_calls, walkers}
 use Rattle.splitter_tree.specs.TreeDue.{TreeRefusesAsDue}
 use Rattle.splitter_tree.specs.TreeMemory.{IsTreeMemory, IsEmptyTree}
 use Rattle.splitter_tree.specs.TreeSteps.{NodeMap, tree_steps}
@@ -21,9 +21,9 @@ pub record IsTreeStart {S : Type 0} (memory : MemorySteps S TreeRegister TreeVal
   pub few : most ≤ 64
 
 -- the law over calls and replies: that of the places, and that of the collects
-pub record KeepsTreeCallsLaw (r : List TreeCall) : Type 0 where
-  pub places : KeepsPlacesLaw r
-  pub collects : KeepsCollectLaw r
+pub record TreeCallsSpec (r : List TreeCall) : Type 0 where
+  pub places : PlacesSpec r
+  pub collects : CollectSpec r
 
 module _ {S : Type 0} (memory : MemorySteps S TreeRegister TreeValue) where
   -- a world over this memory in which nobody has begun
@@ -37,7 +37,7 @@ module _ {S : Type 0} (memory : MemorySteps S TreeRegister TreeValue) where
     first = fresh_over;
     next = next memory;
     IsReply = IsReply memory;
-    KeepsLaw = λ first. KeepsTreeCallsLaw;
+    Spec = λ first. TreeCallsSpec;
     RefusesAsDue = λ first. TreeRefusesAsDue first.1;
   }
 
@@ -50,4 +50,4 @@ tree = tree_over tree_steps
 
 -- after every list of calls nodes and walks keep the law of the tree
 abbrev pub HasLawfulNodes : TreeWorldState → Type 0
-HasLawfulNodes w = Always tree (λ first r. IsTree tree_steps (begun_in (way_calls r)) w.memory (walkers w.participants)) w
+HasLawfulNodes w = OnEveryHistory tree (λ first r. IsTree tree_steps (begun_in (way_calls r)) w.memory (walkers w.participants)) w

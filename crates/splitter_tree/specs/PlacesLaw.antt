@@ -8,7 +8,7 @@ use Rattle.splitter_tree.specs.declared.client.Client.{Client}
 use Rattle.splitter_tree.specs.declared.walker.Walker.{Walker}
 use Rattle.splitter_tree.specs.TreeCalls.{TreeCall}
 use Rattle.splitter_tree.specs.TreeCalls.TreeCall.{Began as TreeBegan, Stepped as TreeStepped, Stored, CollectBegan, CollectStepped}
-use Rattle.splitter_tree.specs.Law.{KeepsTreeLaw}
+use Rattle.splitter_tree.specs.Law.{TreeSpec}
 
 -- the calls of `begin` and `step` among these: the way to the places
 abbrev pub way_calls : List TreeCall → List (Call (Option ℕ))
@@ -20,8 +20,8 @@ way_calls (CollectBegan id reply ∷ r) = way_calls r
 way_calls (CollectStepped id reply ∷ r) = way_calls r
 
 -- the law of the places: stores and collects have no part in it
-abbrev pub KeepsPlacesLaw : List TreeCall → Type 0
-KeepsPlacesLaw r = KeepsTreeLaw (way_calls r)
+abbrev pub PlacesSpec : List TreeCall → Type 0
+PlacesSpec r = TreeSpec (way_calls r)
 
 abbrev pub walker_in : Option (Participant Client) → Option Walker
 walker_in None = None

@@ -82,7 +82,7 @@ module _ {S : Type 0} (memory : MemorySteps S TreeRegister TreeValue) where
   after_collecting w id = after_collecting_by w id (program_of id w.participants)
 
   -- nothing of the world changes but participant p and the segment at its place
-  pub record IsLocalStore (p : ℕ) (old new : TreeState S) : Type 0 where
+  pub record ChangesOnlyStore (p : ℕ) (old new : TreeState S) : Type 0 where
     pub most : new.most ≡ old.most
     pub others : (q : ℕ) → q ≢ p → participant_of q new.participants ≡ participant_of q old.participants
     pub registers : (r : TreeRegister) → ((place : ℕ) → option_and_then (λ c. place_of c.walker) (program_of p old.participants) ≡ Some place → r ≢ Contents place) → memory.register new.memory r ≡ memory.register old.memory r

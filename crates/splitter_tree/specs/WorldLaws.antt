@@ -1,7 +1,7 @@
 -- what the laws of this crate say, each under a name
 use Rattle.step_memory.specs.declared.refusal.Refusal.{Refusal}
 use Rattle.splitter_tree.specs.TreeSteps.{tree_steps}
-use Rattle.step_memory.specs.Locality.{LookAlike, StandAlike}
+use Rattle.step_memory.specs.Locality.{Indistinguishable, StandAlike}
 use Rattle.std.specs.Prelude.{◌≡◌, ◌≢◌, ℕ, ◌+◌, ◌*◌, ◌≤◌, ◌↔◌, Option, Some, false, List, not, is_some, length, ◌∷◌, ◌++◌, Ok, Err, Result}
 use Rattle.splitter_tree.specs.Ahead.{HasRead, marked_in}
 use Rattle.splitter_tree.specs.Client.{is_placing, client_access, client_steps}
@@ -9,9 +9,9 @@ use Rattle.splitter_tree.specs.CollectLaw.{Allows, CollectObject, new_object, ob
 use Rattle.splitter_tree.specs.Invariant.{IsConsistent, IsTree}
 use Rattle.splitter_tree.specs.Depth.{IsNodeWithin}
 use Rattle.splitter_tree.specs.Made.{WasMade}
-use Rattle.splitter_tree.specs.PlacesLaw.{way_calls, KeepsPlacesLaw, walkers}
+use Rattle.splitter_tree.specs.PlacesLaw.{way_calls, PlacesSpec, walkers}
 use Rattle.splitter_tree.specs.Machine.{TreeWorldState, tree, tree_over}
-use Rattle.step_memory.specs.Machine.{Always, IsProved}
+use Rattle.step_memory.specs.Machine.{OnEveryHistory, IsProved}
 use Rattle.splitter_tree.specs.TreeCalls.{TreeCall}
 use Rattle.splitter_tree.specs.TreeCalls.TreeCall.{Began, Stepped}
 use Rattle.splitter_tree.specs.TreeDue.{TreeRefusesAsDue}
@@ -44,55 +44,55 @@ abbrev pub CollectHasRead : (S : Type 0) → Type 0
 CollectHasRead S =
     (memory : MemorySteps S TreeRegister TreeValue) (w : TreeState S) (o : CollectObject) (p : ℕ) (v : Participant Client) (c : Collect) →
     participant_of p w.participants ≡ Some v → v.program.task ≡ Collecting c →
-    Always (tree_over memory) (λ first r. Run observed Allows new_object r o → (nodes : ℕ) × HasRead (marked_in memory w.memory) c.walk nodes (o.steps p) × (o.steps p + 1 ≤ 3 * nodes + 1)) w
+    OnEveryHistory (tree_over memory) (λ first r. Run observed Allows new_object r o → (nodes : ℕ) × HasRead (marked_in memory w.memory) c.walk nodes (o.steps p) × (o.steps p + 1 ≤ 3 * nodes + 1)) w
 
 -- nodes and walks agree
 abbrev pub NodesAgreeWithWalks : (S : Type 0) → Type 0
 NodesAgreeWithWalks S =
     (memory : MemorySteps S TreeRegister TreeValue) (w : TreeState S) →
-    Always (tree_over memory) (λ first r. IsConsistent memory w.most (length w.participants) w.memory (walkers w.participants)) w
+    OnEveryHistory (tree_over memory) (λ first r. IsConsistent memory w.most (length w.participants) w.memory (walkers w.participants)) w
 
 -- the nodes are a tree for as many as have begun
 abbrev pub NodesAreTree : (S : Type 0) → Type 0
 NodesAreTree S =
     (memory : MemorySteps S TreeRegister TreeValue) (w : TreeState S) →
-    Always (tree_over memory) (λ first r. IsTree memory (begun_in (way_calls r)) w.memory (walkers w.participants)) w
+    OnEveryHistory (tree_over memory) (λ first r. IsTree memory (begun_in (way_calls r)) w.memory (walkers w.participants)) w
 
 -- who has a place was told it
 abbrev pub PlacesAreTold : (S : Type 0) → Type 0
 PlacesAreTold S =
     (memory : MemorySteps S TreeRegister TreeValue) (w : TreeState S) (p : ℕ) →
-    Always (tree_over memory) (λ first r. place_by (walkers w.participants p) ≡ outcome_of p (way_calls r)) w
+    OnEveryHistory (tree_over memory) (λ first r. place_by (walkers w.participants p) ≡ outcome_of p (way_calls r)) w
 
 -- who has no place is on its way
 abbrev pub IsOnTheWay : (S : Type 0) → Type 0
 IsOnTheWay S =
     (memory : MemorySteps S TreeRegister TreeValue) (w : TreeState S) (p : ℕ) (v : Participant Client) → participant_of p w.participants ≡ Some v →
-    Always (tree_over memory) (λ first r. is_placing v.program.task ≡ not (is_some (place_of v.program.walker))) w
+    OnEveryHistory (tree_over memory) (λ first r. is_placing v.program.task ≡ not (is_some (place_of v.program.walker))) w
 
 -- a client of a tree never ends
 abbrev pub NeverEnds : (S : Type 0) → Type 0
 NeverEnds S =
     (memory : MemorySteps S TreeRegister TreeValue) (w : TreeState S) (p : ℕ) (v : Participant Client) → participant_of p w.participants ≡ Some v →
-    Always (tree_over memory) (λ first r. v.ended ≡ false) w
+    OnEveryHistory (tree_over memory) (λ first r. v.ended ≡ false) w
 
 -- a node is marked exactly where a call has made it
 abbrev pub MarksWhatWasMade : (S : Type 0) → Type 0
 MarksWhatWasMade S =
     (memory : MemorySteps S TreeRegister TreeValue) (w : TreeState S) (k : ℕ) →
-    Always (tree_over memory) (λ first r. (mark_at memory w.memory k ≡ 1) ↔ WasMade memory first.0 first.1 r k) w
+    OnEveryHistory (tree_over memory) (λ first r. (mark_at memory w.memory k ≡ 1) ↔ WasMade memory first.0 first.1 r k) w
 
 -- nodes are made within the bound of as many as have begun
 abbrev pub MakesNodesWithin : (S : Type 0) → Type 0
 MakesNodesWithin S =
     (memory : MemorySteps S TreeRegister TreeValue) (w : TreeState S) (k : ℕ) →
-    Always (tree_over memory) (λ first r. WasMade memory first.0 first.1 r k → IsNodeWithin (begun_in (way_calls r)) k) w
+    OnEveryHistory (tree_over memory) (λ first r. WasMade memory first.0 first.1 r k → IsNodeWithin (begun_in (way_calls r)) k) w
 
 -- nobody is told a second place
 abbrev pub TellsOnePlace : Type 0
 TellsOnePlace =
     (p a b : ℕ) (before between rest : List TreeCall) →
-    KeepsPlacesLaw (before ++ Stepped p (Ok (Some a)) ∷ (between ++ Stepped p (Ok (Some b)) ∷ rest)) → ⊥
+    PlacesSpec (before ++ Stepped p (Ok (Some a)) ∷ (between ++ Stepped p (Ok (Some b)) ∷ rest)) → ⊥
 
 -- a client writes the segment at its own place alone
 abbrev pub WritesOwnSegment : Type 0
@@ -104,18 +104,18 @@ WritesOwnSegment =
 abbrev pub StandsAtItsNode : Type 0
 StandsAtItsNode =
     (w : TreeWorldState) (p : ℕ) (v : Participant Client) → participant_of p w.participants ≡ Some v →
-    Always tree (λ first r. StandsAtNode v.program.walker) w
+    OnEveryHistory tree (λ first r. StandsAtNode v.program.walker) w
 
 -- what a step to a place answers is answered in each world that looks alike to the client
 abbrev pub AnswersPlaceAlike : TreeWorldState → ℕ → Result (Option ℕ) Refusal → Type 0
-AnswersPlaceAlike old id reply = (other : TreeWorldState) → LookAlike client_steps tree_steps id old other → reply ≡ place_answer tree_steps other id
+AnswersPlaceAlike old id reply = (other : TreeWorldState) → Indistinguishable client_steps tree_steps id old other → reply ≡ place_answer tree_steps other id
 
 -- and the client then stands alike
 abbrev pub StaysAlikeOnWay : TreeWorldState → TreeWorldState → ℕ → Type 0
 StaysAlikeOnWay old new id =
-    (other : TreeWorldState) → LookAlike client_steps tree_steps id old other → StandAlike id new (after_placing tree_steps other id)
+    (other : TreeWorldState) → Indistinguishable client_steps tree_steps id old other → StandAlike id new (after_placing tree_steps other id)
 
 -- so it does after a step of its collect
 abbrev pub StaysAlikeCollecting : TreeWorldState → TreeWorldState → ℕ → Type 0
 StaysAlikeCollecting old new id =
-    (other : TreeWorldState) → LookAlike client_steps tree_steps id old other → StandAlike id new (after_collecting tree_steps other id)
+    (other : TreeWorldState) → Indistinguishable client_steps tree_steps id old other → StandAlike id new (after_collecting tree_steps other id)

@@ -5,13 +5,13 @@ ghost use Rattle.splitter_tree.specs.WorldLaws.{AnswersPlaceAlike, StaysAlikeOnW
 ghost use Rattle.splitter_tree.specs.Client.{client_steps};
 ghost use Rattle.splitter_tree.specs.TreeCalls.TreeCall.{Began, Stepped, Stored, CollectBegan, CollectStepped};
 ghost use Rattle.splitter_tree.specs.TreeSteps.{tree_steps, empty_tree};
-ghost use Rattle.splitter_tree.specs.TreeWorld.{after_tree_begin, asking_refusal, place_answer, after_placing, may_lack_memory, after_store, after_collect_begin, view_answer, after_collecting, IsLocalStore};
+ghost use Rattle.splitter_tree.specs.TreeWorld.{after_tree_begin, asking_refusal, place_answer, after_placing, may_lack_memory, after_store, after_collect_begin, view_answer, after_collecting, ChangesOnlyStore};
 ghost use Rattle.splitter_tree.specs.PlacesLaw.{way_calls};
 ghost use Rattle.splitter_tree.specs.Machine.{HasLawfulNodes, TreeWorldState, fresh_over, tree};
-ghost use Rattle.step_memory.specs.Machine.{After, Always, IsLawful, LeadsOn, RefusesWhereDue};
+ghost use Rattle.step_memory.specs.Machine.{Reaches, OnEveryHistory, SatisfiesSpec, Extends, RefusesWhereDue};
 ghost use Rattle.splitter_tree.specs.Walk.{place_of};
 ghost use Rattle.step_memory.specs.Calls.{outcome_of};
-ghost use Rattle.step_memory.specs.Locality.{IsLocal, LookAlike};
+ghost use Rattle.step_memory.specs.Locality.{ChangesOnly, Indistinguishable};
 ghost use Rattle.step_memory.specs.Participant.{program_of};
 ghost use Rattle.step_memory.specs.World.{begin_refusal, done_unless};
 
@@ -49,8 +49,8 @@ impl<A: Allocator + Clone> TreeWorld<A> {
     #[tactic(auto, using(crate::proofs::TreeProved::tree_contracts))]
     pub fn new(alloc: A, most: usize) -> Result<Self, Refusal>
         ensures fresh { IfOk result (λ w. w ≡ fresh_over tree_steps (empty_tree, most)) }
-        ensures after { IfOk result (λ w. After tree (empty_tree, most) w []) }
-        ensures law { IfOk result (λ w. IsLawful tree w) }
+        ensures after { IfOk result (λ w. Reaches tree (empty_tree, most) w []) }
+        ensures law { IfOk result (λ w. SatisfiesSpec tree w) }
         ensures range { IsOk result → (1 ≤ most) × (most ≤ 64) }
         ensures out_of_range { result ≡ Err Refusal.OutOfRange ↔ ((most < 1) ⊎ (64 < most)) }
         ensures only { IfErr result (λ r. (r ≡ Refusal.NoMemory) ⊎ (r ≡ Refusal.OutOfRange)) }
@@ -70,10 +70,10 @@ impl<A: Allocator + Clone> TreeWorld<A> {
         ensures answer { result ≡ done_unless (begin_refusal self.old id) }
         ensures state { self.new ≡ after_tree_begin self.old id }
         ensures refused { OnErr result (self.new ≡ self.old) }
-        ensures after { LeadsOn tree self.old self.new (Began id result) }
+        ensures after { Extends tree self.old self.new (Began id result) }
 
         // The law, over every list of calls and replies that the world may be after.
-        ensures law { IsLawful tree self.new }
+        ensures law { SatisfiesSpec tree self.new }
         ensures due { RefusesWhereDue tree self.new }
         ensures nodes { HasLawfulNodes self.new }
     {
@@ -89,14 +89,14 @@ impl<A: Allocator + Clone> TreeWorld<A> {
         ensures state { result ≢ Err Refusal.NoMemory → self.new ≡ after_placing tree_steps self.old id }
         ensures refused { OnErr result (self.new ≡ self.old) }
         ensures no_memory { result ≡ Err Refusal.NoMemory → may_lack_memory tree_steps self.old id ≡ true }
-        ensures after { LeadsOn tree self.old self.new (Stepped id result) }
-        ensures law { IsLawful tree self.new }
+        ensures after { Extends tree self.old self.new (Stepped id result) }
+        ensures law { SatisfiesSpec tree self.new }
         ensures due { RefusesWhereDue tree self.new }
         ensures nodes { HasLawfulNodes self.new }
 
         // Nothing of the world changes but this participant and the register that it names, and in another world that
         // looks alike to this participant the answer is the same, and where the participant then stands.
-        ensures local { IsLocal client_steps tree_steps id self.old self.new }
+        ensures local { ChangesOnly client_steps tree_steps id self.old self.new }
         ensures alike { result ≢ Err Refusal.NoMemory → AnswersPlaceAlike self.old id result }
         ensures stands_alike { result ≢ Err Refusal.NoMemory → StaysAlikeOnWay self.old self.new id }
     {
@@ -119,14 +119,14 @@ impl<A: Allocator + Clone> TreeWorld<A> {
         ensures answer { result ≡ done_unless (asking_refusal self.old id) }
         ensures state { self.new ≡ after_store tree_steps self.old id value }
         ensures refused { OnErr result (self.new ≡ self.old) }
-        ensures after { LeadsOn tree self.old self.new (Stored id value result) }
+        ensures after { Extends tree self.old self.new (Stored id value result) }
 
         // The law, over every list of calls and replies that the world may be after.
-        ensures law { IsLawful tree self.new }
+        ensures law { SatisfiesSpec tree self.new }
         ensures due { RefusesWhereDue tree self.new }
 
         // Nothing of the world changes but this participant and the segment at its place.
-        ensures local { IsLocalStore tree_steps id self.old self.new }
+        ensures local { ChangesOnlyStore tree_steps id self.old self.new }
     {
         let Some(client) = self.world.program(id) else {
             return Err(Refusal::NotBegun);
@@ -150,8 +150,8 @@ impl<A: Allocator + Clone> TreeWorld<A> {
         ensures answer { result ≡ done_unless (asking_refusal self.old id) }
         ensures state { self.new ≡ after_collect_begin self.old id }
         ensures refused { OnErr result (self.new ≡ self.old) }
-        ensures after { LeadsOn tree self.old self.new (CollectBegan id result) }
-        ensures law { IsLawful tree self.new }
+        ensures after { Extends tree self.old self.new (CollectBegan id result) }
+        ensures law { SatisfiesSpec tree self.new }
         ensures due { RefusesWhereDue tree self.new }
     {
         let Some(client) = self.world.program(id) else {
@@ -171,11 +171,11 @@ impl<A: Allocator + Clone> TreeWorld<A> {
         ensures answer { result ≡ view_answer tree_steps self.old id }
         ensures state { self.new ≡ after_collecting tree_steps self.old id }
         ensures refused { OnErr result (self.new ≡ self.old) }
-        ensures after { LeadsOn tree self.old self.new (CollectStepped id result) }
-        ensures law { IsLawful tree self.new }
+        ensures after { Extends tree self.old self.new (CollectStepped id result) }
+        ensures law { SatisfiesSpec tree self.new }
         ensures due { RefusesWhereDue tree self.new }
-        ensures local { IsLocal client_steps tree_steps id self.old self.new }
-        ensures alike { (other : TreeWorldState) → LookAlike client_steps tree_steps id self.old other → result ≡ view_answer tree_steps other id }
+        ensures local { ChangesOnly client_steps tree_steps id self.old self.new }
+        ensures alike { (other : TreeWorldState) → Indistinguishable client_steps tree_steps id self.old other → result ≡ view_answer tree_steps other id }
         ensures stands_alike { StaysAlikeCollecting self.old self.new id }
     {
         let Some(client) = self.world.program(id) else {
@@ -193,7 +193,7 @@ impl<A: Allocator + Clone> TreeWorld<A> {
     /// The place of a participant, once it has one: the one that was answered.
     pub fn place_of(&self, id: u64) -> Option<Place>
         ensures value { result ≡ option_and_then (λ c. place_of c.walker) (program_of id self.now.participants) }
-        ensures answered { Always tree (λ first r. result ≡ outcome_of id (way_calls r)) self.now }
+        ensures answered { OnEveryHistory tree (λ first r. result ≡ outcome_of id (way_calls r)) self.now }
     {
         self.world.program(id)?.walker.place()
     }

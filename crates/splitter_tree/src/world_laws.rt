@@ -4,7 +4,7 @@ ghost use Rattle.std.specs.Prelude.{ℕ, ◌≤◌, []};
 ghost use Rattle.splitter_tree.specs.WorldLaws.{LetsTheFirstIn, TreesAreProved, CollectHasRead, NodesAgreeWithWalks, NodesAreTree, PlacesAreTold, IsOnTheWay, NeverEnds, MarksWhatWasMade, MakesNodesWithin, TellsOnePlace, WritesOwnSegment, StandsAtItsNode};
 ghost use Rattle.splitter_tree.specs.Client.{client_access};
 ghost use Rattle.splitter_tree.specs.Machine.{fresh_over, tree};
-ghost use Rattle.step_memory.specs.Machine.{After, IsProved};
+ghost use Rattle.step_memory.specs.Machine.{Reaches, IsProved};
 ghost use Rattle.splitter_tree.specs.TreeSteps.{empty_tree, tree_steps};
 ghost use Rattle.splitter_tree.specs.declared.client.Client.{Client};
 ghost use Rattle.step_memory.specs.Steps.{ReadsOrWrites};
@@ -38,7 +38,7 @@ pub fn law_of_places<S>()
 /// room for at most 64. A list that tells somebody a second place keeps no law of the places, and one that refuses whoever
 /// comes first is refused where nothing is due.
 pub fn law_of_tree_calls()
-    ensures fresh { (most : ℕ) → most ≤ 64 → After tree (empty_tree, most) (fresh_over tree_steps (empty_tree, most)) [] }
+    ensures fresh { (most : ℕ) → most ≤ 64 → Reaches tree (empty_tree, most) (fresh_over tree_steps (empty_tree, most)) [] }
     ensures machine { IsProved tree }
     ensures one_place { TellsOnePlace }
     ensures not_refused { LetsTheFirstIn }

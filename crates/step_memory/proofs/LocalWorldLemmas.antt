@@ -3,7 +3,7 @@ use Rattle.std.proofs.Common.{◌≡◌, ◌≢◌, ℕ, ◌+◌, ◌<◌, ◌�
 use Rattle.std.proofs.lemmas.Bool.Decides.{eqb_tells, leb_tells, Decides-eqb}
 use Rattle.step_memory.specs.Calls.{Call, outcome_of, outcome_by, outcome_in, steps_of, steps_by, begun_in, reply_of, first_of}
 use Rattle.step_memory.specs.Calls.Call.{Began, Stepped}
-use Rattle.step_memory.specs.Machine.{After, IsProved}
+use Rattle.step_memory.specs.Machine.{Reaches, IsProved}
 use Rattle.step_memory.specs.Note.{ends}
 use Rattle.step_memory.specs.Participant.{participant_of, with_participant, beginner, resumed}
 use Rattle.step_memory.specs.RegisterState.{Registers}
@@ -74,7 +74,7 @@ module _ {P V O : Type 0} (program : ProgramSteps P ℕ V O) (parts : LocalParts
     first_is : w.memory.first ≡ parts.first
     begun_is : begun_in r ≡ length w.participants
 
-  plain : (most : ℕ) (w : World) (r : Calls) → After (world_machine (parts_of_world program parts)) most w r → IsPlain w r
+  plain : (most : ℕ) (w : World) (r : Calls) → Reaches (world_machine (parts_of_world program parts)) most w r → IsPlain w r
   plain most w r a = world_keeps program memory_steps outcome_in parts.start IsPlain
       (record {
         refused_begin = λ v t id why h. record { first_is = h.first_is; begun_is = (let pushed = begun_in-push t (Began id (Err why)) in let before = h.begun_is in omega arith) };
@@ -100,7 +100,7 @@ module _ {P V O : Type 0} (program : ProgramSteps P ℕ V O) (parts : LocalParts
 
   -- a step of one who has begun
   module _ (tests_none : (u : P) (r : ℕ) → program.next u ≢ TestAndSet r) where
-    world_steps : (most : ℕ) (w : World) (r : Calls) → After (world_machine (parts_of_world program parts)) most w r → (p : ℕ) (v : Participant P) → participant_of p w.participants ≡ Some v → v.ended ≡ false
+    world_steps : (most : ℕ) (w : World) (r : Calls) → Reaches (world_machine (parts_of_world program parts)) most w r → (p : ℕ) (v : Participant P) → participant_of p w.participants ≡ Some v → v.ended ≡ false
         → IsOnce program parts.first (local_world program parts) most w r p (Some v) v.program
     world_steps most w r a p v there goes =
         let own : v.identity ≡ p = identity_of p w.participants v there in
@@ -131,7 +131,7 @@ module _ {P V O : Type 0} (program : ProgramSteps P ℕ V O) (parts : LocalParts
         }
 
     -- and of one who begins with it
-    world_begins : (most : ℕ) (w : World) (r : Calls) → After (world_machine (parts_of_world program parts)) most w r → (p : ℕ) → p ≢ 0 → participant_of p w.participants ≡ None → begun_in r + 1 ≤ most
+    world_begins : (most : ℕ) (w : World) (r : Calls) → Reaches (world_machine (parts_of_world program parts)) most w r → (p : ℕ) → p ≢ 0 → participant_of p w.participants ≡ None → begun_in r + 1 ≤ most
         → IsOnce program parts.first (local_world program parts) most w r p None (parts.start p)
     world_begins most w r a p some absent room =
         let b : Participant P = beginner p (parts.start p) in
@@ -160,7 +160,7 @@ module _ {P V O : Type 0} (program : ProgramSteps P ℕ V O) (parts : LocalParts
         }
 
     -- so whoever stands somewhere makes its access
-    pub world_takes : (most : ℕ) (w : World) (r : Calls) → After (world_machine (parts_of_world program parts)) most w r → (p : ℕ) (o : Option (Participant P)) → p ≢ 0 → participant_of p w.participants ≡ o → GoesOn o → begun_in r + one_more o ≤ most
+    pub world_takes : (most : ℕ) (w : World) (r : Calls) → Reaches (world_machine (parts_of_world program parts)) most w r → (p : ℕ) (o : Option (Participant P)) → p ≢ 0 → participant_of p w.participants ≡ o → GoesOn o → begun_in r + one_more o ≤ most
         → IsOnce program parts.first (local_world program parts) most w r p o (program_at program parts.first (local_world program parts) p o)
     world_takes most w r a p None some absent goes room = world_begins most w r a p some absent room
     world_takes most w r a p (Some v) some there goes room = world_steps most w r a p v there goes

@@ -3,7 +3,7 @@ use Rattle.std.proofs.Common.{◌≡◌, ℕ, Bool, true, false, cond, Option, S
 use Rattle.step_memory.proofs.Common.{Access, Finished, Participant, participant_of, with_participant, resumed, set_at, WorldState, after_step, after_step_by, step_answer, step_answer_by, got_by}
 use Rattle.step_memory.specs.declared.access.Access.TheVariants.{Read, TestAndSet}
 use Rattle.step_memory.specs.Steps.{ProgramSteps, MemorySteps, Spares, AgreeAt, answer_from}
-use Rattle.step_memory.specs.Locality.{IsLocal, LookAlike, StandAlike}
+use Rattle.step_memory.specs.Locality.{ChangesOnly, Indistinguishable, StandAlike}
 use Rattle.step_memory.proofs.ParticipantLemmas.{participant_of-put, identity_of}
 use Rattle.step_memory.proofs.SetAtLemmas.{set_at-same, set_at-other}
 
@@ -15,13 +15,13 @@ answer_alike one other a h = refl
 
 module _ {P S R V O : Type 0} (program : ProgramSteps P R V O) (memory : MemorySteps S R V) where
   -- what changes nothing is local
-  pub unchanged_local : (p : ℕ) (w : WorldState S P) → IsLocal program memory p w w
+  pub unchanged_local : (p : ℕ) (w : WorldState S P) → ChangesOnly program memory p w w
   unchanged_local p w = record { most = refl; others = λ q n. refl; registers = λ v is r h. refl; absent = λ h. refl }
 
   -- an accepted step is local
   pub going_local : ((m : S) (a : Access R V) (r : R) → Spares a r → memory.register (memory.after m a) r ≡ memory.register m r) →
       (w : WorldState S P) (p : ℕ) (v : Participant P) → participant_of p w.participants ≡ Some v →
-      IsLocal program memory p w (record { memory = memory.after w.memory (program.next v.program); most = w.most; participants = with_participant (resumed program v (got_by program memory w.memory v)) w.participants })
+      ChangesOnly program memory p w (record { memory = memory.after w.memory (program.next v.program); most = w.most; participants = with_participant (resumed program v (got_by program memory w.memory v)) w.participants })
   going_local spared w p v here =
       let own : v.identity ≡ p = identity_of p w.participants v here in
       record {
@@ -38,17 +38,17 @@ module _ {P S R V O : Type 0} (program : ProgramSteps P R V O) (memory : MemoryS
 
   -- any step is local
   pub step_local : ((m : S) (a : Access R V) (r : R) → Spares a r → memory.register (memory.after m a) r ≡ memory.register m r) →
-      (w : WorldState S P) (p : ℕ) → IsLocal program memory p w (after_step program memory w p)
-  step_local spared w p = elim (participant_of p w.participants) as (λ o. participant_of p w.participants ≡ o → IsLocal program memory p w (after_step_by program memory w o)) [
+      (w : WorldState S P) (p : ℕ) → ChangesOnly program memory p w (after_step program memory w p)
+  step_local spared w p = elim (participant_of p w.participants) as (λ o. participant_of p w.participants ≡ o → ChangesOnly program memory p w (after_step_by program memory w o)) [
     | None ↦ λ _. unchanged_local p w
-    | Some v ↦ λ here. elim v.ended as (λ b. IsLocal program memory p w (cond b w (record { memory = memory.after w.memory (program.next v.program); most = w.most; participants = with_participant (resumed program v (got_by program memory w.memory v)) w.participants }))) [
+    | Some v ↦ λ here. elim v.ended as (λ b. ChangesOnly program memory p w (cond b w (record { memory = memory.after w.memory (program.next v.program); most = w.most; participants = with_participant (resumed program v (got_by program memory w.memory v)) w.participants }))) [
       | true ↦ unchanged_local p w
       | false ↦ going_local spared w p v here
     ]
   ] refl
 
   -- worlds that look alike to a participant answer its step alike
-  pub answers_alike : (p : ℕ) (one other : WorldState S P) → LookAlike program memory p one other → step_answer program memory one p ≡ step_answer program memory other p
+  pub answers_alike : (p : ℕ) (one other : WorldState S P) → Indistinguishable program memory p one other → step_answer program memory one p ≡ step_answer program memory other p
   answers_alike p one other alike = elim (participant_of p one.participants) as (λ o. participant_of p one.participants ≡ o → participant_of p other.participants ≡ o → step_answer_by program memory one.memory o ≡ step_answer_by program memory other.memory (participant_of p other.participants)) [
     | None ↦ λ here there. rw there refl
     | Some v ↦ λ here there.
@@ -76,7 +76,7 @@ module _ {P S R V O : Type 0} (program : ProgramSteps P R V O) (memory : MemoryS
   ] refl
 
   -- worlds that look alike to a participant leave it alike
-  pub stand_alike : (p : ℕ) (one other : WorldState S P) → LookAlike program memory p one other → StandAlike p (after_step program memory one p) (after_step program memory other p)
+  pub stand_alike : (p : ℕ) (one other : WorldState S P) → Indistinguishable program memory p one other → StandAlike p (after_step program memory one p) (after_step program memory other p)
   unfolding moved_by
   stand_alike p one other alike =
       stands_after one p

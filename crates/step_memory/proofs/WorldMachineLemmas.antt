@@ -4,10 +4,10 @@ use Rattle.step_memory.proofs.Common.{Note, Refusal, ProgramSteps, MemorySteps, 
 use Rattle.step_memory.specs.declared.access.Access.{Access}
 use Rattle.step_memory.specs.declared.refusal.Refusal.TheVariants.{NoMemory, OutOfRange}
 use Rattle.step_memory.specs.World.{begin_refusal, done_unless, after_begin, after_step, step_answer, may_refuse_by, may_refuse_step}
-use Rattle.step_memory.specs.Locality.{LookAlike, StandAlike}
+use Rattle.step_memory.specs.Locality.{Indistinguishable, StandAlike}
 use Rattle.step_memory.proofs.LocalityLemmas.{stand_alike}
 use Rattle.step_memory.specs.Due.{TellsTheEnd, GrowsOnly, EndsOnce}
-use Rattle.step_memory.specs.Machine.{After, LeadsOn, RefusesWhereDue, IsProved}
+use Rattle.step_memory.specs.Machine.{Reaches, Extends, RefusesWhereDue, IsProved}
 use Rattle.step_memory.specs.WorldMachine.{WorldParts, world_machine, fresh_world, any_world}
 use Rattle.step_memory.proofs.MachineLemmas.{after_none, call_leads_on, machine_proved}
 use Rattle.step_memory.proofs.StepLemmas.{lacks_none}
@@ -24,7 +24,7 @@ module _ {P S R V O X : Type 0} (program : ProgramSteps P R V O) (memory : Memor
 
   -- a step for which no growth was refused leads on
   pub any_step_leads_on : (w new : WorldState S P) (id : ℕ) (reply : Result X Refusal) → new ≡ after_step program memory w id → reply ≡ reply_of shown (step_answer program memory w id) →
-      LeadsOn (any_world program memory shown start last grows) w new (Stepped id reply)
+      Extends (any_world program memory shown start last grows) w new (Stepped id reply)
   any_step_leads_on w new id reply e is =
       let goes : lacked_memory reply ≡ false = ap lacked_memory is ∙ lacks_none program memory shown w id in
       call_leads_on (any_world program memory shown start last grows) w new (Stepped id reply) (e ∙ rw goes refl) (inl is)
@@ -36,18 +36,18 @@ within low high n (Err why) at_least at_most only = (λ e. absurd (let same : No
 
 module _ {P S R V O X : Type 0} (parts : WorldParts P S R V O X) where
   -- a new world is after no call
-  pub new_after : (most : ℕ) → parts.MayStart most → (r : Result (WorldState S P) Refusal) → IfOk r (λ w. w ≡ fresh_world parts most) → IfOk r (λ w. After (world_machine parts) most w [])
-  new_after most may (Ok w) is = subst (λ (u : WorldState S P). After (world_machine parts) most u []) (sym is) (after_none (world_machine parts) most may)
+  pub new_after : (most : ℕ) → parts.MayStart most → (r : Result (WorldState S P) Refusal) → IfOk r (λ w. w ≡ fresh_world parts most) → IfOk r (λ w. Reaches (world_machine parts) most w [])
+  new_after most may (Ok w) is = subst (λ (u : WorldState S P). Reaches (world_machine parts) most u []) (sym is) (after_none (world_machine parts) most may)
   new_after most may (Err why) is = tt
 
   -- a beginning leads on
   pub begin_leads_on : (w new : WorldState S P) (id : ℕ) (reply : Result (Unit {0}) Refusal) → new ≡ after_begin w id (parts.start id) → reply ≡ done_unless (begin_refusal w id) →
-      LeadsOn (world_machine parts) w new (Began id reply)
+      Extends (world_machine parts) w new (Began id reply)
   begin_leads_on w new id reply e is = call_leads_on (world_machine parts) w new (Began id reply) e is
 
   -- so does a step for which no growth was refused
   pub step_leads_on : (w new : WorldState S P) (id : ℕ) (reply : Result X Refusal) → new ≡ after_step parts.program parts.memory w id →
-      reply ≡ reply_of parts.shown (step_answer parts.program parts.memory w id) → LeadsOn (world_machine parts) w new (Stepped id reply)
+      reply ≡ reply_of parts.shown (step_answer parts.program parts.memory w id) → Extends (world_machine parts) w new (Stepped id reply)
   step_leads_on w new id reply e is =
       let goes : lacked_memory reply ≡ false = ap lacked_memory is ∙ lacks_none parts.program parts.memory parts.shown w id in
       call_leads_on (world_machine parts) w new (Stepped id reply) (e ∙ rw goes refl) (inl is)
@@ -60,7 +60,7 @@ module _ {P S R V O X : Type 0} (parts : WorldParts P S R V O X) where
   ]
 
   -- who stands in the new world stands alike in each world that looked alike to it
-  pub stays_alike : (w new : WorldState S P) (id : ℕ) → new ≡ after_step parts.program parts.memory w id → (other : WorldState S P) → LookAlike parts.program parts.memory id w other →
+  pub stays_alike : (w new : WorldState S P) (id : ℕ) → new ≡ after_step parts.program parts.memory w id → (other : WorldState S P) → Indistinguishable parts.program parts.memory id w other →
       StandAlike id new (after_step parts.program parts.memory other id)
   stays_alike w new id e other h = ap (λ u. participant_of id u.participants) e ∙ stand_alike parts.program parts.memory id w other h
 
@@ -74,10 +74,10 @@ module _ {P S R V O X : Type 0} (parts : WorldParts P S R V O X) where
     pub grows : GrowsOnly parts.memory parts.grows
     pub new : (most : ℕ) → parts.MayStart most → Tied (fresh_world parts most) []
     pub kept : IsKept parts.program parts.memory parts.shown parts.start Tied
-    pub law : (w : WorldState S P) (r : List (Call X)) → Tied w r → EndsOnce parts.last r → parts.KeepsLaw r
+    pub law : (w : WorldState S P) (r : List (Call X)) → Tied w r → EndsOnce parts.last r → parts.Spec r
 
   module _ (Tied : WorldState S P → List (Call X) → Type 0) (tie : IsTie Tied) where
-    pub tied_after : (most : ℕ) (w : WorldState S P) (r : List (Call X)) → After (world_machine parts) most w r → Tied w r
+    pub tied_after : (most : ℕ) (w : WorldState S P) (r : List (Call X)) → Reaches (world_machine parts) most w r → Tied w r
     tied_after most w r a = world_keeps parts.program parts.memory parts.shown parts.start Tied tie.kept (fresh_world parts most) (tie.new most a.started) w r a.run
 
     pub world_proved : IsProved (world_machine parts)

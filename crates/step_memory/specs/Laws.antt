@@ -10,8 +10,8 @@ use Rattle.step_memory.specs.WorldState.{WorldState}
 use Rattle.step_memory.specs.World.{begin_refusal, step_answer, after_step, got_by}
 use Rattle.step_memory.specs.Calls.{Call, next, begun_in, reply_of, lacked_memory, steps_by, outcome_of, outcome_by, outcome_in, first_of}
 use Rattle.step_memory.specs.Calls.Call.{Began, Stepped}
-use Rattle.step_memory.specs.Locality.{LookAlike, StandAlike}
-use Rattle.step_memory.specs.Machine.{Always, IsProved, LeadsOn}
+use Rattle.step_memory.specs.Locality.{Indistinguishable, StandAlike}
+use Rattle.step_memory.specs.Machine.{OnEveryHistory, IsProved, Extends}
 use Rattle.step_memory.specs.WorldMachine.{any_world}
 use Rattle.step_memory.specs.Told.{Tells}
 use Rattle.step_memory.specs.Due.{RefusesAsDue, EndsOnce}
@@ -129,11 +129,11 @@ WorldsAreProved P S R V O X =
     IsProved (any_world program memory shown start last grows)
 
 -- a step for which no growth was refused leads on
-abbrev pub StepLeadsOn : (P S R V O X : Type 0) → Type 0
-StepLeadsOn P S R V O X =
+abbrev pub StepExtends : (P S R V O X : Type 0) → Type 0
+StepExtends P S R V O X =
     (program : ProgramSteps P R V O) (memory : MemorySteps S R V) (shown : Note O → X) (start : ℕ → P) (last : X → Bool) (grows : Bool) →
     (w new : WorldState S P) (id : ℕ) (reply : Result X Refusal) → new ≡ after_step program memory w id →
-    reply ≡ reply_of shown (step_answer program memory w id) → LeadsOn (any_world program memory shown start last grows) w new (Stepped id reply)
+    reply ≡ reply_of shown (step_answer program memory w id) → Extends (any_world program memory shown start last grows) w new (Stepped id reply)
 
 -- no call makes more room for participants
 abbrev pub CallKeepsMost : (P S R V O X : Type 0) → Type 0
@@ -151,7 +151,7 @@ IsNoLonger =
 abbrev pub CountsBegun : (P S R V O X : Type 0) → Type 0
 CountsBegun P S R V O X =
     (program : ProgramSteps P R V O) (memory : MemorySteps S R V) (shown : Note O → X) (start : ℕ → P) (last : X → Bool) (grows : Bool) →
-    (w : WorldState S P) → Always (any_world program memory shown start last grows) (λ first r. begun_in r ≡ length w.participants) w
+    (w : WorldState S P) → OnEveryHistory (any_world program memory shown start last grows) (λ first r. begun_in r ≡ length w.participants) w
 
 -- who was told its end is not told another
 abbrev pub HasNoSecondEnd : (X : Type 0) → Type 0
@@ -189,13 +189,13 @@ AreToldByValues =
 -- in two worlds that look alike to a participant it is answered alike
 abbrev pub AnswersAlike : (P S R V O : Type 0) → Type 0
 AnswersAlike P S R V O =
-    (program : ProgramSteps P R V O) (memory : MemorySteps S R V) (p : ℕ) (one other : WorldState S P) → LookAlike program memory p one other →
+    (program : ProgramSteps P R V O) (memory : MemorySteps S R V) (p : ℕ) (one other : WorldState S P) → Indistinguishable program memory p one other →
     step_answer program memory one p ≡ step_answer program memory other p
 
 -- and it then stands alike
 abbrev pub StandsAlikeAfter : (P S R V O : Type 0) → Type 0
 StandsAlikeAfter P S R V O =
-    (program : ProgramSteps P R V O) (memory : MemorySteps S R V) (p : ℕ) (one other : WorldState S P) → LookAlike program memory p one other →
+    (program : ProgramSteps P R V O) (memory : MemorySteps S R V) (p : ℕ) (one other : WorldState S P) → Indistinguishable program memory p one other →
     StandAlike p (after_step program memory one p) (after_step program memory other p)
 
 -- where one more passes, and each that passed, the count is one more

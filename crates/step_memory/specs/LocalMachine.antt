@@ -9,7 +9,7 @@ use Rattle.step_memory.specs.declared.participant.Participant.{Participant}
 use Rattle.step_memory.specs.Note.{ends}
 use Rattle.step_memory.specs.Steps.{ProgramSteps}
 use Rattle.step_memory.specs.Calls.{Call, outcome_in, steps_of, begun_in}
-use Rattle.step_memory.specs.Machine.{Machine, After}
+use Rattle.step_memory.specs.Machine.{Machine, Reaches}
 
 -- the machine and how it starts for so many, what stands in its registers, and where each identity stands; what its calls told an identity at
 -- its end; for how many it may start, its registers for so many, the program of an identity, and the most accesses of one
@@ -72,7 +72,7 @@ module _ {P V O : Type 0} (program : ProgramSteps P ℕ V O) (first : V) (local 
   pub record IsOnce (most : ℕ) (w0 : local.State) (r0 : List (Call local.X)) (p : ℕ) (o : Option (Participant P)) (u : P) : Type 0 where
     pub w : local.State
     pub r : List (Call local.X)
-    pub after : After local.machine (local.start_of most) w r
+    pub after : Reaches local.machine (local.start_of most) w r
     pub memory_is : local.memory w ≡ values_after (local.memory w0) (program.next u)
     pub mine : local.self w p ≡ Some (moved p u (got w0 u))
     pub others : (q : ℕ) → q ≢ p → local.self w q ≡ local.self w0 q
@@ -84,7 +84,7 @@ module _ {P V O : Type 0} (program : ProgramSteps P ℕ V O) (first : V) (local 
 
   -- it starts with what nobody wrote in each register, and nobody has begun
   pub record IsFresh (most : ℕ) : Type 0 where
-    pub after : After local.machine (local.start_of most) (local.machine.first (local.start_of most)) []
+    pub after : Reaches local.machine (local.start_of most) (local.machine.first (local.start_of most)) []
     pub blank : local.memory (local.machine.first (local.start_of most)) ≡ replicate (local.registers most) first
     pub nobody : (q : ℕ) → local.self (local.machine.first (local.start_of most)) q ≡ None
     pub untold : (q : ℕ) → local.outcome_of q [] ≡ None
@@ -92,12 +92,12 @@ module _ {P V O : Type 0} (program : ProgramSteps P ℕ V O) (first : V) (local 
   -- What is proved of it. `takes`: who stands somewhere and has not ended makes one access, as its program says, and begins with it where
   -- it has not begun and there is room. `few`: nobody makes more accesses than the bound. `begins`, `own`: each access of who has not
   -- ended is to one of the registers
-  pub record IsLocal : Type 0 where
+  pub record ChangesOnly : Type 0 where
     pub fresh : (most : ℕ) → local.MayStart most → IsFresh most
-    pub takes : (most : ℕ) (w : local.State) (r : List (Call local.X)) → After local.machine (local.start_of most) w r → (p : ℕ) (o : Option (Participant P)) → p ≢ 0 → local.self w p ≡ o → GoesOn o →
+    pub takes : (most : ℕ) (w : local.State) (r : List (Call local.X)) → Reaches local.machine (local.start_of most) w r → (p : ℕ) (o : Option (Participant P)) → p ≢ 0 → local.self w p ≡ o → GoesOn o →
         begun_in r + one_more o ≤ most → IsOnce most w r p o (program_at p o)
     pub some : (most : ℕ) → 1 ≤ most → 0 < local.registers most
-    pub few : (most : ℕ) (w : local.State) (r : List (Call local.X)) → After local.machine (local.start_of most) w r → (p : ℕ) → steps_of p r ≤ local.bound most
+    pub few : (most : ℕ) (w : local.State) (r : List (Call local.X)) → Reaches local.machine (local.start_of most) w r → (p : ℕ) → steps_of p r ≤ local.bound most
     pub begins : (most p : ℕ) → 1 ≤ most → local.MayStart most → IsWithin (local.registers most) (program.next (local.start p))
-    pub own : (most : ℕ) (w : local.State) (r : List (Call local.X)) → After local.machine (local.start_of most) w r → (p : ℕ) (v : Participant P) → local.self w p ≡ Some v → v.ended ≡ false →
+    pub own : (most : ℕ) (w : local.State) (r : List (Call local.X)) → Reaches local.machine (local.start_of most) w r → (p : ℕ) (v : Participant P) → local.self w p ≡ Some v → v.ended ≡ false →
         IsWithin (local.registers most) (program.next v.program)

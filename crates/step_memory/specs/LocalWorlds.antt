@@ -9,7 +9,7 @@ use Rattle.step_memory.specs.Registers.{memory_steps}
 use Rattle.step_memory.specs.Steps.{ProgramSteps}
 use Rattle.step_memory.specs.WorldState.{WorldState}
 use Rattle.step_memory.specs.WorldMachine.{WorldParts, world_machine}
-use Rattle.step_memory.specs.Machine.{After}
+use Rattle.step_memory.specs.Machine.{Reaches}
 use Rattle.step_memory.specs.LocalMachine.{LocalMachine, GoesOn, one_more, program_at, IsOnce}
 
 -- a world of such programs: for how many it may start, the registers for so many, what nobody wrote in them, the program of an identity, the
@@ -20,7 +20,7 @@ pub record LocalParts (P V O : Type 0) : Type 1 where
   pub first : V
   pub start : ℕ → P
   pub bound : ℕ → ℕ
-  pub KeepsLaw : List (Call (Option O)) → Type 0
+  pub Spec : List (Call (Option O)) → Type 0
 
 module _ {P V O : Type 0} (program : ProgramSteps P ℕ V O) (parts : LocalParts P V O) where
   -- the world as any other: a step answers what its program has ended with
@@ -34,7 +34,7 @@ module _ {P V O : Type 0} (program : ProgramSteps P ℕ V O) (parts : LocalParts
     grows = false;
     MayStart = parts.MayStart;
     empty = λ most. record { first = parts.first; values = replicate (parts.registers most) parts.first; bits = replicate 0 false };
-    KeepsLaw = parts.KeepsLaw;
+    Spec = parts.Spec;
   }
 
   -- and as a local machine
@@ -56,12 +56,12 @@ module _ {P V O : Type 0} (program : ProgramSteps P ℕ V O) (parts : LocalParts
 
 -- a world that keeps no law but that of calls, and may start for any number
 abbrev pub any_parts : {P V O : Type 0} → (ℕ → ℕ) → V → (ℕ → P) → LocalParts P V O
-any_parts registers first start = record { MayStart = λ most. Unit {0}; registers = registers; first = first; start = start; bound = λ most. 0; KeepsLaw = λ r. Unit {0} }
+any_parts registers first start = record { MayStart = λ most. Unit {0}; registers = registers; first = first; start = start; bound = λ most. 0; Spec = λ r. Unit {0} }
 
 -- where no program sets a bit, who stands somewhere in a world and has not ended makes one access, as its program says
 abbrev pub TakesLocally : (P V O : Type 0) → Type 0
 TakesLocally P V O =
     (program : ProgramSteps P ℕ V O) (registers : ℕ → ℕ) (first : V) (start : ℕ → P) → ((u : P) (r : ℕ) → program.next u ≢ TestAndSet r) →
-    (most : ℕ) (w : WorldState (Registers V) P) (r : List (Call (Option O))) → After (world_machine (parts_of_world program (any_parts registers first start))) most w r →
+    (most : ℕ) (w : WorldState (Registers V) P) (r : List (Call (Option O))) → Reaches (world_machine (parts_of_world program (any_parts registers first start))) most w r →
     (p : ℕ) (o : Option (Participant P)) → p ≢ 0 → participant_of p w.participants ≡ o → GoesOn o → begun_in r + one_more o ≤ most →
     IsOnce program first (local_world program (any_parts registers first start)) most w r p o (program_at program first (local_world program (any_parts registers first start)) p o)

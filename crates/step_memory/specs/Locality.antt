@@ -17,7 +17,7 @@ StandAlike p one other = participant_of p one.participants ≡ participant_of p 
 module _ {P S R V O : Type 0} (program : ProgramSteps P R V O) (memory : MemorySteps S R V) where
   -- a step of p changes no other participant, and at most the register that p's own program names: none where p has not
   -- begun
-  pub record IsLocal (p : ℕ) (old new : WorldState S P) : Type 0 where
+  pub record ChangesOnly (p : ℕ) (old new : WorldState S P) : Type 0 where
     pub most : new.most ≡ old.most
     pub others : (q : ℕ) → q ≢ p → participant_of q new.participants ≡ participant_of q old.participants
     pub registers : (v : Participant P) → participant_of p old.participants ≡ Some v →
@@ -25,14 +25,14 @@ module _ {P S R V O : Type 0} (program : ProgramSteps P R V O) (memory : MemoryS
     pub absent : participant_of p old.participants ≡ None → new.memory ≡ old.memory
 
   -- p stands alike in two worlds, and they have the same in the register that its program names
-  pub record LookAlike (p : ℕ) (one other : WorldState S P) : Type 0 where
+  pub record Indistinguishable (p : ℕ) (one other : WorldState S P) : Type 0 where
     pub participant : participant_of p one.participants ≡ participant_of p other.participants
     pub register : (v : Participant P) → participant_of p one.participants ≡ Some v →
         AgreeAt (memory.register one.memory) (memory.register other.memory) (program.next v.program)
 
   -- in each world that looks alike to p a step of p is answered so
   abbrev pub IsAnsweredAlike : ℕ → WorldState S P → Result (Note O) Refusal → Type 0
-  IsAnsweredAlike p one reply = (other : WorldState S P) → LookAlike p one other → reply ≡ step_answer program memory other p
+  IsAnsweredAlike p one reply = (other : WorldState S P) → Indistinguishable p one other → reply ≡ step_answer program memory other p
 
 -- p has begun, and its next access is a read
 abbrev pub ReadsNext : {P S R V O : Type 0} → ProgramSteps P R V O → WorldState S P → ℕ → Type 0

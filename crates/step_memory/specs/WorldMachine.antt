@@ -17,7 +17,7 @@ module _ {P S R V O X : Type 0} (program : ProgramSteps P R V O) (memory : Memor
     first = λ first. record { memory = first.0; most = first.1; participants = [] };
     next = next program memory shown start;
     IsReply = IsReply program memory shown start;
-    KeepsLaw = λ first r. TellsTheEnd shown last → GrowsOnly memory grows → EndsOnce last r;
+    Spec = λ first r. TellsTheEnd shown last → GrowsOnly memory grows → EndsOnce last r;
     RefusesAsDue = λ first r. TellsTheEnd shown last → GrowsOnly memory grows → RefusesAsDue last first.1 grows r;
   }
 
@@ -34,7 +34,7 @@ pub record WorldParts (P S R V O X : Type 0) : Type 1 where
   -- the most participants that there may be, and the memory for so many
   pub MayStart : ℕ → Type 0
   pub empty : ℕ → S
-  pub KeepsLaw : List (Call X) → Type 0
+  pub Spec : List (Call X) → Type 0
 
 module _ {P S R V O X : Type 0} (parts : WorldParts P S R V O X) where
   -- a world for so many in which nobody has begun
@@ -47,6 +47,6 @@ module _ {P S R V O X : Type 0} (parts : WorldParts P S R V O X) where
     first = fresh_world;
     next = next parts.program parts.memory parts.shown parts.start;
     IsReply = IsReply parts.program parts.memory parts.shown parts.start;
-    KeepsLaw = λ most r. parts.KeepsLaw r;
+    Spec = λ most r. parts.Spec r;
     RefusesAsDue = λ most r. RefusesAsDue parts.last most parts.grows r;
   }

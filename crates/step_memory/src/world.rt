@@ -4,7 +4,7 @@ ghost use Rattle.std.specs.Prelude.{◌≡◌, ◌≢◌, [], true, false, optio
 ghost use Rattle.step_memory.specs.Participant.{participant_of, program_of};
 ghost use Rattle.step_memory.specs.World.{begin_refusal, done_unless, after_begin, step_answer, after_step, may_refuse_step, set_answer, after_set, CanAsk, after_asked};
 ghost use Rattle.step_memory.specs.WorldState.{WorldState};
-ghost use Rattle.step_memory.specs.Locality.{IsLocal, IsAnsweredAlike, ReadsNext, IsTaken};
+ghost use Rattle.step_memory.specs.Locality.{ChangesOnly, IsAnsweredAlike, ReadsNext, IsTaken};
 ghost use Rattle.step_memory.specs.Taken.{told_in};
 
 use crate::hints::Hints;
@@ -169,7 +169,7 @@ impl<
         ensures no_memory { result ≡ Err Refusal.NoMemory → may_refuse_step P.steps S.steps self.old id ≡ true }
 
         // Nothing of the world changes but this participant and the register that it names.
-        ensures local { IsLocal P.steps S.steps id self.old self.new }
+        ensures local { ChangesOnly P.steps S.steps id self.old self.new }
 
         // In another world that looks alike to this participant the answer is the same. Where it then stands is the same
         // too: that is a law (`law_of_locality`).
@@ -193,7 +193,7 @@ impl<
     pub fn read_on(&mut self, id: u64) -> bool
         ensures answer { result ≡ true → step_answer P.steps S.steps self.old id ≡ Ok Note.Quiet }
         ensures reads { result ≡ true → ReadsNext P.steps self.old id }
-        ensures local { result ≡ true → IsLocal P.steps S.steps id self.old self.new }
+        ensures local { result ≡ true → ChangesOnly P.steps S.steps id self.old self.new }
         ensures after { result ≡ true → self.new ≡ after_step P.steps S.steps self.old id }
         ensures kept { result ≡ false → self.new ≡ self.old }
     {
@@ -219,7 +219,7 @@ impl<
     pub fn take<Q: Shortcut<P, S>>(&mut self, id: u64) -> Result<Option<Q::Told>, NoMemory>
         ensures answer { IfSome (told_in result) (λ told. step_answer P.steps S.steps self.old id ≡ Ok (Q.note told)) }
         ensures takes { IfSome (told_in result) (λ _. IsTaken Q.takes self.old id) }
-        ensures local { IfSome (told_in result) (λ _. IsLocal P.steps S.steps id self.old self.new) }
+        ensures local { IfSome (told_in result) (λ _. ChangesOnly P.steps S.steps id self.old self.new) }
         ensures after { IfSome (told_in result) (λ _. self.new ≡ after_step P.steps S.steps self.old id) }
         ensures kept { told_in result ≡ None → self.new ≡ self.old }
         ensures no_memory { OnErr result (may_refuse_step P.steps S.steps self.old id ≡ true) }

@@ -2,7 +2,7 @@
 
 use crate::log_doubles::Script;
 use etcd_log::EtcdStore;
-use one_log::{Put, Store, StoreFault};
+use replicated_log::{Put, Store, StoreFault};
 use std::alloc::{AllocError, Global};
 
 // The answer to a transaction that put its value.

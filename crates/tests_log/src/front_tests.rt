@@ -8,8 +8,8 @@ use commands::{Config, WorldKind};
 use hall::Hall;
 use hall_log::{HallMachine, Tape};
 use input_player::play_on;
-use one_log::{Cause, MemoryStore, Replica, Step, StoreFault};
 use player::{Service, Tried};
+use replicated_log::{Cause, MemoryStore, Replica, Step, StoreFault};
 use std::alloc::{AllocError, Global};
 use tests_doubles::{FaultyReader, FaultyWriter};
 

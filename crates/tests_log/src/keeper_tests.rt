@@ -4,7 +4,7 @@ use crate::front_tests::{answers, config};
 use crate::log_doubles::{Lossy, Tries};
 use event_server::{Ahead, Keep};
 use hall_log::{LogFault, LogKeeper, Tape};
-use one_log::{MemoryStore, Store, StoreFault};
+use replicated_log::{MemoryStore, Store, StoreFault};
 use std::alloc::Global;
 
 /// How the log of a hall of the config begins.

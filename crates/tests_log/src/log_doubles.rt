@@ -4,7 +4,7 @@ ghost use Rattle.std.specs.Prelude.{◌≡◌, ◌%◌, ◌∷◌, length, OnOk}
 
 use etcd_log::Dial;
 use hall_log::Pause;
-use one_log::{Machine, MemoryStore, Put, Store, StoreFault};
+use replicated_log::{Machine, MemoryStore, Put, Store, StoreFault};
 use std::alloc::{AllocError, Global};
 use std::io;
 use std::io::{Read, Write};
@@ -75,7 +75,7 @@ impl Lossy {
 
 impl Store for Lossy {
     ghost use Rattle.std.specs.Prelude.{⊤, ◌≤◌, length};
-    ghost use Rattle.one_log.specs.Places.{stands_in};
+    ghost use Rattle.replicated_log.specs.Places.{stands_in};
 
     ghost stands = { λ s. stands_in s.store };
 

@@ -3,7 +3,7 @@ use Rattle.std.proofs.Common.{◌≡◌, ℕ, ◌+◌, ◌*◌, ◌<◌, ◌≤�
 use Rattle.step_memory.specs.Calls.{Call, steps_of, steps_by, outcome_in}
 use Rattle.step_memory.specs.Calls.Call.{Began, Stepped}
 use Rattle.step_memory.specs.declared.participant.Participant.{Participant}
-use Rattle.step_memory.specs.Machine.{After}
+use Rattle.step_memory.specs.Machine.{Reaches}
 use Rattle.step_memory.specs.Participant.{participant_of, beginner}
 use Rattle.step_memory.specs.Registers.{memory_steps, answer_of}
 use Rattle.step_memory.proofs.ParticipantLemmas.{participant_of-push, participant_of-put}
@@ -106,5 +106,5 @@ counted_kept = record {
 }
 
 -- an identity has made as many accepted steps as its walk has made accesses
-pub steps_made : (most : ℕ) (w : GridState) (r : List (Call (Option ℕ))) → After grid most w r → (p : ℕ) → steps_of p r ≡ accesses_made (walkers w.participants p)
+pub steps_made : (most : ℕ) (w : GridState) (r : List (Call (Option ℕ))) → Reaches grid most w r → (p : ℕ) → steps_of p r ≡ accesses_made (walkers w.participants p)
 steps_made most w r a = (world_keeps walker_steps memory_steps outcome_in walk_of IsCounted counted_kept (fresh most) (counted_new most a.started) w r a.run).made

@@ -14,7 +14,7 @@ use Rattle.word_machine.specs.Ids.{EndedRun, ClaimId, HasRun, HaveRun, HaveTold}
 use Rattle.word_machine.specs.Walks.{walk_local}
 use Rattle.word_grid.specs.Seats as seats
 use Rattle.word_grid.specs.Seats.{EndedWalk, walk_of_run}
-use Rattle.word_grid.specs.Law.{KeepsWalkLaw}
+use Rattle.word_grid.specs.Law.{WalkSpec}
 use Rattle.word_grid.proofs.Accesses.{steps_made, accesses_made}
 
 module _ (e : EndedRun Walker ℕ) (h : HasRun walk_local e) where
@@ -34,7 +34,7 @@ module _ (e : EndedRun Walker ℕ) (h : HasRun walk_local e) where
   outcome_is_place = (place_is (number_of door) e.program.visitor.stage e.outcome placed).1
 
   -- and it keeps its law
-  pub walk_law : KeepsWalkLaw (walk_of_run e)
+  pub walk_law : WalkSpec (walk_of_run e)
   walk_law =
       let t = tied_always h.w e.words.most h.r h.after in
       let walk = t.consistent.agree.walks (own e.number) e.program (ap (option_map (λ v. v.program)) h.stands) in
@@ -49,7 +49,7 @@ module _ (e : EndedRun Walker ℕ) (h : HasRun walk_local e) where
       record { counted = h.counted; within = within; low = number_low e.entered (number_of door) within; accesses = omega arith; at_most = (let shallow = within.within in omega arith) }
 
 -- who entered alone is at the corner, by four accesses
-pub alone_at_corner : (e : EndedWalk) → KeepsWalkLaw e → e.entered ≡ 1 → (seats.place_of e ≡ 0) × (e.accesses ≡ 4)
+pub alone_at_corner : (e : EndedWalk) → WalkSpec e → e.entered ≡ 1 → (seats.place_of e ≡ 0) × (e.accesses ≡ 4)
 alone_at_corner e law one =
     let low : seats.place_of e < 1 * (1 + 1) / 2 = subst (λ (n : ℕ). seats.place_of e < n * (n + 1) / 2) one law.low in
     let made = law.accesses in
@@ -57,7 +57,7 @@ alone_at_corner e law one =
     (omega arith, omega arith)
 
 -- a place among the first of fewer rows is among the first of more
-pub within_more : (e : EndedWalk) (dealt : ℕ) → KeepsWalkLaw e → e.entered ≤ dealt → IsDoorWithin dealt (seats.place_of e)
+pub within_more : (e : EndedWalk) (dealt : ℕ) → WalkSpec e → e.entered ≤ dealt → IsDoorWithin dealt (seats.place_of e)
 within_more e dealt law few = let d = law.within in record { depth = d.depth; column = d.column; inside = d.inside; within = (let l = d.within in omega arith); is = d.is }
 
 -- two that met have two places

@@ -22,7 +22,7 @@ accesses_to door = 2 * (door.depth - door.column) + 4 * door.column + 4
 
 -- One walk, where b have begun when it ends, itself among them: its door is on one of the first b diagonals, so its place is among the first
 -- b(b + 1)/2, and it made at most 4b accesses; exactly, as many as lead to its door
-pub record KeepsWalkLaw (e : EndedWalk) : Type 0 where
+pub record WalkSpec (e : EndedWalk) : Type 0 where
   pub counted : e.entered ≤ e.grid.most
   pub within : IsDoorWithin e.entered (place_of e)
   pub low : place_of e < e.entered * (e.entered + 1) / 2

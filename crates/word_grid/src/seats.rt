@@ -2,7 +2,7 @@
 
 ghost use Rattle.std.specs.Prelude.{◌≡◌};
 ghost use Rattle.word_grid.specs.Seats.{place_of};
-ghost use Rattle.word_grid.specs.Law.{KeepsWalkLaw};
+ghost use Rattle.word_grid.specs.Law.{WalkSpec};
 
 use splitter_grid::{Door, Walker};
 use std::marker::Model;
@@ -85,7 +85,7 @@ impl EnteredSeat {
         ensures value { result ≡ place_of self.now }
 
         // The law, which each seat that has entered keeps.
-        ensures law { KeepsWalkLaw self.now }
+        ensures law { WalkSpec self.now }
     {
         Place::from(self.seat.program().door.number())
     }

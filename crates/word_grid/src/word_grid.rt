@@ -2,7 +2,7 @@
 
 ghost use Rattle.std.specs.Prelude.{◌≡◌, ◌≢◌, ◌<◌, ◌≤◌, ◌+◌, ◌*◌, ◌/◌, IfOk, IfErr, IfSome, IfNone, IsOk, IsSome, Err, ◌⊎◌, ◌↔◌};
 ghost use Rattle.splitter_grid.specs.Door.{IsDoorWithin};
-ghost use Rattle.word_grid.specs.Law.{KeepsWalkLaw};
+ghost use Rattle.word_grid.specs.Law.{WalkSpec};
 ghost use Rattle.word_grid.specs.Seats.{claim_of, dealer_of, place_of, seat_of};
 
 use crate::seats::{Claim, Dealer, EnteredSeat, FreshSeat};
@@ -73,7 +73,7 @@ impl<A: Allocator> WordGrid<A> {
     pub fn enter(&self, fresh: FreshSeat) -> EnteredSeat
         requires ours { fresh.grid ≡ self.now }
         ensures seat { (result.grid ≡ fresh.grid) × (result.number ≡ fresh.number) }
-        ensures law { KeepsWalkLaw result }
+        ensures law { WalkSpec result }
 
         // Who was the only one to enter until its walk ended has the place in the corner, by four accesses.
         ensures alone { result.entered ≡ 1 → (place_of result ≡ 0) × (result.accesses ≡ 4) }

@@ -1,6 +1,6 @@
 -- what a seat can tell of the end of a participant, and what two that tell so show
 use Rattle.std.proofs.Common.{◌≡◌, ℕ, ⊎_elim, Some, None, subst, sym, refl, ap, ◌∙◌, List, [], ◌∷◌, ◌++◌, length, set}
-use Rattle.word_machine.proofs.Common.{Splits, Joins, Each, each_set, each_pushed, Call, Stand, SeatView, view_of, lone_view, LocalMachine, After, IsEnding, Shows, IsRunning, KeepsRun, IsUnderRule, WordsId}
+use Rattle.word_machine.proofs.Common.{Splits, Joins, Each, each_set, each_pushed, Call, Stand, SeatView, view_of, lone_view, LocalMachine, Reaches, IsEnding, Shows, IsRunning, KeepsRun, IsUnderRule, WordsId}
 use mathlib.Core.Option.{some}
 use lib.ListN.{get_elem?}
 use Rattle.atomic_table.proofs.Lists.{at_set}
@@ -60,7 +60,7 @@ module _ {P O : Type 0} (local : LocalMachine P ℕ O) where
       record {
         w = u.kept.w;
         r = u.kept.r;
-        after = subst (λ (n : ℕ). After local.machine (local.start_of n) u.kept.w u.kept.r) (sym same) u.kept.after;
+        after = subst (λ (n : ℕ). Reaches local.machine (local.start_of n) u.kept.w u.kept.r) (sym same) u.kept.after;
         one = all.0.ended;
         other = all.1.0.ended;
       }

@@ -1,6 +1,6 @@
 -- what the rule says of participants that have ended
 use Rattle.std.proofs.Common.{◌≡◌, ◌-◌, ◌≤◌, ℕ, false, inl, inr, List, [], ◌∷◌, None, subst, sym, refl, ap, ◌∙◌, arith, is_some}
-use Rattle.word_machine.proofs.Common.{Me, SeatView, own, view_of, lone_view, unbegun, unbegun_from, undealt_from, LocalMachine, Call, steps_of, After, IsStand, IsUnder, IsUnderRule, HasEnded, WordsId, ended_at}
+use Rattle.word_machine.proofs.Common.{Me, SeatView, own, view_of, lone_view, unbegun, unbegun_from, undealt_from, LocalMachine, Call, steps_of, Reaches, IsStand, IsUnder, IsUnderRule, HasEnded, WordsId, ended_at}
 use Rattle.std.proofs.lemmas.Bool.Decides.{leb_tells}
 use Rattle.atomic_table.specs.Seated.{TableId}
 use Rattle.raw_parts.proofs.Numbered.{of_numbered}
@@ -40,7 +40,7 @@ module _ {P O : Type 0} (local : LocalMachine P ℕ O) where
       record {
         w = u.kept.w;
         r = u.kept.r;
-        after = subst (λ (n : ℕ). After local.machine (local.start_of n) u.kept.w u.kept.r) (sym same) u.kept.after;
+        after = subst (λ (n : ℕ). Reaches local.machine (local.start_of n) u.kept.w u.kept.r) (sym same) u.kept.after;
         apart = λ e. shown.once.0.0 (sym e);
         one = shown.stands.0.outcome_is;
         other = shown.stands.1.0.outcome_is;
@@ -85,7 +85,7 @@ module _ {P O : Type 0} (local : LocalMachine P ℕ O) where
       )
 
   -- and it made no more accesses than the bound
-  pub few_made : ((most : ℕ) (w : local.State) (r : List (Call local.X)) → After local.machine (local.start_of most) w r → (p : ℕ) → steps_of p r ≤ local.bound most) → (views : List (SeatView P O)) (m number : ℕ) (program : P) (outcome : O) (me : Me ℕ (SeatView P O)) → HasEnded local {S = ℕ} m number program outcome me → views ≡ me.0 ∷ []
+  pub few_made : ((most : ℕ) (w : local.State) (r : List (Call local.X)) → Reaches local.machine (local.start_of most) w r → (p : ℕ) → steps_of p r ≤ local.bound most) → (views : List (SeatView P O)) (m number : ℕ) (program : P) (outcome : O) (me : Me ℕ (SeatView P O)) → HasEnded local {S = ℕ} m number program outcome me → views ≡ me.0 ∷ []
       → accesses_in views ≤ local.bound m
   few_made few views m number program outcome me h single =
       let is : views ≡ lone_view m (ended_at number program outcome h.accesses h.entered) ∷ [] = single ∙ ap (λ (x : Me ℕ (SeatView P O)). x.0 ∷ []) h.me_is in

@@ -1,9 +1,9 @@
 -- a program, access by access
 use Rattle.std.proofs.Common.{◌≡◌, ℕ, ◌-◌, ◌<◌, ◌≤◌, false, Some, None, [], subst, sym, refl, ap, ◌∙◌, arith}
-use Rattle.word_machine.proofs.Common.{Me, outcome_in, ends, ProgramSteps, Note, Stand, SeatView, own, stand_at, lone_view, unbegun, LocalMachine, IsWithin, IsLocal, IsStand, IsUnder, Stands, HasStepped, HasEnded, accesses_in}
+use Rattle.word_machine.proofs.Common.{Me, outcome_in, ends, ProgramSteps, Note, Stand, SeatView, own, stand_at, lone_view, unbegun, LocalMachine, IsWithin, ChangesOnly, IsStand, IsUnder, Stands, HasStepped, HasEnded, accesses_in}
 use Rattle.step_memory.specs.declared.note.Note.TheVariants.{Ended}
 
-module _ {P O : Type 0} (program : ProgramSteps P ℕ ℕ O) (local : LocalMachine P ℕ O) (sound : IsLocal program 0 local) where
+module _ {P O : Type 0} (program : ProgramSteps P ℕ ℕ O) (local : LocalMachine P ℕ O) (sound : ChangesOnly program 0 local) where
   -- one that has not begun
   pub begins : (most number : ℕ) (u : P) (me : Me ℕ (SeatView P O)) → 1 ≤ most → local.MayStart most → u ≡ local.start (own number) → me ≡ (lone_view most (unbegun number), []) → Stands program local {S = ℕ} most number u me
   begins most number u me some may is fresh = record {

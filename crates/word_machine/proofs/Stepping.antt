@@ -1,6 +1,6 @@
 -- an access of a participant keeps the rule
 use Rattle.std.proofs.Common.{◌≡◌, ◌≢◌, ℕ, ◌+◌, ◌<◌, ◌≤◌, List, [], length, set, slice_set, slice_index, Option, Some, None, subst, sym, refl, ap, ◌∙◌, arith, inl, inr, is_some, true, Bool}
-use Rattle.word_machine.proofs.Common.{Me, Step, Allows, keeps, outcome_in, begun_in, Call, values_after, answer_in, one_more, program_at, IsOnce, ProgramSteps, Read, Write, Access, Answer, Participant, each_set, there_still, each_map, Stand, SeatView, own, stand_at, lone_view, LocalMachine, IsWithin, IsLocal, begun_of, set_at, set_at-same, set_at-other, fun_ext, count_to, IsStand, IsEnding, Shows, IsRunning, KeepsRun, GoesOn, standing, answer_found, stand_after, moved_on, IsUnder, MovesOn, Stands, HasStepped, accesses_in, answer_at, ends, Note, TestAndSet, Clear, Nothing}
+use Rattle.word_machine.proofs.Common.{Me, Step, Allows, keeps, outcome_in, begun_in, Call, values_after, answer_in, one_more, program_at, IsOnce, ProgramSteps, Read, Write, Access, Answer, Participant, each_set, there_still, each_map, Stand, SeatView, own, stand_at, lone_view, LocalMachine, IsWithin, ChangesOnly, begun_of, set_at, set_at-same, set_at-other, fun_ext, count_to, IsStand, IsEnding, Shows, IsRunning, KeepsRun, GoesOn, standing, answer_found, stand_after, moved_on, IsUnder, MovesOn, Stands, HasStepped, accesses_in, answer_at, ends, Note, TestAndSet, Clear, Nothing}
 use Rattle.std.proofs.lemmas.Bool.Decides.{eqb_tells}
 use Rattle.step_memory.proofs.SetAtLemmas.{set_at-as_is}
 use Rattle.step_memory.proofs.CountLemmas.{count_more, count_to-lt, count_to-le}
@@ -41,7 +41,7 @@ module _ {P O : Type 0} (program : ProgramSteps P ℕ ℕ O) (local : LocalMachi
           | Some v ↦ λ z b. let same = ap (λ f. count_to f most) (set_at-as_is has_begun number true (sym (ap is_some z))) in omega arith
         ] is more
 
-  module _ {S : Type 0} (sound : IsLocal program 0 local) (most m seat slots number accesses entered : ℕ) (participant : Option (Participant P)) (goes : GoesOn participant) (st : Step S) where
+  module _ {S : Type 0} (sound : ChangesOnly program 0 local) (most m seat slots number accesses entered : ℕ) (participant : Option (Participant P)) (goes : GoesOn participant) (st : Step S) where
     abbrev u : P
     u = standing program local number participant
 
@@ -133,7 +133,7 @@ module _ {P O : Type 0} (program : ProgramSteps P ℕ ℕ O) (local : LocalMachi
     ))
 
 -- the accesses of a seat whose participant stands here
-module _ {P O : Type 0} (program : ProgramSteps P ℕ ℕ O) (local : LocalMachine P ℕ O) (sound : IsLocal program 0 local) {S : Type 0} (most m number seat slots : ℕ) (st : Step S) (u : P) (me : Me S (SeatView P O)) (at : Stands program local {S = S} m number u me) where
+module _ {P O : Type 0} (program : ProgramSteps P ℕ ℕ O) (local : LocalMachine P ℕ O) (sound : ChangesOnly program 0 local) {S : Type 0} (most m number seat slots : ℕ) (st : Step S) (u : P) (me : Me S (SeatView P O)) (at : Stands program local {S = S} m number u me) where
   abbrev MayStep : ℕ → (ℕ → ℕ) → (ℕ → ℕ) → Me S (SeatView P O) → Type 0
   MayStep word f told before = Allows {S = S} {V = SeatView P O} (KeepsRun local most) slots seat before word f (λ n. MovesOn program local st before (told n))
 

@@ -2,7 +2,7 @@
 use Rattle.atomic_table.specs.Seated.{TableId}
 use Rattle.std.specs.Prelude.{ℕ, ◌≡◌, ◌≢◌, ◌≤◌, true, List, [], ◌∷◌, Some}
 use Rattle.step_memory.specs.Calls.{Call, steps_of, begun_in}
-use Rattle.step_memory.specs.Machine.{After}
+use Rattle.step_memory.specs.Machine.{Reaches}
 use Rattle.word_machine.specs.declared.seat_view.Stand.{Stand}
 use Rattle.word_machine.specs.declared.seat_view.SeatView.{SeatView}
 use Rattle.word_machine.specs.SeatViews.{own, lone_view}
@@ -93,7 +93,7 @@ module _ {P O : Type 0} (local : LocalMachine P ℕ O) where
   pub record HasRun (e : EndedRun P O) : Type 0 where
     pub w : local.State
     pub r : List (Call local.X)
-    pub after : After local.machine (local.start_of e.words.most) w r
+    pub after : Reaches local.machine (local.start_of e.words.most) w r
     pub stands : local.self w (own e.number) ≡ Some (record { identity = own e.number; program = e.program; ended = true })
     pub outcome_is : local.outcome_of (own e.number) r ≡ Some e.outcome
     pub accesses_are : e.accesses ≡ steps_of (own e.number) r
@@ -104,7 +104,7 @@ module _ {P O : Type 0} (local : LocalMachine P ℕ O) where
   pub record HaveRun (a b : EndedRun P O) : Type 0 where
     pub w : local.State
     pub r : List (Call local.X)
-    pub after : After local.machine (local.start_of a.words.most) w r
+    pub after : Reaches local.machine (local.start_of a.words.most) w r
     pub apart : a.number ≢ b.number
     pub one : local.outcome_of (own a.number) r ≡ Some a.outcome
     pub other : local.outcome_of (own b.number) r ≡ Some b.outcome
@@ -113,6 +113,6 @@ module _ {P O : Type 0} (local : LocalMachine P ℕ O) where
   pub record HaveTold (a b : ClaimId O) : Type 0 where
     pub w : local.State
     pub r : List (Call local.X)
-    pub after : After local.machine (local.start_of a.words.most) w r
+    pub after : Reaches local.machine (local.start_of a.words.most) w r
     pub one : local.outcome_of (own a.number) r ≡ Some a.outcome
     pub other : local.outcome_of (own b.number) r ≡ Some b.outcome

@@ -7,7 +7,7 @@ use Rattle.atomic_table.specs.Table.{State}
 use Rattle.raw_parts.specs.Numbered.{Each, NoneTwice}
 use Rattle.step_memory.specs.Count.{count_to}
 use Rattle.step_memory.specs.Calls.{Call, steps_of, begun_in}
-use Rattle.step_memory.specs.Machine.{After}
+use Rattle.step_memory.specs.Machine.{Reaches}
 use Rattle.word_machine.specs.declared.seat_view.Stand.{Stand}
 use Rattle.word_machine.specs.declared.seat_view.Ending.{Ending}
 use Rattle.word_machine.specs.declared.seat_view.SeatView.{SeatView}
@@ -45,7 +45,7 @@ module _ {P O : Type 0} (local : LocalMachine P ℕ O) where
   pub record IsRunning (most : ℕ) (words : List ℕ) (views : List (SeatView P O)) : Type 0 where
     pub w : local.State
     pub r : List (Call local.X)
-    pub after : After local.machine (local.start_of most) w r
+    pub after : Reaches local.machine (local.start_of most) w r
     pub spelled : local.memory w ≡ words
     pub as_many : length words ≡ local.registers most
     pub counted : begun_in r ≡ begun_of w most

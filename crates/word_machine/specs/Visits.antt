@@ -2,7 +2,7 @@
 use Rattle.std.specs.Prelude.{◌≡◌, ◌≢◌, ℕ, ◌<◌}
 use Rattle.std.proofs.Common.{false, sym, subst, ◌∙◌, arith}
 use Rattle.step_memory.specs.declared.access.Access.TheVariants.{TestAndSet}
-use Rattle.step_memory.specs.LocalMachine.{LocalMachine, IsLocal, IsWithin}
+use Rattle.step_memory.specs.LocalMachine.{LocalMachine, ChangesOnly, IsWithin}
 use Rattle.step_memory.specs.LocalWorlds.{LocalParts, local_world}
 use Rattle.step_memory.specs.Steps.{ReadsOrWrites}
 use Rattle.step_memory.proofs.LocalWorldLemmas.{world_fresh, world_takes}
@@ -10,7 +10,7 @@ use Rattle.splitter.specs.declared.way.Way.{Way}
 use Rattle.splitter.specs.declared.visitor.Visitor.{Visitor}
 use Rattle.splitter.specs.declared.stage.Stage.{Stage}
 use Rattle.splitter.specs.declared.stage.Stage.TheVariants.{Outside, WroteX, SawClear, WroteY, Gone}
-use Rattle.splitter.specs.Law.{KeepsSplitterLaw}
+use Rattle.splitter.specs.Law.{SplitterSpec}
 use Rattle.splitter.specs.Machine.{visit_of}
 use Rattle.splitter.specs.Stage.{is_gone}
 use Rattle.splitter.specs.Visitor.{visitor_steps, access_at, access_of}
@@ -19,7 +19,7 @@ use Rattle.splitter.proofs.VisitorAccess.{own_access}
 
 -- two words for any number of participants, each of which makes at most four accesses
 abbrev pub visit_parts : LocalParts (Visitor ℕ) ℕ Way
-visit_parts = record { MayStart = λ most. Unit {0}; registers = λ most. 2; first = 0; start = visit_of; bound = λ most. 4; KeepsLaw = KeepsSplitterLaw }
+visit_parts = record { MayStart = λ most. Unit {0}; registers = λ most. 2; first = 0; start = visit_of; bound = λ most. 4; Spec = SplitterSpec }
 
 abbrev pub visit_local : LocalMachine (Visitor ℕ) ℕ Way
 visit_local = local_world visitor_steps visit_parts
@@ -36,7 +36,7 @@ reaches n p x y SawClear a b on = b
 reaches n p x y WroteY a b on = a
 reaches n p x y (Gone way) a b on = absurd (cc)
 
-pub visit_sound : IsLocal visitor_steps 0 visit_local
+pub visit_sound : ChangesOnly visitor_steps 0 visit_local
 visit_sound = record {
   fresh = world_fresh visitor_steps visit_parts splitter_proved;
   takes = world_takes visitor_steps visit_parts tests_none;

@@ -2,7 +2,7 @@
 use Rattle.std.specs.Prelude.{◌≡◌, ◌≢◌, ℕ, ◌+◌, ◌*◌, ◌<◌, ◌≤◌}
 use Rattle.std.proofs.Common.{false, option_map, is_some, sym, ap, subst, ◌∙◌, arith}
 use Rattle.step_memory.specs.declared.access.Access.TheVariants.{TestAndSet}
-use Rattle.step_memory.specs.LocalMachine.{LocalMachine, IsLocal, IsWithin}
+use Rattle.step_memory.specs.LocalMachine.{LocalMachine, ChangesOnly, IsWithin}
 use Rattle.step_memory.specs.LocalWorlds.{LocalParts, local_world}
 use Rattle.step_memory.specs.Steps.{ReadsOrWrites}
 use Rattle.step_memory.proofs.LocalWorldLemmas.{world_fresh, world_takes}
@@ -15,7 +15,7 @@ use Rattle.splitter.specs.Visitor.{access_at}
 use Rattle.splitter.specs.Walk.{place_at_door}
 use Rattle.splitter.proofs.VisitorAccess.{own_access}
 use Rattle.splitter_grid.specs.Door.{number_of}
-use Rattle.splitter_grid.specs.Law.{KeepsGridLaw}
+use Rattle.splitter_grid.specs.Law.{GridSpec}
 use Rattle.splitter_grid.specs.Machine.{grid, grid_parts}
 use Rattle.splitter_grid.specs.Walk.{walk_of, walker_steps, next_access}
 use Rattle.splitter_grid.specs.declared.walker.Walker.{Walker}
@@ -24,7 +24,7 @@ use Rattle.splitter_grid.proofs.Numbers.{number_below}
 
 -- for at most 64 participants, each of which makes at most four accesses at each of as many doors
 abbrev pub walk_parts : LocalParts Walker ℕ ℕ
-walk_parts = record { MayStart = λ most. most ≤ 64; registers = λ most. most * (most + 1); first = 0; start = walk_of; bound = λ most. 4 * most; KeepsLaw = KeepsGridLaw }
+walk_parts = record { MayStart = λ most. most ≤ 64; registers = λ most. most * (most + 1); first = 0; start = walk_of; bound = λ most. 4 * most; Spec = GridSpec }
 
 abbrev pub walk_local : LocalMachine Walker ℕ ℕ
 walk_local = local_world walker_steps walk_parts
@@ -46,7 +46,7 @@ reaches n p x y k (Gone Down) a b right down still = absurd (cc)
 some_words : (most : ℕ) → 1 ≤ most → 0 < most * (most + 1)
 some_words most some = let low = number_below 0 0 most (omega arith) some in omega arith
 
-pub walk_sound : IsLocal walker_steps 0 walk_local
+pub walk_sound : ChangesOnly walker_steps 0 walk_local
 walk_sound = record {
   fresh = world_fresh walker_steps walk_parts grid_proved;
   takes = world_takes walker_steps walk_parts tests_none;

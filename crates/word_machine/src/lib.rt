@@ -1,7 +1,7 @@
 //! Programs of single accesses, taken by threads over atomic words that they share, with no lock.
 //!
 //! A [`WordProgram`] is a step program whose registers are words, with the machine on which it is proved: a splitter's visits
-//! and a grid's walks are two. Each step of the machine is one access of one participant's program (`IsLocal` of
+//! and a grid's walks are two. Each step of the machine is one access of one participant's program (`ChangesOnly` of
 //! `step_memory`). A [`WordMachine`] runs the same program by threads: who holds a seat makes the accesses of its
 //! participant, one after another. No call takes a lock, waits for another or starts a thread.
 //!

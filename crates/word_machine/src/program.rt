@@ -1,7 +1,7 @@
 //! Programs whose registers are words.
 
 ghost use Rattle.std.specs.Prelude.{◌≡◌, ℕ};
-ghost use Rattle.step_memory.specs.LocalMachine.{LocalMachine, IsLocal};
+ghost use Rattle.step_memory.specs.LocalMachine.{LocalMachine, ChangesOnly};
 
 use step_memory::StepProgram;
 
@@ -22,5 +22,5 @@ pub trait WordProgram: StepProgram<Reg = usize, Value = u64> {
         ensures { result ≡ local.start identity };
 
     /// What is proved of the machine.
-    ghost sound: { IsLocal Self.steps 0 local };
+    ghost sound: { ChangesOnly Self.steps 0 local };
 }

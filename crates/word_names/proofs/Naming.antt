@@ -12,7 +12,7 @@ use Rattle.rename_core.specs.declared.round.Stage.TheVariants.{Placing, Proposin
 use Rattle.commands.specs.declared.kind.WorldKind.TheVariants as kind
 use Rattle.snapshot_places.specs.Bounds.{grid_bounds}
 use Rattle.snapshot_places.specs.GridTies.{grid_places}
-use Rattle.rename_core.specs.Law.{KeepsRenameLaw}
+use Rattle.rename_core.specs.Law.{RenameSpec}
 use Rattle.rename_core.specs.Machine.{terms_of}
 use Rattle.rename_core.specs.RenameObject.{new_object}
 use Rattle.rename_core.specs.Round.{stage_refusal}
@@ -20,7 +20,7 @@ use Rattle.record_machine.specs.declared.size.Size.{Size}
 use Rattle.record_machine.specs.SeatViews.{own}
 use Rattle.record_machine.specs.Ids.{EndedRun, ClaimId, WordsId, HasRun, HaveRun, HaveTold}
 use Rattle.word_names.specs.NameMachine.{World, Walking, Naming, IsKnown, IsAtStage, names_law, naming_of, start_of}
-use Rattle.word_names.specs.NameLaw.{KeepsNameLaw}
+use Rattle.word_names.specs.NameLaw.{NameSpec}
 use Rattle.word_names.specs.Seats.{renamed_by, place_or_first, name_or, name_of}
 use Rattle.word_names.specs.Accesses.{place_low}
 use Rattle.word_names.specs.Counting.{law_after, many_run, told_run, told_spent}
@@ -60,7 +60,7 @@ module _ (e : EndedRun Naming (Option ℕ)) (h : HasRun names_law e) where
   abbrev size : Size
   size = e.words.size
 
-  law : KeepsRenameLaw (terms_of grid_places kind.Rename (start_of e.words.size)) (grid_bounds e.words.size.most) h.r
+  law : RenameSpec (terms_of grid_places kind.Rename (start_of e.words.size)) (grid_bounds e.words.size.most) h.r
   law = law_after size h.w h.r h.after
 
   many : law.object.many ≡ e.entered
@@ -71,7 +71,7 @@ module _ (e : EndedRun Naming (Option ℕ)) (h : HasRun names_law e) where
   sure None is enough = absurd (let spent = told_spent size (own e.number) h.r new_object law.object law.run (h.outcome_is ∙ ap Some is) in let unspent = law.ends.unspent size.most (own e.number) law.ends.roomy enough in cc)
 
   -- it keeps its law
-  pub name_law : KeepsNameLaw (renamed_by e)
+  pub name_law : NameSpec (renamed_by e)
   name_law = record {
     counted = h.counted;
     named = λ n is. (let range = law.in_range (own e.number) n (told_run size (own e.number) n h.r new_object law.object law.run (h.outcome_is ∙ ap Some is)) in let all = many in (range.0, (let high = range.1 in omega arith)));

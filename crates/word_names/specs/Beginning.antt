@@ -6,7 +6,7 @@ use Rattle.step_memory.specs.SetAt.{set_at}
 use Rattle.step_memory.specs.declared.participant.Participant.{Participant}
 use Rattle.step_memory.specs.Calls.{Call, begun_in}
 use Rattle.step_memory.specs.Calls.Call.{Began}
-use Rattle.step_memory.specs.Machine.{After}
+use Rattle.step_memory.specs.Machine.{Reaches}
 use Rattle.step_memory.specs.Participant.{participant_of, beginner}
 use Rattle.step_memory.specs.World.{begin_refusal, done_unless, begun_unless as begun_raw}
 use Rattle.step_memory.proofs.MachineLemmas.{call_leads_on}
@@ -82,7 +82,7 @@ module _ (size : Size) (w : World) (r : List (Call StepReply)) (h : IsKnown size
   begun_is : new ≡ after_rename_begin grid_places w p
   begun_is = sym (ap (λ o. begun_unless grid_places o w p) goes ∙ (λ i. record { snap = after_wish (snap_is i) p (first_wish (unplaced i)); rounds = w.rounds ++ beginner p (first_round (unplaced i)) ∷ []; limit = w.limit }))
 
-  pub after_begin : After names_machine (start_of size) new (r ++ call ∷ [])
+  pub after_begin : Reaches names_machine (start_of size) new (r ++ call ∷ [])
   after_begin = call_leads_on names_machine w new call begun_is (sym (ap done_unless goes)) (start_of size) r h.after
 
   begun_more : begun_in (r ++ call ∷ []) ≡ begun_in r + 1

@@ -5,7 +5,7 @@ use Rattle.step_memory.specs.SetAt.{set_at}
 use Rattle.step_memory.specs.declared.refusal.Refusal.TheVariants.{NotBegun, Finished, Spent as IsSpent}
 use Rattle.step_memory.specs.Calls.{Call, steps_of, steps_by, begun_in, begun_by, first_of, outcome_in}
 use Rattle.step_memory.specs.Calls.Call.{Began, Stepped}
-use Rattle.step_memory.specs.Machine.{After}
+use Rattle.step_memory.specs.Machine.{Reaches}
 use Rattle.step_memory.specs.Runs.{Run}
 use Rattle.step_memory.proofs.RunLemmas.{run_splits, run_one}
 use Rattle.step_memory.proofs.SetAtLemmas.{set_at-same, set_at-other, set_at-cases}
@@ -14,7 +14,7 @@ use Rattle.commands.specs.declared.kind.WorldKind.TheVariants as kind
 use Rattle.snapshot_places.specs.Bounds.{grid_bounds}
 use Rattle.snapshot_places.specs.GridTies.{grid_places}
 use Rattle.rename_core.specs.declared.reply.Reply.TheVariants.{Quiet, Placed, Proposed, Saw, Named, Spent}
-use Rattle.rename_core.specs.Law.{KeepsRenameLaw}
+use Rattle.rename_core.specs.Law.{RenameSpec}
 use Rattle.rename_core.specs.Machine.{terms_of}
 use Rattle.rename_core.specs.RenameObject.{RenameTerms, RenameObject, new_object, no_step, Allows, AllowsStep, after, after_step}
 use Rattle.rename_core.specs.Reply.{StepReply}
@@ -43,11 +43,11 @@ module _ (size : Size) where
   terms = terms_of grid_places kind.Rename (start_of size)
 
   -- the law of renaming over the grid
-  pub law_after : (w : World) (r : List (Call StepReply)) → After names_machine (start_of size) w r → KeepsRenameLaw terms (grid_bounds size.most) r
+  pub law_after : (w : World) (r : List (Call StepReply)) → Reaches names_machine (start_of size) w r → RenameSpec terms (grid_bounds size.most) r
   law_after w r a = grid_lawful w (start_of size) r a
 
   -- whoever makes one more step has made fewer than the bound
-  pub few_after : (w : World) (r : List (Call StepReply)) → After names_machine (start_of size) w r → ((q : ℕ) → steps_of q r ≤ most_accesses size) → (new : World) (p : ℕ) (reply : StepReply) → After names_machine (start_of size) new (r ++ Stepped p (Ok reply) ∷ []) → (q : ℕ) → steps_of q (r ++ Stepped p (Ok reply) ∷ []) ≤ most_accesses size
+  pub few_after : (w : World) (r : List (Call StepReply)) → Reaches names_machine (start_of size) w r → ((q : ℕ) → steps_of q r ≤ most_accesses size) → (new : World) (p : ℕ) (reply : StepReply) → Reaches names_machine (start_of size) new (r ++ Stepped p (Ok reply) ∷ []) → (q : ℕ) → steps_of q (r ++ Stepped p (Ok reply) ∷ []) ≤ most_accesses size
   few_after w r a few new p reply more q =
       let push = steps_of-push q r (Stepped p (Ok reply)) in
       let before = few q in
@@ -100,7 +100,7 @@ module _ (size : Size) where
         omega arith
 
   -- nobody makes more proposals than the limit
-  pub few_proposals : (w : World) (r : List (Call StepReply)) → After names_machine (start_of size) w r → (p : ℕ) → proposals_of p r ≤ size.limit
+  pub few_proposals : (w : World) (r : List (Call StepReply)) → Reaches names_machine (start_of size) w r → (p : ℕ) → proposals_of p r ≤ size.limit
   few_proposals w r a p = let law = law_after w r a in let all = counted_run p r new_object law.object law.run (omega arith) in omega arith
 
   -- who has a name keeps it

@@ -9,7 +9,7 @@ use Rattle.word_names.specs.Seats.{RenamedId}
 -- Where b have begun when it ends, itself among them, a name that its rounds give is from 1 to 2b - 1. Where its proposals are spent its place
 -- is among those of the grid. Its rounds give it a name where it may make more proposals than all of them make. It made at most so many accesses
 -- of registers, whatever the others did
-pub record KeepsNameLaw (e : RenamedId) : Type 0 where
+pub record NameSpec (e : RenamedId) : Type 0 where
   pub counted : e.entered ≤ e.names.size.most
   pub named : (n : ℕ) → e.named ≡ Some n → (1 ≤ n) × (n ≤ 2 * e.entered - 1)
   pub placed : e.place < segments_for e.names.size.most

@@ -4,7 +4,7 @@ use Rattle.step_memory.specs.declared.participant.Participant.{Participant}
 use Rattle.step_memory.specs.declared.refusal.Refusal.{Refusal}
 use Rattle.step_memory.specs.Calls.{Call, outcome_in, first_of, steps_of, begun_in}
 use Rattle.step_memory.specs.Calls.Call.{Began, Stepped}
-use Rattle.step_memory.specs.Machine.{Machine, After}
+use Rattle.step_memory.specs.Machine.{Machine, Reaches}
 use Rattle.step_memory.specs.Participant.{participant_of}
 use Rattle.step_memory.specs.Steps.{ProgramSteps}
 use Rattle.commands.specs.declared.kind.WorldKind.TheVariants as kind
@@ -140,7 +140,7 @@ most_accesses size = steps_among (grid_bounds size.most) size.most
 -- them has a round that goes together with its client
 pub record IsKnown (size : Size) (w : World) (r : List (Call StepReply)) : Type 0 where
   pub may : MayStart size
-  pub after : After names_machine (start_of size) w r
+  pub after : Reaches names_machine (start_of size) w r
   pub grid_most : w.snap.memory.most ≡ size.most
   pub most : w.snap.most ≡ size.most
   pub limit : w.limit ≡ size.limit

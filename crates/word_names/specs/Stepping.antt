@@ -10,7 +10,7 @@ use Rattle.step_memory.specs.declared.note.Note.{Note}
 use Rattle.step_memory.specs.declared.participant.Participant.{Participant}
 use Rattle.step_memory.specs.Calls.{Call, begun_in}
 use Rattle.step_memory.specs.Calls.Call.{Stepped}
-use Rattle.step_memory.specs.Machine.{After}
+use Rattle.step_memory.specs.Machine.{Reaches}
 use Rattle.step_memory.specs.Note.{ends}
 use Rattle.step_memory.specs.Participant.{participant_of, beginner}
 use Rattle.step_memory.proofs.SetAtLemmas.{set_at-same, set_at-other}
@@ -30,7 +30,7 @@ use Rattle.rename_core.specs.Locality.{wished, got_in, access_of}
 use Rattle.rename_core.specs.Round.{followed, stage_refusal, spent_by, saw_by, named_by}
 use Rattle.rename_core.specs.RenameWorld.{after_follow}
 use Rattle.rename_core.specs.Reply.{StepReply}
-use Rattle.rename_core.proofs.AfterCalls.{step_leads_on}
+use Rattle.rename_core.proofs.ReachesByCalls.{step_leads_on}
 use Rattle.proposal_rounds.specs.Proposals.{is_taken}
 use Rattle.record_machine.specs.declared.size.Size.{Size}
 use Rattle.word_names.specs.Renamers.{note_of}
@@ -97,7 +97,7 @@ module _ (size : Size) (w : World) (r : List (Call StepReply)) (h : IsKnown size
   abbrev pub client : Walking
   client = wished follow.wish ((clients_over grid_places).resumed v.program (got_in grid_places w.snap.memory v.program))
 
-  pub after_step : After names_machine (start_of size) new (r ++ call ∷ [])
+  pub after_step : Reaches names_machine (start_of size) new (r ++ call ∷ [])
   after_step = step_leads_on grid_places kind.Rename w new p (Ok follow.reply) (λ _. sym (after_is grid_places w p v u here round awake busy goes)) (λ _. sym (answer_is grid_places w p v u here round awake busy goes)) (λ e. absurd (cc)) (start_of size) r h.after
 
   -- the participant and its round go together still

@@ -1,7 +1,7 @@
 //! The names.
 
 ghost use Rattle.std.specs.Prelude.{◌≡◌, ◌≢◌, ◌<◌, ◌≤◌, ◌+◌, ◌-◌, ◌*◌, ℕ, Some, IfOk, IfErr, IfSome, IfNone, IsOk, IsSome, Err, ◌⊎◌, ◌↔◌};
-ghost use Rattle.word_names.specs.NameLaw.{KeepsNameLaw};
+ghost use Rattle.word_names.specs.NameLaw.{NameSpec};
 ghost use Rattle.word_names.specs.Seats.{claim_of, dealer_of, name_of, seat_of};
 
 use crate::seats::{Claim, Dealer, FreshSeat, GridRenamer, Renamed};
@@ -77,7 +77,7 @@ impl<A: Allocator> Names<A> {
     pub fn rename(&self, fresh: FreshSeat) -> Renamed
         requires ours { fresh.names ≡ self.now }
         ensures seat { (result.names ≡ fresh.names) × (result.number ≡ fresh.number) }
-        ensures law { KeepsNameLaw result }
+        ensures law { NameSpec result }
     {
         let seat = self.machine.enter(fresh.seat);
         Renamed { seat }
@@ -90,7 +90,7 @@ impl<A: Allocator> Names<A> {
         ensures value { result ≡ name_of renamed.now }
 
         // The law, which each seat that was renamed keeps.
-        ensures law { KeepsNameLaw renamed.now }
+        ensures law { NameSpec renamed.now }
     {
         let place = renamed.place();
         match renamed.named() {

@@ -1,7 +1,7 @@
 //! The seats: before they are dealt, before and after they are renamed, and what they can show of their names.
 
 ghost use Rattle.std.specs.Prelude.{◌≡◌};
-ghost use Rattle.word_names.specs.NameLaw.{KeepsNameLaw};
+ghost use Rattle.word_names.specs.NameLaw.{NameSpec};
 
 use crate::renamer::Renamer;
 use snapshot_core::PlaceWalker;
@@ -96,7 +96,7 @@ impl Renamed {
         ensures value { result ≡ self.now.place }
 
         // The law, which each seat that was renamed keeps.
-        ensures law { KeepsNameLaw self.now }
+        ensures law { NameSpec self.now }
     {
         match self.seat.program().client.walker.place() {
             Some(place) => place,

@@ -2,7 +2,7 @@
 use Rattle.std.specs.Prelude.{◌≡◌, ◌≤◌, ◌+◌, ℕ, IsSomeAnd}
 use Rattle.std.specs.Arc.{arc_value}
 use Rattle.word_pool_c.specs.Refused.{MetAllInTime, WasSought}
-use Rattle.word_grid.specs.Law.{KeepsWalkLaw}
+use Rattle.word_grid.specs.Law.{WalkSpec}
 use Rattle.word_grid.specs.Seats.{EndedWalk, GridId, place_of}
 use Rattle.word_pool_c.specs.Lines.{IsHeldInLine}
 use Rattle.word_pool_c.specs.declared.member.Member.{Member}
@@ -20,7 +20,7 @@ WasRefused hint m = IsSomeAnd m.refused (MetAllInTime hint (arc_value m.pool))
 
 -- a walk has ended in this grid at the place of which this is the number, from 1, as its law says
 abbrev pub IsToldAs : ℕ → GridId → EndedWalk → Type 0
-IsToldAs number grid e = (place_of e + 1 ≡ number) × (e.grid ≡ grid) × KeepsWalkLaw e
+IsToldAs number grid e = (place_of e + 1 ≡ number) × (e.grid ≡ grid) × WalkSpec e
 
 -- a member holds this number of its line
 abbrev pub HoldsInLine : ℕ → LineMember → Type 0

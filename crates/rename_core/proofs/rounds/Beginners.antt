@@ -1,6 +1,6 @@
 -- over places that do not go by the order of beginning, all who begin under one identity are alike
 use Rattle.std.proofs.Common.{◌≡◌, ℕ, Bool, List, [], ◌∷◌, ◌++◌, Some, None, sym, ap, ◌∙◌, is_some, option_map}
-use Rattle.rename_core.proofs.Common.{Call, set_at-same, participant_of, beginner, begin_refusal, participant_of-push, Client, beginner_at, is_tree, WorldKind, StepReply, Round, client_of, round_of, wished, renaming, BeginsTheSame, After, RenameState, first_round, first_wish}
+use Rattle.rename_core.proofs.Common.{Call, set_at-same, participant_of, beginner, begin_refusal, participant_of-push, Client, beginner_at, is_tree, WorldKind, StepReply, Round, client_of, round_of, wished, renaming, BeginsTheSame, Reaches, RenameState, first_round, first_wish}
 use Rattle.snapshot_core.specs.Places.{KnownPlaces, PlacesLaws, BeginsAlike}
 use Rattle.snapshot_core.proofs.Following.{begins_the_same}
 use Rattle.rename_core.specs.RenameWorld.{begun_snap, has_place, after_rename_begin}
@@ -23,7 +23,7 @@ module _ {S R V U K : Type 0} (W : KnownPlaces S R V U K) (w : RenameState S U K
       rw goes (ap (option_map (λ u. u.program)) there ∙ ap (λ (b : Bool). Some (first_round b)) (begun_placed W w p goes))
 
 module _ {S R V U K : Type 0} (W : KnownPlaces S R V U K) (laws : PlacesLaws W) (kind : WorldKind) (scanning : ℕ → ℕ → ℕ) (named : (most : ℕ) → MayBeNamed W (is_tree kind) most (scanning most)) where
-  absent_round : (w : RenameState S U K) (first : S × ℕ) (r : List (Call StepReply)) → After (renaming W kind) first w r → (p : ℕ) → begin_refusal w.snap p ≡ None → participant_of p w.rounds ≡ None
+  absent_round : (w : RenameState S U K) (first : S × ℕ) (r : List (Call StepReply)) → Reaches (renaming W kind) first w r → (p : ℕ) → begin_refusal w.snap p ≡ None → participant_of p w.rounds ≡ None
   absent_round w first r a p goes = no_round W w p goes (joined_law W kind (scanning (W.most_of first.0)) first (named (W.most_of first.0)) w r a p)
 
   pub begins_alike : BeginsAlike W → (p : ℕ) → BeginsTheSame W kind p

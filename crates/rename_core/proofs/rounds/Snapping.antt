@@ -1,8 +1,8 @@
 -- a snapshot object and the object of its law after the same calls
 use Rattle.std.proofs.Common.{◌≡◌, ℕ, List, [], ◌∷◌, ◌++◌, refl, subst}
-use Rattle.rename_core.proofs.Common.{Run, run_more, run_one, After, call_leads_on, KnownPlaces, PlacesLaws, BoundsScans, SnapState, snapshot}
+use Rattle.rename_core.proofs.Common.{Run, run_more, run_one, Reaches, call_leads_on, KnownPlaces, PlacesLaws, BoundsScans, SnapState, snapshot}
 use Rattle.snapshot_core.specs.SnapCalls.{SnapCall, fresh_over, next, IsReply}
-use Rattle.snapshot_core.specs.Snapshot.{SnapObject, SnapBounds, bounds_over, new_object, observed, Allows, KeepsSnapshotLaw}
+use Rattle.snapshot_core.specs.Snapshot.{SnapObject, SnapBounds, bounds_over, new_object, observed, Allows, SnapshotSpec}
 use Rattle.snapshot_core.proofs.Following.{law_holds}
 
 module _ {S H : Type 0} (next : S → H → S) (Right : S → H → Type 0) where
@@ -21,7 +21,7 @@ module _ {S R V U K : Type 0} (W : KnownPlaces S R V U K) (laws : PlacesLaws W) 
   -- both are after the same calls
   pub record AreAfter (bounds : SnapBounds) (first : S) (w : SnapState S U K) (o : SnapObject) : Type 0 where
     pub calls : List SnapCall
-    pub world : After (snapshot W) first w calls
+    pub world : Reaches (snapshot W) first w calls
     pub object : Run observed (Allows bounds) new_object calls o
 
   pub after_none : (bounds : SnapBounds) (first : S) → AreAfter bounds first (fresh_over W first) new_object
@@ -33,8 +33,8 @@ module _ {S R V U K : Type 0} (W : KnownPlaces S R V U K) (laws : PlacesLaws W) 
       AreAfter (bounds_over W first scanning) first (next W w h) (observed o h) × Allows (bounds_over W first scanning) o h
   after_more first scanning new fits w o h k is =
       let bounds : SnapBounds = bounds_over W first scanning in
-      let more : After (snapshot W) first (next W w h) (k.calls ++ h ∷ []) = call_leads_on (snapshot W) w (next W w h) h refl is first k.calls k.world in
-      let law : KeepsSnapshotLaw bounds (k.calls ++ h ∷ []) = law_holds W laws (next W w h) first (k.calls ++ h ∷ []) more new scanning fits in
+      let more : Reaches (snapshot W) first (next W w h) (k.calls ++ h ∷ []) = call_leads_on (snapshot W) w (next W w h) h refl is first k.calls k.world in
+      let law : SnapshotSpec bounds (k.calls ++ h ∷ []) = law_holds W laws (next W w h) first (k.calls ++ h ∷ []) more new scanning fits in
       let l : LastCall observed (Allows bounds) new_object k.calls h law.0 = run_last observed (Allows bounds) new_object k.calls h law.0 law.1 in
       let same : l.mid ≡ o = run_one observed (Allows bounds) new_object k.calls l.mid o l.run k.object in
       let right : Allows bounds o h = subst (λ (x : SnapObject). Allows bounds x h) same l.right in

@@ -1,7 +1,7 @@
 -- what each access of a walk, and each beginning, keeps of the nodes and the walks of a tree
 use Rattle.std.proofs.Common.{◌≡◌, ◌≢◌, ℕ, zero, suc, ◌+◌, ◌*◌, ◌<◌, ◌≤◌, Bool, true, false, ◌⊎◌, inl, inr, [], ◌∷◌, Option, Some, None, refl, sym, ap, subst, ◌∙◌, arith}
 use Rattle.splitter_tree.proofs.Common.{eqb_tells, set_at, set_at-same, set_at-other, set_at-cases, Right, Down, Stage, Outside, Gone, has_entered, went_right, went_down, x_after, y_after, stage_after, Walker, walker_at, walk_of, visit_on}
-use Rattle.splitter.specs.Invariant.{DoorIsLawful}
+use Rattle.splitter.specs.Invariant.{DoorSatisfiesSpec}
 use Rattle.splitter.proofs.DoorKept.{kept, lawful_new}
 use Rattle.splitter_tree.specs.Invariant.{IsWalkOf, NodesAgree}
 use Rattle.splitter_tree.proofs.nodes.VisitsKept.{with_visit, with_visit-node, with_visit-other_node, with_visit-own, with_visit-other, with_comer, with_comer-has, with_comer-keeps, with_comer-cases}
@@ -100,9 +100,9 @@ module _ (b : ℕ) (mark x_of y_of : ℕ → ℕ) (walker : ℕ → Option Walke
     abbrev y_of' : ℕ → ℕ
     y_of' = set_at y_of at (y_after v.visitor.stage (y_of at))
 
-    splitters_after : (j : ℕ) → DoorIsLawful (x_of' j) (y_of' j) (stage' j)
+    splitters_after : (j : ℕ) → DoorSatisfiesSpec (x_of' j) (y_of' j) (stage' j)
     splitters_after j = elim (eqb_tells j at) [
-      | inl e ↦ subst (λ (i : ℕ). DoorIsLawful (x_of' i) (y_of' i) (stage' i)) (sym e.1)
+      | inl e ↦ subst (λ (i : ℕ). DoorSatisfiesSpec (x_of' i) (y_of' i) (stage' i)) (sym e.1)
           (rw (set_at-same x_of at (x_after p v.visitor.stage (x_of at)), set_at-same y_of at (y_after v.visitor.stage (y_of at)), with_visit-node g.stage at p after)
           (kept (x_of at) (y_of at) (g.stage at) p (g.splitters at) v.visitor.stage (g.walks p v is).here))
       | inr e ↦ rw (set_at-other x_of at (x_after p v.visitor.stage (x_of at)) j e.1, set_at-other y_of at (y_after v.visitor.stage (y_of at)) j e.1, with_visit-other_node g.stage at p after j e.1) (g.splitters j)

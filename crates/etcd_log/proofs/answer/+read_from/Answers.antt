@@ -3,7 +3,7 @@ use Rattle.std.proofs.Common.{rules, arith, ◌≡◌, ◌≢◌, ◌≤◌, ℕ
 use Rattle.std.specs.declared.vec.Vec.{Vec}
 use Rattle.std.specs.declared.alloc.Global.{Global}
 use Rattle.json.specs.Value.{value_view}
-use Rattle.one_log.specs.declared.store_fault.StoreFault.{StoreFault}
+use Rattle.replicated_log.specs.declared.store_fault.StoreFault.{StoreFault}
 use Rattle.etcd_log.specs.Found.{SaysFound}
 use Rattle.etcd_log.proofs.Ranges.{says_none, read_more, unread_first, unread_rest}
 use Rattle.etcd_log.proofs.answer.+read_from.Goals as goal

@@ -5,7 +5,7 @@ use Rattle.base64.specs.GeneralPurpose.{decode_of, encode_of}
 use Rattle.std.specs.declared.vec.Vec.{Vec}
 use Rattle.std.specs.declared.alloc.Global.{Global}
 use Rattle.json.specs.Value.{value_view}
-use Rattle.one_log.specs.declared.store_fault.StoreFault.{StoreFault}
+use Rattle.replicated_log.specs.declared.store_fault.StoreFault.{StoreFault}
 use Rattle.etcd_log.specs.Answers.{get_said}
 use Rattle.etcd_log.specs.Found.{SaysAt}
 use Rattle.etcd_log.specs.Keys.{key_of}

@@ -1,5 +1,5 @@
 use Rattle.std.proofs.Common.{◌≡◌}
-use Rattle.one_log.specs.Places.{Keeps}
+use Rattle.replicated_log.specs.Places.{Keeps}
 use Rattle.hall_log.proofs.log_keeper.LogKeeper.apply_all.Given as goal
 
 -- what stood stands

@@ -1,5 +1,5 @@
 use Rattle.std.proofs.Common.{◌≡◌, ◌≤◌, [], false}
-use Rattle.one_log.specs.Places.{Keeps}
+use Rattle.replicated_log.specs.Places.{Keeps}
 use Rattle.hall_log.specs.Said.{tape_of}
 use Rattle.hall_log.proofs.log_keeper.LogKeeper.serve_batch.Given as goal
 

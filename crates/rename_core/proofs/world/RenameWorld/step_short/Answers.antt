@@ -1,6 +1,6 @@
 use Rattle.std.proofs.Common.{rules, ◌≡◌, Err}
 use Rattle.rename_core.proofs.Common.{NoMemory, outcome_with, KnownPlaces, places_by}
-use Rattle.rename_core.proofs.AfterCalls.{step_leads_on}
+use Rattle.rename_core.proofs.ReachesByCalls.{step_leads_on}
 use Rattle.rename_core.proofs.ShortReplies.{refused_short, accepted_short}
 use Rattle.rename_core.proofs.NamedPlaces.{law_always, own_access}
 use Rattle.rename_core.proofs.LocalSteps.{local_call}

@@ -1,5 +1,5 @@
 use Rattle.std.proofs.Common.{ap, subst, arith}
-use Rattle.word_names.specs.NameLaw.{KeepsNameLaw}
+use Rattle.word_names.specs.NameLaw.{NameSpec}
 use Rattle.word_names.specs.Seats.{RenamedId, DealerId}
 use Rattle.word_names.proofs.Naming.{name_law}
 use Rattle.word_names.proofs.names.Names.tally.Goals as goal
@@ -9,6 +9,6 @@ returns-clause-low g c = λ n is.
     let few = c.tally.ensures.counted in
     let entered = ap (λ (e : RenamedId). e.entered) c.renamed.view_is in
     let dealt = ap (λ (d : DealerId). d.dealt) c.dealer.view_is in
-    let law = subst KeepsNameLaw c.renamed.view_is (name_law _ c.renamed.invariant) in
+    let law = subst NameSpec c.renamed.view_is (name_law _ c.renamed.invariant) in
     let high = (law.named n is).1 in
     omega arith

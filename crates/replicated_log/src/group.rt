@@ -1,0 +1,108 @@
+//! Several replicas that share one log in memory.
+
+ghost use Rattle.std.specs.Prelude.{◌≡◌, ◌≢◌, ◌<◌, ℕ, [], ◌∷◌, ◌++◌, ◌⊎◌, length, slice_get, false, Some, Ok, Err, OnOk, OnErr, IfErr};
+ghost use Rattle.replicated_log.specs.Causes.{FailsInMemory, MayCause, MayFail};
+ghost use Rattle.replicated_log.specs.Groups.{IsOneHistory, StaysOneHistory, TellsOneMore};
+ghost use Rattle.replicated_log.specs.Replicas.{FaultLeaves};
+ghost use Rattle.replicated_log.specs.ReplicaState.{ReplicaState};
+ghost use Rattle.replicated_log.specs.declared.replica.Step.TheVariants.{Answered};
+ghost use Rattle.replicated_log.specs.declared.serve_fault.ServeFault.TheVariants.{TooLong};
+
+use crate::machine::Machine;
+use crate::memory_store::MemoryStore;
+use crate::replica::{Replica, Step};
+use crate::serve_fault::{Cause, ServeFault};
+use std::alloc::{AllocError, Global};
+use std::marker::Model;
+
+/// A log in memory, and replicas of a machine that share it. Contracts see the log, and the replicas.
+#[derive(Drop)]
+pub struct Group<M: Machine> {
+    alloc: Global,
+    store: MemoryStore,
+    replicas: Vec<Replica<M>>,
+}
+
+impl<M: Machine> Model for Group<M> {
+    ghost use Rattle.replicated_log.specs.GroupState.{GroupState};
+
+    ghost Value = { GroupState M };
+
+    ghost view = { λ g. record { log = g.store; replicas = g.replicas.items } };
+}
+
+impl<M: Machine + Drop> Group<M> {
+    /// An empty log that no replica follows.
+    pub fn new(alloc: Global) -> Group<M>
+        ensures empty { (result.log ≡ []) × (result.replicas ≡ []) }
+        ensures history { (start : M) → IsOneHistory M.applies start result.log result.replicas [] }
+    {
+        Group {
+            alloc,
+            store: MemoryStore::new(alloc),
+            replicas: Vec::new(alloc),
+        }
+    }
+
+    /// How many replicas there are.
+    pub fn len(&self) -> usize
+        ensures { result ≡ length self.now.replicas }
+    {
+        self.replicas.len()
+    }
+
+    /// The log.
+    pub fn log(&self) -> &MemoryStore
+        ensures { result.now ≡ self.now.log }
+    {
+        &self.store
+    }
+
+    /// Adds a replica of a machine, to which no entry of the log was applied. The history is one where all machines that join are the
+    /// same at their start. An error where a growth was refused.
+    pub fn join(&mut self, machine: M) -> Result<(), AllocError>
+        ensures log { self.new.log ≡ self.old.log }
+        ensures joined { OnOk result (self.new.replicas ≡ self.old.replicas ++ record { machine = machine; place = 0; spoiled = false; behind = false } ∷ []) }
+        ensures refused { OnErr result (self.new.replicas ≡ self.old.replicas) }
+        ensures history { StaysOneHistory M.applies machine self.old self.new }
+    {
+        match self.replicas.push(Replica::new(self.alloc, machine)) {
+            Ok(()) => Ok(()),
+            Err(_) => Err(AllocError),
+        }
+    }
+
+    /// One step of a replica for a batch (`Replica::step`).
+    pub fn step(&mut self, at: usize, batch: &[u8], replies: &mut M::Replies) -> Result<Step, Cause>
+        requires in_bounds { at < length self.old.replicas }
+        ensures log { (self.new.log ≡ self.old.log) ⊎ (self.new.log ≡ self.old.log ++ batch.now ∷ []) }
+        ensures others { (other : ℕ) → other ≢ at → slice_get self.new.replicas other ≡ slice_get self.old.replicas other }
+        ensures unanswered { result ≢ Ok Answered → M.silent replies.new }
+        ensures answered { result ≡ Ok Answered → (start : M) → TellsOneMore M.applies start self.old self.new batch.now replies.new }
+        ensures history { (start : M) → StaysOneHistory M.applies start self.old self.new }
+        ensures leaves { (r s : ReplicaState M) → slice_get self.old.replicas at ≡ Some r → slice_get self.new.replicas at ≡ Some s → IfErr result (λ cause. FaultLeaves r cause s) }
+        ensures fault { IfErr result (MayCause FailsInMemory) }
+    {
+        self.replicas[at].step(&mut self.store, batch, replies)
+    }
+
+    /// Has a replica serve a batch (`Replica::serve`).
+    pub fn serve(
+        &mut self,
+        at: usize,
+        batch: &[u8],
+        replies: &mut M::Replies,
+    ) -> Result<(), ServeFault>
+        requires in_bounds { at < length self.old.replicas }
+        ensures log { (self.new.log ≡ self.old.log) ⊎ (self.new.log ≡ self.old.log ++ batch.now ∷ []) }
+        ensures others { (other : ℕ) → other ≢ at → slice_get self.new.replicas other ≡ slice_get self.old.replicas other }
+        ensures unanswered { OnErr result (M.silent replies.new) }
+        ensures answered { OnOk result ((start : M) → TellsOneMore M.applies start self.old self.new batch.now replies.new) }
+        ensures history { (start : M) → StaysOneHistory M.applies start self.old self.new }
+        ensures too_long { 65536 < length batch.now → result ≡ Err TooLong }
+        ensures refused { result ≡ Err TooLong → 65536 < length batch.now }
+        ensures fault { IfErr result (MayFail FailsInMemory) }
+    {
+        self.replicas[at].serve(&mut self.store, batch, replies)
+    }
+}

@@ -1,0 +1,103 @@
+//! Places in memory.
+
+ghost use Rattle.std.specs.Prelude.{◌≡◌, ◌<◌, ◌≤◌, [], ◌∷◌, ◌++◌, length, Some, None, Ok, Err, true, false, OnOk, OnErr, IfSome, IfNone, slice_get};
+ghost use Rattle.replicated_log.specs.Places.{stands_in};
+ghost use Rattle.replicated_log.specs.Causes.{FailsInMemory};
+ghost use Rattle.replicated_log.specs.declared.store.Put.TheVariants.{Written, Taken};
+ghost use Rattle.replicated_log.specs.declared.store_fault.StoreFault.TheVariants.{Memory, Gap};
+
+use crate::store::{Put, Store};
+use crate::store_fault::StoreFault;
+use std::alloc::{AllocError, Global};
+use std::marker::Model;
+
+/// Places in memory, which are written in their order. Contracts see it as the log: its entries, in order.
+#[derive(Drop)]
+pub struct MemoryStore {
+    alloc: Global,
+    entries: Vec<Vec<u8>>,
+}
+
+impl Model for MemoryStore {
+    ghost use Rattle.std.specs.Prelude.{List, ℕ, map};
+
+    ghost Value = { List (List ℕ) };
+
+    ghost view = { λ s. map (λ e. e.items) s.entries.items };
+}
+
+impl MemoryStore {
+    /// A store in which nothing stands.
+    pub fn new(alloc: Global) -> MemoryStore
+        ensures { result ≡ [] }
+    {
+        MemoryStore {
+            alloc,
+            entries: Vec::new(alloc),
+        }
+    }
+
+    /// How many places are written.
+    pub fn len(&self) -> usize
+        ensures { result ≡ length self.now }
+    {
+        self.entries.len()
+    }
+
+    // Writes the first place that is empty.
+    fn append(&mut self, entry: &[u8]) -> Result<(), AllocError>
+        ensures written { OnOk result (self.new ≡ self.old ++ entry.now ∷ []) }
+        ensures refused { OnErr result (self.new ≡ self.old) }
+    {
+        let entry = Vec::from_slice(self.alloc, entry)?;
+        match self.entries.push(entry) {
+            Ok(()) => Ok(()),
+            Err(_) => Err(AllocError),
+        }
+    }
+
+    /// What stands at a place.
+    pub fn entry(&self, place: usize) -> Option<&[u8]>
+        ensures some { IfSome result (λ e. slice_get self.now place ≡ Some e.now) }
+        ensures none { IfNone result (length self.now ≤ place) }
+    {
+        match self.entries.get(place) {
+            Some(entry) => Some(entry.as_slice()),
+            None => None,
+        }
+    }
+}
+
+impl Store for MemoryStore {
+    ghost stands = { stands_in };
+
+    ghost lacks = { λ log place. length log ≤ place };
+
+    ghost fails = { FailsInMemory };
+
+    #[tactic(auto, using(crate::proofs::LogPlaces::adds_last, crate::proofs::LogPlaces::stands_last))]
+    fn put(&mut self, place: u64, entry: &[u8]) -> Result<Put, StoreFault> {
+        let next = self.entries.len() as u64;
+        if place < next {
+            return Ok(Put::Taken);
+        }
+        if next < place {
+            return Err(StoreFault::Gap);
+        }
+        match self.append(entry) {
+            Ok(()) => Ok(Put::Written),
+            Err(_) => Err(StoreFault::Memory),
+        }
+    }
+
+    fn get(&mut self, place: u64, entry: &mut Vec<u8>) -> Result<bool, StoreFault> {
+        let Some(next) = self.entries.get(place as usize) else {
+            return Ok(false);
+        };
+        entry.clear();
+        match entry.extend_from_slice(next) {
+            Ok(()) => Ok(true),
+            Err(_) => Err(StoreFault::Memory),
+        }
+    }
+}
