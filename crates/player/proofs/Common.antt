@@ -3,7 +3,7 @@ pub use Rattle.std.specs.List.{list_all}
 pub use Rattle.std.proofs.lemmas.Bool.{and_parts, eqb-true, not-true, not_from_false}
 pub use Rattle.std.proofs.lemmas.List.{append-nil, take_more, map-append, take-append-drop, take_all}
 pub use Rattle.std.proofs.lemmas.Bool.Decides.{nat_tests}
-pub use Rattle.std.specs.Io.KnownBytes.{Appends}
+pub use Rattle.std.specs.Io.KnownBytes.{Appends, Consumes, IsAtEnd}
 pub use Rattle.std.proofs.lemmas.Grind.{flat_map-append}
 pub use Rattle.std.proofs.lemmas.Result.{err_from_is_err_and, on_err_weaker, on_ok_weaker}
 pub use Rattle.commands.specs.declared.bad.Bad.{Bad}
@@ -13,18 +13,22 @@ pub use Rattle.commands.specs.declared.bad.Bad.TheVariants.{TooLong, NotPrintabl
 pub use Rattle.commands.specs.Replies.{ShownReply}
 pub use Rattle.commands.specs.Requests.{Request}
 pub use Rattle.command_lines.specs.Meaning.{meaning, is_printable, command_in, words}
-pub use Rattle.command_lines.specs.Lines.{has_no_lf}
+pub use Rattle.command_lines.specs.Lines.{has_no_lf, whole_lines, lines}
 pub use Rattle.command_lines.specs.HeldLine.{HeldLine, held}
 pub use Rattle.command_lines.specs.Written.{HasPartOf}
 pub use Rattle.player.specs.Progress.{Progress, with_line, after_meaning, after_line, after_bytes, ends, at_start, after_end, after_rest}
-pub use Rattle.player.specs.Turns.{Turn, answers_of}
+pub use Rattle.player.specs.Turns.{Turn, answers_of, asked}
 pub use Rattle.player.specs.Turns.Turn.{Answered, Told, Ended, Misread}
-pub use Rattle.player.specs.Runs.{Runs}
+pub use Rattle.player.specs.Runs.{Runs, CanRun}
 pub use Rattle.player.specs.RunProofs.{runs-append}
 pub use Rattle.player.specs.PlayerState.{PlayerState}
-pub use Rattle.player.specs.Stands.{Stands}
+pub use Rattle.player.specs.Stands.{Stands, StandsPart}
 pub use Rattle.player.specs.declared.summary.Summary.{Summary}
 pub use Rattle.player.specs.Counts.{CountsAnswers}
 pub use Rattle.player.specs.TalkerState.{TalkerState}
 pub use Rattle.player.specs.Says.{SaysFrom, Says, Afresh, GoingOn, Anywhere}
 pub use Rattle.player.specs.declared.form.TheConstants.{TURN_ROOM}
+pub use Rattle.command_lines.specs.declared.fault.Fault.{Fault}
+pub use Rattle.command_lines.specs.declared.fault.Fault.TheVariants.{Memory}
+pub use Rattle.player.specs.Asked.{asked_by}
+pub use Rattle.player.specs.declared.playing.TheConstants.{READ_BYTES}

@@ -6,8 +6,12 @@
 //! answered, however they were cut (`AdvancesWriting`). How a turn is written is a type parameter (`Form`): as a reply
 //! (`AsReplies`), or, in a record, as a line of JSON of the event with its reply (`AsRecord`, `record_of`).
 //!
-//! Whole inputs, from a reader to a writer, are played by `play_on` and `record_on` of `input_player`; the definitions of their
-//! theorem stand here (`Played.antt`, `Recorded.antt`).
+//! `play_on` plays a whole input: it reads the commands that a reader gives, a line each, has a service answer them, and writes the replies, a
+//! line each. Its theorem (`IsPlayed`): there are turns to the lines of the input in order, by which the service has come from what it was to
+//! what it is; the writer has gained the text of its answers, however the bytes were cut; and the summary counts them. `quit` ends the
+//! reading, and no call failed. What a read fault, a write fault and want of memory leave is said too. `record_on` plays so too and writes the
+//! record of the run in place of the replies: a header, and each event with its reply as a line of JSON (`record_of`). It has the same
+//! theorem with that text (`IsRecordedOn`).
 //!
 //! A caller, of a service that is there:
 //!
@@ -15,6 +19,16 @@
 //! let mut player = Player::<_, AsReplies>::new(alloc, WorldKind::Rename)?;
 //! player.feed(rt, &mut service, b"begin 10\nstep 10\n", &mut writer)?;
 //! player.summary().accepted;              // 2
+//! ```
+//!
+//! Another, which plays an input:
+//!
+//! ```text
+//! let mut reader = Tried::new(b"begin 10\nstep 10\n".as_slice());
+//! let mut writer = Tried::new(Vec::new(alloc));
+//! let summary = play_on(alloc, rt, &mut service, WorldKind::Rename, &mut reader, &mut writer)?;
+//! summary.accepted;                       // 2
+//! writer.into_inner();                    // ok, quiet
 //! ```
 #![tactic(auto)]
 
@@ -24,6 +38,7 @@ pub mod form;
 pub mod laws;
 pub mod player;
 pub mod playing;
+pub mod recording;
 pub mod service;
 pub mod source;
 pub mod summary;
@@ -40,7 +55,8 @@ pub use command_lines::{
 pub use commands::{Bad, Command, Config, Event, Exchange, Reply, WorldKind};
 pub use form::{Form, TURN_ROOM};
 pub use laws::{law_of_fresh_players, law_of_progress, law_of_sharing};
-pub use playing::{MOST_READS, READ_BYTES};
+pub use playing::{MOST_READS, READ_BYTES, play_on};
+pub use recording::record_on;
 pub use service::Service;
 pub use source::Source;
 pub use summary::Summary;

@@ -9,7 +9,7 @@
 //! `record` plays in a world with names and writes the record of the run in place of the replies: a header, and each event with its
 //! reply as a line of JSON (`record_of`). It has the same theorem with that text (`IsRecorded`).
 //!
-//! A world is a service that is opened from a config (`World`). `play_in` plays in any world; `play_on` and `record_on` of `input_player`,
+//! A world is a service that is opened from a config (`World`). `play_in` plays in any world; `play_on` and `record_on` of `player`,
 //! by which all of this goes, play on any service.
 //!
 //! A caller:
@@ -34,13 +34,12 @@ mod splitter_world;
 pub mod world;
 
 pub use commands::{Bad, Command, Config, Event, Exchange, Reply, WorldKind};
-pub use input_player::{play_on, record_on};
 pub use laws::{law_of_growths, law_of_play, law_of_world};
 pub use player::{
     AsRecord, AsReplies, EVENT_ROOM, Fault, Form, HEADER_ROOM, HELD_REPLIES, LineBuffer,
     MOST_READS, READ_BYTES, REPLY_ROOM, Replies, Service, Sink, Source, Summary, TURN_ROOM, Talker,
-    Tried, law_of_lines, law_of_sharing, parse_line, print_bad, print_event, print_header,
-    print_reply, print_words, put_number, put_word, quick_command, quick_number,
+    Tried, law_of_lines, law_of_sharing, parse_line, play_on, print_bad, print_event, print_header,
+    print_reply, print_words, put_number, put_word, quick_command, quick_number, record_on,
 };
 pub use playing::{play, play_any, play_in};
 pub use recording::record;

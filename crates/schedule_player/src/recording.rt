@@ -9,8 +9,7 @@ use crate::playing::opened;
 use crate::world::Unshared;
 use commands::Config;
 use desk::Desk;
-use input_player::record_on;
-use player::{Fault, Sink, Source};
+use player::{Fault, Sink, Source, record_on};
 use std::alloc::Allocator;
 
 /// Plays the commands that a reader gives, as `play`, and writes the record of the run in place of the replies: its header

@@ -6,8 +6,7 @@ ghost use Rattle.player.specs.Played.{IsPlayed, reading, writing};
 ghost use Rattle.player.specs.Texts.{replies_of};
 ghost use Rattle.player.specs.Runs.{IsRunTo, CanRun};
 
-use input_player::play_on;
-use player::{Fault, Service, Sink, Source, Summary, WorldKind};
+use player::{Fault, Service, Sink, Source, Summary, WorldKind, play_on};
 use std::alloc::Allocator;
 
 /// Answers the commands that a reader gives by a service, line by line, and writes the replies, one a line: as `play` does, of

@@ -7,10 +7,10 @@ ghost use Rattle.player.specs.Recorded.{IsRecordedOn};
 ghost use Rattle.player.specs.Runs.{IsRunTo, CanRun};
 ghost use Rattle.player.specs.Stands.{IsFresh};
 
+use crate::player::Player;
 use crate::playing::{fresh, run};
+use crate::{AsRecord, Fault, READ_BYTES, Service, Sink, Source};
 use commands::Config;
-use player::player::Player;
-use player::{AsRecord, Fault, READ_BYTES, Service, Sink, Source};
 use std::alloc::Allocator;
 
 /// Plays on what answers events, as `play_on`, and writes the record of the run in place of the replies: the header of the config

@@ -1,6 +1,6 @@
 -- turns that were taken go on to all that was asked
 use Rattle.std.proofs.Common.{◌≡◌, ℕ, Bool, true, false, cond, List, [], ◌∷◌, ◌++◌, map, Result, Ok, Err, refl, sym, ap, subst, ◌∙◌}
-use Rattle.input_player.proofs.Common.{map-append, Bad, Command, WorldKind, ShownReply, Turn, asked, Answered, Told, Ended, Misread, asked_by, meaning, ends, Request, Runs, CanRun, runs-append}
+use Rattle.player.proofs.Common.{map-append, Bad, Command, WorldKind, ShownReply, Turn, asked, Answered, Told, Ended, Misread, asked_by, meaning, ends, Request, Runs, CanRun, runs-append}
 use Rattle.commands.specs.declared.command.Command.TheVariants as command
 use Rattle.commands.specs.declared.exchange.Exchange.{Exchange}
 use Rattle.player.specs.Knows.{Knows, KnowsMeant}

@@ -1,15 +1,15 @@
 use Rattle.std.proofs.Common.{◌≡◌, ◌≢◌, true, false, ◌∙◌, ◌≤◌, ◌+◌, ◌++◌, inl, inr, sym, ap, arith, take, length, List, [], ℕ, refl, Result, Err}
 use Rattle.command_lines.specs.declared.fault.Fault.TheVariants.{Read, Write, Memory}
-use Rattle.input_player.proofs.Common.{append-nil, err_from_is_err_and, IsAtEnd, Fault, READ_BYTES, Summary, asked_by, lines, at_start, after_bytes, Stands}
+use Rattle.player.proofs.Common.{append-nil, err_from_is_err_and, IsAtEnd, Fault, READ_BYTES, Summary, asked_by, lines, at_start, after_bytes, Stands}
 use Rattle.std.proofs.KnownBytes.{Consumes-nil, Consumes-trans, Consumes-kept}
 use Rattle.player.specs.declared.playing.TheConstants.{MOST_READS}
 use Rattle.player.specs.Played.{HasRead, reading, writing}
 use Rattle.player.proofs.StandsLemmas.{stands_start}
 use Rattle.player.proofs.ProgressLemmas.{after_bytes-append, asked-all, asked_begins}
 use Rattle.player.proofs.SaysLemmas.{after_end-over}
-use Rattle.input_player.proofs.PlayedLemmas.{read_on, to_end, to_read_fault, to_write_fault}
-use Rattle.input_player.proofs.playing.run.Goals as goal
-use Rattle.input_player.proofs.playing.run.Goals.{In-Ok, After-finish, After-feed, After-is_over}
+use Rattle.player.proofs.PlayedLemmas.{read_on, to_end, to_read_fault, to_write_fault}
+use Rattle.player.proofs.playing.run.Goals as goal
+use Rattle.player.proofs.playing.run.Goals.{In-Ok, After-finish, After-feed, After-is_over}
 
 pub loop-reads-init : goal.loop-reads-init
 loop-reads-init g c = record {

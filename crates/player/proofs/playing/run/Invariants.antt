@@ -1,6 +1,6 @@
 use Rattle.std.proofs.Common.{◌≡◌, ◌+◌, ◌*◌, ◌≤◌, false, ℕ, List, []}
-use Rattle.input_player.proofs.Common.{Consumes, READ_BYTES, TURN_ROOM, at_start, after_bytes, Stands}
-use Rattle.input_player.proofs.playing.run.Given as goal
+use Rattle.player.proofs.Common.{Consumes, READ_BYTES, TURN_ROOM, at_start, after_bytes, Stands}
+use Rattle.player.proofs.playing.run.Given as goal
 
 abbrev pub invariant-loop-reads : goal.invariant-loop-reads
 invariant-loop-reads g l = record {

@@ -1,6 +1,6 @@
 -- from where a player stands to the theorem of a run
 use Rattle.std.proofs.Common.{◌≡◌, ℕ, ◌+◌, ◌<◌, ◌≤◌, ◌⊎◌, inl, inr, true, false, Bool, List, [], ◌++◌, length, map, flat_map, Result, Ok, Err, Option, Some, None, refl, sym, ap, subst, ◌∙◌, append_assoc}
-use Rattle.input_player.proofs.Common.{append-nil, Appends, Consumes, IsAtEnd, Bad, Command, Fault, Summary, WorldKind, ShownReply, asked_by, lines, whole_lines, PlayerState, Progress, at_start, after_bytes, after_end, Stands, StandsPart, Request, Turn, asked}
+use Rattle.player.proofs.Common.{append-nil, Appends, Consumes, IsAtEnd, Bad, Command, Fault, Summary, WorldKind, ShownReply, asked_by, lines, whole_lines, PlayerState, Progress, at_start, after_bytes, after_end, Stands, StandsPart, Request, Turn, asked}
 use Rattle.std.proofs.KnownBytes.{Consumes-trans}
 use Rattle.command_lines.specs.declared.fault.Fault.TheVariants.{Read, Write}
 use Rattle.player.specs.declared.playing.TheConstants.{MOST_READS, READ_BYTES}
@@ -8,7 +8,7 @@ use Rattle.player.specs.Runs.{IsRunTo, CanRun}
 use Rattle.player.specs.Knows.{Knows}
 use Rattle.player.specs.Played.{Reading, Writing, IsInput, IsTold, HasRead, IsPlayed}
 use Rattle.player.specs.PlayedProofs.{as_played}
-use Rattle.input_player.proofs.GoesOnLemmas.{goes_on}
+use Rattle.player.proofs.GoesOnLemmas.{goes_on}
 use Rattle.player.proofs.ProgressLemmas.{asked-whole, asked-all, asked-over, over-whole}
 
 -- the input, and what of it is left

@@ -1,9 +1,9 @@
 use Rattle.std.proofs.Common.{◌≡◌, ◌∙◌, ap, sym, refl, inr, Ok, Err}
-use Rattle.input_player.proofs.Common.{err_from_is_err_and, PlayerState}
+use Rattle.player.proofs.Common.{err_from_is_err_and, PlayerState}
 use Rattle.player.specs.Recorded.{end_of}
-use Rattle.input_player.proofs.RecordedLemmas.{recorded}
-use Rattle.input_player.proofs.recording.record_run.Goals as goal
-use Rattle.input_player.proofs.recording.record_run.Goals.{After-run}
+use Rattle.player.proofs.RecordedLemmas.{recorded}
+use Rattle.player.proofs.recording.record_run.Goals as goal
+use Rattle.player.proofs.recording.record_run.Goals.{After-run}
 
 -- the player is of the kind of the config
 of_kind : (g : _) (c : After-run g) → c.write_header.new.self.kind ≡ c.args.config.world

@@ -1,6 +1,6 @@
 -- from what a run has written after the header to the theorem of a recorded run
 use Rattle.std.proofs.Common.{◌≡◌, flat_map, List, Result, Err, inl}
-use Rattle.input_player.proofs.Common.{Appends, Fault, Memory, Summary, Turn}
+use Rattle.player.proofs.Common.{Appends, Fault, Memory, Summary, Turn}
 use Rattle.commands.specs.declared.config.Config.{Config}
 use Rattle.player.specs.Played.{Reading, Writing, writing_from, IsPlayed}
 use Rattle.player.specs.PlayedProofs.{played_after, unplayed}

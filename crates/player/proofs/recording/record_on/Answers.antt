@@ -1,7 +1,7 @@
 use Rattle.std.proofs.Common.{◌∙◌, ap, refl, Err}
-use Rattle.input_player.proofs.Common.{err_from_is_err_and}
-use Rattle.input_player.proofs.RecordedLemmas.{unrecorded}
-use Rattle.input_player.proofs.recording.record_on.Goals as goal
+use Rattle.player.proofs.Common.{err_from_is_err_and}
+use Rattle.player.proofs.RecordedLemmas.{unrecorded}
+use Rattle.player.proofs.recording.record_on.Goals as goal
 
 pub returns-in_err-player-clause-recorded : goal.returns-in_err-player-clause-recorded
 returns-in_err-player-clause-recorded g c =

@@ -1,4 +1,4 @@
-use Rattle.input_player.proofs.playing.play_on.Goals as goal
+use Rattle.player.proofs.playing.play_on.Goals as goal
 
 -- the kind is that of the player
 pub returns-clause-played : goal.returns-clause-played

@@ -1,4 +1,0 @@
-mod Common
-mod GoesOnLemmas
-mod PlayedLemmas
-mod RecordedLemmas
