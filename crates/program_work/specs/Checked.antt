@@ -2,7 +2,7 @@
 use Rattle.std.specs.Prelude.{◌≡◌, ◌≢◌, ◌⊎◌, ◌+◌, ◌<◌, ◌≤◌, ◌++◌, ◌∷◌, ℕ, List, [], Result, Err, IfOk, codes, decimal}
 use Rattle.std.specs.Io.KnownBytes.{Appends, Consumes}
 use Rattle.run_checker.specs.Migrated.{IsMigratedTo}
-use Rattle.line_checker.specs.Reasons.{reason_number}
+use Rattle.run_checker.specs.Reasons.{reason_number}
 use Rattle.run_checker.specs.Verdict.{IsVerdict}
 use Rattle.run_checker.specs.declared.verdict.Verdict.{Verdict}
 use Rattle.run_checker.specs.declared.verdict.Verdict.TheVariants.{Yes, No, BadRecord, NoMemory}

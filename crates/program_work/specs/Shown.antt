@@ -1,6 +1,6 @@
 -- what is shown of a record that a reader gives
 use Rattle.std.specs.Prelude.{◌≡◌, ◌+◌, ◌≤◌, ℕ, List, Result, Ok, Err, IfOk}
-use Rattle.line_checker.specs.Reasons.{reason_number}
+use Rattle.run_checker.specs.Reasons.{reason_number}
 use Rattle.run_checker.specs.declared.verdict.Verdict.{Verdict}
 use Rattle.run_checker.specs.declared.verdict.Verdict.TheVariants.{Yes, No, BadRecord, NoMemory}
 use Rattle.run_page.specs.Shown.{IsShown}

@@ -22,7 +22,7 @@ pub use Rattle.command_lines.specs.Lines.{left_length}
 pub use Rattle.player.specs.Records.{header_line, exchange_line, record_of}
 pub use Rattle.player.specs.Turns.Turn.{Answered, Told, Ended, Misread}
 pub use Rattle.snapshot_core.specs.Snapshot.{IsMoment}
-pub use Rattle.rename_core.specs.RenameObject.{RenameTerms, RenameObject, IsRecent, ShowsSole}
+pub use Rattle.rename_core.specs.RenameObject.{RenameTerms, RenameObject, IsRecent, ShowsSole, no_begin, no_step, ShowsConflict}
 pub use Rattle.rename_core.specs.Reply.{StepReply}
 pub use Rattle.commands.specs.ConfigProofs.{few_take_part}
 pub use Rattle.bit_allocator.specs.Calls.Call.{Entered, Probed, Widened, Left}
@@ -40,19 +40,21 @@ pub use Rattle.record_lines.specs.declared.header.Header.{Header}
 pub use Rattle.record_lines.specs.RecordLine.{FindsLine, IsEventLine, IsHeaderLine}
 pub use Rattle.record_lines.specs.declared.header.Version.{Version}
 pub use Rattle.record_lines.proofs.written.Lines.{record_is}
-pub use Rattle.line_checker.specs.ObjectRun.{AllowsCall, after_call, IsObjectRun, DeskObject, fresh_desk_object}
-pub use Rattle.line_checker.specs.Lines.{CanFollow, after_line, AreLinesOfRun}
-pub use Rattle.line_checker.specs.declared.reason.Reason.{Reason}
-pub use Rattle.line_checker.specs.Config.{terms_of}
+pub use Rattle.run_checker.specs.ObjectRun.{AllowsCall, after_call, IsObjectRun, DeskObject, fresh_desk_object}
+pub use Rattle.run_checker.specs.Lines.{CanFollow, after_line, AreLinesOfRun}
+pub use Rattle.run_checker.specs.declared.reason.Reason.{Reason}
+pub use Rattle.run_checker.specs.Config.{terms_of}
 pub use Rattle.run_judges.specs.declared.firsts.Firsts.{Firsts}
 pub use Rattle.run_checker.specs.Stages.{StandsAfter, HasTakenBut, bytes_left, HasTakenAll, JudgesRow}
 pub use Rattle.run_checker.specs.declared.judge.Judge.{Judge}
 pub use Rattle.run_checker.specs.Verdict.{IsSaid, HasHeader, IsSaidOfRows, LacksHeader, SpellRun, IsFaultyRow, IsBadRow, IsSaidAfter}
 pub use Rattle.run_checker.specs.declared.verdict.Verdict.{Verdict}
-pub use Rattle.line_checker.specs.Judged.{HasTaken, TakesOn, TakesMore}
+pub use Rattle.run_checker.specs.Judged.{HasTaken, TakesOn, TakesMore, IsFaultAfter}
 pub use Rattle.run_checker.specs.Migrated.{IsMigratedTo, Telling, IsTelling, after_telling, exchanges_in, HasMigrated}
-pub use Rattle.line_checker.specs.declared.checker.Checker.{Checker}
+pub use Rattle.run_checker.specs.declared.checker.Checker.{Checker}
 pub use Rattle.run_checker.specs.Gathered.{Gathers, AreGathered}
 pub use Rattle.run_checker.specs.SoFar.{RowsSoFar, TakesRow}
 pub use Rattle.run_checker.specs.declared.migration.Migration.{Migration}
 pub use Rattle.run_checker.specs.declared.verdict.Verdict.TheVariants.{Yes}
+pub use Rattle.std.proofs.lemmas.Bool.{false≢true}
+pub use Rattle.run_checker.specs.Reasons.{Keeps}

@@ -8,7 +8,7 @@ use Rattle.slot_array.specs.SlotsObject.{SlotsObject, SlotAnswers, slots_after}
 use Rattle.desk.specs.DeskCalls.{DeskCall, rename_calls, slot_calls, BeginSlots}
 use Rattle.desk.specs.DeskRun.{IsDeskRun}
 use Rattle.record_lines.specs.Lines.{line_of, AreLinesOf}
-use Rattle.line_checker.specs.ObjectRun.{AllowsRenaming, AllowsCall, after_call, IsObjectRun}
+use Rattle.run_checker.specs.ObjectRun.{AllowsRenaming, AllowsCall, after_call, IsObjectRun}
 
 -- where a desk lacks memory, the objects may
 allowed : (terms : RenameTerms) (o : RenameObject) (h : Call StepReply) → Allows terms o h → AllowsRenaming terms o h

@@ -1,4 +1,7 @@
 mod Common
+mod Judging
+pub mod Following
+pub mod Runs
 mod records
 mod DeskRuns
 mod NarrowRuns

@@ -3,9 +3,9 @@ use Rattle.std.specs.Prelude.{ℕ, List, [], ◌∷◌, ◌++◌}
 use Rattle.commands.specs.declared.config.Config.{Config}
 use Rattle.record_lines.specs.declared.header.Header.{Header}
 use Rattle.record_lines.specs.declared.line.Line.{Line}
-use Rattle.line_checker.specs.Config.{terms_of}
-use Rattle.line_checker.specs.Lines.{Follow}
-use Rattle.line_checker.specs.ObjectRun.{DeskObject}
+use Rattle.run_checker.specs.Config.{terms_of}
+use Rattle.run_checker.specs.Lines.{Follow}
+use Rattle.run_checker.specs.ObjectRun.{DeskObject}
 use Rattle.run_checker.specs.Verdict.{SpellRun}
 
 -- one more line was gathered, which can follow those before it

@@ -1,3 +1,9 @@
+pub mod Config
+pub mod ObjectRun
+pub mod Reasons
+pub mod Fault
+pub mod Lines
+pub mod Judged
 pub mod Verdict
 pub mod Gathered
 pub mod Recorded

@@ -23,10 +23,10 @@ use Rattle.record_lines.specs.declared.told.Told.{Told}
 use Rattle.record_lines.specs.declared.told.Told.TheVariants as told
 use Rattle.run_checker.specs.declared.verdict.Verdict.{Verdict}
 use Rattle.run_checker.specs.declared.verdict.Verdict.TheVariants.{Yes}
-use Rattle.line_checker.specs.Config.{terms_of}
+use Rattle.run_checker.specs.Config.{terms_of}
 use Rattle.run_judges.specs.Firsts.{IsFirstSole, view_at, HoldsFirsts}
 use Rattle.record_lines.specs.Lines.{IsLineOf}
-use Rattle.line_checker.specs.ObjectRun.{DeskObject, fresh_desk_object, AllowsCall, after_call}
+use Rattle.run_checker.specs.ObjectRun.{DeskObject, fresh_desk_object, AllowsCall, after_call}
 use Rattle.record_lines.specs.RecordLine.{IsHeaderLine}
 use Rattle.run_checker.specs.Recorded.{IsYes}
 use Rattle.run_judges.specs.Standing.{proposed_by}

@@ -4,11 +4,11 @@ use Rattle.record_lines.specs.declared.header.Header.{Header}
 use Rattle.record_lines.specs.declared.line.Line.{Line}
 use Rattle.record_lines.specs.RecordLine.{IsEventLine}
 use Rattle.record_lines.specs.Records.{AreRead}
-use Rattle.line_checker.specs.declared.checker.Checker.{Checker}
-use Rattle.line_checker.specs.Config.{terms_of}
+use Rattle.run_checker.specs.declared.checker.Checker.{Checker}
+use Rattle.run_checker.specs.Config.{terms_of}
 use Rattle.run_checker.specs.declared.verdict.Verdict.{Verdict}
 use Rattle.run_checker.specs.declared.verdict.Verdict.TheVariants.{Yes}
-use Rattle.line_checker.specs.Judged.{HasTaken, TakesMore}
+use Rattle.run_checker.specs.Judged.{HasTaken, TakesMore}
 use Rattle.run_checker.specs.Verdict.{IsSaidOfRows}
 
 -- the rows so far were read and taken, and these are left

@@ -2,12 +2,12 @@
 use Rattle.std.specs.Prelude.{◌≡◌, ◌⊎◌, ℕ, ◌+◌, ◌<◌, ◌≤◌, List, [], ◌∷◌, ◌++◌, length}
 use Rattle.record_lines.specs.declared.header.Header.{Header}
 use Rattle.record_lines.specs.declared.line.Line.{Line}
-use Rattle.line_checker.specs.declared.reason.Reason.{Reason}
+use Rattle.run_checker.specs.declared.reason.Reason.{Reason}
 use Rattle.run_checker.specs.declared.verdict.Verdict.{Verdict}
 use Rattle.run_checker.specs.declared.verdict.Verdict.TheVariants.{Yes, No, BadRecord, NoMemory}
-use Rattle.line_checker.specs.Config.{terms_of}
-use Rattle.line_checker.specs.Lines.{AreLinesOfRun}
-use Rattle.line_checker.specs.Judged.{IsFaultAfter}
+use Rattle.run_checker.specs.Config.{terms_of}
+use Rattle.run_checker.specs.Lines.{AreLinesOfRun}
+use Rattle.run_checker.specs.Judged.{IsFaultAfter}
 use Rattle.record_lines.specs.RecordLine.{IsEventLine, IsHeaderLine}
 use Rattle.record_lines.specs.Records.{record_lines, AreRead}
 

@@ -1,20 +1,22 @@
 //! What the verdicts stand on.
 
-ghost use Rattle.std.specs.Prelude.{◌≡◌, ◌∷◌, ◌++◌, ℕ, Bool, List, map};
-ghost use Rattle.snapshot_core.specs.Snapshot.{SnapBounds};
+ghost use Rattle.std.specs.Prelude.{◌≡◌, ◌↔◌, ◌∷◌, ◌++◌, ℕ, List, Bool, map};
 ghost use Rattle.rename_core.specs.RenameObject.{RenameTerms};
+ghost use Rattle.desk.specs.DeskCalls.{DeskCall, exchange_of};
+ghost use Rattle.record_lines.specs.declared.line.Line.{Line};
+ghost use Rattle.record_lines.specs.Lines.{IsLineOf, line_of};
+ghost use Rattle.run_checker.specs.ObjectRun.{DeskObject, AllowsCall, after_call, IsObjectRun};
+ghost use Rattle.run_checker.specs.Judged.{IsFaultAfter};
+ghost use Rattle.run_checker.specs.Lines.{AreLinesOfRun, CanFollow, Follow, after_line};
+ghost use Rattle.run_checker.specs.declared.reason.Reason.{Reason};
+ghost use Rattle.run_checker.specs.Reasons.{KeepsAll};
+ghost use Rattle.snapshot_core.specs.Snapshot.{SnapBounds};
 ghost use Rattle.commands.specs.declared.config.Config.{Config};
 ghost use Rattle.commands.specs.declared.exchange.Exchange.{Exchange};
 ghost use Rattle.desk.specs.DeskRun.{IsDeskRun};
 ghost use Rattle.player.specs.Played.{reading, writing};
 ghost use Rattle.player.specs.Records.{record_of};
 ghost use Rattle.player.specs.Turns.{Turn, exchanges};
-ghost use Rattle.record_lines.specs.declared.line.Line.{Line};
-ghost use Rattle.line_checker.specs.ObjectRun.{DeskObject, IsObjectRun};
-ghost use Rattle.line_checker.specs.Judged.{IsFaultAfter};
-ghost use Rattle.line_checker.specs.Lines.{AreLinesOfRun, Follow};
-ghost use Rattle.record_lines.specs.Lines.{line_of};
-ghost use Rattle.line_checker.specs.declared.reason.Reason.{Reason};
 ghost use Rattle.run_checker.specs.Recorded.{HasRecorded, IsShortTalk, IsYes, RecordsTalk};
 ghost use Rattle.record_lines.specs.Records.{IsRecordOf, record_lines};
 ghost use Rattle.run_checker.specs.declared.verdict.Verdict.{Verdict};
@@ -22,6 +24,23 @@ ghost use Rattle.run_checker.specs.declared.verdict.Verdict.TheVariants.{Yes};
 ghost use Rattle.run_checker.specs.Verdict.{IsSaid, IsSaidAfter};
 
 use player::{Sink, Source};
+
+/// A law, which runs nothing: a line can follow those before it exactly where none of the seven reasons fits.
+pub fn law_of_reasons()
+    ensures { (terms : RenameTerms) (o : DeskObject) (l : Line) → CanFollow terms o l ↔ KeepsAll terms o l.event l.told }
+{}
+
+/// A law, which runs nothing: lines are those of a run, for some choice of the views that are not written, exactly where each
+/// can follow those before it; where one after these is at fault, they and it are not, whatever comes after; and a call leaves the objects as
+/// its line does.
+pub fn law_of_followed_lines()
+    ensures run { (terms : RenameTerms) (size : ℕ) (lines : List Line) → AreLinesOfRun terms size lines → (o : DeskObject) × Follow terms size lines o }
+    ensures follow { (terms : RenameTerms) (size : ℕ) (lines : List Line) (o : DeskObject) → Follow terms size lines o → AreLinesOfRun terms size lines }
+    ensures fault { (terms : RenameTerms) (size : ℕ) (before : List Line) (l : Line) (more : List Line) (why : Reason) →
+        IsFaultAfter terms size before l why → AreLinesOfRun terms size (before ++ l ∷ more) → ⊥ }
+    ensures call { (terms : RenameTerms) (o : DeskObject) (c : DeskCall) (l : Line) →
+        IsLineOf (exchange_of c) l → AllowsCall terms o c → after_call o c ≡ after_line o l }
+{}
 
 /// A law, which runs nothing: lines are those of a run, for some choice of the views that are not written, exactly where each
 /// can follow those before it; and where one after these is at fault, they and it are not, whatever comes after. Of a record of

@@ -15,8 +15,9 @@
 //!
 //! So the first fault decides, of whichever kind. That a line can follow exactly where no reason fits is `law_of_reasons`; that a
 //! list is one of a run exactly where each of its lines can follow, `law_of_records`; that what a desk answers is always one,
-//! `law_of_desk_runs`. Lines are judged by `line_checker`, whose `Checker`, `Reason`, `first_fault` and `law_of_reasons` can be
-//! named here too: `first_fault` judges lines that were read already, and `Checker::judge` one line after the other. What a line
+//! `law_of_desk_runs`. Lines are judged one after the other by a `Checker`, which keeps what `run_judges` keeps of the objects. `Checker::judge` takes a line exactly
+//! where it can follow those that were taken before it, and else says the least of seven reasons (`TakesMore`). `first_fault` goes over a list
+//! of lines that were read already. That a line of a run is one that can follow those before it is `law_of_followed_lines`. What a line
 //! says is read by `record_lines`, whose `Line`, `Told`, `Pairs`, `Header`, `Version` and `read_reply` can be named here as well.
 //!
 //! What `record` of `schedule_player` writes of an input with at most 1,000,000 events is the record of a talk to its lines, and `check`
@@ -44,19 +45,28 @@
 //! ```
 #![tactic(auto)]
 
+pub mod checker;
+mod fault;
 pub mod gather;
 pub mod judge;
 pub mod laws;
+pub mod lines;
 pub mod migrating;
 mod migration;
+pub mod reason;
 pub mod record;
 pub mod row_judge;
 pub mod verdict;
 
+pub use checker::Checker;
 pub use judge::Judge;
-pub use laws::{law_of_desk_runs, law_of_recorded_talks, law_of_recording, law_of_records};
-pub use line_checker::{Checker, Reason, first_fault, law_of_reasons};
+pub use laws::{
+    law_of_desk_runs, law_of_followed_lines, law_of_reasons, law_of_recorded_talks,
+    law_of_recording, law_of_records,
+};
+pub use lines::first_fault;
 pub use migrating::migrate;
+pub use reason::Reason;
 pub use record::check;
 pub use record_lines::{Header, Line, Pairs, Told, Version, read_reply};
 pub use verdict::Verdict;

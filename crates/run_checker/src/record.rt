@@ -8,9 +8,9 @@ ghost use Rattle.run_checker.specs.Gathered.{AreGathered};
 ghost use Rattle.run_checker.specs.SoFar.{EndsAtRow, TakesRow};
 ghost use Rattle.run_checker.specs.Verdict.{HasHeader, IsSaid, IsSaidOfRows, IsVerdict, LacksHeader};
 
+use crate::Checker;
 use crate::gather::{Gather, Nothing};
 use crate::verdict::Verdict;
-use line_checker::Checker;
 use record_lines::{Header, Line, next_line, read_header, read_line};
 use std::alloc::{AllocError, Global};
 

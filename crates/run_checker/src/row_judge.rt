@@ -3,9 +3,9 @@
 ghost use Rattle.std.specs.Prelude.{◌≡◌, [], IfOk};
 ghost use Rattle.run_checker.specs.Stages.{HasJudged, JudgesRow};
 
+use crate::Checker;
 use crate::record::taken;
 use crate::verdict::Verdict;
-use line_checker::Checker;
 use record_lines::Header;
 use std::alloc::{AllocError, Global};
 

@@ -1,6 +1,6 @@
 //! What is said of a record.
 
-use line_checker::Reason;
+use crate::Reason;
 
 /// What is said of a record. Lines are numbered from 1, the header's.
 #[derive(Clone, Copy, Debug, Drop, PartialEq, Eq)]

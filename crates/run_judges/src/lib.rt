@@ -6,7 +6,7 @@
 //! What is proved of each: what it keeps is of one object (`HoldsNames`, `HoldsSlots`, `HoldsFirsts`), after each call of the
 //! object as that call leaves it, and what it tells is what the object's rules say.
 //!
-//! Nothing is read here, and no order of lines is known: `line_checker` judges them.
+//! Nothing is read here, and no order of lines is known: `run_checker` judges them.
 #![tactic(auto)]
 
 pub mod firsts;

@@ -8,7 +8,7 @@ use Rattle.rename_core.specs.declared.reply.Reply.TheVariants as step
 use Rattle.bit_allocator.specs.declared.probe.Probe.TheVariants as probe
 use Rattle.run_judges.specs.Firsts.{IsFirstSole, NeverSole, view_at, HasFirst, HoldsFirsts}
 use Rattle.run_checker.specs.Migrated.{Telling, ShowsFirst, IsTelling, after_telling, exchanges_in, record_text, proposal_of, shown_in, GoesOn, HasMigrated}
-use Rattle.line_checker.proofs.Runs.{after_is}
+use Rattle.run_checker.proofs.Runs.{after_is}
 
 -- ---- the call that a line is taken for
 

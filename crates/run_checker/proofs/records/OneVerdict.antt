@@ -5,7 +5,7 @@ use Rattle.commands.specs.Config.{is_tree}
 use Rattle.run_checker.specs.declared.verdict.Verdict.TheVariants.{Yes, No, BadRecord, NoMemory}
 use Rattle.record_lines.specs.Records.{AreRead, AreSame}
 use Rattle.record_lines.proofs.Once.{line_once, header_once}
-use Rattle.line_checker.proofs.Runs.{at_fault}
+use Rattle.run_checker.proofs.Runs.{at_fault}
 
 module _ (kind : WorldKind) (version : Version) where
   -- the lines that rows are read as begin with those that their front is

@@ -1,7 +1,7 @@
 -- the lines of a record, one after the other
 use Rattle.std.proofs.Common.{◌≡◌, ℕ, suc, ◌+◌, ◌<◌, ◌≤◌, List, [], ◌∷◌, ◌++◌, length, Option, Some, None, sym, ap, ◌∙◌, subst, arith, length-append, append_assoc, refl}
 use Rattle.run_checker.proofs.Common.{append-nil, WorldKind, Checker, Header, Version, Line, Reason, terms_of, HasTaken, TakesOn, TakesMore, IsEventLine, AreRead, RowsSoFar, TakesRow, SpellRun, IsFaultyRow, IsBadRow}
-use Rattle.line_checker.proofs.Runs.{follows_run}
+use Rattle.run_checker.proofs.Runs.{follows_run}
 
 pub read_more : (kind : WorldKind) (version : Version) (rows : List (List ℕ)) (lines : List Line) (row : List ℕ) (l : Line) → AreRead kind version rows lines → IsEventLine kind version row l → AreRead kind version (rows ++ row ∷ []) (lines ++ l ∷ [])
 read_more kind version [] [] row l r e = (e, tt)

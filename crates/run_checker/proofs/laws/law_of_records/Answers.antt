@@ -1,5 +1,5 @@
 use Rattle.run_checker.proofs.records.OneVerdict.{one_verdict}
-use Rattle.line_checker.proofs.Runs.{run_follows, follows_run, at_fault}
+use Rattle.run_checker.proofs.Runs.{run_follows, follows_run, at_fault}
 use Rattle.run_checker.proofs.laws.law_of_records.Goals as goal
 
 pub returns-clause-run : goal.returns-clause-run

@@ -1,4 +1,0 @@
-mod Common
-mod Judging
-pub mod Following
-pub mod Runs

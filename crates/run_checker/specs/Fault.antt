@@ -1,0 +1,11 @@
+-- what a fault tells
+use Rattle.std.specs.Prelude.{Option, Some, Result, Ok, Err, alloc_error}
+use Rattle.std.specs.declared.alloc.AllocError.{AllocError}
+use Rattle.run_checker.specs.declared.fault.Fault.{Fault}
+use Rattle.run_checker.specs.declared.fault.Fault.TheVariants.{Unlawful, NoMemory}
+use Rattle.run_checker.specs.declared.reason.Reason.{Reason}
+
+-- the reason, or that a growth was refused
+abbrev pub told_by : Fault → Result (Option Reason) AllocError
+told_by (Unlawful why) = Ok (Some why)
+told_by NoMemory = Err alloc_error

@@ -1,0 +1,54 @@
+-- what lines a record has of exchanges, and when lines are those of a run
+use Rattle.std.specs.Prelude.{ℕ, List, [], Ok}
+use Rattle.step_memory.specs.Calls.Call.{Began, Stepped}
+use Rattle.step_memory.specs.Runs.{Run}
+use Rattle.rename_core.specs.declared.reply.Reply.TheVariants as step
+use Rattle.rename_core.specs.RenameObject.{RenameTerms}
+use Rattle.bit_allocator.specs.declared.probe.Probe.TheVariants as probe
+use Rattle.bit_allocator.specs.Calls.Call.{Entered, Probed, Left as HasLeft}
+use Rattle.slot_array.specs.SlotCalls.SlotCall.{Pooled, Stored, Extended}
+use Rattle.commands.specs.declared.event.Event.{Event}
+use Rattle.commands.specs.declared.event.Event.TheVariants.{Begin, Step, Enter, Probe, Leave, Put, Widen}
+use Rattle.commands.specs.declared.exchange.Exchange.{Exchange}
+use Rattle.desk.specs.DeskCalls.{DeskCall, exchange_of}
+use Rattle.desk.specs.DeskCalls.DeskCall.{Renamed, Slotted}
+use Rattle.record_lines.specs.declared.line.Line.{Line}
+use Rattle.record_lines.specs.declared.told.Told.{Told}
+use Rattle.record_lines.specs.declared.told.Told.TheVariants.{Ok as Accepted, Place, Proposed, Named, Spent, Missed, Got, Left}
+use Rattle.run_checker.specs.ObjectRun.{DeskObject, fresh_desk_object, AllowsCall, after_call, IsObjectRun}
+use Rattle.record_lines.specs.Lines.{IsLineOf, AreLinesOf}
+
+-- lines are those of a run where there is a choice of the views that are not written with which they are the lines of
+-- exchanges that the objects can make
+pub record AreLinesOfRun (terms : RenameTerms) (size : ℕ) (lines : List Line) : Type 0 where
+  pub exchanges : List Exchange
+  pub spelled : AreLinesOf exchanges lines
+  pub run : IsObjectRun terms size exchanges
+
+-- the same, line by line: a line can follow where it is that of a call to which the objects may give its reply
+pub record CanFollow (terms : RenameTerms) (o : DeskObject) (l : Line) : Type 0 where
+  pub call : DeskCall
+  pub spelled : IsLineOf (exchange_of call) l
+  pub allowed : AllowsCall terms o call
+
+-- the objects after an event with what is told of its reply
+abbrev pub after_told : DeskObject → Event → Told → DeskObject
+after_told o (Begin p) Accepted = after_call o (Renamed (Began p (Ok tt)))
+after_told o (Step p) (Place place) = after_call o (Renamed (Stepped p (Ok (step.Placed place))))
+after_told o (Step p) (Proposed number) = after_call o (Renamed (Stepped p (Ok (step.Proposed number))))
+after_told o (Step p) (Named name shown) = after_call o (Renamed (Stepped p (Ok (step.Named name []))))
+after_told o (Step p) Spent = after_call o (Renamed (Stepped p (Ok step.Spent)))
+after_told o (Enter p) Accepted = after_call o (Slotted (Pooled (Entered p (Ok tt))))
+after_told o (Probe p) Missed = after_call o (Slotted (Pooled (Probed p (Ok probe.Missed))))
+after_told o (Probe p) (Got number) = after_call o (Slotted (Pooled (Probed p (Ok (probe.Got number)))))
+after_told o (Leave p) (Left number) = after_call o (Slotted (Pooled (HasLeft p (Ok number))))
+after_told o (Put p value) Accepted = after_call o (Slotted (Stored p value (Ok tt)))
+after_told o (Widen more) Accepted = after_call o (Slotted (Extended more 0 (Ok tt)))
+after_told o e t = o
+
+abbrev pub after_line : DeskObject → Line → DeskObject
+after_line o l = after_told o l.event l.told
+
+-- each of these lines can follow those before it, and the objects are then in this state
+abbrev pub Follow : RenameTerms → ℕ → List Line → DeskObject → Type 0
+Follow terms size lines o = Run after_line (CanFollow terms) (fresh_desk_object size) lines o

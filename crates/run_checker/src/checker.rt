@@ -1,0 +1,324 @@
+//! Judges lines one after the other.
+
+ghost use Rattle.std.specs.Prelude.{◌≡◌, ◌&&◌, [], Ok, IfOk};
+ghost use Rattle.std.specs.Option.{option_copied};
+ghost use Rattle.rename_core.specs.RenameObject.{RenameTerms};
+ghost use Rattle.commands.specs.declared.event.Event.TheVariants as event;
+ghost use Rattle.record_lines.specs.declared.told.Told.TheVariants as told;
+ghost use Rattle.run_checker.specs.Config.{terms_of};
+ghost use Rattle.run_checker.specs.ObjectRun.{DeskObject};
+ghost use Rattle.record_lines.specs.Told.{is_step};
+ghost use Rattle.run_checker.specs.Reasons.{refusal_due, is_told_rightly, is_refused_as_due};
+ghost use Rattle.record_lines.specs.Lines.{line};
+ghost use Rattle.run_checker.specs.Judged.{HoldsDesk, Judges, JudgesWithRoom, HasRoom, HasTaken, TakesMore, MayBegin, MayStep, MayEnter, MayProbe, MayWiden, HoldsNumber, IsDueSo};
+
+use crate::fault::Fault;
+use crate::reason::Reason;
+use commands::{Config, Event};
+use record_lines::told::is_step;
+use record_lines::{Line, Pairs, Told};
+use run_judges::{Names, Stays};
+use std::alloc::{AllocError, Global};
+use step_memory::{Place, Refusal};
+
+/// What is kept of the lines so far: the renaming object, the pool and the slots, without what they show to nobody again.
+pub struct Checker {
+    names: Names,
+    stays: Stays,
+    grows: bool,
+}
+
+// By hand, so that a checker is taken apart here alone, and not wherever one is dropped.
+impl Drop for Checker {
+    fn drop(self) {
+        let Checker {
+            names: _,
+            stays: _,
+            grows: _,
+        } = self;
+    }
+}
+
+/// Whether a refusal is told as it is due; where none is, want of memory may be told where there may be one.
+fn is_told_rightly(due: Option<Refusal>, lacks: bool, number: u64) -> bool
+    ensures { result ≡ is_told_rightly due lacks number }
+{
+    match due {
+        Some(refusal) => u64::from(refusal.number()) == number,
+        None => lacks && u64::from(Refusal::NoMemory.number()) == number,
+    }
+}
+
+/// Whether a refusal is told where it is due, and as it is due.
+fn is_refused_as_due(due: Option<Refusal>, lacks: bool, told: &Told) -> bool
+    ensures { result ≡ is_refused_as_due due lacks told.now }
+{
+    match told {
+        Told::Refused(number) => is_told_rightly(due, lacks, *number),
+        _ => due.is_none(),
+    }
+}
+
+impl Checker {
+    /// No line was taken yet, of a record with this config; with room for what so many lines ask to be kept. An error where a
+    /// growth was refused.
+    pub fn new(alloc: Global, config: Config, lines: usize) -> Result<Checker, AllocError>
+        ensures { IfOk result (HasTaken (terms_of config) config.k []) }
+    {
+        Ok(Checker {
+            stays: Stays::new(alloc, config.k)?,
+            names: Names::new(alloc, config.m, config.limit, lines)?,
+            grows: config.world.is_tree(),
+        })
+    }
+
+    /// The refusal that an event is due, want of memory aside.
+    fn refusal_due(&self, event: Event) -> Option<Refusal>
+        ensures { (terms : RenameTerms) (o : DeskObject) → HoldsDesk terms self.now o → result ≡ refusal_due terms o event }
+    {
+        match event {
+            Event::Begin(id) => self.names.begin_refusal(id),
+            Event::Step(id) => self.names.step_refusal(id),
+            Event::Enter(id) => self.stays.enter_refusal(id),
+            Event::Probe(id) => self.stays.probe_refusal(id),
+            Event::Leave(id) => self.stays.number_of(id).err(),
+            Event::Put(id, _) => self.stays.number_of(id).err(),
+            Event::Get(id) => self.stays.number_of(id).err(),
+            Event::Widen(more) => self.stays.widen_refusal(more),
+        }
+    }
+
+    /// Whether want of memory may be told of an event of which no other refusal is due.
+    fn may_lack(&self, event: Event) -> bool
+        ensures { result ≡ (self.now.grows && is_step event) }
+    {
+        self.grows && is_step(event)
+    }
+
+    /// A participant begins that may.
+    fn begin(&mut self, id: u64) -> Result<(), Fault>
+        ensures { Judges (MayBegin id) self.old (line (event.Begin id) told.Ok) result self.new }
+    {
+        self.names.begin(id)?;
+        Ok(())
+    }
+
+    /// A participant that may step is told a place.
+    fn place(&mut self, id: u64, place: Place) -> Result<(), Fault>
+        ensures { Judges (MayStep id) self.old (line (event.Step id) (told.Place place)) result self.new }
+    {
+        if !self.names.place(id, place) {
+            return Err(Fault::Unlawful(Reason::Place));
+        }
+        Ok(())
+    }
+
+    /// A participant that may step is told that it has proposed.
+    fn propose(&mut self, id: u64, number: u64) -> Result<(), Fault>
+        ensures { JudgesWithRoom (MayStep id) self.old (line (event.Step id) (told.Proposed number)) result self.new }
+    {
+        if !self.names.may_propose(id, number) {
+            return Err(Fault::Unlawful(Reason::Proposal));
+        }
+        self.names.propose(id, number)?;
+        Ok(())
+    }
+
+    /// A participant that may step is told a view.
+    fn see(&self, id: u64, view: &Pairs) -> Result<(), Fault>
+        ensures { Judges (MayStep id) self.now (line (event.Step id) (told.Saw view.now)) result self.now }
+    {
+        if !self.names.has_turns(id) {
+            return Err(Fault::Unlawful(Reason::Proposal));
+        }
+        if !self.names.shows_conflict(id, view.as_slice()) {
+            return Err(Fault::Unlawful(Reason::View));
+        }
+        Ok(())
+    }
+
+    /// A participant that may step is told a name.
+    fn name(&mut self, id: u64, name: u64, shown: Option<&Pairs>) -> Result<(), Fault>
+        ensures { Judges (MayStep id) self.old (line (event.Step id) (told.Named name (option_copied shown.entry))) result self.new }
+    {
+        if !self.names.may_name(id, name, shown) {
+            return Err(Fault::Unlawful(Reason::Name));
+        }
+        self.names.name(id, name);
+        Ok(())
+    }
+
+    /// A participant that may step is told that it is spent.
+    fn spend(&mut self, id: u64) -> Result<(), Fault>
+        ensures { Judges (MayStep id) self.old (line (event.Step id) told.Spent) result self.new }
+    {
+        if !self.names.is_last_turn(id) {
+            return Err(Fault::Unlawful(Reason::Proposal));
+        }
+        if !self.names.has_conflict(id) {
+            return Err(Fault::Unlawful(Reason::View));
+        }
+        self.names.spend(id);
+        Ok(())
+    }
+
+    /// An identity enters that may.
+    fn enter(&mut self, id: u64) -> Result<(), Fault>
+        ensures { Judges (MayEnter id) self.old (line (event.Enter id) told.Ok) result self.new }
+    {
+        self.stays.enter(id)?;
+        Ok(())
+    }
+
+    /// An identity that may probe is told that it missed.
+    fn miss(&mut self, id: u64) -> Result<(), Fault>
+        ensures { Judges (MayProbe id) self.old (line (event.Probe id) told.Missed) result self.new }
+    {
+        if !self.stays.may_miss(id) {
+            return Err(Fault::Unlawful(Reason::Pool));
+        }
+        self.stays.miss(id);
+        Ok(())
+    }
+
+    /// An identity that may probe is told a number.
+    fn gain(&mut self, id: u64, number: u64) -> Result<(), Fault>
+        ensures { Judges (MayProbe id) self.old (line (event.Probe id) (told.Got number)) result self.new }
+    {
+        if !self.stays.is_free(number) {
+            return Err(Fault::Unlawful(Reason::Pool));
+        }
+        self.stays.gain(id, number);
+        Ok(())
+    }
+
+    /// The holder of a number is told which one it gives back.
+    fn leave(&mut self, id: u64, number: u64) -> Result<(), Fault>
+        ensures { Judges (HoldsNumber id) self.old (line (event.Leave id) (told.Left number)) result self.new }
+    {
+        let Ok(held) = self.stays.number_of(id) else {
+            return Err(Fault::Unlawful(Reason::Refusal));
+        };
+        if held != number {
+            return Err(Fault::Unlawful(Reason::Pool));
+        }
+        self.stays.leave(id);
+        Ok(())
+    }
+
+    /// The holder of a number puts a value.
+    fn put(&mut self, id: u64, value: u64) -> Result<(), Fault>
+        ensures { Judges (HoldsNumber id) self.old (line (event.Put id value) told.Ok) result self.new }
+    {
+        let Ok(held) = self.stays.number_of(id) else {
+            return Err(Fault::Unlawful(Reason::Refusal));
+        };
+        self.stays.store(held, value);
+        Ok(())
+    }
+
+    /// The holder of a number is told the value in its slot.
+    fn get(&self, id: u64, value: u64) -> Result<(), Fault>
+        ensures { Judges (HoldsNumber id) self.now (line (event.Get id) (told.Value value)) result self.now }
+    {
+        let Ok(held) = self.stays.number_of(id) else {
+            return Err(Fault::Unlawful(Reason::Refusal));
+        };
+        if !self.stays.has_value(held, value) {
+            return Err(Fault::Unlawful(Reason::Pool));
+        }
+        Ok(())
+    }
+
+    /// The pool gets more numbers where it may.
+    fn widen(&mut self, more: u64) -> Result<(), Fault>
+        ensures { Judges (MayWiden more) self.old (line (event.Widen more) told.Ok) result self.new }
+    {
+        self.stays.widen(more)?;
+        Ok(())
+    }
+
+    /// What a step is told changes the renaming object.
+    fn step(&mut self, id: u64, told: &Told) -> Result<(), Fault>
+        ensures { JudgesWithRoom (IsDueSo (event.Step id) told.now) self.old (line (event.Step id) told.now) result self.new }
+    {
+        match told {
+            Told::Place(place) => self.place(id, *place),
+            Told::Proposed(number) => self.propose(id, *number),
+            Told::Saw(view) => self.see(id, view),
+            Told::Named(name, shown) => self.name(id, *name, shown.as_ref()),
+            Told::Spent => self.spend(id),
+            _ => Ok(()),
+        }
+    }
+
+    /// What a probe is told changes the pool.
+    fn probe(&mut self, id: u64, told: &Told) -> Result<(), Fault>
+        ensures { Judges (IsDueSo (event.Probe id) told.now) self.old (line (event.Probe id) told.now) result self.new }
+    {
+        match told {
+            Told::Missed => self.miss(id),
+            Told::Got(number) => self.gain(id, *number),
+            _ => Ok(()),
+        }
+    }
+
+    /// What is told of an event, of whose command it is a reply and which is refused as it is due, changes the objects.
+    fn follow(&mut self, event: Event, told: &Told) -> Result<(), Fault>
+        ensures { JudgesWithRoom (IsDueSo event told.now) self.old (line event told.now) result self.new }
+    {
+        match event {
+            Event::Begin(id) => match told {
+                Told::Ok => self.begin(id),
+                _ => Ok(()),
+            },
+            Event::Step(id) => self.step(id, told),
+            Event::Enter(id) => match told {
+                Told::Ok => self.enter(id),
+                _ => Ok(()),
+            },
+            Event::Probe(id) => self.probe(id, told),
+            Event::Leave(id) => match told {
+                Told::Left(number) => self.leave(id, *number),
+                _ => Ok(()),
+            },
+            Event::Put(id, value) => match told {
+                Told::Ok => self.put(id, value),
+                _ => Ok(()),
+            },
+            Event::Get(id) => match told {
+                Told::Value(value) => self.get(id, *value),
+                _ => Ok(()),
+            },
+            Event::Widen(more) => match told {
+                Told::Ok => self.widen(more),
+                _ => Ok(()),
+            },
+        }
+    }
+
+    /// Takes a line, by the objects that are kept.
+    fn take_line(&mut self, line: &Line) -> Result<(), Fault>
+        ensures { Judges HasRoom self.old line.now result self.new }
+    {
+        if !line.told.is_reply_of(line.event) {
+            return Err(Fault::Unlawful(Reason::Reply));
+        }
+        let due = self.refusal_due(line.event);
+        if !is_refused_as_due(due, self.may_lack(line.event), &line.told) {
+            return Err(Fault::Unlawful(Reason::Refusal));
+        }
+        self.follow(line.event, &line.told)
+    }
+
+    /// Takes a line, and tells nothing, where it can follow those before it; else tells the least reason for which it can't.
+    /// An error where a growth was refused. After a reason or an error the checker is of no more use.
+    pub fn judge(&mut self, line: &Line) -> Result<Option<Reason>, AllocError>
+        ensures { IfOk result (λ r. TakesMore line.now self.old r self.new) }
+    {
+        match self.take_line(line) {
+            Ok(()) => Ok(None),
+            Err(fault) => fault.told(),
+        }
+    }
+}

@@ -1,0 +1,37 @@
+//! Why a checker does not go on.
+
+ghost use Rattle.std.specs.Prelude.{◌≡◌};
+ghost use Rattle.run_checker.specs.Fault.{told_by};
+ghost use Rattle.run_checker.specs.declared.fault.Fault.TheVariants as fault;
+
+use crate::reason::Reason;
+use std::alloc::AllocError;
+
+/// Why a checker does not go on after a line.
+#[derive(Clone, Copy, Drop)]
+pub enum Fault {
+    /// The line can't follow those before it.
+    Unlawful(Reason),
+    /// A growth was refused.
+    NoMemory,
+}
+
+impl Fault {
+    /// The reason, or that a growth was refused.
+    pub fn told(self) -> Result<Option<Reason>, AllocError>
+        ensures { result ≡ told_by self }
+    {
+        match self {
+            Fault::Unlawful(reason) => Ok(Some(reason)),
+            Fault::NoMemory => Err(AllocError),
+        }
+    }
+}
+
+impl From<AllocError> for Fault {
+    ghost from_gives = { λ _ f. f ≡ fault.NoMemory };
+
+    fn from(_refused: AllocError) -> Fault {
+        Fault::NoMemory
+    }
+}

@@ -1,0 +1,34 @@
+//! Goes over a list of lines.
+
+ghost use Rattle.std.specs.Prelude.{◌≡◌, ◌≤◌, ◌↔◌, length, IfOk, None};
+ghost use Rattle.run_checker.specs.Config.{terms_of};
+ghost use Rattle.run_checker.specs.Lines.{AreLinesOfRun};
+ghost use Rattle.run_checker.specs.Judged.{IsFirstFaultOrNone};
+
+use crate::checker::Checker;
+use crate::reason::Reason;
+use commands::Config;
+use record_lines::Line;
+use std::alloc::{AllocError, Global};
+
+/// The first of at most a million lines that can't follow those before it, from 0, with the least reason that fits; `None`
+/// where they are those of a run of this config. An error where a growth was refused.
+pub fn first_fault(
+    alloc: Global,
+    config: Config,
+    lines: &[Line],
+) -> Result<Option<(usize, Reason)>, AllocError>
+    requires { length lines.now ≤ 1000000 }
+    ensures fault { IfOk result (IsFirstFaultOrNone (terms_of config) config.k lines.now) }
+
+    // None is found exactly where the lines are those of a run.
+    ensures none { IfOk result (λ r. (r ≡ None) ↔ AreLinesOfRun (terms_of config) config.k lines.now) }
+{
+    let mut checker = Checker::new(alloc, config, lines.len())?;
+    for (i, line) in lines.iter().enumerate() {
+        if let Some(reason) = checker.judge(line)? {
+            return Ok(Some((i, reason)));
+        }
+    }
+    Ok(None)
+}
