@@ -5,3 +5,6 @@ pub mod Sent
 mod Staying
 pub mod Serves
 pub mod HallLaws
+mod RowLemmas
+mod DeskLemmas
+mod RebuiltLemmas

@@ -6,3 +6,9 @@ pub mod Halls
 pub mod Serving
 pub mod ServingProofs
 pub mod GoesOn
+pub mod Slots
+pub mod Copies
+pub mod DeskParts
+pub mod Compactions
+pub mod Rebuilt
+pub mod Dues

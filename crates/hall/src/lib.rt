@@ -1,4 +1,4 @@
-//! One desk with the history of its events.
+//! One desk with the history of its events, and a hall with fewer events that stands as another does.
 //!
 //! A *hall* is a desk with the list of its accepted events and their replies. What is proved of it: the history is a run, which
 //! the renaming object, the pool and the slots, begun fresh, can answer in order (`law_of_hall`), and the desk is its replay;
@@ -11,6 +11,13 @@
 //! A reply may show a view, which takes a kilobyte. Where events are many, `Hall::apply_short` answers in a few bytes and puts the view
 //! beside.
 //!
+//! A history only grows. Most of its events are soon of no use: who entered the pool and left it again leaves a history of hundreds of events
+//! and a pool as it was before. `compacted` builds a hall anew: it takes over the events of renaming, word for word, and leads the pool and the
+//! slots to where they stand by as few events as that takes. What is proved (`IsCompacted`): the new hall is lawful and of the same
+//! config, its desk is the same, the events of renaming stand in its history with their replies in their order, and the history is shorter.
+//! So what it answers to any event from then on, want of room aside, is what the old hall would have answered. That one is found, where the
+//! history has many more events of the pool than it takes, is no clause: it is tried on drawn states. `Compactor` says when one is due.
+//!
 //! A caller:
 //!
 //! ```text
@@ -19,15 +26,35 @@
 //! hall.apply(Event::Probe(5));                                // got 1
 //! hall.len();                                                 // 2
 //! ```
+//!
+//! Another, which keeps a history short:
+//!
+//! ```text
+//! let mut compactor = Compactor::new();
+//! if compactor.is_due(&hall) {
+//!     if let Some(shorter) = compactor.compacted(alloc, &hall) {
+//!         hall = shorter;                                     // the same desk
+//!     }
+//! }
+//! ```
 #![tactic(auto)]
 
+pub mod compacting;
+pub mod compactor;
 mod entry;
 pub mod hall;
 mod hall_service;
+mod helpers;
 pub mod laws;
 pub mod log;
+mod plan;
+mod rebuilding;
 pub mod same;
+mod slots_copy;
+mod stuck;
 
+pub use compacting::compacted;
+pub use compactor::Compactor;
 pub use hall::{Hall, MOST_EVENTS};
 pub use laws::{law_of_events, law_of_hall, law_of_serving};
 pub use log::Log;

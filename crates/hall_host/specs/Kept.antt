@@ -2,7 +2,7 @@
 use Rattle.std.specs.Prelude.{◌≡◌, ◌⊎◌, Option, length}
 use Rattle.journal_disk.specs.DiskState.{DiskState}
 use Rattle.hall.specs.HallState.{HallState}
-use Rattle.hall_compaction.specs.Compactions.{IsCompacted}
+use Rattle.hall.specs.Compactions.{IsCompacted}
 use Rattle.journal.specs.declared.journal.Journal.{Journal}
 use Rattle.journal.specs.ChronicleState.{ChronicleState}
 use Rattle.journal.specs.Chronicles.{chronicle_of}

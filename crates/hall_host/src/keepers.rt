@@ -6,8 +6,7 @@ ghost use Rattle.journal.specs.Journals.{Stands};
 ghost use Rattle.hall_host.specs.Kept.{KeptBy, MayCompactHall, Rests};
 
 use event_server::{Ahead, Keep, Tally};
-use hall::Hall;
-use hall_compaction::Compactor;
+use hall::{Compactor, Hall};
 use journal::{Chronicle, Journal, JournalFault, law_of_crashes};
 use journal_disk::Disk;
 use std::alloc::Global;

@@ -7,8 +7,7 @@ use crate::log_plan::{LogPlan, MEMBER_SECONDS, Patience, fresh_token, members_of
 use commands::Config;
 use etcd_log::{EtcdStore, TcpDial};
 use event_server::{HostFault, HostOptions, host};
-use hall::Hall;
-use hall_compaction::Compactor;
+use hall::{Compactor, Hall};
 use hall_log::{LogKeeper, Pause, Tape};
 use journal::{Journal, Opened};
 use journal_disk::{Disk, FileDisk};

@@ -13,7 +13,7 @@ pub use Rattle.command_lines.specs.Lines.{IsCutOnce, has_no_lf, with_ends}
 pub use Rattle.player.specs.Records.{exchange_line, header_line}
 pub use Rattle.desk.specs.DeskCalls.{exchange}
 pub use Rattle.hall.specs.HallState.{HallState}
-pub use Rattle.hall_compaction.specs.Compactions.{IsCompacted}
+pub use Rattle.hall.specs.Compactions.{IsCompacted}
 pub use Rattle.journal_disk.specs.DiskState.{DiskState}
 pub use Rattle.journal_disk.specs.Disks.{longer_by, synced_all, replaced_by}
 pub use Rattle.journal.specs.ChronicleState.{ChronicleState}

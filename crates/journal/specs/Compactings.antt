@@ -1,9 +1,9 @@
 -- a journal whose chronicle's hall is compacted, and what a crash leaves then
 use Rattle.std.specs.Prelude.{◌≡◌, ◌⊎◌, ◌<◌, ◌≤◌, ℕ, List, length, Bool, true, false, Option}
 use Rattle.hall.specs.HallState.{HallState}
-use Rattle.hall_compaction.specs.declared.compactor.Compactor.{Compactor}
-use Rattle.hall_compaction.specs.Compactions.{IsCompacted}
-use Rattle.hall_compaction.specs.Dues.{due_after, due_again}
+use Rattle.hall.specs.declared.compactor.Compactor.{Compactor}
+use Rattle.hall.specs.Compactions.{IsCompacted}
+use Rattle.hall.specs.Dues.{due_after, due_again}
 use Rattle.journal_disk.specs.DiskState.{DiskState}
 use Rattle.journal_disk.specs.Disks.{Changes, MayLeaveEither, replaced_by}
 use Rattle.journal.specs.ChronicleState.{ChronicleState}

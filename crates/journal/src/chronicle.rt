@@ -5,14 +5,13 @@ ghost use Rattle.commands.specs.Replies.{is_refusal, with_view};
 ghost use Rattle.desk.specs.DeskCalls.{exchange};
 ghost use Rattle.hall.specs.Halls.{HallMay};
 ghost use Rattle.player.specs.Records.{exchange_line};
-ghost use Rattle.hall_compaction.specs.Compactions.{IsCompacted};
+ghost use Rattle.hall.specs.Compactions.{IsCompacted};
 ghost use Rattle.journal.specs.Chronicles.{ChronicleServes, chronicle_of, waiting_of};
 ghost use Rattle.journal.specs.Compactings.{MayCompact};
 ghost use Rattle.journal.specs.ChronicleProofs.{chronicle_answers};
 
 use commands::{Event, Reply};
-use hall::{Hall, law_of_serving};
-use hall_compaction::Compactor;
+use hall::{Compactor, Hall, law_of_serving};
 use player::{AsRecord, Form, Replies, Service, TURN_ROOM};
 use std::alloc::Global;
 use std::marker::Model;

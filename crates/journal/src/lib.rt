@@ -9,7 +9,7 @@
 //! as it was after some of its events, at least those that were committed (`law_of_crashes`); `Journal::open` reads it, and
 //! gives the hall of that record.
 //!
-//! A history that has grown long is compacted (`hall_compaction`): the record of a hall with the same desk takes the place of all that was
+//! A history that has grown long is compacted (`Compactor` of `hall`): the record of a hall with the same desk takes the place of all that was
 //! written, in one step of the disk (`Journal::compact`). A crash in its midst leaves what one before it leaves, or the new record, whole.
 #![tactic(auto)]
 

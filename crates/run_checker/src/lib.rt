@@ -15,9 +15,9 @@
 //!
 //! So the first fault decides, of whichever kind. That a line can follow exactly where no reason fits is `law_of_reasons`; that a
 //! list is one of a run exactly where each of its lines can follow, `law_of_records`; that what a desk answers is always one,
-//! `law_of_desk_runs`. Lines are judged one after the other by a `Checker`, which keeps what `run_judges` keeps of the objects. `Checker::judge` takes a line exactly
-//! where it can follow those that were taken before it, and else says the least of seven reasons (`TakesMore`). `first_fault` goes over a list
-//! of lines that were read already. That a line of a run is one that can follow those before it is `law_of_followed_lines`. What a line
+//! `law_of_desk_runs`. A `Checker` judges one line after the other, and keeps what `run_judges` keeps of the objects. `Checker::judge` takes
+//! a line exactly where it can follow those that were taken before it, and else says the least of seven reasons (`TakesMore`). `first_fault`
+//! goes over a list of lines that were read already. That a line of a run is one that can follow those before it is `law_of_followed_lines`. What a line
 //! says is read by `record_lines`, whose `Line`, `Told`, `Pairs`, `Header`, `Version` and `read_reply` can be named here as well.
 //!
 //! What `record` of `schedule_player` writes of an input with at most 1,000,000 events is the record of a talk to its lines, and `check`

@@ -2,8 +2,7 @@
 
 use crate::drawn::Words;
 use commands::{Config, Event, WorldKind};
-use hall::Hall;
-use hall_compaction::{Compactor, compacted};
+use hall::{Compactor, Hall, compacted};
 use std::alloc::Global;
 use std::process::Abort;
 

@@ -1,7 +1,7 @@
 //! Journals on disks in memory, what is done with them, and a short run with its record.
 
 use commands::{Config, Event, Reply, WorldKind};
-use hall_compaction::{Compactor, compacted};
+use hall::{Compactor, compacted};
 use journal::{Chronicle, Journal, MOST_WAITING, OpenFault, Opened};
 use journal_disk::MemoryDisk;
 use schedule_player::Service;

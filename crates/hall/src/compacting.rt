@@ -1,0 +1,97 @@
+//! A hall is built anew with fewer events.
+
+ghost use Rattle.std.specs.Prelude.{◌≡◌, ◌+◌, length, true, false, Some, IfOk, IfSome, OnOk};
+ghost use Rattle.hall.specs.Halls.{desk_of};
+ghost use Rattle.hall.specs.Compactions.{IsCompacted};
+ghost use Rattle.hall.specs.DeskParts.{is_renaming};
+ghost use Rattle.hall.specs.Rebuilt.{HasRenaming, IsSorted};
+
+use crate::Hall;
+use crate::plan::lead;
+use crate::rebuilding::Rebuilding;
+use crate::slots_copy::SlotsCopy;
+use crate::stuck::Stuck;
+use commands::Event;
+use std::alloc::Global;
+
+/// Whether an event is of renaming, and not of the pool or the slots.
+fn is_renaming(event: Event) -> bool
+    ensures { result ≡ is_renaming event }
+{
+    match event {
+        Event::Begin(_) => true,
+        Event::Step(_) => true,
+        Event::Enter(_) => false,
+        Event::Probe(_) => false,
+        Event::Leave(_) => false,
+        Event::Put(_, _) => false,
+        Event::Get(_) => false,
+        Event::Widen(_) => false,
+    }
+}
+
+/// Takes the event at a place of a hall over into a new one where it is of renaming, and follows it in a copy where it is not.
+fn sort(hall: &Hall, place: usize, new: &mut Rebuilding, old: &mut SlotsCopy) -> Result<(), Stuck>
+    ensures { OnOk result (IsSorted hall.now place new.old old.old → IsSorted hall.now (place + 1) new.new old.new) }
+{
+    // Asked for what it tells of the history: that it is lawful.
+    let _ = hall.len();
+    let Some(exchange) = hall.get(place) else {
+        return Err(Stuck);
+    };
+    if !is_renaming(exchange.event) {
+        return old.follow(exchange.event);
+    }
+    new.take(exchange.event)?;
+    Ok(())
+}
+
+/// A hall with the renaming of another, and a copy of the pool and the slots of that.
+struct Sorted {
+    new: Rebuilding,
+    old: SlotsCopy,
+}
+
+/// Sorts all events of a hall.
+fn sort_all(alloc: Global, hall: &Hall) -> Result<Sorted, Stuck>
+    ensures { IfOk result (λ s. IsSorted hall.now (length hall.now.history) s.new s.old) }
+{
+    let config = hall.config();
+    let mut new = Rebuilding::new(alloc, config)?;
+    let mut old = SlotsCopy::new(alloc, config.k)?;
+    for place in 0..hall.len() {
+        sort(hall, place, &mut new, &mut old)?;
+    }
+    Ok(Sorted { new, old })
+}
+
+/// A hall that is built anew, with the desk of another.
+fn rebuilt(alloc: Global, hall: &Hall) -> Result<Hall, Stuck>
+    ensures renaming { IfOk result (λ new. HasRenaming hall.now new) }
+    ensures desk { IfOk result (λ new. desk_of new ≡ desk_of hall.now) }
+{
+    let Sorted { mut new, old } = sort_all(alloc, hall)?;
+    lead(alloc, &mut new, &old)?;
+    if !old.is_same(&new.slots) {
+        return Err(Stuck);
+    }
+    let Rebuilding { hall: built, .. } = new;
+    Ok(built)
+}
+
+/// A hall of the same config whose desk is the same, with fewer events: those of renaming as they are, and in place of those of the
+/// pool and the slots as many as lead there from the start, at most some 150,000. `None` where that would be no fewer, or where a
+/// growth was refused.
+///
+/// It takes time as the history is long.
+pub fn compacted(alloc: Global, hall: &Hall) -> Option<Hall>
+    ensures { IfSome result (λ new. IsCompacted hall.now new) }
+{
+    let Ok(new) = rebuilt(alloc, hall) else {
+        return None;
+    };
+    if new.len() < hall.len() {
+        return Some(new);
+    }
+    None
+}

@@ -1,0 +1,50 @@
+//! A hall that is built anew.
+
+ghost use Rattle.std.specs.Prelude.{◌≡◌, [], false, IfOk, OnOk};
+ghost use Rattle.hall.specs.Halls.{hall_of};
+ghost use Rattle.hall.specs.DeskParts.{is_renaming};
+ghost use Rattle.hall.specs.Rebuilt.{IsCopied, HasTaken, GoesOn};
+
+use crate::Hall;
+use crate::slots_copy::SlotsCopy;
+use crate::stuck::Stuck;
+use commands::{Config, Event, Reply};
+use std::alloc::Global;
+use step_memory::View;
+
+/// A hall, and how its pool and slots stand.
+#[derive(Drop)]
+pub(crate) struct Rebuilding {
+    pub(crate) hall: Hall,
+    pub(crate) slots: SlotsCopy,
+    view: View,
+}
+
+impl Rebuilding {
+    /// A hall of this config with no event.
+    pub(crate) fn new(alloc: Global, config: Config) -> Result<Rebuilding, Stuck>
+        ensures hall { IfOk result (λ r. r.hall ≡ hall_of config []) }
+        ensures copied { IfOk result (λ r. IsCopied r.hall r.slots) }
+    {
+        Ok(Rebuilding {
+            hall: Hall::new(alloc, config)?,
+            slots: SlotsCopy::new(alloc, config.k)?,
+            view: View::new(),
+        })
+    }
+
+    /// Takes an event, and tells what the hall answered; an error where that is a refusal.
+    pub(crate) fn take(&mut self, event: Event) -> Result<Reply<()>, Stuck>
+        ensures taken { OnOk result (HasTaken self.old event self.new) }
+
+        // Then renaming is as it was, where the event is of the pool or the slots.
+        ensures pool { OnOk result (is_renaming event ≡ false → GoesOn self.old self.new) }
+    {
+        let reply = self.hall.apply_short(event, &mut self.view);
+        if reply.is_refusal() {
+            return Err(Stuck);
+        }
+        self.slots.follow(event)?;
+        Ok(reply)
+    }
+}

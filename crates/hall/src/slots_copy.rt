@@ -1,0 +1,291 @@
+//! A pool and slots as plain values.
+
+ghost use Rattle.std.specs.Prelude.{◌≡◌, ◌≤◌, ◌<◌, true, false, length, replicate, is_some, if◌then◌else◌, ◌++◌, ◌-◌, vec_len, IfOk, IfSome, OnOk, slice_index_or, slice_set};
+ghost use Rattle.step_memory.specs.Registers.{answer_of, after_access};
+ghost use Rattle.bit_allocator.specs.Competitors.{index_of, stay_of, with_stay, without, holder_in, holds_at};
+ghost use Rattle.bit_allocator.specs.Pool.{fresh_pool};
+ghost use Rattle.bit_allocator.specs.Stay.{probe_access, stay_probed, leave_access, held_at};
+ghost use Rattle.bit_allocator.specs.declared.stay.Stay.TheVariants.{Seeking, Settled};
+ghost use Rattle.step_memory.specs.declared.access.Access.TheVariants.{TestAndSet, Nothing};
+ghost use Rattle.bit_allocator.specs.Widening.{widen_refusal};
+ghost use Rattle.commands.specs.declared.event.Event.TheVariants.{Probe, Leave, Put, Widen};
+ghost use Rattle.hall.specs.Copies.{bits_in, slots_in};
+ghost use Rattle.hall.specs.Slots.{LetsIn, slots_after};
+
+use crate::stuck::Stuck;
+use bit_allocator::{Competitor, MOST_NUMBERS, Stay};
+use commands::Event;
+use std::alloc::Global;
+
+/// How a pool and its slots stand, to be compared. It follows events that were accepted.
+#[derive(Drop)]
+pub(crate) struct SlotsCopy {
+    pub(crate) size: u8,
+    pub(crate) bits: Vec<bool>,
+    pub(crate) competitors: Vec<Competitor>,
+    pub(crate) values: Vec<u64>,
+}
+
+/// Where the competitor of an identity stands in the row.
+fn find(competitors: &[Competitor], id: u64) -> Option<usize>
+    ensures answer { result ≡ index_of id competitors.now }
+    ensures inside { IfSome result (λ i. i < length competitors.now) }
+{
+    for (i, competitor) in competitors.iter().enumerate() {
+        if competitor.identity == id {
+            return Some(i);
+        }
+    }
+    None
+}
+
+/// Where an identity stands; none where it does not compete.
+fn stay_of(competitors: &[Competitor], id: u64) -> Option<Stay>
+    ensures { result ≡ stay_of id competitors.now }
+{
+    for competitor in competitors {
+        if competitor.identity == id {
+            return Some(competitor.stay);
+        }
+    }
+    None
+}
+
+/// An identity that competes stands so from now on.
+fn put_stay(competitors: &mut [Competitor], id: u64, stay: Stay)
+    ensures { competitors.new ≡ with_stay id stay competitors.old }
+{
+    if let Some(i) = find(competitors, id) {
+        let was = competitors[i];
+        competitors[i] = Competitor {
+            identity: was.identity,
+            stay,
+        };
+    }
+}
+
+/// Whether one who stands so holds a number.
+fn holds(stay: Stay, number: u8) -> bool
+    ensures { result ≡ holds_at number (held_at stay) }
+{
+    match stay {
+        Stay::Seeking(_) => false,
+        Stay::Settled(held) => held == number,
+    }
+}
+
+/// Whether two competitors are one and stand alike.
+fn is_one(one: Competitor, other: Competitor) -> bool
+    ensures { result ≡ true → one ≡ other }
+{
+    if one.identity != other.identity {
+        return false;
+    }
+    match (one.stay, other.stay) {
+        (Stay::Seeking(next), Stay::Seeking(beside)) => next == beside,
+        (Stay::Settled(number), Stay::Settled(beside)) => number == beside,
+        (Stay::Seeking(_), Stay::Settled(_)) => false,
+        (Stay::Settled(_), Stay::Seeking(_)) => false,
+    }
+}
+
+/// Whether two rows of competitors are one.
+fn is_one_row(row: &[Competitor], other: &[Competitor]) -> bool
+    ensures { result ≡ true → row.now ≡ other.now }
+{
+    if row.len() != other.len() {
+        return false;
+    }
+    for (i, competitor) in row.iter().enumerate() {
+        if !is_one(*competitor, other[i]) {
+            return false;
+        }
+    }
+    true
+}
+
+/// One competes no more.
+fn remove(competitors: &mut Vec<Competitor>, id: u64)
+    ensures { competitors.new.items ≡ without id competitors.old.items }
+{
+    competitors.retain(|competitor| competitor.identity != id);
+}
+
+/// Whether a number is held.
+fn is_held(competitors: &[Competitor], number: u8) -> bool
+    ensures { result ≡ is_some (holder_in number competitors.now) }
+{
+    for competitor in competitors {
+        if holds(competitor.stay, number) {
+            return true;
+        }
+    }
+    false
+}
+
+/// Sets a bit, and tells whether it was set.
+fn set(bits: &mut [bool], number: u8) -> bool
+    ensures was { result ≡ slice_index_or bits.old number false }
+    ensures bits { bits.new ≡ slice_set bits.old number true }
+{
+    let at = usize::from(number);
+    if at >= bits.len() {
+        return false;
+    }
+    let was = bits[at];
+    bits[at] = true;
+    was
+}
+
+/// Clears the bit of a number that is given back, in a pool of this size.
+fn release(bits: &mut [bool], size: u8, number: u8)
+    ensures { bits_in bits.new ≡ after_access (bits_in bits.old) (leave_access size (Settled number)) }
+{
+    let at = usize::from(number);
+    if number < size && at < bits.len() {
+        bits[at] = false;
+    }
+}
+
+/// Sets the bit of what was the last number of a pool, where that is held.
+fn keep_last(bits: &mut [bool], competitors: &[Competitor], size: u8)
+    ensures { bits_in bits.new ≡ after_access (bits_in bits.old) (if is_some (holder_in size competitors.now) then TestAndSet size else Nothing) }
+{
+    if is_held(competitors, size) {
+        let _ = set(bits, size);
+    }
+}
+
+/// Puts a value into the slot of a number.
+fn put_value(values: &mut [u64], number: u8, value: u64)
+    ensures { values.new ≡ slice_set values.old (number - 1) value }
+{
+    let at = usize::from(number).saturating_sub(1);
+    if at < values.len() {
+        values[at] = value;
+    }
+}
+
+/// Puts zeros behind values until there are so many.
+fn lengthen(values: &mut Vec<u64>, count: usize) -> Result<(), Stuck>
+    ensures { OnOk result (values.new.items ≡ values.old.items ++ replicate (count - vec_len values.old) 0) }
+{
+    let more = count.saturating_sub(values.len());
+    for _i in 0..more {
+        values.push(0)?;
+    }
+    Ok(())
+}
+
+/// Where one stands that has probed this number, whose bit is set then.
+fn probed(bits: &mut [bool], size: u8, next: u8) -> Stay
+    ensures stay { result ≡ stay_probed size (Seeking next) (answer_of (bits_in bits.old) (probe_access size (Seeking next))) }
+    ensures bits { bits_in bits.new ≡ after_access (bits_in bits.old) (probe_access size (Seeking next)) }
+{
+    if size <= next {
+        return Stay::Settled(size);
+    }
+    if !set(bits, next) {
+        return Stay::Settled(next);
+    }
+    if next + 1 < size {
+        Stay::Seeking(next + 1)
+    } else {
+        Stay::Settled(size)
+    }
+}
+
+impl SlotsCopy {
+    /// Of a pool of so many numbers in which nobody competes; each slot holds 0.
+    pub(crate) fn new(alloc: Global, size: u64) -> Result<SlotsCopy, Stuck>
+        requires { size ≤ 64 }
+        ensures { IfOk result (λ c. slots_in c ≡ record { pool = fresh_pool size; values = replicate size 0 }) }
+    {
+        Ok(SlotsCopy {
+            size: size as u8,
+            bits: Vec::from_elem(alloc, false, MOST_NUMBERS + 1)?,
+            competitors: Vec::new(alloc),
+            values: Vec::from_elem(alloc, 0u64, size as usize)?,
+        })
+    }
+
+    /// A competitor probes.
+    fn probe(&mut self, id: u64)
+        ensures { slots_in self.new ≡ slots_after (slots_in self.old) (Probe id) }
+    {
+        if let Some(Stay::Seeking(next)) = stay_of(&self.competitors, id) {
+            let stay = probed(&mut self.bits, self.size, next);
+            put_stay(&mut self.competitors, id, stay);
+        }
+    }
+
+    /// A holder leaves.
+    fn leave(&mut self, id: u64)
+        ensures { slots_in self.new ≡ slots_after (slots_in self.old) (Leave id) }
+    {
+        if let Some(Stay::Settled(number)) = stay_of(&self.competitors, id) {
+            release(&mut self.bits, self.size, number);
+            remove(&mut self.competitors, id);
+        }
+    }
+
+    /// A holder puts a value.
+    fn put(&mut self, id: u64, value: u64)
+        ensures { slots_in self.new ≡ slots_after (slots_in self.old) (Put id value) }
+    {
+        if let Some(Stay::Settled(number)) = stay_of(&self.competitors, id) {
+            put_value(&mut self.values, number, value);
+        }
+    }
+
+    /// The pool gets so many numbers, which are more than it has.
+    fn widen(&mut self, size: u64) -> Result<(), Stuck>
+        ensures { OnOk result (widen_refusal self.old.size size ≡ None → slots_in self.new ≡ slots_after (slots_in self.old) (Widen size)) }
+    {
+        if size > MOST_NUMBERS as u64 {
+            return Err(Stuck);
+        }
+        lengthen(&mut self.values, size as usize)?;
+        keep_last(&mut self.bits, &self.competitors, self.size);
+        self.size = size as u8;
+        Ok(())
+    }
+
+    /// Goes on as the pool and the slots do by an event that is accepted.
+    pub(crate) fn follow(&mut self, event: Event) -> Result<(), Stuck>
+        ensures { OnOk result (LetsIn (slots_in self.old) event → slots_in self.new ≡ slots_after (slots_in self.old) event) }
+    {
+        match event {
+            Event::Begin(_) => {}
+            Event::Step(_) => {}
+            Event::Enter(id) => self.competitors.push(Competitor {
+                identity: id,
+                stay: Stay::Seeking(1),
+            })?,
+            Event::Probe(id) => self.probe(id),
+            Event::Leave(id) => self.leave(id),
+            Event::Put(id, value) => self.put(id, value),
+            Event::Get(_) => {}
+            Event::Widen(size) => self.widen(size)?,
+        }
+        Ok(())
+    }
+
+    /// Whether a number is held.
+    pub(crate) fn holds(&self, number: u8) -> bool {
+        is_held(&self.competitors, number)
+    }
+
+    /// Whether the other stands just so.
+    pub(crate) fn is_same(&self, other: &SlotsCopy) -> bool
+        ensures { result ≡ true → slots_in self.now ≡ slots_in other.now }
+    {
+        let bits = self.bits == other.bits;
+        let competitors = is_one_row(&self.competitors, &other.competitors);
+        let values = self.values == other.values;
+        if !bits || !competitors || !values {
+            return false;
+        }
+        self.size == other.size
+    }
+}

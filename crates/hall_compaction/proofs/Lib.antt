@@ -1,3 +1,0 @@
-mod RowLemmas
-mod DeskLemmas
-mod RebuiltLemmas

@@ -1,5 +1,0 @@
-use Rattle.hall_compaction.specs.Rebuilt.{GoesOn}
-use Rattle.hall_compaction.proofs.plan.hold_below.Given as goal
-
-abbrev pub invariant-loop-below : goal.invariant-loop-below
-invariant-loop-below l = GoesOn l.initial.new l.new

@@ -1,6 +1,0 @@
-pub mod Slots
-pub mod Copies
-pub mod DeskParts
-pub mod Compactions
-pub mod Rebuilt
-pub mod Dues
