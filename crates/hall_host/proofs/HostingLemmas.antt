@@ -8,7 +8,7 @@ use Rattle.commands.specs.declared.event.Event.{Event}
 use Rattle.commands.specs.declared.exchange.Exchange.{Exchange}
 use Rattle.commands.specs.Replies.{ShownReply}
 use Rattle.run_checker.specs.Migrated.{record_text}
-use Rattle.journal_disk.specs.DiskState.{DiskState}
+use Rattle.journal.specs.DiskState.{DiskState}
 use Rattle.player.specs.Runs.{Runs}
 use Rattle.player.specs.Says.{Spoke}
 use Rattle.player.specs.Shared.{all_turns, turns_of}

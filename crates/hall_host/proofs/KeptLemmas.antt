@@ -1,6 +1,6 @@
 -- what is kept of a turn
 use Rattle.std.proofs.Common.{◌≡◌, ◌≤◌, length, Option, Result, Ok, Err, OnOk, inl, inr, refl, ap, sym, subst}
-use Rattle.journal_disk.specs.DiskState.{DiskState}
+use Rattle.journal.specs.DiskState.{DiskState}
 use Rattle.journal.specs.declared.journal.Journal.{Journal}
 use Rattle.journal.specs.ChronicleState.{ChronicleState}
 use Rattle.journal.specs.Chronicles.{chronicle_of}

@@ -2,7 +2,7 @@
 use Rattle.std.proofs.Common.{◌≡◌, ◌≤◌, List, [], ◌∷◌, ◌++◌, length, Option, inl, inr, refl, ap, subst, sym, ◌∙◌, arith}
 use Rattle.commands.specs.declared.event.Event.{Event}
 use Rattle.commands.specs.Replies.{ShownReply}
-use Rattle.journal_disk.specs.DiskState.{DiskState}
+use Rattle.journal.specs.DiskState.{DiskState}
 use Rattle.player.specs.Runs.{Runs}
 use Rattle.player.specs.Turns.{Turn, exchanges}
 use Rattle.player.specs.Turns.Turn.{Answered, Told, Ended, Misread}

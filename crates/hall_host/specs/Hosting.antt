@@ -1,7 +1,7 @@
 -- a turn of the loop over a chronicle and its journal
 use Rattle.std.specs.Prelude.{◌≡◌, ◌≤◌, ℕ, List, ◌++◌, length, get_or, Bool, false, Option, Some, None}
 use Rattle.std.specs.Io.KnownBytes.{Appends, Consumes}
-use Rattle.journal_disk.specs.DiskState.{DiskState}
+use Rattle.journal.specs.DiskState.{DiskState}
 use Rattle.player.specs.Progress.{Progress}
 use Rattle.player.specs.Says.{Spoke}
 use Rattle.player.specs.Shared.{TurnLog, all_turns, turns_of}

@@ -1,6 +1,6 @@
 -- what a journal has kept of a turn of the loop
 use Rattle.std.specs.Prelude.{◌≡◌, ◌⊎◌, Option, length}
-use Rattle.journal_disk.specs.DiskState.{DiskState}
+use Rattle.journal.specs.DiskState.{DiskState}
 use Rattle.hall.specs.HallState.{HallState}
 use Rattle.hall.specs.Compactions.{IsCompacted}
 use Rattle.journal.specs.declared.journal.Journal.{Journal}

@@ -2,8 +2,7 @@
 
 use event_server::HostFault;
 use hall_log::LogFault;
-use journal::{JournalFault, OpenFault};
-use journal_disk::{DiskFault, FileFault};
+use journal::{DiskFault, FileFault, JournalFault, OpenFault};
 use run_checker::Verdict;
 use std::io::ErrorKind;
 use step_memory::{NoMemory, Refusal};

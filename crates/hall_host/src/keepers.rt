@@ -7,8 +7,7 @@ ghost use Rattle.hall_host.specs.Kept.{KeptBy, MayCompactHall, Rests};
 
 use event_server::{Ahead, Keep, Tally};
 use hall::{Compactor, Hall};
-use journal::{Chronicle, Journal, JournalFault, law_of_crashes};
-use journal_disk::Disk;
+use journal::{Chronicle, Disk, Journal, JournalFault, law_of_crashes};
 use std::alloc::Global;
 
 /// Where so many bytes of lines wait they are kept before the next connection has its turn: the lines of one more turn, 64 KiB of the

@@ -12,8 +12,7 @@ ghost use Rattle.hall_host.specs.Hosting.{IsHosted, WasHosted};
 ghost use Rattle.hall_host.specs.Kept.{KeptBy, Rests};
 
 use hall::{law_of_events, law_of_serving};
-use journal::law_of_crashes;
-use journal_disk::Disk;
+use journal::{Disk, law_of_crashes};
 
 /// A law, which runs nothing, of what `event_server::host` does to a chronicle whose journal stands, kept by `Recorded`, as long as it runs: at
 /// its end header and journal are the record of what was handed on of a lawful hall of the same config, and synced.

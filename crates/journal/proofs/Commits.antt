@@ -3,7 +3,7 @@ use Rattle.std.proofs.Common.{◌≡◌, ℕ, ◌≤◌, List, [], ◌++◌, len
 use Rattle.journal.proofs.Common.{flat_map-append, same_Some, DiskState, IsCutOnce, exchange_line, header_line, HallState, ChronicleState, HasSynced, KeepsHandedOn}
 use Rattle.std.proofs.lemmas.List.{append-nil, take-append-drop, take_all}
 use mathlib.Core.List.{IsPrefix}
-use Rattle.journal_disk.specs.Disks.{Changes, longer_by, synced_all}
+use Rattle.journal.specs.Disks.{Changes, longer_by, synced_all}
 use Rattle.journal.specs.Chronicles.{record_of_hall, told_record, waiting_of, chronicle_of}
 use Rattle.journal.proofs.Crashes.{leaves}
 

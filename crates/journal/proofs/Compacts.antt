@@ -1,7 +1,7 @@
 -- the record of another hall in place of all that was written
 use Rattle.std.proofs.Common.{◌≡◌, Bool, true, false, ℕ, zero, suc, ◌+◌, ◌≤◌, List, [], ◌∷◌, ◌++◌, Some, inl, inr, length, take, flat_map, refl, ap, sym, ◌∙◌, subst, append_assoc, arith, add-one, slice_get}
 use Rattle.journal.proofs.Common.{append-nil, flat_map-append, same_Some, Exchange, IsCutOnce, exchange_line, header_line, HallState, DiskState, ChronicleState, record_of_hall, hall_after_first, chronicle_of, IsCompacted, HasSynced, LeavesHall}
-use Rattle.journal_disk.specs.Disks.{MayLeaveEither, replaced_by}
+use Rattle.journal.specs.Disks.{MayLeaveEither, replaced_by}
 use Rattle.journal.specs.Compactings.{LeavesEither, TakesHall, HasCompacted, MayCompact}
 use Rattle.journal.proofs.Commits.{told_all}
 use Rattle.journal.proofs.Crashes.{cut_record}

@@ -9,4 +9,5 @@ pub mod OpeningLemmas
 pub mod Replays
 pub mod Restarts
 pub mod Compacts
+pub mod MemoryLemmas
 mod FaultLemmas

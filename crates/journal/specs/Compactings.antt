@@ -4,8 +4,8 @@ use Rattle.hall.specs.HallState.{HallState}
 use Rattle.hall.specs.declared.compactor.Compactor.{Compactor}
 use Rattle.hall.specs.Compactions.{IsCompacted}
 use Rattle.hall.specs.Dues.{due_after, due_again}
-use Rattle.journal_disk.specs.DiskState.{DiskState}
-use Rattle.journal_disk.specs.Disks.{Changes, MayLeaveEither, replaced_by}
+use Rattle.journal.specs.DiskState.{DiskState}
+use Rattle.journal.specs.Disks.{Changes, MayLeaveEither, replaced_by}
 use Rattle.journal.specs.ChronicleState.{ChronicleState}
 use Rattle.journal.specs.declared.journal.Journal.{Journal}
 use Rattle.journal.specs.Chronicles.{record_of_hall, chronicle_of}

@@ -3,8 +3,8 @@ use Rattle.std.specs.Prelude.{◌≡◌, ◌==◌, if◌then◌else◌, ◌⊎�
 use Rattle.command_lines.specs.Lines.{whole_lines, with_ends}
 use Rattle.player.specs.Records.{header_line}
 use Rattle.hall.specs.HallState.{HallState}
-use Rattle.journal_disk.specs.DiskState.{DiskState}
-use Rattle.journal_disk.specs.Disks.{Changes, OnlyGrows, MayLeave, longer_by, synced_all}
+use Rattle.journal.specs.DiskState.{DiskState}
+use Rattle.journal.specs.Disks.{Changes, OnlyGrows, MayLeave, longer_by, synced_all}
 use mathlib.Core.List.{IsPrefix}
 use Rattle.journal.specs.declared.journal.Journal.{Journal}
 use Rattle.journal.specs.ChronicleState.{ChronicleState}

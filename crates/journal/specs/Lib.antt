@@ -1,3 +1,6 @@
+pub mod DiskState
+pub mod Disks
+pub mod Memories
 pub mod ChronicleState
 pub mod Chronicles
 pub mod ChronicleProofs

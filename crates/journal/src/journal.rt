@@ -1,8 +1,8 @@
 //! The journal of a chronicle, on a disk.
 
 ghost use Rattle.std.specs.Prelude.{◌≡◌, ◌≢◌, true, false, length, Err, Some, OnOk, OnErr, IfOk, IfErr};
-ghost use Rattle.journal_disk.specs.Disks.{Changes};
-ghost use Rattle.journal_disk.specs.DiskState.{DiskState};
+ghost use Rattle.journal.specs.Disks.{Changes};
+ghost use Rattle.journal.specs.DiskState.{DiskState};
 ghost use Rattle.hall.specs.Compactions.{IsCompacted};
 ghost use Rattle.hall.specs.Dues.{due_again};
 ghost use Rattle.journal.specs.Chronicles.{chronicle_of};
@@ -13,9 +13,9 @@ ghost use Rattle.journal.specs.Journals.{Stands, KeepsAtAnyMoment, IsHallOf, IsM
 use crate::chronicle::Chronicle;
 use crate::opening::{OpenFault, recovered};
 use crate::record::record_of;
+use crate::{Disk, DiskFault};
 use commands::Config;
 use hall::{Compactor, Hall};
-use journal_disk::{Disk, DiskFault};
 use player::{Replies, law_of_lines, print_header};
 use std::alloc::Global;
 

@@ -2,9 +2,9 @@
 
 ghost use Rattle.std.specs.Prelude.{◌≡◌, ◌≤◌, ℕ, List, length};
 ghost use Rattle.hall.specs.HallState.{HallState};
-ghost use Rattle.journal_disk.specs.DiskState.{DiskState};
+ghost use Rattle.journal.specs.DiskState.{DiskState};
 ghost use Rattle.journal.specs.ChronicleState.{ChronicleState};
-ghost use Rattle.journal_disk.specs.Disks.{MayLeaveEither};
+ghost use Rattle.journal.specs.Disks.{MayLeaveEither};
 ghost use Rattle.journal.specs.Chronicles.{record_of_hall};
 ghost use Rattle.journal.specs.Compactings.{LeavesEither};
 ghost use Rattle.journal.specs.Journals.{HasSynced, IsHallOf, KeepsHandedOn, LeavesHall, RecordsHallAfter};

@@ -11,15 +11,27 @@
 //!
 //! A history that has grown long is compacted (`Compactor` of `hall`): the record of a hall with the same desk takes the place of all that was
 //! written, in one step of the disk (`Journal::compact`). A crash in its midst leaves what one before it leaves, or the new record, whole.
+//!
+//! What a journal is written to is a `Disk`: bytes that outlast a crash. It says what each call does to what was written, to how much of that is
+//! surely there, and to how often bytes were cut off or replaced. A crash leaves a beginning of what was written, and all that was surely there
+//! (`MayLeave`); one in the midst of a replacing leaves that of the old bytes, or all of the new ones (`MayLeaveEither`). `FileDisk` is a file of
+//! the system. Nothing is known of its bytes, since no contract can say what the system does: that it is such a disk is trusted. `MemoryDisk` is
+//! one in memory, for trials, with faults and crashes of its own: there each clause is proved.
 #![tactic(auto)]
 
 pub mod chronicle;
+pub mod disk;
+pub mod file_disk;
 pub mod journal;
 pub mod laws;
+pub mod memory_disk;
 pub mod opening;
 mod record;
 
 pub use chronicle::{Chronicle, MOST_WAITING};
+pub use disk::{Disk, DiskFault};
+pub use file_disk::{FileDisk, FileFault};
 pub use journal::{Journal, JournalFault, Opened};
 pub use laws::law_of_crashes;
+pub use memory_disk::MemoryDisk;
 pub use opening::OpenFault;

@@ -12,10 +12,10 @@ ghost use Rattle.journal.specs.Openings.{GoesOnBy, HasFollowed, IsRecovered};
 ghost use Rattle.journal.specs.OpenFaults.{IsFaultOf, IsOpenFault};
 ghost use Rattle.run_checker.specs.Verdict.{IsVerdict};
 
+use crate::DiskFault;
 use crate::chronicle::applied;
 use commands::{Config, Event, Reply, WorldKind};
 use hall::Hall;
-use journal_disk::DiskFault;
 use memchr::memchr;
 use player::{AsRecord, Form, Replies, after_front, law_of_lines, print_header};
 use record_lines::{Version, read_line};

@@ -2,7 +2,7 @@
 
 use crate::journals::{ALL_CALLS, Act, OPENING_CALLS, are_so, disk_after, empty_disk};
 use commands::Event;
-use journal_disk::MemoryDisk;
+use journal::MemoryDisk;
 use std::alloc::Global;
 
 /// One enters, takes a number, and leaves.

@@ -1,6 +1,6 @@
 //! A file as a disk. A disk in memory, of which each clause is proved, is tried with the journals on it.
 
-use journal_disk::{Disk, FileDisk, FileFault};
+use journal::{Disk, FileDisk, FileFault};
 use std::alloc::Global;
 use std::fs;
 use std::test::Fail;

@@ -4,8 +4,7 @@ use crate::journals::{
     ALL_CALLS, Act, HEADER, OPENING_CALLS, are_so, disk_after, empty_disk, opened, record, tried,
 };
 use commands::Event;
-use journal::OpenFault;
-use journal_disk::{DiskFault, MemoryDisk};
+use journal::{DiskFault, MemoryDisk, OpenFault};
 use run_checker::{Reason, Verdict};
 use std::alloc::{AllocError, Global};
 use std::test::Fail;

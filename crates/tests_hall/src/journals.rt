@@ -2,8 +2,7 @@
 
 use commands::{Config, Event, Reply, WorldKind};
 use hall::{Compactor, compacted};
-use journal::{Chronicle, Journal, MOST_WAITING, OpenFault, Opened};
-use journal_disk::MemoryDisk;
+use journal::{Chronicle, Journal, MOST_WAITING, MemoryDisk, OpenFault, Opened};
 use schedule_player::Service;
 use std::alloc::{AllocError, Global};
 use step_memory::{Refusal, View};

@@ -1,4 +1,4 @@
-//! Trials of `locked_world`, `slot_server`, `journal_disk`, `journal` and `hall` through their public calls: halls, locks round them
+//! Trials of `locked_world`, `slot_server`, `journal` and `hall` through their public calls: halls, locks round them
 //! with sessions, clerks and threads, names on a board, and connections that are served at once; journals that are torn at each byte, whose disk
 //! fails at each call, of other runs, and compacted; a file as a disk; and drawn halls of every size, built anew.
 //!

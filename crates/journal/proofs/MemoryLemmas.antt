@@ -4,8 +4,8 @@ use Rattle.std.proofs.lemmas.List.{append-nil, take-append-drop}
 use Rattle.std.proofs.Math.Seq.{take-add}
 use Rattle.std.proofs.lemmas.Option.{same_Some}
 use mathlib.Core.List.{IsPrefix}
-use Rattle.journal_disk.specs.DiskState.{DiskState}
-use Rattle.journal_disk.specs.Disks.{state_of, longer_by, IsShortened, MayLeave}
+use Rattle.journal.specs.DiskState.{DiskState}
+use Rattle.journal.specs.Disks.{state_of, longer_by, IsShortened, MayLeave}
 
 prefix_self : (xs : List ℕ) → IsPrefix xs xs
 prefix_self xs = ([], append-nil xs)

@@ -1,8 +1,8 @@
 use Rattle.std.proofs.Common.{◌≡◌, ◌∙◌, ◌≤◌, ap, max, take, arith}
-use Rattle.journal_disk.specs.DiskState.{DiskState}
-use Rattle.journal_disk.specs.Memories.{memory_state}
-use Rattle.journal_disk.proofs.MemoryLemmas.{crash_leaves}
-use Rattle.journal_disk.proofs.memory_disk.MemoryDisk.crashed.Goals as goal
+use Rattle.journal.specs.DiskState.{DiskState}
+use Rattle.journal.specs.Memories.{memory_state}
+use Rattle.journal.proofs.MemoryLemmas.{crash_leaves}
+use Rattle.journal.proofs.memory_disk.MemoryDisk.crashed.Goals as goal
 
 pub returns-clause-left : goal.returns-clause-left
 returns-clause-left c =

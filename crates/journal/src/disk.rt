@@ -1,8 +1,8 @@
 //! What a journal is written to.
 
 ghost use Rattle.std.specs.Prelude.{Option};
-ghost use Rattle.journal_disk.specs.DiskState.{DiskState};
-ghost use Rattle.journal_disk.specs.Disks.{Changes, IsAppended, IsSynced, IsCut, IsReplaced, Reads};
+ghost use Rattle.journal.specs.DiskState.{DiskState};
+ghost use Rattle.journal.specs.Disks.{Changes, IsAppended, IsSynced, IsCut, IsReplaced, Reads};
 
 use std::alloc::{AllocError, Global};
 use std::io::{self, ErrorKind};

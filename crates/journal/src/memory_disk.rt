@@ -1,8 +1,8 @@
 //! A disk in memory, for trials.
 
 ghost use Rattle.std.specs.Prelude.{◌≡◌, Some, take, vec_len};
-ghost use Rattle.journal_disk.specs.Disks.{state_of, MayLeave};
-ghost use Rattle.journal_disk.specs.Memories.{memory_before, memory_state};
+ghost use Rattle.journal.specs.Disks.{state_of, MayLeave};
+ghost use Rattle.journal.specs.Memories.{memory_before, memory_state};
 
 use crate::disk::{Disk, DiskFault};
 use std::alloc::Global;

@@ -3,7 +3,7 @@ use Rattle.std.specs.Prelude.{◌≡◌, ◌⊎◌, ℕ, ◌+◌, ◌≤◌, Lis
 use mathlib.Core.List.{IsPrefix}
 use Rattle.std.specs.declared.vec.Vec.{Vec}
 use Rattle.std.specs.declared.alloc.Global.{Global}
-use Rattle.journal_disk.specs.DiskState.{DiskState}
+use Rattle.journal.specs.DiskState.{DiskState}
 
 abbrev pub state_of : List ℕ → ℕ → ℕ → DiskState
 state_of contents synced cuts = record { contents = contents; synced = synced; cuts = cuts }

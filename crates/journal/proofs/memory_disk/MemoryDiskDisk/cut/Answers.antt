@@ -1,9 +1,9 @@
 use Rattle.std.proofs.Common.{◌≡◌, ◌∙◌, ℕ, ◌+◌, Some, min, subst, sym, ap, length, take}
-use Rattle.journal_disk.specs.DiskState.{DiskState}
-use Rattle.journal_disk.specs.Disks.{state_of, IsShortened}
-use Rattle.journal_disk.specs.Memories.{memory_state}
-use Rattle.journal_disk.proofs.MemoryLemmas.{shortened}
-use Rattle.journal_disk.proofs.memory_disk.MemoryDiskDisk.cut.Goals as goal
+use Rattle.journal.specs.DiskState.{DiskState}
+use Rattle.journal.specs.Disks.{state_of, IsShortened}
+use Rattle.journal.specs.Memories.{memory_state}
+use Rattle.journal.proofs.MemoryLemmas.{shortened}
+use Rattle.journal.proofs.memory_disk.MemoryDiskDisk.cut.Goals as goal
 
 pub returns : goal.returns
 returns c =

@@ -1,9 +1,9 @@
 use Rattle.std.proofs.Common.{◌≡◌, ◌∙◌, ◌/◌, ◌++◌, List, ℕ, ap, take, length}
-use Rattle.journal_disk.specs.DiskState.{DiskState}
-use Rattle.journal_disk.specs.Disks.{state_of, longer_by}
-use Rattle.journal_disk.specs.Memories.{memory_state}
-use Rattle.journal_disk.proofs.MemoryLemmas.{part_appended}
-use Rattle.journal_disk.proofs.memory_disk.MemoryDiskDisk.append.Goals as goal
+use Rattle.journal.specs.DiskState.{DiskState}
+use Rattle.journal.specs.Disks.{state_of, longer_by}
+use Rattle.journal.specs.Memories.{memory_state}
+use Rattle.journal.proofs.MemoryLemmas.{part_appended}
+use Rattle.journal.proofs.memory_disk.MemoryDiskDisk.append.Goals as goal
 
 pub returns-then-not-goes_on : goal.returns-then-not-goes_on
 returns-then-not-goes_on c =

@@ -1,3 +1,0 @@
-pub mod DiskState
-pub mod Disks
-pub mod Memories
