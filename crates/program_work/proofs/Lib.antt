@@ -1,4 +1,7 @@
 mod Common
+mod ConfigLemmas
+mod AskLemmas
+mod HostLemmas
 mod ReadLemmas
 mod CheckLemmas
 mod MigrateLemmas

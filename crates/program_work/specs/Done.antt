@@ -14,13 +14,13 @@ use Rattle.player.specs.declared.summary.Summary.{Summary}
 use Rattle.run_checker.specs.declared.verdict.Verdict.{Verdict}
 use Rattle.schedule_player.specs.Recorded.{IsRecorded}
 use Rattle.commands.specs.declared.config.Config.{Config}
-use Rattle.program_args.specs.declared.asked.Ask.{Ask}
-use Rattle.program_args.specs.declared.asked.Ask.TheVariants.{Play, Check, Migrate, Show, Draw, Serve, Host}
-use Rattle.program_args.specs.declared.asked.Drawing.{Drawing}
-use Rattle.program_args.specs.declared.asked.Showing.{Showing}
+use Rattle.program_work.specs.declared.asked.Ask.{Ask}
+use Rattle.program_work.specs.declared.asked.Ask.TheVariants.{Play, Check, Migrate, Show, Draw, Serve, Host}
+use Rattle.program_work.specs.declared.asked.Drawing.{Drawing}
+use Rattle.program_work.specs.declared.asked.Showing.{Showing}
 use Rattle.program_work.specs.declared.failure.Failure.{Failure}
 use Rattle.program_work.specs.declared.failure.Failure.TheVariants as failure
-use Rattle.program_args.specs.declared.misuse.Misuse.{Misuse}
+use Rattle.program_work.specs.declared.misuse.Misuse.{Misuse}
 use Rattle.program_work.specs.declared.outcome.Outcome.{Outcome}
 use Rattle.program_work.specs.declared.outcome.Outcome.TheVariants as outcome
 use Rattle.program_work.specs.Checked.{IsChecked, IsRewritten}

@@ -9,7 +9,7 @@ use Rattle.command_lines.specs.declared.fault.Fault.{Fault}
 use Rattle.command_lines.specs.declared.fault.Fault.TheVariants.{Read, Write, Memory}
 use Rattle.player.specs.Played.{Reading, Writing}
 use Rattle.player.specs.declared.playing.TheConstants.{MOST_READS}
-use Rattle.program_args.specs.declared.asked.Showing.{Showing}
+use Rattle.program_work.specs.declared.asked.Showing.{Showing}
 use Rattle.program_work.specs.Checked.{HasFailedRead, IsWhole}
 use Rattle.program_work.specs.declared.failure.Failure.{Failure}
 use Rattle.program_work.specs.declared.failure.Failure.TheVariants as failure

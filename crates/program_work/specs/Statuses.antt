@@ -3,7 +3,7 @@ use Rattle.std.specs.Prelude.{ℕ, Result, Ok, Err}
 use Rattle.command_lines.specs.declared.fault.Fault.{Fault}
 use Rattle.program_work.specs.declared.failure.Failure.{Failure}
 use Rattle.program_work.specs.declared.failure.Failure.TheVariants as failure
-use Rattle.program_args.specs.declared.misuse.Misuse.TheVariants.{Help, Words, Memory}
+use Rattle.program_work.specs.declared.misuse.Misuse.TheVariants.{Help, Words, Memory}
 
 -- 0 for help, 1 for a record that is not shown, 2 for words that are refused, and 3 for a fault or want of memory
 abbrev pub status_of : Failure → ℕ

@@ -3,8 +3,8 @@
 ghost use Rattle.std.specs.Prelude.{◌≡◌};
 ghost use Rattle.program_work.specs.Statuses.{status_of};
 
+use crate::Misuse;
 use player::Fault;
-use program_args::Misuse;
 use thiserror::Error;
 
 /// Why the program did nothing, or did not come to its end. Its `Display` is the text for the user.

@@ -1,6 +1,11 @@
 //! What the words of a command line ask `slotctl` for, done over any reader and writer.
 //!
-//! `program` has the words read (`ask` of `program_args`), does what they ask for, tells a failure and answers the status; `program_over`
+//! `ask` has clap match the words with the program's command line (`slotctl_command`), and answers what was matched as an `Ask`, whose parts are in
+//! their ranges, or why the words ask for nothing (`Misuse`). What is proved (`IsRead`): an `Ask` is one that the options matched mean, by clap's
+//! own definition of what words match; help comes where clap shows help, and words are refused where clap refuses them, or where a world or a
+//! number is none that is allowed.
+//!
+//! `program` has the words read, does what they ask for, tells a failure and answers the status; `program_over`
 //! is the same over streams of std, whose calls it counts. `done` is the same up to what is told, and `work` does what was asked for:
 //! `play_for`, `check_for`, `migrate_for` or `draw_for`; `show_for` shows a record. To serve is left to the caller (`Outcome::Serve`),
 //! with nothing read and nothing written.
@@ -24,21 +29,37 @@
 //!     Outcome::Serve(serving) => ..
 //! }
 //! ```
+//!
+//! Another, which has words read:
+//!
+//! ```text
+//! match ask(alloc, &["slotctl", "play", "--m", "2"]) {
+//!     Ok(Ask::Play(playing)) => playing.config.m,         // 2
+//!     ..
+//! }
+//! ```
 #![tactic(auto)]
 
+pub mod asked;
 pub mod checking;
+pub mod command_line;
 pub mod failure;
 pub mod migrating;
+pub mod misuse;
 pub mod outcome;
 pub mod program;
 pub mod progress;
 pub mod showing;
+pub mod words;
 pub mod working;
 
+pub use asked::{Ask, Drawing, Hosting, Keeping, LogWords, Playing, Serving, Showing};
 pub use checking::check_for;
 pub use failure::Failure;
 pub use migrating::migrate_for;
+pub use misuse::Misuse;
 pub use outcome::Outcome;
 pub use progress::{in_sight, may_take_long};
 pub use showing::show_for;
+pub use words::{ask, refused};
 pub use working::work;

@@ -1,6 +1,6 @@
 //! How the program goes on.
 
-use program_args::{Hosting, Serving};
+use crate::{Hosting, Serving};
 
 /// What is left to do, once the words were read.
 #[derive(Clone, Copy, Drop)]

@@ -2,18 +2,17 @@
 
 ghost use Rattle.std.specs.Prelude.{◌≡◌, ◌⊎◌, ◌<◌, ◌^◌, Result, map};
 ghost use Rattle.player.specs.Played.{reading, writing};
-ghost use Rattle.program_args.specs.Asked.{IsRead};
+ghost use Rattle.program_work.specs.Asked.{IsRead};
 ghost use Rattle.program_work.specs.Done.{IsDone};
-ghost use Rattle.program_args.specs.declared.asked.Ask.{Ask};
-ghost use Rattle.program_args.specs.declared.misuse.Misuse.{Misuse};
+ghost use Rattle.program_work.specs.declared.asked.Ask.{Ask};
+ghost use Rattle.program_work.specs.declared.misuse.Misuse.{Misuse};
 ghost use Rattle.program_work.specs.Statuses.{status_of};
 
 use crate::failure::Failure;
 use crate::outcome::Outcome;
 use crate::showing::{after_showing, show_for};
-use crate::working;
+use crate::{Ask, Misuse, ask, working};
 use player::{Fault, Sink, Source, Tried};
-use program_args::{Ask, Misuse, ask};
 use std::alloc::Global;
 use std::convert::AsStr;
 use std::io::{Read, Write};

@@ -4,11 +4,11 @@ ghost use Rattle.std.specs.Prelude.{◌≡◌, ◌<◌, ◌^◌};
 ghost use Rattle.player.specs.Played.{reading, writing};
 ghost use Rattle.program_work.specs.Shown.{IsShownFor, outcome_shown, stretch_asked};
 
+use crate::Showing;
 use crate::checking::read_whole;
 use crate::failure::Failure;
 use crate::outcome::Outcome;
 use player::{Fault, READ_BYTES, Sink, Source};
-use program_args::Showing;
 use run_checker::Verdict;
 use run_page::{Stretch, show};
 use std::alloc::Global;

@@ -6,9 +6,9 @@ ghost use Rattle.program_work.specs.Done.{IsWorked, IsDrawnBy, IsPlayedBy, is_wo
 
 use crate::checking::check_for;
 use crate::migrating::migrate_for;
+use crate::{Ask, Drawing, Playing};
 use drawn_schedules::{Schedule, draw_schedule, play_drawn_by};
 use player::{Fault, Sink, Source};
-use program_args::{Ask, Drawing, Playing};
 use schedule_player::{play_any, record};
 use std::alloc::{Allocator, Global};
 use std::thread::Threads;

@@ -13,9 +13,11 @@ ghost use Rattle.std.specs.Prelude.{◌≡◌};
 use hall_host::{HostFailure, HostPlan, Keeping, LogPlan, export_hall, host_hall};
 use history_book::Opened;
 use player::{Fault, Tried};
-use program_args::{Hosting, Keeping as KeepingWords, LogWords, Misuse, Serving, refused};
 use program_work::program::{program_over, report};
-use program_work::{Failure, Outcome, in_sight, may_take_long};
+use program_work::{
+    Failure, Hosting, Keeping as KeepingWords, LogWords, Misuse, Outcome, Serving, in_sight,
+    may_take_long, refused,
+};
 use slot_server::{Plan, ServeFault, serve};
 use std::alloc::{AllocGlobal, Global};
 use std::env;

@@ -1,4 +1,4 @@
-//! Trials of `player`, of what plays with it, of `run_checker`, `program_args` and `program_work` through their public calls: what lines mean and
+//! Trials of `player`, of what plays with it, of `run_checker` and of `program_work` through their public calls: what lines mean and
 //! how replies are spelled; runs over readers and writers that give little at a time and fail in turn; each growth refused in turn; a small world
 //! of their own; drawn runs; records of runs, checked and migrated; what the words of a command line are read as, and which statuses and texts the
 //! program ends with. What is said of records that differ in one place is tried on the built program, by `tests/records`.

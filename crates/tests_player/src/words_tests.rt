@@ -2,7 +2,7 @@
 //! program, by `tests/program`.
 
 use commands::WorldKind;
-use program_args::{Ask, Keeping, Misuse, ask};
+use program_work::{Ask, Keeping, Misuse, ask};
 use std::alloc::Global;
 use std::net::{IpAddr, Ipv4Addr, Ipv6Addr};
 

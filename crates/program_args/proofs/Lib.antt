@@ -1,4 +1,0 @@
-mod Common
-mod ConfigLemmas
-mod AskLemmas
-mod HostLemmas

@@ -1,3 +1,0 @@
-pub mod Ranges
-pub mod CommandLine
-pub mod Asked
