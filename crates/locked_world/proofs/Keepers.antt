@@ -1,11 +1,11 @@
 -- what a clerk comes to keep while it serves
 use Rattle.std.proofs.Common.{◌≡◌, ◌++◌, List, [], ◌∷◌, map, true, false, cond, sym, ap, ◌∙◌, append_assoc}
 use Rattle.locked_world.proofs.Common.{append-nil, map-append, is_refusal, kept_of, Config, Exchange, Runs, Turn, exchanges, Answered, Told, Ended, Misread, Kept, CallerState}
-use Rattle.hall_callers.specs.Kepts.{IsTaken, IsTold, IsSound, Keeps, KeepsUnless}
+use Rattle.locked_world.specs.Kepts.{IsTaken, IsTold, IsSound, Keeps, KeepsUnless}
 use Rattle.locked_world.specs.Serving.{ClerkServes, exchange_kept}
 use Rattle.hall.specs.Serving.{accepted}
 use Rattle.hall.proofs.Serves.{accepted-one}
-use Rattle.hall_callers.proofs.Standing.{sound_after}
+use Rattle.locked_world.proofs.Standing.{sound_after}
 
 -- over one event
 pub kept_one : (ks new : List Kept) (x : Exchange) → Keeps ks x.event x.reply new → map exchange_kept new ≡ map exchange_kept ks ++ accepted (x ∷ [])

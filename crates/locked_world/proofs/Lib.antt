@@ -1,4 +1,9 @@
 mod Common
+mod Keeping
+mod Places
+mod Marking
+mod Naming
+pub mod Standing
 mod Renames
 mod Ending
 pub mod Sent

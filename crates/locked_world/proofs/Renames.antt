@@ -6,9 +6,9 @@ use Rattle.commands.specs.declared.reply.Reply.{Reply}
 use Rattle.commands.specs.declared.reply.Reply.TheVariants.{Named, Spent, Refused}
 use Rattle.desk.specs.NamedAmong.{goes_on}
 use Rattle.locked_world.specs.Renamed.{AreAbove, IsStepped, IsPlainStep}
-use Rattle.hall_callers.specs.declared.kept.Kept.{Kept}
+use Rattle.locked_world.specs.declared.kept.Kept.{Kept}
 use Rattle.history_book.proofs.Fronts.{prefix_self, prefix_trans}
-use Rattle.hall_callers.proofs.Standing.{sound_after, seen_after}
+use Rattle.locked_world.proofs.Standing.{sound_after, seen_after}
 
 pub stepped_not : (c : Config) (id : ℕ) (s : CallerState) → IsStepped c id 0 s s
 stepped_not c id s = record { added = []; longer = sym (append-nil s.kept); counted = refl; plain = All-nil _; rising = tt; seen = prefix_self s.seen; sound = λ sound. sound }

@@ -11,9 +11,9 @@ use Rattle.commands.specs.declared.reply.Reply.TheVariants as reply
 use Rattle.rename_core.specs.Ends.{steps_among}
 use Rattle.desk.specs.DeskRun.{desk_bounds}
 use Rattle.desk.specs.NamedAmong.{goes_on}
-use Rattle.hall_callers.specs.declared.kept.Kept.{Kept}
-use Rattle.hall_callers.specs.CallerState.{CallerState}
-use Rattle.hall_callers.specs.Kepts.{IsTaken, IsSound}
+use Rattle.locked_world.specs.declared.kept.Kept.{Kept}
+use Rattle.locked_world.specs.CallerState.{CallerState}
+use Rattle.locked_world.specs.Kepts.{IsTaken, IsSound}
 
 -- in so many turns a session is named, spent or refused, where at most b have begun
 abbrev pub turns_among : Config → ℕ → ℕ

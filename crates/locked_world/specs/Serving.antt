@@ -8,9 +8,9 @@ use Rattle.commands.specs.Requests.Request.{Take, OwnerOf}
 use Rattle.player.specs.Runs.{Runs}
 use Rattle.player.specs.Turns.{Turn}
 use Rattle.hall.specs.Serving.{accepted}
-use Rattle.hall_callers.specs.declared.kept.Kept.{Kept}
-use Rattle.hall_callers.specs.CallerState.{CallerState}
-use Rattle.hall_callers.specs.Kepts.{IsTaken, IsTold, IsSound}
+use Rattle.locked_world.specs.declared.kept.Kept.{Kept}
+use Rattle.locked_world.specs.CallerState.{CallerState}
+use Rattle.locked_world.specs.Kepts.{IsTaken, IsTold, IsSound}
 
 -- a clerk at its lock, which has seen a lawful history: an event is taken as any caller's is, and who has a name is told as to any caller
 abbrev pub ClerkServes : Config → CallerState → Request → ShownReply → CallerState → Type 0

@@ -9,7 +9,7 @@ use Rattle.commands.specs.declared.reply.Reply.TheVariants as reply
 use Rattle.desk.specs.Desk.{owner_reply}
 use Rattle.commands.specs.Requests.{Request}
 use Rattle.commands.specs.Requests.Request.{Take, OwnerOf}
-use Rattle.hall_callers.specs.CallerState.{CallerState}
+use Rattle.locked_world.specs.CallerState.{CallerState}
 use Rattle.hall.specs.Halls.{hall_of, desk_of, hall_refusal, reply_unless, after_unless}
 use Rattle.locked_world.specs.Serving.{ClerkServes}
 

@@ -1,11 +1,11 @@
 //! The end of a lock: its history against what its callers kept.
 
 ghost use Rattle.std.specs.Prelude.{◌≡◌, ◌++◌, map, IfOk, IfErr};
-ghost use Rattle.hall_callers.specs.Kepts.{IsJust};
+ghost use Rattle.locked_world.specs.Kepts.{IsJust};
 ghost use Rattle.hall.specs.Halls.{SatisfiesSpec};
 
 use crate::lock::HallLock;
-use hall_callers::{Clerk, Closed, LockName, Session};
+use crate::{Clerk, Closed, LockName, Session};
 use std::sync::Mutex;
 
 /// What was handed in, of which something is missing.

@@ -1,12 +1,26 @@
-//! What those who have a clerk at a lock stand on.
+//! What those who are answered as callers, and those who have a clerk at a lock, stand on.
 
-ghost use Rattle.std.specs.Prelude.{List};
+ghost use Rattle.std.specs.Prelude.{◌≡◌, ℕ, List, false};
+ghost use mathlib.Core.List.{IsPrefix};
+ghost use Rattle.step_memory.specs.declared.refusal.Refusal.{Refusal};
 ghost use Rattle.commands.specs.declared.config.Config.{Config};
+ghost use Rattle.commands.specs.declared.event.Event.{Event};
+ghost use Rattle.commands.specs.declared.reply.Reply.{Reply};
+ghost use Rattle.commands.specs.declared.reply.Reply.TheVariants.{Refused};
+ghost use Rattle.commands.specs.Replies.{ShownReply, is_refusal, with_view};
+ghost use Rattle.locked_world.specs.CallerState.{CallerState};
+ghost use Rattle.locked_world.specs.Kepts.{IsSound, IsTaken};
 ghost use Rattle.player.specs.Runs.{Runs};
 ghost use Rattle.player.specs.Turns.{Turn, exchanges};
-ghost use Rattle.hall_callers.specs.CallerState.{CallerState};
-ghost use Rattle.hall_callers.specs.Kepts.{IsSound};
 ghost use Rattle.locked_world.specs.Serving.{ClerkServes, KeepsAccepted};
+
+/// A law, which runs nothing: a caller that was answered has seen a lawful history, in which all that it has kept stands, and which goes
+/// on from what it had seen; and a short reply that is none of the refusals is accepted.
+pub fn law_of_answered_callers()
+    ensures sound { (c : Config) (s t : CallerState) (e : Event) (r : ShownReply) → IsTaken c s e r t → IsSound c t }
+    ensures seen { (c : Config) (s t : CallerState) (e : Event) (r : ShownReply) → IsTaken c s e r t → IsPrefix s.seen t.seen }
+    ensures accepted { (r : Reply (Unit {0})) (view : List (ℕ × ℕ)) → ((why : Refusal) → r ≡ Refused why → ⊥) → is_refusal (with_view r view) ≡ false }
+{}
 
 /// A law, which runs nothing, of what a clerk answers in turn as a service: it comes to keep the accepted events with their
 /// replies, in order.

@@ -12,6 +12,9 @@
 //! A reply may show a view, which takes a kilobyte. Where events are many, `HallLock::{apply_short, act_short}` answer in a few bytes
 //! and put the view beside.
 //!
+//! Under the lock lies a `Locked`: a hall with the book of its history and a ledger that counts what its callers keep. `Locked::agrees` compares
+//! the history with what its callers kept: where it is true, each place was kept by just one of them, with its event and reply.
+//!
 //! Not promised: that a lock is got, so that a call returns; an order between threads that never meet.
 //!
 //! A caller, in a function over `L: LockName` that is called with `Brand`, which picks config, blank and book:
@@ -29,16 +32,30 @@
 //! ```
 #![tactic(auto)]
 
+pub mod act;
+pub mod callers;
 pub mod closing;
+pub mod kept;
+pub mod kept_log;
 pub mod laws;
 pub mod lock;
+pub mod locked;
+pub mod matching;
+pub mod names;
+pub mod parts;
 pub mod rename;
 pub mod serving_clerk;
+mod telling;
 
+pub use act::Act;
 pub use closing::Missing;
 pub use hall::Hall;
-pub use hall_callers::{Act, Clerk, Closed, Kept, KeptLog, LockName, Session, agrees, post_name};
-pub use laws::law_of_clerks;
+pub use kept::Kept;
+pub use kept_log::KeptLog;
+pub use laws::{law_of_answered_callers, law_of_clerks};
 pub use lock::HallLock;
+pub use matching::Closed;
+pub use names::{agrees, post_name};
+pub use parts::{Clerk, LockName, Locked, Session};
 pub use player::Service;
 pub use serving_clerk::ServingClerk;

@@ -2,14 +2,14 @@
 
 ghost use Rattle.std.specs.Prelude.{◌≡◌, ◌⊎◌, ◌↔◌, [], IfOk, IfErr, Err, false};
 ghost use Rattle.commands.specs.Config.{gives_names};
-ghost use Rattle.hall_callers.specs.Acts.{event_of};
+ghost use Rattle.locked_world.specs.Acts.{event_of};
 ghost use Rattle.commands.specs.Replies.{with_view};
-ghost use Rattle.hall_callers.specs.Answers.{IsRefusedBegin, IsSomeOwner};
+ghost use Rattle.locked_world.specs.Answers.{IsRefusedBegin, IsSomeOwner};
 ghost use Rattle.hall.specs.Halls.{hall_of, SatisfiesSpec};
-ghost use Rattle.hall_callers.specs.Kepts.{IsOpened, IsTaken, IsTold};
+ghost use Rattle.locked_world.specs.Kepts.{IsOpened, IsTaken, IsTold};
 
+use crate::{Act, Clerk, LockName, Locked, Session};
 use commands::{Config, Event, Exchange, Reply};
-use hall_callers::{Act, Clerk, LockName, Locked, Session};
 use history_book::Opened;
 use std::alloc::Global;
 use std::sync::ledger::Blank;

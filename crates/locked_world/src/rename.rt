@@ -5,8 +5,8 @@ ghost use Rattle.desk.specs.Names.{begun_in};
 ghost use Rattle.locked_world.specs.Renamed.{IsRenamed, turns_among};
 
 use crate::lock::HallLock;
+use crate::{Act, LockName, Session};
 use commands::Reply;
-use hall_callers::{Act, LockName, Session};
 use std::sync::Wait;
 use step_memory::{Refusal, View};
 

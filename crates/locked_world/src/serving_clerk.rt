@@ -5,8 +5,8 @@ ghost use Rattle.locked_world.specs.Serving.{ClerkServes};
 ghost use Rattle.locked_world.specs.ServingProofs.{clerk_answers};
 
 use crate::lock::HallLock;
+use crate::{Clerk, LockName};
 use commands::{Event, Reply};
-use hall_callers::{Clerk, LockName};
 use player::Service;
 use std::marker::Model;
 use std::sync::Wait;
@@ -20,7 +20,7 @@ pub struct ServingClerk<'a, L: LockName> {
 }
 
 impl<'a, L: LockName> Model for ServingClerk<'a, L> {
-    ghost use Rattle.hall_callers.specs.CallerState.{CallerState};
+    ghost use Rattle.locked_world.specs.CallerState.{CallerState};
 
     ghost Value = { CallerState };
 

@@ -3,7 +3,7 @@ use Rattle.std.proofs.Common.{◌≡◌, ℕ, ◌<◌, List, ◌++◌, length, g
 use Rattle.std.proofs.lemmas.Option.{slice_get_within, get_or_from_slice_get}
 use Rattle.commands.specs.declared.config.Config.{Config}
 use Rattle.player.specs.RunProofs.{runs-append}
-use Rattle.hall_callers.specs.CallerState.{CallerState}
+use Rattle.locked_world.specs.CallerState.{CallerState}
 use Rattle.locked_world.specs.Serving.{ClerkServes, ClerkGoesOn}
 use Rattle.slot_server.specs.Clerks.{ClerksGoOn}
 

@@ -1,7 +1,7 @@
 -- what clerks come to keep while they serve (this project's profile)
 use Rattle.std.specs.Prelude.{◌≡◌, ℕ, List, Some, slice_get}
 use Rattle.commands.specs.declared.config.Config.{Config}
-use Rattle.hall_callers.specs.CallerState.{CallerState}
+use Rattle.locked_world.specs.CallerState.{CallerState}
 use Rattle.locked_world.specs.Serving.{ClerkGoesOn}
 
 -- each of them, in order, holds what it had and what it answered since

@@ -1,6 +1,6 @@
 use Rattle.std.proofs.Common.{◌≡◌, ◌≤◌, inl, refl, sym, arith, rules, subst, ◌∙◌, ℕ}
 use Rattle.locked_world.proofs.Common.{Step, with_view, IsTaken}
-use Rattle.hall_callers.proofs.Standing.{taken_by}
+use Rattle.locked_world.proofs.Standing.{taken_by}
 use Rattle.locked_world.specs.Renamed.{turns_among}
 use Rattle.locked_world.proofs.Renames.{stepped_not, stepped_more, plain_by}
 use Rattle.locked_world.proofs.Ending.{gone_on, fewer, fewer_at_most}

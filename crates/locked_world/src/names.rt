@@ -1,0 +1,67 @@
+//! Names on a board.
+
+ghost use Rattle.std.specs.Prelude.{◌≡◌, ◌⊎◌, ◌↔◌, ◌+◌, ℕ, None, Some, IfSome, IsSome, true};
+ghost use Rattle.desk.specs.Desk.{owner_reply};
+ghost use Rattle.hall.specs.Halls.{desk_of};
+ghost use Rattle.locked_world.specs.KeptNames.{name_kept};
+ghost use Rattle.locked_world.specs.Words.{IsOwnerOrNone, Agree};
+ghost use Rattle.raw_parts.specs.Boards.{MayHold, reader_of};
+
+use crate::matching::Closed;
+use crate::parts::{LockName, Session};
+use commands::Reply;
+use hall::Hall;
+use raw_parts::{Board, Grant, ReaderSeat};
+use std::alloc::Allocator;
+
+/// Posts a session's identity at the name that it kept, as `Board::post` does; the first of them, if it kept several. None
+/// where it kept none, and where `post` gives none. The seat is of this board. It takes no lock.
+pub fn post_name<L: LockName, A: Allocator>(
+    session: &Session<L>,
+    board: &Board<A>,
+    seat: &mut ReaderSeat,
+) -> Option<Grant>
+    requires { seat.old.board ≡ board.now }
+    ensures seat { seat.new.board ≡ board.now }
+    ensures board { IfSome result (λ g. g.board ≡ board.now) }
+    ensures name { IfSome result (λ g. name_kept session.now.clerk.kept ≡ Some g.name) }
+    ensures identity { IfSome result (λ g. g.identity ≡ session.now.id) }
+
+    // It is posted, and the grant is given where the board's word was free or held the identity.
+    ensures posted { (name : ℕ) → name_kept session.now.clerk.kept ≡ Some name → MayHold board.now name session.now.id →
+        (seat.new ≡ reader_of board.now (seat.old.accesses + 1) seat.new.found) ×
+        (IsSome result ↔ ((seat.new.found ≡ 0) ⊎ (seat.new.found ≡ session.now.id))) }
+    ensures unnamed { name_kept session.now.clerk.kept ≡ None → seat.new ≡ seat.old }
+{
+    let name = session.name()?;
+    board.post(seat, name, session.id())
+}
+
+/// Whether a word is 0, or who has the name of this number.
+fn is_owner_or_none(hall: &Hall, number: u64, word: u64) -> bool
+    ensures { result ≡ true ↔ IsOwnerOrNone (desk_of hall.now) number word }
+{
+    word == 0 || is_owner(hall, number, word)
+}
+
+/// Whether this identity has the name of this number.
+fn is_owner(hall: &Hall, number: u64, identity: u64) -> bool
+    ensures { result ≡ true ↔ (owner_reply (desk_of hall.now) number ≡ Reply.Owner (Some identity)) }
+{
+    match hall.owner(number) {
+        Reply::Owner(Some(owner)) => owner == identity,
+        _ => false,
+    }
+}
+
+/// Whether each word that is not 0 is who has the name of its number in the closed history; the first word's number is 1.
+pub fn agrees<L: LockName>(closed: &Closed<L>, words: &[u64]) -> bool
+    ensures { result ≡ true ↔ Agree (desk_of closed.now.hall) words.now }
+{
+    for place in 0..words.len() {
+        if !is_owner_or_none(&closed.hall, place as u64 + 1, words[place]) {
+            return false;
+        }
+    }
+    true
+}
