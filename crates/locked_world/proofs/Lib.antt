@@ -1,4 +1,6 @@
 mod Common
+pub mod Fronts
+pub mod Adds
 mod Keeping
 mod Places
 mod Marking

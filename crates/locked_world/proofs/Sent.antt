@@ -8,8 +8,8 @@ use Rattle.std.specs.contracts.alloc.Global.{the_row as heap_row}
 use Rattle.std.specs.contracts.impls.GlobalAllocator.TheImpl.{ghosts as heap_ghosts}
 use Rattle.std.proofs.vec.Vec.TheSendSync as vec_sent
 use Rattle.std.proofs.sync.ledger.Book.TheSendSync as count_sent
-use Rattle.history_book.proofs.book.Book.TheSendSync as book_sent
-use Rattle.history_book.proofs.book.Front.TheSendSync as front_sent
+use Rattle.locked_world.proofs.book.Book.TheSendSync as book_sent
+use Rattle.locked_world.proofs.book.Front.TheSendSync as front_sent
 use Rattle.commands.specs.contracts.exchange.Exchange as exchange
 use Rattle.std.proofs.sync.ledger.Share.TheSendSync as share_sent
 use Rattle.locked_world.specs.contracts.parts.Locked as locked

@@ -4,7 +4,7 @@ use Rattle.locked_world.proofs.Common.{slice_get_within, Config, Event, Exchange
 use Rattle.std.proofs.lemmas.List.{replicate_more}
 use Rattle.std.proofs.lemmas.List.Elements.{All-push, All-weaker}
 use mathlib.Core.List.{IsPrefix}
-use Rattle.history_book.proofs.Fronts.{prefix_trans, prefix_get, prefix_length}
+use Rattle.locked_world.proofs.Fronts.{prefix_trans, prefix_get, prefix_length}
 use Rattle.hall.specs.GoesOn.{GoesOn}
 use Rattle.hall.specs.Serving.{accepted}
 use Rattle.hall.proofs.HallLaws.{goes_on, goes_by, stays_by}

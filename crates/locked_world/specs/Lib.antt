@@ -1,3 +1,4 @@
+pub mod Rules
 pub mod KeptState
 pub mod KeptLogs
 pub mod Acts

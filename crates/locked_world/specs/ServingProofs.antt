@@ -1,6 +1,6 @@
 -- there is an answer to each request
 use Rattle.std.proofs.Common.{◌≡◌, inl, inr, Option, Some, None, refl, sym, ap}
-use Rattle.history_book.proofs.Fronts.{prefix_self}
+use Rattle.locked_world.proofs.Fronts.{prefix_self}
 use Rattle.step_memory.specs.declared.refusal.Refusal.{Refusal}
 use Rattle.step_memory.specs.declared.refusal.Refusal.TheVariants as refusal
 use Rattle.commands.specs.declared.config.Config.{Config}

@@ -15,6 +15,12 @@
 //! Under the lock lies a `Locked`: a hall with the book of its history and a ledger that counts what its callers keep. `Locked::agrees` compares
 //! the history with what its callers kept: where it is true, each place was kept by just one of them, with its event and reply.
 //!
+//! The book (`Book`) is one history that threads share, of which each knows a beginning for good. The history exists in proofs alone: what threads
+//! share is a word, its length. A *front* is a beginning of the history that was seen. A call adds an entry behind all that its front has seen, or
+//! finds that the history is longer. Of two fronts the shorter is a beginning of the longer, whoever has them. So the value under the lock, which a
+//! thread finds as some other left it, can say that it is what this very history makes of it, and a thread that was told an entry keeps a
+//! front in which that entry stands. Which book it is stands in the type: a call picks it, by `Brand`.
+//!
 //! Not promised: that a lock is got, so that a call returns; an order between threads that never meet.
 //!
 //! A caller, in a function over `L: LockName` that is called with `Brand`, which picks config, blank and book:
@@ -30,9 +36,17 @@
 //!     Err(missing) => ..                                      // lock, sessions and clerks again
 //! }
 //! ```
+//!
+//! Another, of a book alone:
+//!
+//! ```text
+//! let (book, mut front) = Opened::<u64>::new().named::<N>();
+//! front.add::<u64, Itself>(&book, &7);                        // true: the front is 7
+//! ```
 #![tactic(auto)]
 
 pub mod act;
+pub mod book;
 pub mod callers;
 pub mod closing;
 pub mod kept;
@@ -44,10 +58,12 @@ pub mod matching;
 pub mod names;
 pub mod parts;
 pub mod rename;
+pub mod rule;
 pub mod serving_clerk;
 mod telling;
 
 pub use act::Act;
+pub use book::{Book, Front, Naming, Opened};
 pub use closing::Missing;
 pub use hall::Hall;
 pub use kept::Kept;
@@ -58,4 +74,5 @@ pub use matching::Closed;
 pub use names::{agrees, post_name};
 pub use parts::{Clerk, LockName, Locked, Session};
 pub use player::Service;
+pub use rule::{Adding, Entries, Nothing};
 pub use serving_clerk::ServingClerk;

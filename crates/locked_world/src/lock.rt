@@ -8,9 +8,8 @@ ghost use Rattle.locked_world.specs.Answers.{IsRefusedBegin, IsSomeOwner};
 ghost use Rattle.hall.specs.Halls.{hall_of, SatisfiesSpec};
 ghost use Rattle.locked_world.specs.Kepts.{IsOpened, IsTaken, IsTold};
 
-use crate::{Act, Clerk, LockName, Locked, Session};
+use crate::{Act, Clerk, LockName, Locked, Opened, Session};
 use commands::{Config, Event, Exchange, Reply};
-use history_book::Opened;
 use std::alloc::Global;
 use std::sync::ledger::Blank;
 use std::sync::{Mutex, Wait};

@@ -3,9 +3,9 @@
 ghost use Rattle.std.specs.Prelude.{◌≡◌, ◌+◌, ◌≤◌, length, false, replicate};
 
 use crate::kept_log::KeptLog;
+use crate::{Book, Front, Naming};
 use commands::Exchange;
 use hall::Hall;
-use history_book::{Book, Front, Naming};
 use std::marker::{Brand, Model};
 use std::sync::ledger::{Book as Count, Ledger, Share};
 

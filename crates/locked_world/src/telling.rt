@@ -10,8 +10,8 @@ ghost use Rattle.desk.specs.DeskCalls.{exchange};
 ghost use Rattle.commands.specs.Replies.{with_view};
 
 use crate::parts::LockName;
+use crate::{Book, Front};
 use commands::{Event, Exchange, Reply};
-use history_book::{Book, Front};
 use logbook::Plain;
 use std::sync::Wait;
 use step_memory::View;

@@ -11,7 +11,7 @@
 ghost use Rattle.std.specs.Prelude.{◌≡◌};
 
 use hall_host::{HostFailure, HostPlan, Keeping, LogPlan, export_hall, host_hall};
-use history_book::Opened;
+use locked_world::Opened;
 use player::{Fault, Tried};
 use program_work::program::{program_over, report};
 use program_work::{

@@ -3,8 +3,7 @@
 ghost use Rattle.std.specs.Prelude.{◌≡◌};
 
 use commands::{Config, Exchange, WorldKind};
-use history_book::Opened;
-use locked_world::{HallLock, LockName};
+use locked_world::{HallLock, LockName, Opened};
 use std::alloc::Global;
 use std::process::Abort;
 use std::sync::ledger::Blank;

@@ -2,7 +2,7 @@ use Rattle.std.proofs.Common.{rules, ◌≡◌, ◌≤◌, ◌+◌, ◌++◌, []
 use Rattle.locked_world.proofs.Common.{Exchange, Refused, exchange, is_refusal, with_view, HallState, Fits, kept_of}
 use mathlib.Core.List.{IsPrefix}
 use Rattle.locked_world.specs.CallerState.{CallerState, caller_of}
-use Rattle.history_book.proofs.Fronts.{prefix_length}
+use Rattle.locked_world.proofs.Fronts.{prefix_length}
 use Rattle.hall.proofs.Histories.{kept_refused, room_left}
 use Rattle.hall.proofs.HallLaws.{goes_by, goes_on, stays_by}
 use Rattle.locked_world.proofs.Places.{rises_more}

@@ -8,7 +8,7 @@ pub struct Entries;
 impl<E> Rule<E, u64> for Entries {
     ghost use Rattle.std.specs.Prelude.{[]};
     ghost use base.Fml.{ftrue};
-    ghost use Rattle.history_book.specs.Rules.{IsKept};
+    ghost use Rattle.locked_world.specs.Rules.{IsKept};
 
     ghost holds = { λ cells log. IsKept cells log };
 
@@ -36,7 +36,7 @@ impl<E> Gain<E, u64> for Nothing {
 pub struct Adding;
 
 impl<E> Play<E, u64> for Adding {
-    ghost use Rattle.history_book.specs.Rules.{Adds};
+    ghost use Rattle.locked_world.specs.Rules.{Adds};
 
     ghost then = { Adds };
 }

@@ -1,6 +1,6 @@
 use Rattle.std.proofs.Common.{sym, ◌∙◌, ap}
-use Rattle.history_book.proofs.Adds.{adds_moves}
-use Rattle.history_book.proofs.book.Front.add.Goals as goal
+use Rattle.locked_world.proofs.Adds.{adds_moves}
+use Rattle.locked_world.proofs.book.Front.add.Goals as goal
 
 pub compare_exchange-found-requires : goal.compare_exchange-found-requires
 compare_exchange-found-requires g c =

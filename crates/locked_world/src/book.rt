@@ -2,7 +2,7 @@
 
 ghost use Rattle.std.specs.Prelude.{◌≡◌, ◌+◌, ◌<◌, ◌≤◌, ◌^◌, ◌++◌, ◌∷◌, [], length, true, MatchBool};
 ghost use mathlib.Core.List.{IsPrefix};
-ghost use Rattle.history_book.specs.Rules.{head_of, IsLonger};
+ghost use Rattle.locked_world.specs.Rules.{head_of, IsLonger};
 
 use crate::rule::{Adding, Entries, Nothing};
 use logbook::{Offer, Plain, Seen, Start, Word};

@@ -1,8 +1,8 @@
 use Rattle.std.proofs.Common.{◌≤◌, ap, subst, sym, arith, length, List}
 use Rattle.std.proofs.lemmas.Bool.Decides.{nat_tests}
 use mathlib.Core.List.{IsPrefix}
-use Rattle.history_book.proofs.Fronts.{prefix_shorter}
-use Rattle.history_book.proofs.book.Front.begins_with.Goals as goal
+use Rattle.locked_world.proofs.Fronts.{prefix_shorter}
+use Rattle.locked_world.proofs.book.Front.begins_with.Goals as goal
 
 pub returns-clause-is : goal.returns-clause-is
 returns-clause-is g c = λ less.

@@ -5,8 +5,8 @@ use Rattle.std.proofs.lemmas.Bool.Decides.{nat_tests}
 use mathlib.Core.List.{IsPrefix}
 use prog.Atomic.{either}
 use Rattle.logbook.specs.Pages.{Cell, cell, keeps, no_nib, step, Moves, Goes}
-use Rattle.history_book.specs.Rules.{IsKept, Adds}
-use Rattle.history_book.proofs.Fronts.{prefix_whole}
+use Rattle.locked_world.specs.Rules.{IsKept, Adds}
+use Rattle.locked_world.proofs.Fronts.{prefix_whole}
 
 module _ {E : Type 0} where
   abbrev pub shown : List E → List E
