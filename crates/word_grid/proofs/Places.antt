@@ -11,19 +11,19 @@ use Rattle.splitter_grid.proofs.GridTied.{grid_proved, tied_always, place_always
 use Rattle.splitter_grid.proofs.Numbers.{number_low}
 use Rattle.word_machine.specs.SeatViews.{own}
 use Rattle.word_machine.specs.Ids.{EndedRun, ClaimId, HasRun, HaveRun, HaveTold}
-use Rattle.word_machine.specs.Walks.{walk_local}
+use Rattle.word_machine.specs.Walks.{walk_law as walks}
 use Rattle.word_grid.specs.Seats as seats
 use Rattle.word_grid.specs.Seats.{EndedWalk, walk_of_run}
 use Rattle.word_grid.specs.Law.{WalkSpec}
 use Rattle.word_grid.proofs.Accesses.{steps_made, accesses_made}
 
-module _ (e : EndedRun Walker ℕ) (h : HasRun walk_local e) where
+module _ (e : EndedRun Walker ℕ) (h : HasRun walks e) where
   abbrev door : Door
   door = e.program.door
 
   -- the walk has a place: that which its run was told
   placed : place_of e.program ≡ Some e.outcome
-  placed = ap (λ o. place_by (option_map (λ v. v.program) o)) (sym h.stands) ∙ place_always h.w (own e.number) e.words.most h.r h.after ∙ h.outcome_is
+  placed = ap (λ o. place_by (option_map (λ v. v.program) o)) (sym h.stands) ∙ place_always h.w (own e.number) e.words.size.most h.r h.after ∙ h.outcome_is
 
   -- so it has stopped at its door
   stopped : e.program.visitor.stage ≡ Gone Stop
@@ -36,14 +36,14 @@ module _ (e : EndedRun Walker ℕ) (h : HasRun walk_local e) where
   -- and it keeps its law
   pub walk_law : WalkSpec (walk_of_run e)
   walk_law =
-      let t = tied_always h.w e.words.most h.r h.after in
+      let t = tied_always h.w e.words.size.most h.r h.after in
       let walk = t.consistent.agree.walks (own e.number) e.program (ap (option_map (λ v. v.program)) h.stands) in
       let inside = walk.inside in
       let low = t.consistent.agree.within door.depth door.column walk.arrived in
       let begun = t.begun_is in
       let as_many = h.entered_are in
       let made : e.accesses ≡ accesses_made (Some e.program) =
-      h.accesses_are ∙ steps_made e.words.most h.w h.r h.after (own e.number) ∙ ap (λ o. accesses_made (option_map (λ v. v.program) o)) h.stands in
+      h.accesses_are ∙ steps_made e.words.size.most h.w h.r h.after (own e.number) ∙ ap (λ o. accesses_made (option_map (λ v. v.program) o)) h.stands in
       let all : accesses_made (Some e.program) ≡ 2 * (door.depth + door.column) + 4 = rw stopped refl in
       let within : IsDoorWithin e.entered (number_of door) = record { depth = door.depth; column = door.column; inside = inside; within = omega arith; is = refl } in
       record { counted = h.counted; within = within; low = number_low e.entered (number_of door) within; accesses = omega arith; at_most = (let shallow = within.within in omega arith) }
@@ -61,16 +61,16 @@ pub within_more : (e : EndedWalk) (dealt : ℕ) → WalkSpec e → e.entered ≤
 within_more e dealt law few = let d = law.within in record { depth = d.depth; column = d.column; inside = d.inside; within = (let l = d.within in omega arith); is = d.is }
 
 -- two that met have two places
-pub distinct_places : (a b : EndedRun Walker ℕ) → HasRun walk_local a → HasRun walk_local b → HaveRun walk_local a b → seats.place_of (walk_of_run a) ≢ seats.place_of (walk_of_run b)
+pub distinct_places : (a b : EndedRun Walker ℕ) → HasRun walks a → HasRun walks b → HaveRun walks a b → seats.place_of (walk_of_run a) ≢ seats.place_of (walk_of_run b)
 distinct_places a b one other both same =
-    let law = grid_proved.law both.w a.words.most both.r both.after in
+    let law = grid_proved.law both.w a.words.size.most both.r both.after in
     let equal : b.outcome ≡ a.outcome = outcome_is_place b other ∙ sym same ∙ sym (outcome_is_place a one) in
     let identity = law.distinct (own a.number) (own b.number) a.outcome both.one (both.other ∙ ap Some equal) in
     both.apart (omega arith)
 
 -- two claims of one place are of one seat
-pub one_seat : (a b : ClaimId ℕ) → HaveTold walk_local a b → a.outcome ≡ b.outcome → a.number ≡ b.number
+pub one_seat : (a b : ClaimId ℕ) → HaveTold walks a b → a.outcome ≡ b.outcome → a.number ≡ b.number
 one_seat a b told same =
-    let law = grid_proved.law told.w a.words.most told.r told.after in
+    let law = grid_proved.law told.w a.words.size.most told.r told.after in
     let identity = law.distinct (own a.number) (own b.number) a.outcome told.one (told.other ∙ ap Some (sym same)) in
     omega arith

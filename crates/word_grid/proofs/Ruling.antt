@@ -1,5 +1,6 @@
 -- what the rule says of a whole table
-use Rattle.std.proofs.Common.{◌≡◌, ℕ, true, false, Option, sym, ap, ◌∙◌}
+use Rattle.std.proofs.Common.{◌≡◌, ℕ, ◌+◌, ◌*◌, ◌<◌, true, false, length, Option, sym, ap, ◌∙◌, arith}
+use Rattle.std.proofs.lemmas.List.{ext_get_or}
 use Rattle.step_memory.specs.RegisterState.{Registers}
 use Rattle.splitter.specs.declared.stage.Stage.{Stage}
 use Rattle.splitter.specs.Stage.{has_entered, has_set, went_right, went_down}
@@ -12,10 +13,10 @@ use Rattle.word_grid.specs.Law.{PlacesAreDistinct, PlacesAreLow, SplitsAtDoors, 
 
 pub distinct_places : PlacesAreDistinct
 distinct_places most words views h p q place at_p at_q =
-    (grid_proved.law h.w most h.r h.after).distinct p q place (sym (place_always h.w p most h.r h.after) ∙ at_p) (sym (place_always h.w q most h.r h.after) ∙ at_q)
+    (grid_proved.law h.w most h.r h.holds.after).distinct p q place (sym (place_always h.w p most h.r h.holds.after) ∙ at_p) (sym (place_always h.w q most h.r h.holds.after) ∙ at_q)
 
 pub low_places : PlacesAreLow
-low_places most words views h p place at = (grid_proved.law h.w most h.r h.after).within p place (sym (place_always h.w p most h.r h.after) ∙ at)
+low_places most words views h p place at = (grid_proved.law h.w most h.r h.holds.after).within p place (sym (place_always h.w p most h.r h.holds.after) ∙ at)
 
 -- who went right has not set Y
 right_unset : (s : Stage) → went_right s ≡ true → has_set s ≡ false
@@ -42,5 +43,7 @@ splits_at_doors b m walker agree =
 
 pub doors_split : DoorsSplit
 doors_split most words views h =
-    let t = tied_always h.w most h.r h.after in
-    (h.spelled, rw t.begun_is (splits_at_doors _ _ _ t.consistent.agree))
+    let t = tied_always h.w most h.r h.holds.after in
+    let registers = h.holds.many in
+    let all = h.as_many in
+    (ext_get_or 0 h.w.memory.values words (omega arith) (λ k low. h.spelled.each k (omega arith)), rw t.begun_is (splits_at_doors _ _ _ t.consistent.agree))

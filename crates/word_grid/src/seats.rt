@@ -63,13 +63,13 @@ pub struct EnteredSeat {
 impl Model for EnteredSeat {
     ghost use Rattle.word_grid.specs.Seats.{EndedWalk, walk_of_run};
     ghost use Rattle.word_machine.specs.Ids.{HasRun};
-    ghost use Rattle.word_machine.specs.Walks.{walk_local};
+    ghost use Rattle.word_machine.specs.Walks.{walk_law};
 
     ghost Value = { EndedWalk };
 
     ghost view = { λ e. walk_of_run e.seat };
 
-    ghost invariant = { λ e. HasRun walk_local e.seat };
+    ghost invariant = { λ e. HasRun walk_law e.seat };
 }
 
 impl EnteredSeat {

@@ -3,14 +3,14 @@
 ghost use Rattle.std.specs.Prelude.{◌≡◌, ◌≢◌, ◌<◌, ◌≤◌, ◌+◌, ◌*◌, ◌/◌, IfOk, IfErr, IfSome, IfNone, IsOk, IsSome, Err, ◌⊎◌, ◌↔◌};
 ghost use Rattle.splitter_grid.specs.Door.{IsDoorWithin};
 ghost use Rattle.word_grid.specs.Law.{WalkSpec};
-ghost use Rattle.word_grid.specs.Seats.{claim_of, dealer_of, place_of, seat_of};
+ghost use Rattle.word_grid.specs.Seats.{claim_of, dealer_of, grid_size, place_of, seat_of};
 
 use crate::seats::{Claim, Dealer, EnteredSeat, FreshSeat};
 use splitter_grid::Walker;
 use std::alloc::Allocator;
 use std::marker::Model;
 use step_memory::Refusal;
-use word_machine::WordMachine;
+use word_machine::{Size, WordMachine};
 
 /// The most seats of a grid.
 const MOST_SEATS: u64 = 64;
@@ -33,7 +33,7 @@ impl<A: Allocator + Clone> WordGrid<A> {
     /// A grid of at most `most` seats, from 1 to 64, that no one has entered, and who deals them. `OutOfRange` elsewhere,
     /// and `NoMemory` only where its memory was refused.
     pub fn new(alloc: A, most: u64) -> Result<(WordGrid<A>, Dealer), Refusal>
-        ensures grid { IfOk result (λ r. r.0.most ≡ most) }
+        ensures grid { IfOk result (λ r. r.0.size ≡ grid_size most) }
         ensures dealer { IfOk result (λ r. r.1 ≡ dealer_of r.0 0) }
         ensures range { IsOk result → (1 ≤ most) × (most ≤ 64) }
         ensures out_of_range { result ≡ Err Refusal.OutOfRange ↔ ((most < 1) ⊎ (64 < most)) }
@@ -42,7 +42,7 @@ impl<A: Allocator + Clone> WordGrid<A> {
         if most < 1 || MOST_SEATS < most {
             return Err(Refusal::OutOfRange);
         }
-        let (machine, dealer) = WordMachine::new(alloc, most)?;
+        let (machine, dealer) = WordMachine::new(alloc, Size { most, limit: 0 })?;
         Ok((WordGrid { machine }, Dealer { dealer }))
     }
 }
@@ -50,17 +50,17 @@ impl<A: Allocator + Clone> WordGrid<A> {
 impl<A: Allocator> WordGrid<A> {
     /// How many seats there are at most.
     pub fn most(&self) -> u64
-        ensures count { result ≡ self.now.most }
+        ensures count { result ≡ self.now.size.most }
         ensures range { (1 ≤ result) × (result ≤ 64) }
     {
-        self.machine.most()
+        self.machine.size().most
     }
 
     /// The seat of the least number that was not dealt, where there is one. The dealer is of this grid.
     pub fn deal(&self, dealer: &mut Dealer) -> Option<FreshSeat>
         requires ours { dealer.old.grid ≡ self.now }
         ensures ours { dealer.new.grid ≡ self.now }
-        ensures some { IsSome result ↔ (dealer.old.dealt < self.now.most) }
+        ensures some { IsSome result ↔ (dealer.old.dealt < self.now.size.most) }
         ensures seat { IfSome result (λ s. (s ≡ seat_of self.now dealer.old.dealt) × (dealer.new.dealt ≡ dealer.old.dealt + 1)) }
         ensures none { IfNone result (dealer.new ≡ dealer.old) }
     {

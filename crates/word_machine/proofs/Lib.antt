@@ -1,7 +1,9 @@
 mod Common
+pub mod Slots
 mod Stepping
-mod Dealing
+mod Reaching
 mod Running
+mod Dealing
 mod Counting
 mod Meeting
 mod Claiming

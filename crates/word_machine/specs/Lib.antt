@@ -1,6 +1,8 @@
+pub mod WordLaw
 pub mod SeatViews
 pub mod RunRule
 pub mod RunSteps
 pub mod Ids
+pub mod Locals
 pub mod Visits
 pub mod Walks

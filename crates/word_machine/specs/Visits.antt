@@ -3,6 +3,8 @@ use Rattle.std.specs.Prelude.{◌≡◌, ◌≢◌, ℕ, ◌<◌}
 use Rattle.std.proofs.Common.{false, sym, subst, ◌∙◌, arith}
 use Rattle.step_memory.specs.declared.access.Access.TheVariants.{TestAndSet}
 use Rattle.step_memory.specs.LocalMachine.{LocalMachine, ChangesOnly, IsWithin}
+use Rattle.word_machine.specs.Locals.{words_law, words_sound}
+use Rattle.word_machine.specs.WordLaw.{WordLaw, IsSound}
 use Rattle.step_memory.specs.LocalWorlds.{LocalParts, local_world}
 use Rattle.step_memory.specs.Steps.{ReadsOrWrites}
 use Rattle.step_memory.proofs.LocalWorldLemmas.{world_fresh, world_takes}
@@ -49,3 +51,9 @@ visit_sound = record {
       let y_is = visit.y in
       reaches 2 v.program.identity v.program.x v.program.y v.program.stage (omega arith) (omega arith) (sym visit.ended ∙ goes);
 }
+
+abbrev pub visit_law : WordLaw (Visitor ℕ) ℕ ℕ Way
+visit_law = words_law visit_local
+
+pub visit_words_sound : IsSound visitor_steps visit_law
+visit_words_sound = words_sound visitor_steps visit_local visit_sound (λ most may. omega arith) (λ most may. omega arith)

@@ -1,8 +1,11 @@
 -- a grid's world as a local machine: two words for each door
-use Rattle.std.specs.Prelude.{◌≡◌, ◌≢◌, ℕ, ◌+◌, ◌*◌, ◌<◌, ◌≤◌}
+use Rattle.std.specs.Prelude.{◌≡◌, ◌≢◌, ℕ, ◌+◌, ◌*◌, ◌^◌, ◌<◌, ◌≤◌}
 use Rattle.std.proofs.Common.{false, option_map, is_some, sym, ap, subst, ◌∙◌, arith}
+use Rattle.std.proofs.lemmas.Nat.{mul-le}
 use Rattle.step_memory.specs.declared.access.Access.TheVariants.{TestAndSet}
 use Rattle.step_memory.specs.LocalMachine.{LocalMachine, ChangesOnly, IsWithin}
+use Rattle.word_machine.specs.Locals.{words_law, words_sound}
+use Rattle.word_machine.specs.WordLaw.{WordLaw, IsSound}
 use Rattle.step_memory.specs.LocalWorlds.{LocalParts, local_world}
 use Rattle.step_memory.specs.Steps.{ReadsOrWrites}
 use Rattle.step_memory.proofs.LocalWorldLemmas.{world_fresh, world_takes}
@@ -71,3 +74,12 @@ walk_sound = record {
       reaches (most * (most + 1)) v.program.visitor.identity v.program.visitor.x v.program.visitor.y (number_of v.program.door) v.program.visitor.stage (omega arith) (omega arith) walk.not_right walk.not_down
       (sym (t.known p v there).ended ∙ goes);
 }
+
+abbrev pub walk_law : WordLaw Walker ℕ ℕ ℕ
+walk_law = words_law walk_local
+
+few_doors : (most : ℕ) → most ≤ 64 → most * (most + 1) < 2 ^ 32
+few_doors most few = let doors = mul-le most (most + 1) 64 65 few (omega arith) in omega arith
+
+pub walk_words_sound : IsSound walker_steps walk_law
+walk_words_sound = words_sound walker_steps walk_local walk_sound few_doors (λ most few. omega arith)

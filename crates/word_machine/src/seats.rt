@@ -18,13 +18,13 @@ pub struct Dealer<P: WordProgram> {
 impl<P: WordProgram> Model for Dealer<P> {
     ghost use Rattle.std.specs.Prelude.{◌≡◌, ◌≤◌, [], ◌∷◌};
     ghost use Rattle.word_machine.specs.SeatViews.{undealt_from};
-    ghost use Rattle.word_machine.specs.Ids.{DealerId, dealer_of, words_of, most_in};
+    ghost use Rattle.word_machine.specs.Ids.{DealerId, dealer_of, words_of, size_in};
 
     ghost Value = { DealerId };
 
-    ghost view = { λ d. dealer_of (words_of d.badge.table_id (most_in d.badge.views)) d.dealt };
+    ghost view = { λ d. dealer_of (words_of d.badge.table_id (size_in d.badge.views)) d.dealt };
 
-    ghost invariant = { λ d. (d.dealt ≤ most_in d.badge.views) × (d.badge.views ≡ undealt_from d.dealt (most_in d.badge.views) ∷ []) };
+    ghost invariant = { λ d. (d.dealt ≤ (size_in d.badge.views).most) × (d.badge.views ≡ undealt_from d.dealt (size_in d.badge.views) ∷ []) };
 }
 
 impl<P: WordProgram> Dealer<P> {
@@ -50,9 +50,9 @@ impl<P: WordProgram> Model for FreshSeat<P> {
 
     ghost Value = { SeatId };
 
-    ghost view = { λ f. seat_of (words_of f.seat.table_id f.seat.me.0.most) f.number };
+    ghost view = { λ f. seat_of (words_of f.seat.table_id f.seat.me.0.size) f.number };
 
-    ghost invariant = { λ f. (f.number < f.seat.me.0.most) × (f.seat.me ≡ (lone_view f.seat.me.0.most (unbegun f.number), [])) };
+    ghost invariant = { λ f. (f.number < f.seat.me.0.size.most) × (f.seat.me ≡ (lone_view f.seat.me.0.size (unbegun f.number), [])) };
 }
 
 impl<P: WordProgram> FreshSeat<P> {
@@ -61,6 +61,51 @@ impl<P: WordProgram> FreshSeat<P> {
         ensures { result ≡ self.now.number }
     {
         self.number
+    }
+}
+
+/// A seat whose participant has not ended, for who takes its accesses one at a time. To take one uses it up.
+#[derive(Drop)]
+pub struct RunningSeat<P: WordProgram + Drop> {
+    pub(crate) number: u64,
+    pub(crate) written: usize,
+    pub(crate) program: P,
+    pub(crate) accesses: u64,
+    pub(crate) seat: Seat<u8, SeatView<P, P::Output>>,
+}
+
+impl<P: WordProgram + Drop> Model for RunningSeat<P> {
+    ghost use Rattle.std.specs.Prelude.{◌≡◌, ◌<◌, []};
+    ghost use Rattle.word_machine.specs.Ids.{RunningId, running_of, words_of};
+    ghost use Rattle.word_machine.specs.RunSteps.{Stands, accesses_in};
+
+    ghost Value = { RunningId P };
+
+    ghost view = { λ s. running_of (words_of s.seat.table_id s.seat.me.0.size) s.number s.program s.accesses };
+
+    ghost invariant = { λ s. (s.number < s.seat.me.0.size.most) × (s.accesses ≡ accesses_in s.seat.me) × Stands P.steps P.law s.seat.me.0.size s.number s.written s.program [] s.seat.me };
+}
+
+impl<P: WordProgram + Drop> RunningSeat<P> {
+    /// The seat's number, from 0.
+    pub fn number(&self) -> u64
+        ensures { result ≡ self.now.number }
+    {
+        self.number
+    }
+
+    /// The program at which it stands.
+    pub fn program(&self) -> &P
+        ensures { result.now ≡ self.now.program }
+    {
+        &self.program
+    }
+
+    /// How many accesses of registers its program has made.
+    pub fn accesses(&self) -> u64
+        ensures { result ≡ self.now.accesses }
+    {
+        self.accesses
     }
 }
 
@@ -73,6 +118,7 @@ where
     pub(crate) number: u64,
     pub(crate) program: P,
     pub(crate) outcome: P::Output,
+    pub(crate) accesses: u64,
     pub(crate) badge: Badge<SeatView<P, P::Output>>,
 }
 
@@ -80,13 +126,14 @@ impl<P: WordProgram + Drop> Model for EnteredSeat<P>
 where
     P::Output: Drop,
 {
-    ghost use Rattle.word_machine.specs.Ids.{EndedRun, IsOfEnded, ended_run, HasRun};
+    ghost use Rattle.std.specs.Prelude.{◌≡◌};
+    ghost use Rattle.word_machine.specs.Ids.{EndedRun, IsOfEnded, accesses_in, ended_run, HasRun};
 
     ghost Value = { EndedRun P P.Output };
 
     ghost view = { λ e. ended_run e.badge.table_id e.number e.program e.outcome e.badge.views };
 
-    ghost invariant = { λ e. IsOfEnded e.number e.program e.outcome e.badge.views × HasRun P.local (ended_run e.badge.table_id e.number e.program e.outcome e.badge.views) };
+    ghost invariant = { λ e. IsOfEnded e.number e.program e.outcome e.badge.views × HasRun P.law (ended_run e.badge.table_id e.number e.program e.outcome e.badge.views) × (e.accesses ≡ accesses_in e.badge.views) };
 }
 
 impl<P: WordProgram + Drop> EnteredSeat<P>
@@ -105,7 +152,7 @@ where
         ensures value { result.now ≡ self.now.program }
 
         // There is a list of calls after which it has ended so.
-        ensures law { HasRun P.local self.now }
+        ensures law { HasRun P.law self.now }
     {
         &self.program
     }
@@ -115,9 +162,16 @@ where
         ensures value { result.now ≡ self.now.outcome }
 
         // There is a list of calls after which it has ended so.
-        ensures law { HasRun P.local self.now }
+        ensures law { HasRun P.law self.now }
     {
         &self.outcome
+    }
+
+    /// How many accesses of registers its program has made.
+    pub fn accesses(&self) -> u64
+        ensures { result ≡ self.now.accesses }
+    {
+        self.accesses
     }
 }
 
@@ -138,13 +192,13 @@ where
 {
     ghost use Rattle.std.specs.Prelude.{◌≡◌, [], ◌∷◌};
     ghost use Rattle.word_machine.specs.SeatViews.{ending_at, view_of};
-    ghost use Rattle.word_machine.specs.Ids.{ClaimId, claim_at, most_in};
+    ghost use Rattle.word_machine.specs.Ids.{ClaimId, claim_at, size_in};
 
     ghost Value = { ClaimId P.Output };
 
     ghost view = { λ c. claim_at c.badge.table_id c.number c.outcome c.badge.views };
 
-    ghost invariant = { λ c. c.badge.views ≡ view_of (most_in c.badge.views) [] (ending_at c.number c.outcome ∷ []) ∷ [] };
+    ghost invariant = { λ c. c.badge.views ≡ view_of (size_in c.badge.views) [] (ending_at c.number c.outcome ∷ []) ∷ [] };
 }
 
 impl<P: WordProgram> Claim<P>

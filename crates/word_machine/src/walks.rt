@@ -1,27 +1,72 @@
 //! A walk through a grid of splitters as a program over words, two for each door.
 
-ghost use Rattle.std.specs.Prelude.{◌≡◌, ◌≤◌, ◌+◌, ◌*◌};
+ghost use Rattle.std.specs.Prelude.{◌≡◌, ◌<◌, ◌≤◌, ◌+◌, ◌*◌, ◌∷◌, [], length, slice_index, true};
 ghost use Rattle.splitter_grid.specs.Walk.{walk_of};
-ghost use Rattle.word_machine.specs.Walks.{walk_local, walk_sound};
+ghost use Rattle.word_machine.specs.Walks.{walk_law, walk_words_sound};
 
 use crate::program::WordProgram;
+use crate::size::Size;
 use splitter_grid::{Door, Walker};
 
 impl WordProgram for Walker {
-    ghost local = { walk_local };
+    ghost law = { walk_law };
 
-    fn words(most: u64) -> usize
-        requires { most ≤ 64 }
-        ensures { result ≡ most * (most + 1) }
+    fn registers(size: Size) -> usize
+        requires { walk_law.MayStart size }
+        ensures { result ≡ size.most * (size.most + 1) }
     {
-        (most * (most + 1)) as usize
+        (size.most * (size.most + 1)) as usize
     }
 
-    fn start(identity: u64) -> Self
+    fn place(_size: Size, register: usize) -> usize
+        ensures { result ≡ register }
+    {
+        register
+    }
+
+    fn is_word(_register: usize) -> bool
+        ensures { result ≡ true }
+    {
+        true
+    }
+
+    fn of_word(word: u64) -> u64
+        ensures { result ≡ word }
+    {
+        word
+    }
+
+    fn to_word(value: &u64) -> u64
+        ensures { result ≡ value.now }
+    {
+        *value
+    }
+
+    fn start(_size: Size, identity: u64) -> Self
         ensures { result ≡ walk_of identity }
     {
         Walker::new(identity, Door::corner())
     }
 
-    ghost sound = { walk_sound };
+    fn first() -> u64
+        ensures { result ≡ 0 }
+    {
+        0
+    }
+
+    fn length() -> usize
+        ensures { result ≡ 1 }
+    {
+        1
+    }
+
+    fn spell(value: &u64, _at: usize) -> u64 {
+        *value
+    }
+
+    fn read(words: &[u64]) -> u64 {
+        words[0]
+    }
+
+    ghost sound = { walk_words_sound };
 }

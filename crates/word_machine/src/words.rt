@@ -1,63 +1,87 @@
 //! The words. They are reached through this type alone, of which each access of a program is counted in the view of its seat.
 
-ghost use Rattle.std.specs.Prelude.{◌≡◌, ◌<◌, ◌≤◌, ◌+◌, ◌++◌, ◌∷◌, [], List, IfOk, IsSome};
+ghost use Rattle.std.specs.Prelude.{◌≡◌, ◌<◌, ◌≤◌, ◌+◌, ◌++◌, ◌∷◌, [], List, IfOk, IsSome, true, false};
+ghost use Rattle.step_memory.specs.declared.access.Access.TheVariants.{Read, Write};
+ghost use Rattle.step_memory.specs.declared.access.Answer.TheVariants as answer;
 ghost use Rattle.word_machine.specs.SeatViews.{lone_view, undealt_from, unbegun, view_of, endings_of};
-ghost use Rattle.word_machine.specs.RunSteps.{Stands, HasStepped, HasEnded, IsUnderRule};
+ghost use Rattle.word_machine.specs.WordLaw.{records_in};
+ghost use Rattle.word_machine.specs.RunSteps.{Stands, HasGot, HasStepped, HasEnded, HasRead, IsUnderRule, accesses_in, read_in};
 ghost use Rattle.word_machine.specs.declared.seat_view.Stand.{Stand};
 ghost use Rattle.word_machine.specs.declared.seat_view.Ending.{Ending};
 
 use crate::program::WordProgram;
-use crate::run_steps::{Deal, Forget, Learn, Look, Running, Step, Tell, Unite};
+use crate::run_steps::{
+    Deal, Forget, Learn, Look, Prepare, Publish, Put, ReadRecord, ReadWord, Recall, Running, Tell,
+    Unite,
+};
 use crate::seat_view::SeatView;
+use crate::size::Size;
 use atomic_table::{Seat, Table};
 use std::alloc::{AllocError, Allocator};
 use std::marker::Model;
 use step_memory::{Access, Answer, Note, StepProgram};
 
+/// The most words of a record.
+const MOST_WORDS: usize = 132;
+
 /// Words that programs share.
 #[derive(Drop)]
 pub struct Words<P: WordProgram, A: Allocator> {
-    most: u64,
+    size: Size,
+    registers: usize,
+    length: usize,
     // It has no slots, so what a slot holds says nothing.
-    table: Table<u8, SeatView<P, P::Output>, u64, Running<P>, A>,
+    table: Table<u8, SeatView<P, P::Output>, Size, Running<P>, A>,
 }
 
 impl<P: WordProgram, A: Allocator> Model for Words<P, A> {
     ghost use Rattle.std.specs.Prelude.{◌≡◌, ◌≤◌};
     ghost use Rattle.word_machine.specs.Ids.{WordsId, words_of};
+    ghost use Rattle.word_machine.specs.RunRule.{all_words};
 
     ghost Value = { WordsId };
 
-    ghost view = { λ d. words_of d.table.shared.table_id d.most };
+    ghost view = { λ d. words_of d.table.shared.table_id d.size };
 
-    ghost invariant = { λ d. (1 ≤ d.most) × P.local.MayStart d.most × (d.table.shared.key ≡ d.most) × (d.table.shared.table_id.words ≡ P.local.registers d.most) };
+    ghost invariant = { λ d. (1 ≤ d.size.most) × P.law.MayStart d.size × (d.table.shared.key ≡ d.size) × (d.registers ≡ P.law.registers d.size) × (d.length ≡ P.law.length) × (d.table.shared.table_id.words ≡ all_words P.law d.size) };
 }
 
 impl<P: WordProgram, A: Allocator + Clone> Words<P, A> {
     /// The words for so many seats, where no one has begun, and the seat that all others are dealt from.
     pub(crate) fn open(
         alloc: A,
-        most: u64,
+        size: Size,
     ) -> Result<(Words<P, A>, Seat<u8, SeatView<P, P::Output>>), AllocError>
-        requires some { 1 ≤ most }
-        requires may { P.local.MayStart most }
-        ensures words { IfOk result (λ r. r.0.most ≡ most) }
-        ensures rest { IfOk result (λ r. (r.1.table_id ≡ r.0.table) × (r.1.me ≡ (undealt_from 0 most, []))) }
+        requires some { 1 ≤ size.most }
+        requires may { P.law.MayStart size }
+        ensures words { IfOk result (λ r. r.0.size ≡ size) }
+        ensures rest { IfOk result (λ r. (r.1.table_id ≡ r.0.table) × (r.1.me ≡ (undealt_from 0 size, []))) }
     {
-        let words = Vec::from_elem(alloc.clone()?, 0u64, P::words(most))?;
-        let (table, rest) = Table::of_words(alloc, words.as_slice(), &most)?;
-        Ok((Words { most, table }, rest))
+        let registers = P::registers(size);
+        let length = P::length();
+        let total = registers + size.most as usize * size.limit as usize * length;
+        let words = Vec::from_elem(alloc.clone()?, 0u64, total)?;
+        let (table, rest) = Table::of_words(alloc, words.as_slice(), &size)?;
+        Ok((
+            Words {
+                size,
+                registers,
+                length,
+                table,
+            },
+            rest,
+        ))
     }
 }
 
 impl<P: WordProgram, A: Allocator> Words<P, A> {
-    /// How many seats there are at most.
-    pub(crate) fn most(&self) -> u64
-        ensures count { result ≡ self.now.most }
-        ensures some { 1 ≤ result }
-        ensures may { P.local.MayStart result }
+    /// How many seats there are, and how many records each may write.
+    pub(crate) fn size(&self) -> Size
+        ensures count { result ≡ self.now.size }
+        ensures some { 1 ≤ result.most }
+        ensures may { P.law.MayStart result }
     {
-        self.most
+        self.size
     }
 
     /// The seat of the least number that is not yet dealt out.
@@ -67,38 +91,121 @@ impl<P: WordProgram, A: Allocator> Words<P, A> {
         number: u64,
     ) -> Seat<u8, SeatView<P, P::Output>>
         requires ours { rest.old.table_id ≡ self.now.table }
-        requires undealt { rest.old.me ≡ (undealt_from number self.now.most, []) }
-        requires range { number < self.now.most }
+        requires undealt { rest.old.me ≡ (undealt_from number self.now.size, []) }
+        requires range { number < self.now.size.most }
         ensures ours { (rest.new.table_id ≡ self.now.table) × (result.table_id ≡ self.now.table) }
-        ensures undealt { rest.new.me ≡ (undealt_from (number + 1) self.now.most, []) }
-        ensures seat { result.me ≡ (lone_view self.now.most (unbegun number), []) }
+        ensures undealt { rest.new.me ≡ (undealt_from (number + 1) self.now.size, []) }
+        ensures seat { result.me ≡ (lone_view self.now.size (unbegun number), []) }
     {
         self.table.shared.split_seat::<Deal>(rest)
     }
 
-    /// One access of a program, and what the program makes of the answer.
-    pub(crate) fn step(
+    /// The words of the record that was read last, as a value.
+    fn recall(&self, seat: &mut Seat<u8, SeatView<P, P::Output>>, slot: usize) -> P::Value
+        requires ours { seat.old.table_id ≡ self.now.table }
+        requires read { HasRead P.law self.now.size slot seat.old.me }
+        ensures ours { seat.new.table_id ≡ self.now.table }
+        ensures same { seat.new.me ≡ seat.old.me }
+        ensures value { result ≡ P.law.decode (read_in seat.old.me) }
+    {
+        let start = self.registers + slot * self.length;
+        let mut words = [0u64; MOST_WORDS];
+        let mut i = 0;
+        while i < self.length {
+            words[i] = self.table.shared.load::<Recall<P>>(seat, start + i);
+            i += 1;
+        }
+        P::read(&words[..self.length])
+    }
+
+    /// The participant's read of a register.
+    fn look(
         &self,
         seat: &mut Seat<u8, SeatView<P, P::Output>>,
         number: u64,
-        program: &mut P,
-    ) -> Note<P::Output>
+        written: usize,
+        program: &P,
+        register: P::Reg,
+    ) -> P::Value
         requires ours { seat.old.table_id ≡ self.now.table }
-        requires before { Stands P.steps P.local self.now.most number program.old seat.old.me }
+        requires before { Stands P.steps P.law self.now.size number written program.now [] seat.old.me }
+        requires reads { P.steps.next program.now ≡ Read register }
         ensures ours { seat.new.table_id ≡ self.now.table }
-        ensures after { HasStepped P.steps P.local self.now.most number program.new result seat.old.me seat.new.me }
+        ensures got { HasGot P.steps P.law (answer.Value result) 0 seat.old.me seat.new.me }
     {
-        let got = match program.next() {
-            Access::Read(r) => Answer::Value(self.table.shared.load::<Step<P>>(seat, r)),
-            Access::Write(r, v) => {
-                self.table.shared.store::<Step<P>>(seat, r, v);
-                Answer::Done
-            }
-            Access::TestAndSet(_) => Answer::Done,
-            Access::Clear(_) => Answer::Done,
-            Access::Nothing => Answer::Done,
-        };
-        program.resume(got)
+        let at = P::place(self.size, register);
+        if P::is_word(register) {
+            let word = self.table.shared.load::<ReadWord<P>>(seat, at);
+            return P::of_word(word);
+        }
+        let found = self.table.shared.load::<ReadRecord<P>>(seat, at);
+        if found == 0 {
+            return P::first();
+        }
+        self.recall(seat, (found - 1) as usize)
+    }
+
+    /// The participant's write of a record: its words first, which nobody else reads yet, and then the store that publishes
+    /// them.
+    fn publish(
+        &self,
+        seat: &mut Seat<u8, SeatView<P, P::Output>>,
+        number: u64,
+        written: usize,
+        program: &P,
+        register: P::Reg,
+        value: &P::Value,
+    )
+        requires ours { seat.old.table_id ≡ self.now.table }
+        requires before { Stands P.steps P.law self.now.size number written program.now [] seat.old.me }
+        requires range { number < self.now.size.most }
+        requires writes { P.steps.next program.now ≡ Write register value.now }
+        requires record { P.law.is_word register ≡ false }
+        ensures ours { seat.new.table_id ≡ self.now.table }
+        ensures wrote { HasGot P.steps P.law answer.Done 1 seat.old.me seat.new.me }
+    {
+        let at = P::place(self.size, register);
+        let slot = number as usize * self.size.limit as usize + written;
+        let start = self.registers + slot * self.length;
+        let mut i = 0;
+        while i < self.length {
+            self.table
+                .shared
+                .store::<Prepare<P>>(seat, start + i, P::spell(value, i));
+            i += 1;
+        }
+        self.table
+            .shared
+            .store::<Publish<P>>(seat, at, slot as u64 + 1);
+    }
+
+    /// The participant's write of a register: how many records it has published then.
+    fn write(
+        &self,
+        seat: &mut Seat<u8, SeatView<P, P::Output>>,
+        number: u64,
+        written: usize,
+        program: &P,
+        register: P::Reg,
+        value: &P::Value,
+    ) -> usize
+        requires ours { seat.old.table_id ≡ self.now.table }
+        requires before { Stands P.steps P.law self.now.size number written program.now [] seat.old.me }
+        requires range { number < self.now.size.most }
+        requires writes { P.steps.next program.now ≡ Write register value.now }
+        ensures ours { seat.new.table_id ≡ self.now.table }
+        ensures count { result ≡ written + records_in P.steps P.law (P.steps.next program.now) }
+        ensures wrote { HasGot P.steps P.law answer.Done (records_in P.steps P.law (P.steps.next program.now)) seat.old.me seat.new.me }
+    {
+        if P::is_word(register) {
+            let at = P::place(self.size, register);
+            self.table
+                .shared
+                .store::<Put<P>>(seat, at, P::to_word(value));
+            return written;
+        }
+        self.publish(seat, number, written, program, register, value);
+        written + 1
     }
 
     /// A seat whose participant has ended and another become one, look, and part again: what the rule says of all their
@@ -112,12 +219,12 @@ impl<P: WordProgram, A: Allocator> Words<P, A> {
         Seat<u8, SeatView<P, P::Output>>,
     )
         requires ours { (left.table_id ≡ self.now.table) × (right.table_id ≡ self.now.table) }
-        requires left { (s : Stand P P.Output) × (left.me ≡ (lone_view self.now.most s, [])) × IsSome s.outcome }
-        requires right { (ss : List (Stand P P.Output)) × (right.me ≡ (view_of self.now.most ss [], [])) }
+        requires left { (s : Stand P P.Output) × (left.me ≡ (lone_view self.now.size s, [])) × IsSome s.outcome }
+        requires right { (ss : List (Stand P P.Output)) × (right.me ≡ (view_of self.now.size ss [], [])) }
         ensures ours { (result.0.table_id ≡ self.now.table) × (result.1.table_id ≡ self.now.table) }
         ensures left { result.0.me ≡ left.me }
         ensures right { result.1.me ≡ right.me }
-        ensures met { IsUnderRule P.local (view_of self.now.most (left.me.0.stands ++ right.me.0.stands) []) }
+        ensures met { IsUnderRule P.law (view_of self.now.size (left.me.0.stands ++ right.me.0.stands) []) }
     {
         let mut both = right;
         self.table.shared.join_seat::<Unite>(&mut both, left);
@@ -132,10 +239,10 @@ impl<P: WordProgram, A: Allocator> Words<P, A> {
         seat: &mut Seat<u8, SeatView<P, P::Output>>,
     ) -> Seat<u8, SeatView<P, P::Output>>
         requires ours { seat.old.table_id ≡ self.now.table }
-        requires lone { (s : Stand P P.Output) × (seat.old.me ≡ (lone_view self.now.most s, [])) }
+        requires lone { (s : Stand P P.Output) × (seat.old.me ≡ (lone_view self.now.size s, [])) }
         ensures ours { (seat.new.table_id ≡ self.now.table) × (result.table_id ≡ self.now.table) }
         ensures same { seat.new.me ≡ seat.old.me }
-        ensures told { result.me ≡ (view_of self.now.most [] (endings_of seat.old.me.0.stands), []) }
+        ensures told { result.me ≡ (view_of self.now.size [] (endings_of seat.old.me.0.stands), []) }
     {
         self.table.shared.split_seat::<Tell>(seat)
     }
@@ -150,12 +257,12 @@ impl<P: WordProgram, A: Allocator> Words<P, A> {
         Seat<u8, SeatView<P, P::Output>>,
     )
         requires ours { (left.table_id ≡ self.now.table) × (right.table_id ≡ self.now.table) }
-        requires left { (t : Ending P.Output) × (left.me ≡ (view_of self.now.most [] (t ∷ []), [])) }
-        requires right { (t : Ending P.Output) × (right.me ≡ (view_of self.now.most [] (t ∷ []), [])) }
+        requires left { (t : Ending P.Output) × (left.me ≡ (view_of self.now.size [] (t ∷ []), [])) }
+        requires right { (t : Ending P.Output) × (right.me ≡ (view_of self.now.size [] (t ∷ []), [])) }
         ensures ours { (result.0.table_id ≡ self.now.table) × (result.1.table_id ≡ self.now.table) }
         ensures left { result.0.me ≡ left.me }
         ensures right { result.1.me ≡ right.me }
-        ensures met { IsUnderRule P.local (view_of self.now.most [] (left.me.0.endings ++ right.me.0.endings)) }
+        ensures met { IsUnderRule P.law (view_of self.now.size [] (left.me.0.endings ++ right.me.0.endings)) }
     {
         let mut both = right;
         self.table.shared.join_seat::<Learn>(&mut both, left);
@@ -165,30 +272,66 @@ impl<P: WordProgram, A: Allocator> Words<P, A> {
     }
 }
 
+impl<P: WordProgram, A: Allocator> Words<P, A>
+where
+    P::Value: Drop,
+{
+    /// One access of a program, and what the program makes of the answer.
+    pub(crate) fn step(
+        &self,
+        seat: &mut Seat<u8, SeatView<P, P::Output>>,
+        number: u64,
+        written: &mut usize,
+        program: &mut P,
+    ) -> Note<P::Output>
+        requires ours { seat.old.table_id ≡ self.now.table }
+        requires before { Stands P.steps P.law self.now.size number written.old program.old [] seat.old.me }
+        requires range { number < self.now.size.most }
+        ensures ours { seat.new.table_id ≡ self.now.table }
+        ensures after { HasStepped P.steps P.law self.now.size number written.new program.new result seat.old.me seat.new.me }
+    {
+        let got = match program.next() {
+            Access::Read(r) => Answer::Value(self.look(seat, number, *written, program, r)),
+            Access::Write(r, v) => {
+                *written = self.write(seat, number, *written, program, r, &v);
+                Answer::Done
+            }
+            Access::TestAndSet(_) => Answer::Done,
+            Access::Clear(_) => Answer::Done,
+            Access::Nothing => Answer::Done,
+        };
+        program.resume(got)
+    }
+}
+
 impl<P: WordProgram + Drop, A: Allocator> Words<P, A>
 where
+    P::Value: Drop,
     P::Output: Drop,
 {
-    /// The accesses of a program, one after another, until it ends: the program then, and with what.
+    /// The accesses of a program, one after another, until it ends: the program then, with what, and how many they were.
     pub(crate) fn run(
         &self,
         seat: &mut Seat<u8, SeatView<P, P::Output>>,
         number: u64,
-    ) -> (P, P::Output)
+    ) -> (P, P::Output, u64)
         requires ours { seat.old.table_id ≡ self.now.table }
-        requires fresh { seat.old.me ≡ (lone_view self.now.most (unbegun number), []) }
-        requires range { number < self.now.most }
+        requires fresh { seat.old.me ≡ (lone_view self.now.size (unbegun number), []) }
+        requires range { number < self.now.size.most }
         ensures ours { seat.new.table_id ≡ self.now.table }
-        ensures ended { HasEnded P.local self.now.most number result.0 result.1 seat.new.me }
+        ensures ended { HasEnded P.law self.now.size number result.0 result.1 seat.new.me }
+        ensures counted { result.2 ≡ accesses_in seat.new.me }
     {
         // Opens the words, so that the range of `most`, which `number` is below, is known.
-        let _most = self.most;
-        let mut program = P::start(number + 1);
+        let _most = self.size.most;
+        let mut program = P::start(self.size, number + 1);
+        let mut written = 0;
+        let mut accesses = 0;
         loop {
-            match self.step(seat, number, &mut program) {
-                Note::Ended(outcome) => return (program, outcome),
-                Note::Quiet => {}
-                Note::Said(_) => {}
+            let note = self.step(seat, number, &mut written, &mut program);
+            accesses += 1;
+            if let Some(outcome) = note.outcome() {
+                return (program, outcome, accesses);
             }
         }
     }

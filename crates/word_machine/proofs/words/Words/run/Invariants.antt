@@ -1,12 +1,13 @@
-use Rattle.std.proofs.Common.{◌≡◌, ◌-◌, ℕ}
+use Rattle.std.proofs.Common.{◌≡◌, ◌-◌, ℕ, []}
 use Rattle.word_machine.proofs.Common.{Stands, accesses_in}
 use Rattle.word_machine.proofs.words.Words.run.Given as goal
 
 abbrev pub invariant-loop-outcome : goal.invariant-loop-outcome
 invariant-loop-outcome g l = record {
   ours : l.seat.table_id ≡ l.self.table;
-  stands : Stands g.P.StepProgram.steps g.P.WordProgram.local {S = ℕ} l.self.most l.number l.program l.seat.me;
+  stands : Stands g.P.StepProgram.steps g.P.WordProgram.law {S = ℕ} l.self.size l.number l.written l.program [] l.seat.me;
+  counted : l.accesses ≡ accesses_in l.seat.me;
 }
 
 abbrev pub decreases-loop-outcome : goal.decreases-loop-outcome
-decreases-loop-outcome g l = g.P.WordProgram.local.bound l.self.most - accesses_in l.seat.me
+decreases-loop-outcome g l = g.P.WordProgram.law.bound l.self.size - accesses_in l.seat.me
