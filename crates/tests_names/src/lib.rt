@@ -5,3 +5,5 @@
 
 #[cfg(test)]
 mod names_tests;
+#[cfg(test)]
+mod turns_tests;

@@ -9,11 +9,16 @@ use step_memory::Refusal;
 use word_names::{Dealer, FreshSeat, Names};
 
 /// What a trial tells of what was made: whether it goes so; or why it was not made.
-type Told = Result<bool, Refusal>;
+pub type Told = Result<bool, Refusal>;
 
 /// Stops a trial unless in this case of it, named by a row or a round, what it tells is what is due.
-fn same(rt: &impl Abort, case: usize, told: Told, due: Told) {
+pub fn same(rt: &impl Abort, case: usize, told: Told, due: Told) {
     assert_eq!(rt; told, due, "case {case}");
+}
+
+/// An identity of 64 bits for a seat: the greatest first.
+pub fn identity_at(number: u64) -> u64 {
+    u64::MAX - number
 }
 
 /// The name of the next seat.
@@ -21,7 +26,8 @@ fn name_next(names: &Names<Global>, dealer: &mut Dealer) -> Option<u64>
     requires ours { dealer.old.names ≡ names.now }
     ensures ours { dealer.new.names ≡ names.now }
 {
-    let fresh = names.deal(dealer)?;
+    let identity = identity_at(dealer.dealt());
+    let fresh = names.deal(dealer, identity).ok()?;
     let mut renamed = names.rename(fresh);
     names.tally(dealer, &mut renamed);
     Some(names.name(&renamed))
@@ -97,7 +103,8 @@ fn callers_of<'a>(
 {
     let mut callers = Vec::new(alloc);
     for _ in 0..count {
-        if let Some(seat) = names.deal(&mut dealer) {
+        let identity = identity_at(dealer.dealt());
+        if let Ok(seat) = names.deal(&mut dealer, identity) {
             callers.push(Caller { names, seat })?;
         }
     }
@@ -127,13 +134,47 @@ fn have_names<R: Threads + Sync>(rt: &R, alloc: Global, count: u64) -> Result<bo
 
 #[test]
 fn threads_have_names_of_their_own(rt: HostRuntime) {
-    for round in 0..300u64 {
+    for round in 0..1000u64 {
         let count = 2 + round % 15;
         same(
             &rt,
             round as usize,
             have_names(&rt, rt.alloc(), count),
             Ok(true),
+        );
+    }
+}
+
+/// Why a seat is refused to an identity, where these were dealt one.
+fn refusal_after(alloc: Global, most: u64, known: &[u64], identity: u64) -> Result<bool, Refusal> {
+    let (names, dealer) = Names::new(alloc, most, 1)?;
+    let mut dealer = dealer;
+    for other in known {
+        names.deal(&mut dealer, *other)?;
+    }
+    let seat = names.deal(&mut dealer, identity)?;
+    Ok(seat.identity() == identity && seat.number() == known.len() as u64)
+}
+
+/// How many seats there are, to whom some were dealt, who asks next, and what is told.
+const DEALT: [(u64, &[u64], u64, Result<bool, Refusal>); 7] = [
+    (2, &[], 0, Err(Refusal::ZeroIdentity)),
+    (2, &[7], 7, Err(Refusal::AlreadyBegun)),
+    (2, &[7], u64::MAX, Ok(true)),
+    (2, &[7, 8], 7, Err(Refusal::AlreadyBegun)),
+    (2, &[7, 8], 9, Err(Refusal::Full)),
+    (2, &[7, 8], 0, Err(Refusal::ZeroIdentity)),
+    (16, &[1, 2, 3], 4, Ok(true)),
+];
+
+#[test]
+fn each_identity_is_dealt_one_seat(rt: HostRuntime) {
+    for (i, (most, known, identity, due)) in DEALT.iter().enumerate() {
+        same(
+            &rt,
+            i,
+            refusal_after(rt.alloc(), *most, known, *identity),
+            *due,
         );
     }
 }

@@ -16,14 +16,14 @@ use Rattle.rename_core.specs.Law.{RenameSpec}
 use Rattle.rename_core.specs.Machine.{terms_of}
 use Rattle.rename_core.specs.RenameObject.{new_object}
 use Rattle.rename_core.specs.Round.{stage_refusal}
-use Rattle.record_machine.specs.declared.size.Size.{Size}
-use Rattle.record_machine.specs.SeatViews.{own}
-use Rattle.record_machine.specs.Ids.{EndedRun, ClaimId, WordsId, HasRun, HaveRun, HaveTold}
+use Rattle.word_machine.specs.declared.size.Size.{Size}
+use Rattle.word_machine.specs.SeatViews.{own}
+use Rattle.word_machine.specs.Ids.{EndedRun, ClaimId, WordsId, HasRun, HaveRun, HaveTold}
 use Rattle.word_names.specs.NameMachine.{World, Walking, Naming, IsKnown, IsAtStage, names_law, naming_of, start_of}
 use Rattle.word_names.specs.NameLaw.{NameSpec}
 use Rattle.word_names.specs.Seats.{renamed_by, place_or_first, name_or, name_of}
 use Rattle.word_names.specs.Accesses.{place_low}
-use Rattle.word_names.specs.Counting.{law_after, many_run, told_run, told_spent}
+use Rattle.word_names.specs.Counting.{law_after, many_run, told_run, told_spent, spent_full, few_proposals}
 use Rattle.word_names.specs.Sound.{IsFound, found}
 
 -- who has ended has a place
@@ -70,10 +70,19 @@ module _ (e : EndedRun Naming (Option ℕ)) (h : HasRun names_law e) where
   sure (Some n) is enough = refl
   sure None is enough = absurd (let spent = told_spent size (own e.number) h.r new_object law.object law.run (h.outcome_is ∙ ap Some is) in let unspent = law.ends.unspent size.most (own e.number) law.ends.roomy enough in cc)
 
+  -- one that is spent has made as many proposals as it may
+  full : e.outcome ≡ None → e.records ≡ size.limit
+  full is =
+      let all = spent_full size (own e.number) h.r new_object law.object law.run (h.outcome_is ∙ ap Some is) (omega arith) in
+      let few = few_proposals size h.w h.r h.after (own e.number) in
+      let made = h.records_are in
+      omega arith
+
   -- it keeps its law
-  pub name_law : NameSpec (renamed_by e)
-  name_law = record {
+  pub name_law : (identity : ℕ) → NameSpec (renamed_by identity e)
+  name_law identity = record {
     counted = h.counted;
+    spent = full;
     named = λ n is. (let range = law.in_range (own e.number) n (told_run size (own e.number) n h.r new_object law.object law.run (h.outcome_is ∙ ap Some is)) in let all = many in (range.0, (let high = range.1 in omega arith)));
     placed = low_place size h.w h.r h.holds (own e.number) e.program h.stands;
     sure = sure e.outcome refl;
@@ -102,12 +111,12 @@ module _ (a b : EndedRun Naming (Option ℕ)) (one : HasRun names_law a) (other 
 
   distinct_at : (x y : Option ℕ) → a.outcome ≡ x → b.outcome ≡ y → name_or x (2 * a.words.size.most + place_or_first (grid_place a.program.client.walker)) ≡ name_or y (2 * b.words.size.most + place_or_first (grid_place b.program.client.walker)) → ⊥
   distinct_at (Some n) (Some m) x y e = both_named n x (y ∙ ap Some (sym e))
-  distinct_at (Some n) None x y e = absurd (let law = name_law a one in let range = (law.named n x).1 in let few = law.counted in let most = ap (λ (w : WordsId). w.size.most) same in let least = (law.named n x).0 in omega arith)
-  distinct_at None (Some m) x y e = absurd (let law = name_law b other in let range = (law.named m y).1 in let few = law.counted in let most = ap (λ (w : WordsId). w.size.most) same in let least = (law.named m y).0 in omega arith)
+  distinct_at (Some n) None x y e = absurd (let law = name_law a one 0 in let range = (law.named n x).1 in let few = law.counted in let most = ap (λ (w : WordsId). w.size.most) same in let least = (law.named n x).0 in omega arith)
+  distinct_at None (Some m) x y e = absurd (let law = name_law b other 0 in let range = (law.named m y).1 in let few = law.counted in let most = ap (λ (w : WordsId). w.size.most) same in let least = (law.named m y).0 in omega arith)
   distinct_at None None x y e = both_spent (let most = ap (λ (w : WordsId). w.size.most) same in omega arith)
 
-  pub distinct_names : name_of (renamed_by a) ≢ name_of (renamed_by b)
-  distinct_names = distinct_at a.outcome b.outcome refl refl
+  pub distinct_names : (x y : ℕ) → name_of (renamed_by x a) ≢ name_of (renamed_by y b)
+  distinct_names x y = distinct_at a.outcome b.outcome refl refl
 
 -- two claims of one name are of one seat
 pub one_seat : (a b : ClaimId (Option ℕ)) → HaveTold names_law a b → (n : ℕ) → a.outcome ≡ Some n → b.outcome ≡ Some n → a.number ≡ b.number

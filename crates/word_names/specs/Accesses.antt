@@ -35,8 +35,8 @@ use Rattle.rename_core.specs.declared.round.Stage.{Stage}
 use Rattle.rename_core.specs.declared.round.Stage.TheVariants.{Placing, Proposing, Looking, Settled, Over}
 use Rattle.rename_core.specs.Round.{followed, stage_refusal, spent_by, saw_by, named_by}
 use Rattle.proposal_rounds.specs.Proposals.{is_taken}
-use Rattle.record_machine.specs.declared.size.Size.{Size}
-use Rattle.record_machine.specs.RecordLaw.{IsOwnAccess, records_in, answer_in}
+use Rattle.word_machine.specs.declared.size.Size.{Size}
+use Rattle.word_machine.specs.WordLaw.{IsOwnAccess, records_in, answer_in}
 use Rattle.word_names.specs.NameMachine.{Walking, naming_steps, names_law, IsRegister, IsAtStage, is_proposal}
 
 -- the access reads a register, or writes into one what it may hold

@@ -25,7 +25,7 @@ use Rattle.rename_core.specs.declared.round.Round.{Round}
 use Rattle.rename_core.specs.RenameWorld.{after_wish, begun_snap, has_place, begun_unless, after_rename_begin}
 use Rattle.rename_core.specs.Reply.{StepReply}
 use Rattle.rename_core.specs.Round.{first_round, first_wish, stage_refusal}
-use Rattle.record_machine.specs.declared.size.Size.{Size}
+use Rattle.word_machine.specs.declared.size.Size.{Size}
 use Rattle.word_names.specs.NameMachine.{World, Walking, names_machine, start_of, naming_of, naming_at, first_walk, IsPaired, IsKnown}
 
 module _ (size : Size) (w : World) (r : List (Call StepReply)) (h : IsKnown size w r) (p : ℕ) (some : p ≢ 0) (none : naming_of w p ≡ None) (room : begun_in r + 1 ≤ size.most) where

@@ -19,7 +19,7 @@ use Rattle.rename_core.specs.Machine.{terms_of}
 use Rattle.rename_core.specs.RenameObject.{RenameTerms, RenameObject, new_object, no_step, Allows, AllowsStep, after, after_step}
 use Rattle.rename_core.specs.Reply.{StepReply}
 use Rattle.rename_core.proofs.PlacesLaw.{grid_lawful}
-use Rattle.record_machine.specs.declared.size.Size.{Size}
+use Rattle.word_machine.specs.declared.size.Size.{Size}
 use Rattle.word_names.specs.Renamers.{note_of}
 use Rattle.word_names.specs.NameMachine.{World, names_machine, start_of, most_accesses, outcome_of, outcome_by, is_proposal, proposals_of, proposals_by}
 
@@ -98,6 +98,34 @@ module _ (size : Size) where
         let rest = counted_run r (after o h) end run.1 call.1 in
         let more = call.0 in
         omega arith
+
+    -- one that was told that it is spent has made as many as the limit
+    spent_own : (o : RenameObject) (q : ℕ) (reply : StepReply) → q ≡ p → outcome_in (note_of reply) ≡ Some None → AllowsStep terms o q reply → o.count p ≡ terms.limit
+    spent_own o q Quiet same e may = absurd (cc)
+    spent_own o q (Placed place) same e may = absurd (cc)
+    spent_own o q (Proposed n) same e may = absurd (cc)
+    spent_own o q (Saw view) same e may = absurd (cc)
+    spent_own o q (Named n view) same e may = absurd (cc)
+    spent_own o q Spent same e may = ap o.count (sym same) ∙ may.0
+
+    spent_by_call : (o : RenameObject) (h : Call StepReply) → Allows terms o h → outcome_by p h ≡ Some None → o.count p ≡ terms.limit
+    spent_by_call o (Began q reply) may e = absurd (cc)
+    spent_by_call o (Stepped q (Err why)) may e = absurd (cc)
+    spent_by_call o (Stepped q (Ok reply)) may e = elim (eqb_tells q p) [
+      | inl same ↦ spent_own o q reply same.1 (rw same.0 at e) may.1
+      | inr other ↦ absurd (let never : None ≡ Some None = rw other.0 at e in cc)
+    ]
+
+    pub spent_full : (r : List (Call StepReply)) (o end : RenameObject) → Run after (Allows terms) o r end → outcome_of p r ≡ Some None → o.count p ≤ terms.limit → terms.limit ≤ o.count p + proposals_of p r
+    spent_full [] o end run e few = absurd (cc)
+    spent_full (h ∷ r) o end run e few = elim (outcome_by p h) as (λ x. outcome_by p h ≡ x → first_of x (outcome_of p r) ≡ Some None → terms.limit ≤ o.count p + (proposals_by p h + proposals_of p r)) [
+      | None ↦ λ _ later.
+          let call = counted_call o h run.0 few in
+          let rest = spent_full r (after o h) end run.1 later call.1 in
+          let more = call.0 in
+          omega arith
+      | Some y ↦ λ is now. (let full = spent_by_call o h run.0 (is ∙ now) in omega arith)
+    ] refl e
 
   -- nobody makes more proposals than the limit
   pub few_proposals : (w : World) (r : List (Call StepReply)) → Reaches names_machine (start_of size) w r → (p : ℕ) → proposals_of p r ≤ size.limit

@@ -21,7 +21,7 @@ use Rattle.rename_core.specs.declared.round.Stage.TheVariants.{Placing, Proposin
 use Rattle.rename_core.specs.Locality.{wished}
 use Rattle.rename_core.specs.Round.{followed, decided, at_stage, stage_refusal}
 use Rattle.proposal_rounds.specs.Proposals.{is_taken, next_proposal}
-use Rattle.record_machine.specs.declared.size.Size.{Size}
+use Rattle.word_machine.specs.declared.size.Size.{Size}
 use Rattle.word_names.specs.NameMachine.{Walking, MayStart, IsPaired, IsScanning, first_walk}
 
 -- a scan that meets a segment stays where its walk is

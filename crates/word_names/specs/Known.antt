@@ -23,7 +23,7 @@ use Rattle.rename_core.specs.declared.round.Stage.{Stage}
 use Rattle.rename_core.specs.declared.round.Stage.TheVariants.{Placing, Proposing, Looking, Settled, Over}
 use Rattle.rename_core.specs.Locality.{wished, got_in, access_of}
 use Rattle.rename_core.specs.Round.{followed, stage_refusal}
-use Rattle.record_machine.specs.declared.size.Size.{Size}
+use Rattle.word_machine.specs.declared.size.Size.{Size}
 use Rattle.word_names.specs.NameMachine.{Walking, MayStart, IsPaired, IsAtStage}
 use Rattle.word_names.specs.Good.{way_step, scan_step, update_step, written}
 

@@ -32,8 +32,8 @@ use Rattle.rename_core.specs.Ends.{steps_among}
 use Rattle.rename_core.specs.RenameState.{RenameState}
 use Rattle.rename_core.specs.Reply.{StepReply}
 use Rattle.rename_core.specs.Round.{first_round, stage_refusal}
-use Rattle.record_machine.specs.declared.size.Size.{Size}
-use Rattle.record_machine.specs.RecordLaw.{RecordLaw}
+use Rattle.word_machine.specs.declared.size.Size.{Size}
+use Rattle.word_machine.specs.WordLaw.{WordLaw}
 use Rattle.word_names.specs.declared.renamer.Renamer.{Renamer}
 use Rattle.word_names.specs.Renamers.{note_of, renamer_on}
 use Rattle.word_names.specs.Spelling.{word_in, spelled_by, value_in, Fits}
@@ -165,7 +165,7 @@ abbrev pub place_for : Size → GridRegister → ℕ
 place_for size (Door r) = r
 place_for size (Segment place) = size.most * (size.most + 1) + place
 
-abbrev pub names_law : RecordLaw Naming GridRegister GridValue (Option ℕ)
+abbrev pub names_law : WordLaw Naming GridRegister GridValue (Option ℕ)
 names_law = record {
   State = World;
   Start = GridState × ℕ;

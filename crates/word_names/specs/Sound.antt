@@ -1,5 +1,5 @@
 -- what is proved of the renaming machine over a grid, as one of programs over words and records
-use Rattle.std.proofs.Common.{◌≡◌, ◌≢◌, ◌==◌, ℕ, zero, suc, ◌+◌, ◌*◌, ◌^◌, ◌<◌, ◌≤◌, inl, inr, Bool, true, false, cond, is_some, List, [], ◌∷◌, ◌++◌, replicate, slice_index_or, Option, Some, None, Ok, refl, sym, ap, subst, ◌∙◌, arith, option_map}
+use Rattle.std.proofs.Common.{◌≡◌, ◌≢◌, ◌==◌, ℕ, zero, suc, ◌+◌, ◌-◌, ◌*◌, ◌/◌, ◌^◌, ◌<◌, ◌≤◌, inl, inr, Bool, true, false, cond, is_some, List, [], ◌∷◌, ◌++◌, replicate, slice_index_or, Option, Some, None, Ok, refl, sym, ap, subst, ◌∙◌, arith, option_map}
 use Rattle.std.proofs.lemmas.Bool.Decides.{eqb_tells}
 use Rattle.std.proofs.lemmas.Nat.{mul-le}
 use Rattle.step_memory.specs.declared.access.Access.{Access}
@@ -21,11 +21,14 @@ use Rattle.snapshot_places.specs.GridState.{GridState}
 use Rattle.snapshot_places.specs.GridTies.{grid_places}
 use Rattle.snapshot_places.proofs.GridLaw.{empty_grid}
 use Rattle.rename_core.specs.declared.round.Round.{Round}
+use Rattle.proposal_rounds.specs.Rounds.{most_proposals}
+use Rattle.snapshot_places.specs.Bounds.{grid_bounds}
+use Rattle.rename_core.specs.Ends.{steps_among}
 use Rattle.rename_core.specs.Locality.{got_in, access_of}
 use Rattle.rename_core.specs.Reply.{StepReply}
 use Rattle.rename_core.specs.Round.{stage_refusal, first_round}
-use Rattle.record_machine.specs.declared.size.Size.{Size}
-use Rattle.record_machine.specs.RecordLaw.{IsSound, IsOnce, IsFresh, IsOwnAccess, GoesOn, one_more, answer_in, program_at, moved}
+use Rattle.word_machine.specs.declared.size.Size.{Size}
+use Rattle.word_machine.specs.WordLaw.{IsSound, IsOnce, IsFresh, IsOwnAccess, GoesOn, one_more, answer_in, program_at, moved}
 use Rattle.word_names.specs.Renamers.{note_of, resumed_on}
 use Rattle.word_names.specs.NameMachine.{World, Walking, Naming, MayStart, IsKnown, IsRegister, names_machine, names_law, naming_steps, naming_of, naming_at, naming_from, start_of, place_for, outcome_of, outcome_by, is_proposal, proposals_of, proposals_by}
 use Rattle.word_names.specs.Spelled.{spelled, long}
@@ -210,6 +213,21 @@ small size may =
     let slots : size.most * size.limit ≤ 16 * 1000 = mul-le size.most size.limit 16 1000 few high in
     omega arith
 
+-- so few make no more proposals than sixteen
+few_made : (d b : ℕ) → b + d ≡ 16 → most_proposals b ≤ 114440917968
+few_made zero b is = (let sixteen : b ≡ 16 = omega arith in let all : most_proposals b ≡ most_proposals 16 = ap most_proposals sixteen in omega arith)
+few_made (suc d) b is = (let more = few_made d (suc b) (omega arith) in omega arith)
+
+few_accesses : (most : ℕ) → most ≤ 16 → steps_among (grid_bounds most) most < 2 ^ 64
+few_accesses most few =
+    let proposals = few_made (16 - most) most (omega arith) in
+    let doors : most * (most + 1) ≤ 16 * 17 = mul-le most (most + 1) 16 17 few (omega arith) in
+    let segments : segments_for most ≤ 136 = omega arith in
+    let scan : segments_for most * (segments_for most + 1) ≤ 136 * 137 = mul-le (segments_for most) (segments_for most + 1) 136 137 segments (omega arith) in
+    let rounds : (most_proposals most + 1) * (2 * (segments_for most * (segments_for most + 1)) + 1) ≤ 114440917969 * 37265 =
+    mul-le (most_proposals most + 1) (2 * (segments_for most * (segments_for most + 1)) + 1) 114440917969 37265 (omega arith) (omega arith) in
+    omega arith
+
 pub names_sound : IsSound naming_steps names_law
 names_sound = record {
   after = λ size w r h. h.after;
@@ -223,6 +241,7 @@ names_sound = record {
   apart = apart;
   some = λ size some. (let doors = some_doors size some in omega arith);
   small = small;
+  bounded = λ size may. few_accesses size.most may.few;
   short = omega arith;
   some_long = omega arith;
   long = λ v fits. long v;

@@ -7,7 +7,7 @@ use Rattle.step_memory.specs.View.{inserted, IsRising}
 use Rattle.step_memory.proofs.ViewLemmas.{IsRising-drop, inserted-below}
 use Rattle.snapshot_places.specs.declared.grid_register.GridValue.{GridValue}
 use Rattle.snapshot_places.specs.declared.grid_register.GridValue.TheVariants.{Word, Contents}
-use Rattle.record_machine.proofs.Slots.{row_at, row_length}
+use Rattle.word_machine.proofs.Slots.{row_at, row_length}
 use Rattle.word_names.specs.Spelling.{record_word, word_at, spelled_by, pairs_in, pairs_of, record_in, value_in, FitsRecord, Fits}
 
 differs : (a b : ℕ) → a ≢ b → (a == b) ≡ false

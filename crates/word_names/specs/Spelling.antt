@@ -6,7 +6,7 @@ use Rattle.step_memory.specs.declared.record.Record.{Record}
 use Rattle.step_memory.specs.View.{inserted, IsRising}
 use Rattle.snapshot_places.specs.declared.grid_register.GridValue.{GridValue}
 use Rattle.snapshot_places.specs.declared.grid_register.GridValue.TheVariants.{Word, Contents}
-use Rattle.record_machine.specs.RunRule.{row}
+use Rattle.word_machine.specs.RunRule.{row}
 
 -- the word of a door, where the value is one
 abbrev pub word_in : GridValue → ℕ

@@ -32,7 +32,7 @@ use Rattle.rename_core.specs.RenameWorld.{after_follow}
 use Rattle.rename_core.specs.Reply.{StepReply}
 use Rattle.rename_core.proofs.ReachesByCalls.{step_leads_on}
 use Rattle.proposal_rounds.specs.Proposals.{is_taken}
-use Rattle.record_machine.specs.declared.size.Size.{Size}
+use Rattle.word_machine.specs.declared.size.Size.{Size}
 use Rattle.word_names.specs.Renamers.{note_of}
 use Rattle.word_names.specs.NameMachine.{World, Walking, names_machine, start_of, IsPaired, IsKnown}
 use Rattle.word_names.specs.Counting.{few_after}

@@ -2,18 +2,18 @@
 
 ghost use Rattle.std.specs.Prelude.{◌≡◌, ◌≤◌, ◌<◌, ◌+◌, ◌*◌, length, slice_index, if◌then◌else◌};
 ghost use Rattle.std.proofs.Common.{get_or};
-ghost use Rattle.record_machine.specs.declared.size.Size.{Size};
+ghost use Rattle.word_machine.specs.declared.size.Size.{Size};
 ghost use Rattle.word_names.specs.NameMachine.{names_law, place_for, is_door, naming_from, MayStart};
 ghost use Rattle.word_names.specs.Spelling.{record_word, contents_word, pairs_in, pairs_of, value_in, word_in, FitsRecord, FitsContents, Fits};
 ghost use Rattle.word_names.specs.Sound.{names_sound};
 
 use crate::renamer::Renamer;
-use record_machine::{RecordProgram, Size};
 use rename_core::Round;
 use snapshot_core::Client;
 use snapshot_places::{GridRegister, GridValue, GridWalk, GridWalker};
 use splitter_grid::{Door, Walker};
 use step_memory::{Place, Record, Segment, View};
+use word_machine::{Size, WordProgram};
 
 /// How many words spell a record: what kind of value it is and how long its view, identity, value and number, and the view's
 /// identities and values.
@@ -90,7 +90,7 @@ fn read_view(words: &[u64], pairs: usize) -> View
     view
 }
 
-impl RecordProgram for Renamer<GridWalker, GridWalk> {
+impl WordProgram for Renamer<GridWalker, GridWalk> {
     ghost law = { names_law };
 
     fn registers(size: Size) -> usize

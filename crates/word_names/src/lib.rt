@@ -1,7 +1,7 @@
 //! Names given to threads over atomic words, with no lock (the problem: Attiya et al. 1990).
 //!
 //! The participant is the program of `rename_core` over a grid with segments: it walks to a place of its own, and then
-//! proposes numbers in rounds until no other proposes the same. A [`record_machine::RecordMachine`] takes that very program
+//! proposes numbers in rounds until no other proposes the same. A [`word_machine::WordMachine`] takes that very program
 //! access by access. A door's registers are words; a segment holds a record, which is written into words of the writer's own
 //! and published by one store. So the law of the renaming machine holds of threads, and nothing of it is proved anew.
 //!
@@ -30,4 +30,4 @@ pub mod seats;
 
 pub use names::Names;
 pub use renamer::Renamer;
-pub use seats::{Claim, Dealer, FreshSeat, GridRenamer, Renamed};
+pub use seats::{Claim, Dealer, FreshSeat, GridRenamer, Renamed, Renaming};

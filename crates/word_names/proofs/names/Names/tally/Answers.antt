@@ -9,6 +9,6 @@ returns-clause-low g c = λ n is.
     let few = c.tally.ensures.counted in
     let entered = ap (λ (e : RenamedId). e.entered) c.renamed.view_is in
     let dealt = ap (λ (d : DealerId). d.dealt) c.dealer.view_is in
-    let law = subst NameSpec c.renamed.view_is (name_law _ c.renamed.invariant) in
+    let law = subst NameSpec c.renamed.view_is (name_law _ c.renamed.invariant _) in
     let high = (law.named n is).1 in
     omega arith

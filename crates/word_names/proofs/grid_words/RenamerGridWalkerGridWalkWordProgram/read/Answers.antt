@@ -1,7 +1,7 @@
 use Rattle.std.proofs.Common.{◌%◌, ap, arith, ◌∙◌, slice_index}
 use Rattle.word_names.specs.Spelling.{pairs_in}
 use Rattle.word_names.specs.Spelled.{record_read}
-use Rattle.word_names.proofs.grid_words.RenamerGridWalkerGridWalkRecordProgram.read.Goals as goal
+use Rattle.word_names.proofs.grid_words.RenamerGridWalkerGridWalkWordProgram.read.Goals as goal
 
 pub returns : goal.returns
 returns c =
