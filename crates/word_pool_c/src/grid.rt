@@ -14,7 +14,7 @@ use word_grid::WordGrid;
 
 fn open_grid(alloc: Global, most: u64) -> Option<Box<GridMember, Global>>
     ensures range { IsSome result → (1 ≤ most) × (most ≤ 64) }
-    ensures most { IfSome result (λ b. (arc_value b.value.grid).most ≡ most) }
+    ensures most { IfSome result (λ b. (arc_value b.value.grid).size.most ≡ most) }
     ensures seat { IfSome result (λ b. IsSome b.value.seat) }
 {
     let (grid, mut dealer) = WordGrid::new(alloc, most).ok()?;
@@ -39,7 +39,7 @@ fn open_grid(alloc: Global, most: u64) -> Option<Box<GridMember, Global>>
 #[unsafe(no_mangle)]
 pub extern "C" fn word_grid_new(alloc: Global, handle: &mut GridHandle, most: u64) -> bool
     requires empty { handle.old.grid ≡ None }
-    ensures made { result ≡ true → IsSomeAnd handle.new.grid (λ m. ((arc_value m.grid).most ≡ most) × IsSome m.seat) }
+    ensures made { result ≡ true → IsSomeAnd handle.new.grid (λ m. ((arc_value m.grid).size.most ≡ most) × IsSome m.seat) }
     ensures range { result ≡ true → (1 ≤ most) × (most ≤ 64) }
     ensures none { result ≡ false → handle.new.grid ≡ None }
 {

@@ -1,4 +1,5 @@
-//! A pool of numbers and a grid of splitters over raw words as a static library, for threads that are not Rattle's, with no lock.
+//! Pools of numbers, a grid of splitters and names over shared atomic words as a static library, for threads that are not
+//! Rattle's, with no lock.
 //!
 //! Each thread has a handle of its own. The first is made by `word_pool_new`, a further one by `word_pool_join` of another;
 //! all share one pool. A handle holds at most one number at a time. A thread that takes a number from 1 to the pool's size
@@ -13,6 +14,9 @@
 //!
 //! A line's handles are as a grid's: the first is made by `line_pool_new`, the others by `line_pool_join` of it, one for each
 //! ticket. A handle of a line always gets a number, and the number is small where few hold or seek one.
+//!
+//! Of the handles of names the first, made by `word_names_new`, deals the seats and has none; the others are made by
+//! `word_names_join` of it, one for each identity. Where `b` of them have begun, a name is at most `2b - 1`.
 #![tactic(auto)]
 
 ghost use Rattle.std.specs.Prelude.{◌≡◌, ◌≢◌, ◌≤◌, ◌⊎◌, IfSome, IsSome, IsSomeAnd, None, Some, true, false};
@@ -28,12 +32,16 @@ pub mod line;
 pub mod line_handle;
 pub mod line_member;
 pub mod member;
+pub mod names;
+pub mod names_handle;
+pub mod names_member;
 pub mod parts;
 
 pub use grid_handle::GridHandle;
 pub use handle::Handle;
 pub use line_handle::LineHandle;
 use member::Member;
+pub use names_handle::NamesHandle;
 use std::alloc::Global;
 use std::mem;
 use std::sync::Arc;
