@@ -3,12 +3,14 @@
 //! `slotctl play --world splitter --m 2` reads commands from the standard input, one a line, and writes a reply to each to
 //! the standard output. `slotctl serve` answers the commands of connections over one hall, and `slotctl host` those of a hall
 //! that outlives it. What the words of the command line ask for is done by `program` of `program_work`, over any reader and
-//! writer, but to serve, which is `serve` of `slot_server`, and to host, which is `host_hall` of `hall_host`. The status is 0
+//! writer, but to race, which is `race`, to serve, which is `serve` of `slot_server`, and to host, which is `host_hall` of `hall_host`. The status is 0
 //! where it was done and for help, 1 where a record is none of a run, 2 where the words are refused, and 3 at a fault or for
 //! want of memory; at 2 and 3, and where a page was asked for at 1, a text on the standard error says why.
 #![tactic(auto)]
 
 ghost use Rattle.std.specs.Prelude.{◌≡◌};
+
+mod race;
 
 use hall_host::{HostFailure, HostPlan, Keeping, LogPlan, export_hall, host_hall};
 use locked_world::Opened;
@@ -198,6 +200,11 @@ fn main(rt: HostRuntime) -> ExitCode {
     };
     let status = match outcome {
         Outcome::Ended(status) => status,
+        Outcome::Race(racing) => match race::race(&rt, alloc, racing, &mut output) {
+            Ok(true) => 0,
+            Ok(false) => 1,
+            Err(fault) => report(Failure::Fault(fault), &mut output, &mut errors),
+        },
         Outcome::Serve(serving) => {
             let blank = Blank::new(1_000_001);
             let history = Opened::new();
