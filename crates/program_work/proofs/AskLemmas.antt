@@ -1,7 +1,7 @@
 -- what clap's answer tells of the words
 use Rattle.std.proofs.Common.{ap, sym, ◌≡◌, ◌⊎◌, ◌||◌, ◌∙◌, inl, inr, ℕ, List, [], ◌∷◌, Bool, true, false, codes, subst, refl}
 use Rattle.std.proofs.Common.{Option, Some, None, option_map}
-use Rattle.program_work.proofs.Common.{same_Some, Ask, Drawing, Hosting, Playing, Serving, Showing, slotctl_app}
+use Rattle.program_work.proofs.Common.{same_Some, Ask, Drawing, Hosting, Playing, Racing, Serving, Showing, slotctl_app}
 use Rattle.std.specs.List.{list_any}
 use Rattle.std.specs.Str.{bytes_eq}
 use Rattle.std.proofs.lemmas.Slice.Eq.{bytes_eq-Decides}
@@ -11,10 +11,10 @@ use Rattle.clap.specs.Simple.{is_simple}
 use Rattle.clap.specs.declared.error.kind.ErrorKind.{ErrorKind}
 use Rattle.clap.specs.declared.error.kind.ErrorKind.TheVariants.{OutOfMemory}
 use Rattle.clap.proofs.OnLiterals.{clap_on_literals}
-use Rattle.program_work.specs.declared.asked.Ask.TheVariants.{Play, Check, Migrate, Show, Draw, Serve, Host}
+use Rattle.program_work.specs.declared.asked.Ask.TheVariants.{Play, Check, Migrate, Show, Draw, Race, Serve, Host}
 use Rattle.program_work.specs.declared.misuse.Misuse.{Misuse}
 use Rattle.program_work.specs.declared.misuse.Misuse.TheVariants.{Help, Words, Memory}
-use Rattle.program_work.specs.Asked.{AsksFor, GiveAsked, IsAsked, IsDrawingOf, IsHostingOf, IsPlayingOf, IsMisuse, IsMisuseOf, IsRefusal, IsServingOf, IsShowingOf, is_help, is_refusal, subcommand_name}
+use Rattle.program_work.specs.Asked.{AsksFor, GiveAsked, IsAsked, IsDrawingOf, IsHostingOf, IsPlayingOf, IsMisuse, IsMisuseOf, IsRefusal, IsRacingOf, IsServingOf, IsShowingOf, is_help, is_refusal, subcommand_name}
 
 pub app_is_simple : is_simple slotctl_app ≡ true
 unfolding clap_on_literals
@@ -69,6 +69,7 @@ nothing_played rows none Check same h = apart (codes "check") (codes "play") ref
 nothing_played rows none Migrate same h = apart (codes "migrate") (codes "play") refl same
 nothing_played rows none (Show s) same h = apart (codes "show") (codes "play") refl same
 nothing_played rows none (Draw d) same h = apart (codes "draw") (codes "play") refl same
+nothing_played rows none (Race r) same h = apart (codes "race") (codes "play") refl same
 nothing_played rows none (Serve s) same h = apart (codes "serve") (codes "play") refl same
 nothing_played rows none (Host x) same h = apart (codes "host") (codes "play") refl same
 
@@ -79,6 +80,7 @@ nothing_shown rows none Check same h = apart (codes "check") (codes "show") refl
 nothing_shown rows none Migrate same h = apart (codes "migrate") (codes "show") refl same
 nothing_shown rows none (Show s) same h = none s h
 nothing_shown rows none (Draw d) same h = apart (codes "draw") (codes "show") refl same
+nothing_shown rows none (Race r) same h = apart (codes "race") (codes "show") refl same
 nothing_shown rows none (Serve s) same h = apart (codes "serve") (codes "show") refl same
 nothing_shown rows none (Host x) same h = apart (codes "host") (codes "show") refl same
 
@@ -89,8 +91,20 @@ nothing_drawn rows none Check same h = apart (codes "check") (codes "draw") refl
 nothing_drawn rows none Migrate same h = apart (codes "migrate") (codes "draw") refl same
 nothing_drawn rows none (Show s) same h = apart (codes "show") (codes "draw") refl same
 nothing_drawn rows none (Draw d) same h = none d h
+nothing_drawn rows none (Race r) same h = apart (codes "race") (codes "draw") refl same
 nothing_drawn rows none (Serve s) same h = apart (codes "serve") (codes "draw") refl same
 nothing_drawn rows none (Host x) same h = apart (codes "host") (codes "draw") refl same
+
+-- nothing of the name `race`, where its options give nothing
+pub nothing_raced : (rows : List Row) → ((r : Racing) → IsRacingOf rows r → ⊥) → (a : Ask) → subcommand_name a ≡ codes "race" → GiveAsked rows a → ⊥
+nothing_raced rows none (Play p) same h = apart (codes "play") (codes "race") refl same
+nothing_raced rows none Check same h = apart (codes "check") (codes "race") refl same
+nothing_raced rows none Migrate same h = apart (codes "migrate") (codes "race") refl same
+nothing_raced rows none (Show s) same h = apart (codes "show") (codes "race") refl same
+nothing_raced rows none (Draw d) same h = apart (codes "draw") (codes "race") refl same
+nothing_raced rows none (Race r) same h = none r h
+nothing_raced rows none (Serve s) same h = apart (codes "serve") (codes "race") refl same
+nothing_raced rows none (Host x) same h = apart (codes "host") (codes "race") refl same
 
 -- nothing of the name `serve`, where its options give nothing
 pub nothing_served : (rows : List Row) → ((s : Serving) → IsServingOf rows s → ⊥) → (a : Ask) → subcommand_name a ≡ codes "serve" → GiveAsked rows a → ⊥
@@ -99,6 +113,7 @@ nothing_served rows none Check same h = apart (codes "check") (codes "serve") re
 nothing_served rows none Migrate same h = apart (codes "migrate") (codes "serve") refl same
 nothing_served rows none (Show s) same h = apart (codes "show") (codes "serve") refl same
 nothing_served rows none (Draw d) same h = apart (codes "draw") (codes "serve") refl same
+nothing_served rows none (Race r) same h = apart (codes "race") (codes "serve") refl same
 nothing_served rows none (Serve s) same h = none s h
 nothing_served rows none (Host x) same h = apart (codes "host") (codes "serve") refl same
 
@@ -109,6 +124,7 @@ nothing_hosted rows none Check same h = apart (codes "check") (codes "host") ref
 nothing_hosted rows none Migrate same h = apart (codes "migrate") (codes "host") refl same
 nothing_hosted rows none (Show s) same h = apart (codes "show") (codes "host") refl same
 nothing_hosted rows none (Draw d) same h = apart (codes "draw") (codes "host") refl same
+nothing_hosted rows none (Race r) same h = apart (codes "race") (codes "host") refl same
 nothing_hosted rows none (Serve s) same h = apart (codes "serve") (codes "host") refl same
 nothing_hosted rows none (Host x) same h = none x h
 

@@ -25,6 +25,7 @@ pub use Rattle.program_work.specs.declared.asked.Ask.{Ask}
 pub use Rattle.program_work.specs.declared.asked.Drawing.{Drawing}
 pub use Rattle.program_work.specs.declared.asked.Hosting.{Hosting}
 pub use Rattle.program_work.specs.declared.asked.Playing.{Playing}
+pub use Rattle.program_work.specs.declared.asked.Racing.{Racing}
 pub use Rattle.program_work.specs.declared.asked.Serving.{Serving}
 pub use Rattle.program_work.specs.declared.asked.Showing.{Showing}
 pub use Rattle.program_work.specs.CommandLine.{IsCommandOf, slotctl_app}

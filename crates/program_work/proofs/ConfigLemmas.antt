@@ -1,6 +1,6 @@
 -- when no config, run or drawing has the matched options
 use Rattle.std.proofs.Common.{ap, sym, subst, ◌≡◌, ◌∙◌, ◌<◌, ◌^◌, ℕ, List, Option, Some, None, Result, Ok, Err, IfOk, IsOk, ◌↔◌, Bool, MatchOption, IfSome, IsSome, codes, refl, true, false, arith, IfNone, ◌≢◌}
-use Rattle.program_work.proofs.Common.{result_ok, same_Some, Config, Drawing, Playing, Serving, Showing}
+use Rattle.program_work.proofs.Common.{result_ok, same_Some, Config, Drawing, Playing, Racing, Serving, Showing}
 use Rattle.std.specs.Str.Parse.{ParsesUnsigned, digits_value, without_leading_plus}
 use Rattle.clap.specs.Words.{ReadsOne, Row, first_of, one_of}
 use Rattle.commands.specs.Config.{world_name}
@@ -8,9 +8,9 @@ use Rattle.commands.specs.Ranges.{IsConfigRange}
 use Rattle.commands.specs.ConfigProofs.{few_take_part}
 use Rattle.step_memory.specs.declared.refusal.Refusal.{Refusal}
 use Rattle.commands.specs.declared.kind.WorldKind.{WorldKind}
-use Rattle.program_work.specs.Asked.{HasNumber, HasWorld, IsConfigOf, IsDrawingOf, IsPlayingOf, IsServingOf, IsShowingOf, asks_flag}
+use Rattle.program_work.specs.Asked.{HasNumber, HasWorld, IsConfigOf, IsDrawingOf, IsPlayingOf, IsRacingOf, IsServingOf, IsShowingOf, asks_flag}
 use Rattle.commands.specs.KindProofs.{named_apart}
-use Rattle.program_work.specs.Ranges.{CanBeWritten, IsDrawingRange, IsServingRange, IsShowingRange}
+use Rattle.program_work.specs.Ranges.{CanBeWritten, IsDrawingRange, IsRacingRange, IsServingRange, IsShowingRange}
 
 pub unless_some : {T : Type 0} (o : Option T) (P : Type 0) (Q : T → Type 0) → o ≡ None → P → MatchOption o P Q
 unless_some o P Q e p = subst (λ w. MatchOption w P Q) (sym e) p
@@ -168,6 +168,23 @@ served rows c port workers count None config has_port has_workers has_count valu
     let same_kind : s.config.world ≡ c.world = same_world rows s.config.world c.world h.config.world config.world in
     let fits = s.in_range in
     let bad : false ≡ true = range.1 (rw (same_port, same_workers, same_count, same_kind) at fits) in
+    cc
+
+-- what is made of the matched numbers is the race, where there is one
+pub raced : (rows : List Row) (threads rounds seed : ℕ) (o : Option Racing) → HasNumber rows (codes "threads") threads → HasNumber rows (codes "rounds") rounds → HasNumber rows (codes "seed") seed
+    → IfSome o (λ r. (r.threads ≡ threads) × (r.rounds ≡ rounds) × (r.seed ≡ seed)) → (IsSome o ↔ IsRacingRange threads rounds seed)
+    → MatchOption o ((r : Racing) → IsRacingOf rows r → ⊥) (IsRacingOf rows)
+raced rows threads rounds seed (Some r) has_threads has_rounds has_seed values range = record {
+  threads = subst (λ x. HasNumber rows (codes "threads") x) (sym values.0) has_threads;
+  rounds = subst (λ x. HasNumber rows (codes "rounds") x) (sym values.1) has_rounds;
+  seed = subst (λ x. HasNumber rows (codes "seed") x) (sym values.2) has_seed;
+}
+raced rows threads rounds seed None has_threads has_rounds has_seed values range = λ r h.
+    let same_threads : r.threads ≡ threads = same_number rows (codes "threads") r.threads threads h.threads has_threads in
+    let same_rounds : r.rounds ≡ rounds = same_number rows (codes "rounds") r.rounds rounds h.rounds has_rounds in
+    let same_seed : r.seed ≡ seed = same_number rows (codes "seed") r.seed seed h.seed has_seed in
+    let fits = r.in_range in
+    let bad : false ≡ true = range.1 (rw (same_threads, same_rounds, same_seed) at fits) in
     cc
 
 -- what is made of the matched numbers is the showing, where there is one

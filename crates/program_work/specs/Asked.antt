@@ -16,12 +16,13 @@ use Rattle.commands.specs.declared.config.Config.{Config}
 use Rattle.commands.specs.declared.kind.WorldKind.{WorldKind}
 use Rattle.program_work.specs.CommandLine.{slotctl_app}
 use Rattle.program_work.specs.declared.asked.Ask.{Ask}
-use Rattle.program_work.specs.declared.asked.Ask.TheVariants.{Play, Check, Migrate, Show, Draw, Serve, Host}
+use Rattle.program_work.specs.declared.asked.Ask.TheVariants.{Play, Check, Migrate, Show, Draw, Race, Serve, Host}
 use Rattle.program_work.specs.declared.asked.Drawing.{Drawing}
 use Rattle.program_work.specs.declared.asked.Hosting.{Hosting}
 use Rattle.program_work.specs.declared.asked.Keeping.{Keeping}
 use Rattle.program_work.specs.declared.asked.Keeping.TheVariants.{Nothing, Journal, Log}
 use Rattle.program_work.specs.declared.asked.LogWords.{LogWords}
+use Rattle.program_work.specs.declared.asked.Racing.{Racing}
 use Rattle.program_work.specs.declared.asked.Serving.{Serving}
 use Rattle.program_work.specs.declared.asked.Playing.{Playing}
 use Rattle.program_work.specs.declared.asked.Showing.{Showing}
@@ -75,6 +76,12 @@ pub record IsShowingOf (rows : List Row) (s : Showing) : Type 0 where
   pub from : HasNumber rows (codes "from") s.from
   pub count : HasNumber rows (codes "count") s.count
 
+-- the race that the options of `race` give, as clap matched them, each number in its range
+pub record IsRacingOf (rows : List Row) (r : Racing) : Type 0 where
+  pub threads : HasNumber rows (codes "threads") r.threads
+  pub rounds : HasNumber rows (codes "rounds") r.rounds
+  pub seed : HasNumber rows (codes "seed") r.seed
+
 -- the serving that the options of `serve` give, as clap matched them, each number in its range
 pub record IsServingOf (rows : List Row) (s : Serving) : Type 0 where
   pub config : IsConfigOf rows s.config
@@ -124,6 +131,7 @@ subcommand_name Check = codes "check"
 subcommand_name Migrate = codes "migrate"
 subcommand_name (Show showing) = codes "show"
 subcommand_name (Draw drawing) = codes "draw"
+subcommand_name (Race racing) = codes "race"
 subcommand_name (Serve serving) = codes "serve"
 subcommand_name (Host hosting) = codes "host"
 
@@ -134,6 +142,7 @@ GiveAsked rows Check = ⊤
 GiveAsked rows Migrate = ⊤
 GiveAsked rows (Show showing) = IsShowingOf rows showing
 GiveAsked rows (Draw drawing) = IsDrawingOf rows drawing
+GiveAsked rows (Race racing) = IsRacingOf rows racing
 GiveAsked rows (Serve serving) = IsServingOf rows serving
 GiveAsked rows (Host hosting) = IsHostingOf rows hosting
 

@@ -8,7 +8,7 @@ use Rattle.clap.specs.declared.builder.value_parser.ValueParser.TheVariants.{Uns
 use Rattle.program_work.specs.declared.command_line.Choice.{Choice}
 use Rattle.program_work.specs.declared.command_line.Manual.{Manual}
 use Rattle.program_work.specs.declared.command_line.Subcommand.{Subcommand}
-use Rattle.program_work.specs.declared.command_line.Subcommand.TheVariants.{Play, Check, Migrate, Show, Draw, Serve, Host}
+use Rattle.program_work.specs.declared.command_line.Subcommand.TheVariants.{Play, Check, Migrate, Show, Draw, Race, Serve, Host}
 use Rattle.program_work.specs.declared.command_line.Takes.{Takes}
 use Rattle.program_work.specs.declared.command_line.Takes.TheVariants.{Text, TextOr, Number, Needed, Nothing}
 
@@ -99,6 +99,11 @@ draw_app = with_options (codes "draw")
     ∷ number_option (codes "runs") 0 1000 (codes "0") ∷ number_option (codes "jobs") 0 64 (codes "0")
     ∷ world_option ∷ m_option ∷ limit_option ∷ [])
 
+-- `--threads NUMBER`, from 1 to 16, or 4; `--rounds NUMBER`, from 1 to 1,000,000, or 1; `--seed NUMBER`, or 1
+abbrev pub race_app : App
+race_app = with_options (codes "race") (number_option (codes "threads") 1 16 (codes "4") ∷ number_option (codes "rounds") 1 1000000 (codes "1")
+    ∷ number_option (codes "seed") 0 18446744073709551615 (codes "1") ∷ [])
+
 -- `--workers NUMBER`, from 1 to 16, or 2; `--count NUMBER`, from 1 to 1,000,000, or 1
 abbrev pub serve_app : App
 serve_app = with_options (codes "serve") (world_option ∷ m_option ∷ k_option ∷ limit_option ∷ port_option
@@ -121,7 +126,7 @@ bare_app =
 -- the program with all its subcommands
 abbrev pub slotctl_app : App
 slotctl_app = fold (λ app sub. with_subcommand app sub.top) bare_app
-    (play_app ∷ check_app ∷ migrate_app ∷ show_app ∷ draw_app ∷ serve_app ∷ host_app ∷ [])
+    (play_app ∷ check_app ∷ migrate_app ∷ show_app ∷ draw_app ∷ race_app ∷ serve_app ∷ host_app ∷ [])
 
 -- what an option of a table is
 abbrev pub rule_taking : List ℕ → Takes → Rule
@@ -148,6 +153,7 @@ subcommand_app Check = check_app
 subcommand_app Migrate = migrate_app
 subcommand_app Show = show_app
 subcommand_app Draw = draw_app
+subcommand_app Race = race_app
 subcommand_app Serve = serve_app
 subcommand_app Host = host_app
 

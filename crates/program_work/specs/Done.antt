@@ -15,7 +15,7 @@ use Rattle.run_checker.specs.declared.verdict.Verdict.{Verdict}
 use Rattle.schedule_player.specs.Recorded.{IsRecorded}
 use Rattle.commands.specs.declared.config.Config.{Config}
 use Rattle.program_work.specs.declared.asked.Ask.{Ask}
-use Rattle.program_work.specs.declared.asked.Ask.TheVariants.{Play, Check, Migrate, Show, Draw, Serve, Host}
+use Rattle.program_work.specs.declared.asked.Ask.TheVariants.{Play, Check, Migrate, Show, Draw, Race, Serve, Host}
 use Rattle.program_work.specs.declared.asked.Drawing.{Drawing}
 use Rattle.program_work.specs.declared.asked.Showing.{Showing}
 use Rattle.program_work.specs.declared.failure.Failure.{Failure}
@@ -25,7 +25,7 @@ use Rattle.program_work.specs.declared.outcome.Outcome.{Outcome}
 use Rattle.program_work.specs.declared.outcome.Outcome.TheVariants as outcome
 use Rattle.program_work.specs.Checked.{IsChecked, IsRewritten}
 use Rattle.program_work.specs.Shown.{IsShownFor, outcome_shown, stretch_asked}
-use Rattle.program_work.specs.Statuses.{status_after}
+use Rattle.program_work.specs.Statuses.{status_after, status_of}
 
 -- a status is answered, and a fault is a failure
 abbrev pub outcome_of : Result ℕ Fault → Result Outcome Failure
@@ -56,14 +56,15 @@ IsPlayedBy false config reading writing status =
 IsPlayedBy true config reading writing status =
     (recorded : Result (Unit {0}) Fault) × (status ≡ status_after recorded) × IsRecorded config reading writing recorded
 
--- it is neither to show a record nor to serve nor to host
+-- it is neither to show a record nor to race, to serve or to host
 abbrev pub is_work : Ask → Bool
 is_work (Show showing) = false
+is_work (Race racing) = false
 is_work (Serve serving) = false
 is_work (Host hosting) = false
 is_work a = true
 
--- what was asked for, which is neither to show nor to serve nor to host, is done, and answers this status: a run is
+-- what was asked for, which is neither to show nor to race, to serve or to host, is done, and answers this status: a run is
 -- played; or a record is checked, or written again; or nothing is read, and a drawing is written
 abbrev pub IsWorked : {R W : Type 0} → Ask → Reading R → Writing W → Result ℕ Fault → Type 0
 IsWorked (Play playing) reading writing status = IsPlayedBy playing.recorded playing.config reading writing status
@@ -80,13 +81,14 @@ HasWorked ask reading writing result = (status : Result ℕ Fault) × (result �
 abbrev pub HasShown : {R W : Type 0} → Showing → Reading R → Writing W → Result Outcome Failure → Type 0
 HasShown showing reading writing result = (shown : Result Verdict Fault) × (result ≡ outcome_shown shown) × IsShownFor (stretch_asked showing) reading writing shown
 
--- to serve and to host is left, with nothing read or written
+-- to race, to serve and to host is left, with nothing read or written
 abbrev pub IsDoneFor : {R W : Type 0} → Ask → Reading R → Writing W → Result Outcome Failure → Type 0
 IsDoneFor (Play config) reading writing result = HasWorked (Play config) reading writing result
 IsDoneFor Check reading writing result = HasWorked Check reading writing result
 IsDoneFor Migrate reading writing result = HasWorked Migrate reading writing result
 IsDoneFor (Show showing) reading writing result = HasShown showing reading writing result
 IsDoneFor (Draw drawing) reading writing result = HasWorked (Draw drawing) reading writing result
+IsDoneFor (Race racing) reading writing result = (result ≡ Ok (outcome.Race racing)) × (reading.new ≡ reading.old) × (writing.new ≡ writing.old)
 IsDoneFor (Serve serving) reading writing result = (result ≡ Ok (outcome.Serve serving)) × (reading.new ≡ reading.old) × (writing.new ≡ writing.old)
 IsDoneFor (Host hosting) reading writing result = (result ≡ Ok (outcome.Host hosting)) × (reading.new ≡ reading.old) × (writing.new ≡ writing.old)
 
@@ -94,3 +96,8 @@ IsDoneFor (Host hosting) reading writing result = (result ≡ Ok (outcome.Host h
 abbrev pub IsDone : {R W : Type 0} → Reading R → Writing W → Result Ask Misuse → Result Outcome Failure → Type 0
 IsDone reading writing (Err misuse) result = (result ≡ Err (failure.Misuse misuse)) × (reading.new ≡ reading.old) × (writing.new ≡ writing.old)
 IsDone reading writing (Ok ask) result = IsDoneFor ask reading writing result
+
+-- what was done is answered as it is, with nothing written after it. A failure is told, and its status is answered, or 3 where it can't be told
+abbrev pub IsAnswered : {W : Type 0} → Result Outcome Failure → W → W → Outcome → Type 0
+IsAnswered (Ok done) at now answer = (answer ≡ done) × (now ≡ at)
+IsAnswered (Err why) at now answer = (status : ℕ) × (answer ≡ outcome.Ended status) × ((status ≡ status_of why) ⊎ (status ≡ 3))

@@ -1,7 +1,7 @@
 //! What the program can be asked for.
 
 ghost use Rattle.std.specs.Prelude.{◌≡◌, IfSome, IsSome, ◌↔◌};
-ghost use Rattle.program_work.specs.Ranges.{IsDrawingRange, IsHostingRange, IsServingRange, IsShowingRange, IsPatience, CanBeWritten};
+ghost use Rattle.program_work.specs.Ranges.{IsDrawingRange, IsHostingRange, IsRacingRange, IsServingRange, IsShowingRange, IsPatience, CanBeWritten};
 
 use commands::Config;
 use std::net::IpAddr;
@@ -19,6 +19,8 @@ pub enum Ask<'a> {
     Show(Showing),
     /// Drawn schedules.
     Draw(Drawing),
+    /// Threads that race for names.
+    Race(Racing),
     /// Connections that are served.
     Serve(Serving),
     /// A hall that is hosted.
@@ -115,6 +117,35 @@ impl Drawing {
             runs,
             jobs,
             config,
+        })
+    }
+}
+
+/// Threads that race for names over shared atomic words, in rounds, each with identities of its own.
+#[derive(Clone, Copy, Drop)]
+pub struct Racing {
+    /// How many threads there are, from 1 to 16.
+    pub threads: u64,
+    /// How many rounds, from 1 to 1,000,000.
+    pub rounds: u64,
+    /// The seed of the identities.
+    pub seed: u64,
+    ghost in_range: { IsRacingRange threads rounds seed },
+}
+
+impl Racing {
+    /// A race of these values; none where one of them is outside its range.
+    pub fn new(threads: u64, rounds: u64, seed: u64) -> Option<Racing>
+        ensures values { IfSome result (λ r. (r.threads ≡ threads) × (r.rounds ≡ rounds) × (r.seed ≡ seed)) }
+        ensures range { IsSome result ↔ IsRacingRange threads rounds seed }
+    {
+        if threads < 1 || 16 < threads || rounds < 1 || 1_000_000 < rounds {
+            return None;
+        }
+        Some(Racing {
+            threads,
+            rounds,
+            seed,
         })
     }
 }

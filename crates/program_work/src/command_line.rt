@@ -186,6 +186,32 @@ const DRAW: Manual = Manual {
     ],
 };
 
+// `slotctl race`.
+const RACE: Manual = Manual {
+    name: "race",
+    about: "Lets threads race for names over shared atomic words, with no lock, and writes who got which",
+    examples: "Examples:
+  slotctl race --threads 4
+  slotctl race --threads 16 --rounds 1000 --seed 7",
+    choices: &[
+        Choice {
+            name: "threads",
+            takes: Takes::Number(1, 16, "4"),
+            help: "how many threads, from 1 to 16",
+        },
+        Choice {
+            name: "rounds",
+            takes: Takes::Number(1, 1_000_000, "1"),
+            help: "how many rounds, from 1 to 1000000",
+        },
+        Choice {
+            name: "seed",
+            takes: Takes::Number(0, u64::MAX, "1"),
+            help: "the seed of the identities",
+        },
+    ],
+};
+
 // `slotctl serve`.
 const SERVE: Manual = Manual {
     name: "serve",
@@ -282,6 +308,7 @@ enum Subcommand {
     Migrate,
     Show,
     Draw,
+    Race,
     Serve,
     Host,
 }
@@ -293,6 +320,7 @@ const SUBCOMMANDS: &[Subcommand] = &[
     Subcommand::Migrate,
     Subcommand::Show,
     Subcommand::Draw,
+    Subcommand::Race,
     Subcommand::Serve,
     Subcommand::Host,
 ];
@@ -308,6 +336,7 @@ impl Subcommand {
             Subcommand::Migrate => MIGRATE,
             Subcommand::Show => SHOW,
             Subcommand::Draw => DRAW,
+            Subcommand::Race => RACE,
             Subcommand::Serve => SERVE,
             Subcommand::Host => HOST,
         }

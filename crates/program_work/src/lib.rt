@@ -7,7 +7,7 @@
 //!
 //! `program` has the words read, does what they ask for, tells a failure and answers the status; `program_over`
 //! is the same over streams of std, whose calls it counts. `done` is the same up to what is told, and `work` does what was asked for:
-//! `play_for`, `check_for`, `migrate_for` or `draw_for`; `show_for` shows a record. To serve is left to the caller (`Outcome::Serve`),
+//! `play_for`, `check_for`, `migrate_for` or `draw_for`; `show_for` shows a record. To race, to serve and to host is left to the caller (`Outcome`),
 //! with nothing read and nothing written.
 //!
 //! What is proved of `done` (`IsRead`, `IsDone`): some `Ask` that the words mean is done, or they ask for nothing and nothing is read or
@@ -53,7 +53,7 @@ pub mod showing;
 pub mod words;
 pub mod working;
 
-pub use asked::{Ask, Drawing, Hosting, Keeping, LogWords, Playing, Serving, Showing};
+pub use asked::{Ask, Drawing, Hosting, Keeping, LogWords, Playing, Racing, Serving, Showing};
 pub use checking::check_for;
 pub use failure::Failure;
 pub use migrating::migrate_for;

@@ -1,12 +1,14 @@
 //! How the program goes on.
 
-use crate::{Hosting, Serving};
+use crate::{Hosting, Racing, Serving};
 
 /// What is left to do, once the words were read.
 #[derive(Clone, Copy, Drop)]
 pub enum Outcome<'a> {
     /// Nothing: this is the status.
     Ended(u8),
+    /// To let threads race.
+    Race(Racing),
     /// To serve connections.
     Serve(Serving),
     /// To host a hall.

@@ -3,9 +3,11 @@
 ghost use Rattle.std.specs.Prelude.{◌≡◌, ◌⊎◌, ◌<◌, ◌^◌, Result, map};
 ghost use Rattle.player.specs.Played.{reading, writing};
 ghost use Rattle.program_work.specs.Asked.{IsRead};
-ghost use Rattle.program_work.specs.Done.{IsDone};
+ghost use Rattle.program_work.specs.Done.{IsAnswered, IsDone};
 ghost use Rattle.program_work.specs.declared.asked.Ask.{Ask};
+ghost use Rattle.program_work.specs.declared.failure.Failure.{Failure};
 ghost use Rattle.program_work.specs.declared.misuse.Misuse.{Misuse};
+ghost use Rattle.program_work.specs.declared.outcome.Outcome.{Outcome};
 ghost use Rattle.program_work.specs.Statuses.{status_of};
 
 use crate::failure::Failure;
@@ -20,7 +22,7 @@ use std::thread::Threads;
 
 /// Does what the words of a command line ask for, the first of which is the program's name, and answers the status of the
 /// program: 0 where it was done and for help, 1 where a verdict is other than yes, 2 where the words are refused, 3 at a fault or for want
-/// of memory. Help goes to `output` beside what is done, every other text to `errors`. To serve and to host is left to the caller.
+/// of memory. Help goes to `output` beside what is done, every other text to `errors`. To race, to serve and to host is left to the caller.
 pub fn program<'a, T: Threads + Sync, S: AsStr, R: Source, W: Sink, E: Write>(
     rt: &T,
     alloc: Global,
@@ -31,6 +33,8 @@ pub fn program<'a, T: Threads + Sync, S: AsStr, R: Source, W: Sink, E: Write>(
 ) -> Outcome<'a>
     requires reads { R.calls input.old < 2 ^ 64 }
     requires writes { W.calls output.old < 2 ^ 64 }
+    ensures { (asked : Result Ask Misuse) × IsRead (map S.text words.now) asked × (ended : Result Outcome Failure) × (at : W)
+        × IsDone (reading R.remaining R.calls R.failed input.old input.new) (writing W.contents W.failed output.old at) asked ended × IsAnswered ended at output.new result }
 {
     match done(rt, alloc, words, input, output) {
         Ok(outcome) => outcome,
@@ -53,7 +57,7 @@ pub fn program_over<'a, T: Threads + Sync, S: AsStr, R: Read + Drop, W: Write + 
     program(rt, alloc, words, &mut input, &mut output, errors)
 }
 
-/// Does what the words ask for, but to serve and to host.
+/// Does what the words ask for, but to race, to serve and to host.
 pub fn done<'a, T: Threads + Sync, S: AsStr, R: Source, W: Sink>(
     rt: &T,
     alloc: Global,
@@ -70,6 +74,9 @@ pub fn done<'a, T: Threads + Sync, S: AsStr, R: Source, W: Sink>(
         Ok(asked) => asked,
         Err(misuse) => return Err(Failure::Misuse(misuse)),
     };
+    if let Ask::Race(racing) = asked {
+        return Ok(Outcome::Race(racing));
+    }
     if let Ask::Serve(serving) = asked {
         return Ok(Outcome::Serve(serving));
     }

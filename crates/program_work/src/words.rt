@@ -2,7 +2,7 @@
 
 ghost use Rattle.std.specs.Prelude.{◌≡◌, ℕ, ◌<◌, ◌^◌, MatchOption, Some, map};
 ghost use Rattle.clap.specs.Words.{found_of, kind_of, rows_of, subcommand_rows_of};
-ghost use Rattle.program_work.specs.Asked.{HasNumber, HasWorld, IsAsked, IsConfigOf, HasAddress, HasText, IsDrawingOf, IsHostingOf, IsKeepingOf, IsLogOf, IsMisuseOf, IsPlayingOf, IsRead, IsRefusal, IsServingOf, IsShowingOf, asks_flag, asks_log};
+ghost use Rattle.program_work.specs.Asked.{HasNumber, HasWorld, IsAsked, IsConfigOf, HasAddress, HasText, IsDrawingOf, IsHostingOf, IsKeepingOf, IsLogOf, IsMisuseOf, IsPlayingOf, IsRacingOf, IsRead, IsRefusal, IsServingOf, IsShowingOf, asks_flag, asks_log};
 ghost use Rattle.commands.specs.declared.config.Config.{Config};
 ghost use Rattle.commands.specs.declared.kind.WorldKind.{WorldKind};
 ghost use Rattle.program_work.specs.declared.asked.Drawing.{Drawing};
@@ -10,11 +10,12 @@ ghost use Rattle.program_work.specs.declared.asked.Hosting.{Hosting};
 ghost use Rattle.program_work.specs.declared.asked.Keeping.{Keeping};
 ghost use Rattle.program_work.specs.declared.asked.LogWords.{LogWords};
 ghost use Rattle.program_work.specs.declared.asked.Playing.{Playing};
+ghost use Rattle.program_work.specs.declared.asked.Racing.{Racing};
 ghost use Rattle.program_work.specs.declared.asked.Serving.{Serving};
 ghost use Rattle.program_work.specs.declared.asked.Showing.{Showing};
 ghost use Rattle.program_work.specs.declared.asked.Ask.{Ask};
 
-use crate::asked::{Ask, Drawing, Hosting, Keeping, LogWords, Playing, Serving, Showing};
+use crate::asked::{Ask, Drawing, Hosting, Keeping, LogWords, Playing, Racing, Serving, Showing};
 use crate::command_line::slotctl_command;
 use crate::misuse::Misuse;
 use clap::error::ErrorKind;
@@ -91,6 +92,16 @@ fn show_given(matches: &ArgMatches<'_>) -> Option<Showing>
     let from = number_given(matches, "from")?;
     let count = number_given(matches, "count")?;
     Showing::new(from, count)
+}
+
+// What the options of `race` give, where they give something.
+fn race_given(matches: &ArgMatches<'_>) -> Option<Racing>
+    ensures { MatchOption result ((r : Racing) → IsRacingOf (rows_of (found_of matches.now)) r → ⊥) (IsRacingOf (rows_of (found_of matches.now))) }
+{
+    let threads = number_given(matches, "threads")?;
+    let rounds = number_given(matches, "rounds")?;
+    let seed = number_given(matches, "seed")?;
+    Racing::new(threads, rounds, seed)
 }
 
 // What the options of `serve` give, where they give something.
@@ -175,6 +186,7 @@ fn asked_of<'a>(name: &str, options: &ArgMatches<'a>) -> Option<Ask<'a>>
         "migrate" => Some(Ask::Migrate),
         "show" => Some(Ask::Show(show_given(options)?)),
         "draw" => Some(Ask::Draw(draw_given(options)?)),
+        "race" => Some(Ask::Race(race_given(options)?)),
         "serve" => Some(Ask::Serve(serve_given(options)?)),
         "host" => Some(Ask::Host(host_given(options)?)),
         _ => None,

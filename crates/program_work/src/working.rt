@@ -89,6 +89,7 @@ pub fn work<T: Threads + Sync, R: Source, W: Sink>(
         Ask::Migrate => migrate_for(alloc, reader, writer),
         Ask::Draw(drawing) => draw_for(rt, alloc, drawing, writer),
         Ask::Show(_) => unreachable!(),
+        Ask::Race(_) => unreachable!(),
         Ask::Serve(_) => unreachable!(),
         Ask::Host(_) => unreachable!(),
     }

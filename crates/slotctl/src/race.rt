@@ -7,7 +7,7 @@ use program_work::Racing;
 use rand_core::SeedableRng;
 use rand_core::utils::NextWord;
 use rand_pcg::Lcg64Xsh32;
-use std::alloc::Global;
+use std::alloc::{AllocError, Global};
 use std::io::Write;
 use std::thread::{self, Threads};
 use word_names::{Dealer, FreshSeat, Names};
@@ -47,7 +47,7 @@ fn racers_of<'a>(
     mut dealer: Dealer,
     threads: u64,
     words: &mut Lcg64Xsh32,
-) -> Result<Vec<Racer<'a>, Global>, Fault>
+) -> Result<Vec<Racer<'a>, Global>, AllocError>
     requires ours { dealer.names ≡ names.now }
     requires few { threads ≤ 16 }
 {
@@ -133,8 +133,12 @@ pub fn race<T: Threads + Sync, W: Write>(
         let Ok((names, dealer)) = Names::new(alloc, threads, MOST_PROPOSALS) else {
             return Err(Fault::Memory);
         };
-        let racers = racers_of(alloc, &names, dealer, threads, &mut words)?;
-        let finishes = thread::map_vec(rt, racers, &|racer| run(racer))?;
+        let Ok(racers) = racers_of(alloc, &names, dealer, threads, &mut words) else {
+            return Err(Fault::Memory);
+        };
+        let Ok(finishes) = thread::map_vec(rt, racers, &|racer| run(racer)) else {
+            return Err(Fault::Memory);
+        };
         if !tell_round(&finishes, threads, output)? {
             lawful = false;
         }

@@ -10,7 +10,7 @@ use rand_core::utils::NextWord;
 use rand_pcg::Lcg64Xsh32;
 use rename_core::{RenameWorld, Reply, Round, Stage, next_proposal};
 use snapshot_places::Grid;
-use std::alloc::Global;
+use std::alloc::{AllocError, Global};
 use std::thread::{self, Threads};
 use step_memory::{Place, Refusal, View};
 use word_names::{Dealer, FreshSeat, Names, Renamed, Renaming};
@@ -119,10 +119,13 @@ fn lanes_of<'a>(
         let identity = identity_at(dealer.dealt());
         let seat = names.deal(&mut dealer, identity)?;
         let renaming = names.begin(seat);
-        lanes.push(Lane {
+        let lane = Lane {
             runner: Some(Runner { names, renaming }),
             place: None,
-        })?;
+        };
+        if let Err(e) = lanes.push(lane) {
+            return Err(AllocError::from(e).into());
+        }
     }
     Ok(lanes)
 }
@@ -177,6 +180,24 @@ fn name_of(racer: Racer<'_>) -> Option<u64> {
     names.rename(seat).named()
 }
 
+/// A racer for each seat but the first, as far as there are seats.
+fn racers_of<'a>(
+    alloc: Global,
+    names: &'a Names<Global>,
+    mut dealer: Dealer,
+    count: u64,
+) -> Result<Vec<Racer<'a>, Global>, AllocError>
+    requires ours { dealer.names ≡ names.now }
+{
+    let mut racers = Vec::new(alloc);
+    for number in 1..count {
+        if let Ok(seat) = names.deal(&mut dealer, identity_at(number)) {
+            racers.push(Racer { names, seat })?;
+        }
+    }
+    Ok(racers)
+}
+
 /// Whether each of the others has a name of its own below twice their number, where the first of so many seats has made some accesses
 /// and then makes none.
 fn are_named_beside<R: Threads + Sync>(
@@ -196,14 +217,7 @@ fn are_named_beside<R: Threads + Sync>(
         },
         accesses,
     );
-    let mut racers = Vec::new(alloc);
-    for number in 1..count {
-        let seat = names.deal(&mut dealer, identity_at(number))?;
-        racers.push(Racer {
-            names: &names,
-            seat,
-        })?;
-    }
+    let racers = racers_of(alloc, &names, dealer, count)?;
     let named = thread::map_vec(rt, racers, &|racer| name_of(racer))?;
     drop(stopped);
     Ok(are_distinct(&named, count))

@@ -18,7 +18,9 @@ fn open_names(alloc: Global, most: u64, limit: u64) -> Option<Box<NamesMember, G
     ensures size { IfSome result (λ b. (arc_value b.value.names).size ≡ record { most = most; limit = limit }) }
     ensures dealer { IfSome result (λ b. IsSome b.value.dealer × (b.value.seat ≡ None) × (b.value.renamed ≡ None)) }
 {
-    let (names, dealer) = Names::new(alloc, most, limit).ok()?;
+    let Ok((names, dealer)) = Names::new(alloc, most, limit) else {
+        return None;
+    };
     let names = Arc::new(alloc, names).ok()?;
     let dealer = Some(dealer);
     let seat = None;

@@ -1,6 +1,6 @@
 use Rattle.std.proofs.Common.{ap, Option, Some, ◌≡◌, ◌∙◌, ℕ, List}
 use Rattle.clap.specs.Words.{Row, found_of, rows_of}
-use Rattle.program_work.proofs.AskLemmas.{nothing_drawn, nothing_hosted, nothing_met, nothing_played, nothing_served, nothing_shown}
+use Rattle.program_work.proofs.AskLemmas.{nothing_drawn, nothing_hosted, nothing_met, nothing_played, nothing_raced, nothing_served, nothing_shown}
 use Rattle.program_work.proofs.ConfigLemmas.{unless_some}
 use Rattle.program_work.proofs.words.asked_of.Goals as goal
 
@@ -43,6 +43,17 @@ pub returns-in_ok-draw_given-in-draw : goal.returns-in_ok-draw_given-in-draw
 returns-in_ok-draw_given-in-draw c =
     let rows = rows_of (found_of c.args.options.now) in
     (rows, met rows c.in-draw.is, c.in_ok-draw_given-in-draw.ensures)
+
+pub returns-in_err-race_given-in-race : goal.returns-in_err-race_given-in-race
+returns-in_err-race_given-in-race c =
+    let rows = rows_of (found_of c.args.options.now) in
+    let nothing = nothing_met {name = c.args.name.now} rows (λ a same. nothing_raced rows c.in_err-race_given-in-race.ensures a (same ∙ c.in-race.is)) in
+    unless_some c.from_residual-in_err-race_given-in-race.result _ _ c.from_residual-in_err-race_given-in-race.ensures nothing
+
+pub returns-in_ok-race_given-in-race : goal.returns-in_ok-race_given-in-race
+returns-in_ok-race_given-in-race c =
+    let rows = rows_of (found_of c.args.options.now) in
+    (rows, met rows c.in-race.is, c.in_ok-race_given-in-race.ensures)
 
 pub returns-in_err-serve_given-in-serve : goal.returns-in_err-serve_given-in-serve
 returns-in_err-serve_given-in-serve c =
