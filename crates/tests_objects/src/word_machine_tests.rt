@@ -62,7 +62,13 @@ fn are_split(ways: &[Way], count: u64) -> bool {
 fn split<R: Threads + Sync>(rt: &R, alloc: Global, count: u64) -> Result<bool, Refusal>
     requires { 1 ≤ count }
 {
-    let (splitter, dealer) = Splitter::new(alloc, Size { most: count, limit: 0 })?;
+    let (splitter, dealer) = Splitter::new(
+        alloc,
+        Size {
+            most: count,
+            limit: 0,
+        },
+    )?;
     let guests = guests_of(alloc, &splitter, dealer, count)?;
     let ways = thread::map_vec(rt, guests, &|guest| way_of(guest))?;
     Ok(are_split(&ways, count))
