@@ -4,7 +4,7 @@ pub mod Adds
 mod Keeping
 mod Places
 mod Marking
-mod Naming
+mod FirstNames
 pub mod Standing
 mod Renames
 mod Ending

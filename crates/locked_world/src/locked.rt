@@ -72,6 +72,7 @@ impl<L: LockName> Locked<L> {
         requires parts { (blank.parts ≡ L.parts) × (L.parts ≡ 1000001) }
         requires book { history.seen.book ≡ L.book }
         requires config { config ≡ L.config }
+        ensures new { IfOk result (λ l. (l.hall ≡ hall_of L.config []) × (l.opened ≡ 0)) }
         ensures out_of_range { result ≡ Err Refusal.OutOfRange ↔ (gives_names config.world ≡ false) }
         ensures only { IfErr result (λ why. (why ≡ Refusal.NoMemory) ⊎ (why ≡ Refusal.OutOfRange)) }
     {
@@ -191,12 +192,17 @@ impl<L: LockName> Locked<L> {
         }
     }
 
-    /// Opens a session, whose identity begins. Where it does not, nothing is changed.
+    /// Opens a session, whose identity begins. Where it does not, nothing is changed. `Full` where 1,000,000 callers were opened, then
+    /// `NoMemory`, then as the hall refuses the event.
     pub fn begin<R: Wait>(&mut self, rt: &R, alloc: Global, id: u64) -> Result<Session<L>, Refusal>
         ensures opened { IfOk result (λ s. (s.id ≡ id) × IsOpened L.config id s.clerk) }
         ensures hall { IfOk result (λ s. HallMay self.old.hall (Event.Begin id) Reply.Ok self.new.hall) }
         ensures same { IfErr result (λ why. (self.new.hall ≡ self.old.hall) × (self.new.opened ≡ self.old.opened)) }
         ensures refused { IfErr result (λ why. (why ≡ Refusal.Full) ⊎ (why ≡ Refusal.NoMemory) ⊎ IsRefusedBegin L.config id why) }
+        ensures more { IfOk result (λ s. self.new.opened ≡ self.old.opened + 1) }
+        ensures full { 1000000 ≤ self.old.opened → result ≡ Err Refusal.Full }
+        ensures due { IfErr result (λ why. self.old.opened < 1000000 → (why ≡ Refusal.NoMemory) ⊎
+            HallMay self.old.hall (Event.Begin id) (Reply.Refused why) self.old.hall) }
     {
         let mut clerk = self.open(alloc)?;
         let mut view = View::new();

@@ -5,7 +5,7 @@ ghost use Rattle.desk.specs.Desk.{owner_reply};
 ghost use Rattle.hall.specs.Halls.{desk_of};
 ghost use Rattle.locked_world.specs.KeptNames.{name_kept};
 ghost use Rattle.locked_world.specs.Words.{IsOwnerOrNone, Agree};
-ghost use Rattle.raw_parts.specs.Boards.{MayHold, reader_of};
+ghost use Rattle.raw_parts.specs.Boards.{MayHold, post_cost, reader_of};
 
 use crate::matching::Closed;
 use crate::parts::{LockName, Session};
@@ -27,9 +27,10 @@ pub fn post_name<L: LockName, A: Allocator>(
     ensures name { IfSome result (λ g. name_kept session.now.clerk.kept ≡ Some g.name) }
     ensures identity { IfSome result (λ g. g.identity ≡ session.now.id) }
 
-    // It is posted, and the grant is given where the board's word was free or held the identity.
+    // It is posted by one access, and a grant takes one more: the seat makes no other. The grant is given where the board's word was
+    // free or held the identity.
     ensures posted { (name : ℕ) → name_kept session.now.clerk.kept ≡ Some name → MayHold board.now name session.now.id →
-        (seat.new ≡ reader_of board.now (seat.old.accesses + 1) seat.new.found) ×
+        (seat.new ≡ reader_of board.now (seat.old.accesses + post_cost seat.new.found session.now.id) seat.new.found) ×
         (IsSome result ↔ ((seat.new.found ≡ 0) ⊎ (seat.new.found ≡ session.now.id))) }
     ensures unnamed { name_kept session.now.clerk.kept ≡ None → seat.new ≡ seat.old }
 {

@@ -1,16 +1,16 @@
 -- each step of a name board keeps its rule
-use Rattle.std.proofs.Common.{◌≡◌, ◌≢◌, ℕ, zero, suc, ◌<◌, inl, inr, ⊎_elim, cond, eqb, eq-eqb, ne_eqb, ◌||◌, subst, sym, refl, ap, ◌∙◌, arith, List, [], ◌∷◌, ◌++◌, length, set, slice_set, slice_index}
+use Rattle.std.proofs.Common.{◌≡◌, ◌≢◌, ◌⊎◌, ℕ, zero, suc, ◌<◌, ◌≤◌, inl, inr, ⊎_elim, cond, eqb, eq-eqb, ne_eqb, ◌||◌, subst, sym, refl, ap, ◌∙◌, arith, List, [], ◌∷◌, ◌++◌, length, set, slice_set, slice_index}
 use Rattle.raw_parts.proofs.Common.{Claim, BoardView}
-use Rattle.std.proofs.lemmas.List.{set-get_or, length-set}
+use Rattle.std.proofs.lemmas.List.{set-get_or, length-set, take-replicate, length-replicate}
 use mathlib.Core.Option.{some, none, some-ne-none, some-injective}
 use mathlib.Core.Logic.{dite}
 use native.Mathlib.Decide.{ℕ_discrete}
 use prog.Atomic.{either}
-use lib.ListN.{get_elem?}
-use Rattle.atomic_table.specs.Table.{Step, step, Allows, Enters, Joins, Splits, keeps}
-use Rattle.atomic_table.proofs.Lists.{at_set, at_snoc, at_last, set_here, set_else, set_again, exchanged}
+use lib.ListN.{get_elem?, take, replicate}
+use Rattle.atomic_table.specs.Table.{Step, step, Allows, Joins, Splits, keeps}
+use Rattle.atomic_table.proofs.Lists.{at_set, at_snoc, at_last, at_longer, set_here, set_else, set_again, exchanged}
 use Rattle.raw_parts.specs.BoardRule.{IsSo, AreSo, IsClaimed, IsGranted, KeepsBoard, KeepsBoardRule}
-use Rattle.raw_parts.specs.BoardSteps.{Posts, Finds, LooksOn, Begins, AgreeWith, Reads}
+use Rattle.raw_parts.specs.BoardSteps.{Posts, Finds, LooksOn, AgreeWith, Reads}
 use Rattle.raw_parts.specs.BoardView.{claim, board_view, claims_of, no_claim, no_claim_after, lone_claim, united}
 
 -- what stands at a place of a list, in the two ways of saying it
@@ -58,11 +58,44 @@ agreed word found c (d ∷ ds) h k e = ⊎_elim
     (λ (same : c ≡ d). h.0 (sym (ap (λ (x : Claim). x.word) same) ∙ e) ∙ sym (ap (λ (x : Claim). x.identity) same))
     (λ t. agreed word found c ds h.1 t e) k
 
-module _ {S : Type 0} (count slots : ℕ) where
-  pub may_begin : Enters {S = S} {V = BoardView} (KeepsBoardRule count) slots 0 (λ n w. Begins {S = S} (step slots 0 0 0 none) (no_claim, []) n (w, []))
-  may_begin s h _ _ =
-      let new : BoardView = no_claim_after 1 0 in
-      (new, record { as_many = h.as_many; claimed = λ j u f. ⊎_elim (λ x. h.claimed j u x) (λ (x : new ≡ u). subst (λ (v : BoardView). AreSo s.words v.claims) x tt) (at_snoc s.views new u j f) }, refl)
+-- the view of a seat that has one
+set_there : (views : List BoardView) (i : ℕ) (old new : BoardView) → get_elem? views i ≡ some old → get_elem? (set views i new) i ≡ some new
+set_there [] i old new e = absurd (some-ne-none old (sym e))
+set_there (x ∷ xs) zero old new e = refl
+set_there (x ∷ xs) (suc i) old new e = set_there xs i old new e
+
+-- what a claim's seat has, where that is the seat with this view
+has_it : (views : List BoardView) (i : ℕ) (old : BoardView) (c : Claim) (g : IsGranted views c) → get_elem? views i ≡ some old → g.seat ≡ i → IsClaimed c old.claims
+has_it views i old c g e same = subst (λ (v : BoardView). IsClaimed c v.claims) (some-injective g.view old (sym g.there ∙ ap (λ (k : ℕ). get_elem? views k) same ∙ e)) g.claimed
+
+-- a claim is still some seat's where a seat's view becomes one that has what it had
+still_granted : (views : List BoardView) (i : ℕ) (old new : BoardView) (c : Claim) → get_elem? views i ≡ some old → (IsClaimed c old.claims → IsClaimed c new.claims) → IsGranted views c → IsGranted (set views i new) c
+still_granted views i old new c e more g = dite (ℕ_discrete g.seat i)
+    (λ same. record { seat = i; view = new; there = set_there views i old new e; claimed = more (has_it views i old c g e same) })
+    (λ other. record { seat = g.seat; view = g.view; there = set_else views i g.seat new other ∙ g.there; claimed = g.claimed })
+
+-- or is cut in two, which have what it had
+cut_granted : (views : List BoardView) (i : ℕ) (old left right : BoardView) (c : Claim) → get_elem? views i ≡ some old → (IsClaimed c old.claims → IsClaimed c left.claims ⊎ IsClaimed c right.claims) → IsGranted views c → IsGranted (set views i left ++ right ∷ []) c
+cut_granted views i old left right c e more g = dite (ℕ_discrete g.seat i)
+    (λ same. ⊎_elim
+    (λ l. record { seat = i; view = left; there = at_longer (set views i left) (right ∷ []) i left (set_there views i old left e); claimed = l })
+    (λ r. record { seat = length (set views i left); view = right; there = at_last (set views i left) right (length (set views i left)) refl; claimed = r })
+    (more (has_it views i old c g e same)))
+    (λ other. record { seat = g.seat; view = g.view; there = at_longer (set views i left) (right ∷ []) g.seat g.view (set_else views i g.seat left other ∙ g.there); claimed = g.claimed })
+
+-- or where two become one, which has what they had
+joined_granted : (views : List BoardView) (i other : ℕ) (v w both spent : BoardView) (c : Claim) → get_elem? views i ≡ some v → other ≢ i → get_elem? (set views i both) other ≡ some w
+    → (IsClaimed c v.claims → IsClaimed c both.claims) → (IsClaimed c w.claims → IsClaimed c both.claims) → IsGranted views c → IsGranted (set (set views i both) other spent) c
+joined_granted views i other v w both spent c e apart e' mine theirs g =
+    let once : IsGranted (set views i both) c = still_granted views i v both c e mine g in
+    dite (ℕ_discrete once.seat other)
+    (λ same. record {
+      seat = i;
+      view = both;
+      there = set_else (set views i both) other i spent (λ x. apart (sym x)) ∙ set_there views i v both e;
+      claimed = theirs (has_it (set views i both) other w c once e' same);
+    })
+    (λ else. record { seat = once.seat; view = once.view; there = set_else (set views i both) other once.seat spent else ∙ once.there; claimed = once.claimed })
 
 module _ {S : Type 0} (count slots seat : ℕ) where
   pub may_post : (word who acc last : ℕ) → word < count → who ≢ 0 →
@@ -79,7 +112,18 @@ module _ {S : Type 0} (count slots seat : ℕ) where
       (λ z. let a = ne_eqb found 0 z in dite (ℕ_discrete found who)
       (λ y. let b = eq-eqb found who y in rw (a, b) ((ap (λ (l : List ℕ). get_elem? l word) (set-get_or s.words word 0) ∙ at-index_of s.words word who long y, some_one), tt))
       (λ y. let b = ne_eqb found who y in rw (a, b) tt)) in
-      (new, keeps, tt, record { as_many = length-set s.words word _ ∙ h.as_many; claimed = each_seat (λ v. AreSo words v.claims) s.views seat new mine (λ j u f. others u.claims (h.claimed j u f)) }, refl)
+      let views : List BoardView = set s.views seat new in
+      let was : (w a : ℕ) → get_elem? s.words w ≡ some a → a ≢ 0 → IsGranted views (claim w a) = λ w a t z. still_granted s.views seat (no_claim_after acc last) new (claim w a) e (λ x. absurd x) (h.posted w a t z) in
+      let G : ℕ → Type 0 = λ x. ((a : ℕ) → x ≡ a → a ≢ 0 → IsGranted views (claim word a)) in
+      let here : G (either (eqb found 0) who found) = exchanged found 0 who G
+      (λ z a x _. let first = eq-eqb found 0 z in let mine : IsClaimed (claim word who) new.claims = rw first (inl refl) in
+      subst (λ (k : ℕ). IsGranted views (claim word k)) x (record { seat = seat; view = new; there = set_there s.views seat (no_claim_after acc last) new e; claimed = mine }))
+      (λ _ a x z. was word a (at-index_of s.words word a long x) z) in
+      let posted : (w a : ℕ) → get_elem? words w ≡ some a → a ≢ 0 → IsGranted views (claim w a) = λ w a t z. ⊎_elim
+      (λ (y : (w ≡ word) × (either (eqb found 0) who found ≡ a)). subst (λ (k : ℕ). IsGranted views (claim k a)) (sym y.0) (here a y.1 z))
+      (λ (y : (w ≢ word) × (get_elem? s.words w ≡ some a)). was w a y.1 z)
+      (at_set s.words word w (either (eqb found 0) who found) a t) in
+      (new, keeps, tt, record { as_many = length-set s.words word _ ∙ h.as_many; claimed = each_seat (λ v. AreSo words v.claims) s.views seat new mine (λ j u f. others u.claims (h.claimed j u f)); posted = posted }, refl)
 
   pub may_find : (word acc last : ℕ) → word < count →
       Allows {S = S} {V = BoardView} (KeepsBoardRule count) slots seat (no_claim_after acc last, []) word (λ f. f) (Finds (step slots word 0 0 none) (no_claim_after acc last, []))
@@ -91,7 +135,8 @@ module _ {S : Type 0} (count slots seat : ℕ) where
       let mine : AreSo s.words new.claims = dite (ℕ_discrete found 0)
       (λ z. let a = eq-eqb found 0 z in rw a tt)
       (λ z. let a = ne_eqb found 0 z in rw a ((at-index_of s.words word found long refl, z), tt)) in
-      let kept : KeepsBoard count s.words (set s.views seat new) = record { as_many = h.as_many; claimed = each_seat (λ v. AreSo s.words v.claims) s.views seat new mine h.claimed } in
+      let posted : (w a : ℕ) → get_elem? s.words w ≡ some a → a ≢ 0 → IsGranted (set s.views seat new) (claim w a) = λ w a t z. still_granted s.views seat (no_claim_after acc last) new (claim w a) e (λ x. absurd x) (h.posted w a t z) in
+      let kept : KeepsBoard count s.words (set s.views seat new) = record { as_many = h.as_many; claimed = each_seat (λ v. AreSo s.words v.claims) s.views seat new mine h.claimed; posted = posted } in
       let still : KeepsBoard count (slice_set s.words word found) (set s.views seat new) = rw same kept in
       (new, keeps, tt, still, refl)
 
@@ -103,17 +148,19 @@ module _ {S : Type 0} (count slots seat : ℕ) where
       let new : BoardView = board_view u.claims (suc u.accesses) u.found (found ∷ u.read) in
       let same : slice_set s.words word found ≡ s.words = set-get_or s.words word 0 in
       let mine : AreSo s.words u.claims = h.claimed seat u e in
-      let kept : KeepsBoard count s.words (set s.views seat new) = record { as_many = h.as_many; claimed = each_seat (λ v. AreSo s.words v.claims) s.views seat new mine h.claimed } in
+      let posted : (w a : ℕ) → get_elem? s.words w ≡ some a → a ≢ 0 → IsGranted (set s.views seat new) (claim w a) = λ w a t z. still_granted s.views seat u new (claim w a) e (λ x. x) (h.posted w a t z) in
+      let kept : KeepsBoard count s.words (set s.views seat new) = record { as_many = h.as_many; claimed = each_seat (λ v. AreSo s.words v.claims) s.views seat new mine h.claimed; posted = posted } in
       let still : KeepsBoard count (slice_set s.words word found) (set s.views seat new) = rw same kept in
       (new, keeps, tt, still, (next, agree s.words word u.claims mine, refl))
 
-  pub may_hand : (v : BoardView) → Splits {S = S} {V = BoardView} (KeepsBoardRule count) seat v (board_view [] v.accesses v.found v.read) (claims_of v.claims)
+  pub may_hand : (v : BoardView) → Splits {S = S} {V = BoardView} (KeepsBoardRule count) seat v (board_view [] (suc v.accesses) v.found v.read) (claims_of v.claims)
   may_hand v s h e =
-      let left : BoardView = board_view [] v.accesses v.found v.read in
+      let left : BoardView = board_view [] (suc v.accesses) v.found v.read in
       record {
         as_many = h.as_many;
         claimed = λ j u f. ⊎_elim (λ x. each_seat (λ v. AreSo s.words v.claims) s.views seat left tt h.claimed j u x)
             (λ (x : claims_of v.claims ≡ u). subst (λ (v : BoardView). AreSo s.words v.claims) x (h.claimed seat v e)) (at_snoc (set s.views seat left) (claims_of v.claims) u j f);
+        posted = λ w a t z. cut_granted s.views seat v left (claims_of v.claims) (claim w a) e inr (h.posted w a t z);
       }
 
   -- the claims of another seat become this seat's
@@ -127,22 +174,26 @@ module _ {S : Type 0} (count slots seat : ℕ) where
         as_many = h.as_many;
         claimed = each_seat (λ v. AreSo s.words v.claims) (set s.views seat both) other no_claim tt
             (λ j u f. each_seat (λ v. AreSo s.words v.claims) s.views seat both (so_both s.words v.claims w.claims mine theirs) h.claimed j u f);
+        posted = λ i a t z. joined_granted s.views seat other v w both no_claim (claim i a) e apart e' (λ x. claimed_first (claim i a) v.claims w.claims x)
+            (λ x. claimed_second (claim i a) v.claims w.claims x) (h.posted i a t z);
       }
 
   module _ (w a z b : ℕ) where
-    pub may_look_on : (st : Step S) → Allows {S = S} {V = BoardView} (KeepsBoardRule count) slots seat (claims_of (claim w a ∷ claim z b ∷ []), []) 0 (λ f. f) (LooksOn st (claims_of (claim w a ∷ claim z b ∷ []), []))
+    pub may_look_on : (st : Step S) → Allows {S = S} {V = BoardView} (KeepsBoardRule count) slots seat (board_view (claim w a ∷ claim z b ∷ []) 1 0 [], []) 0 (λ f. f) (LooksOn st (board_view (claim w a ∷ claim z b ∷ []) 1 0 [], []))
     may_look_on st s h _ e _ =
-        let both : BoardView = claims_of (claim w a ∷ claim z b ∷ []) in
+        let both : BoardView = board_view (claim w a ∷ claim z b ∷ []) 1 0 [] in
         let kept : KeepsBoard count (slice_set s.words 0 (slice_index s.words 0)) (set s.views seat both) = rw (set-get_or s.words 0 0, set_again s.views seat both e) h in
         (both, keeps, tt, kept, (refl, record { words = s.words; so = h.claimed seat both e }, refl))
 
-    pub may_divide : Splits {S = S} {V = BoardView} (KeepsBoardRule count) seat (claims_of (claim w a ∷ claim z b ∷ [])) (lone_claim w a) (lone_claim z b)
+    pub may_divide : Splits {S = S} {V = BoardView} (KeepsBoardRule count) seat (board_view (claim w a ∷ claim z b ∷ []) 1 0 []) (lone_claim w a) (lone_claim z b)
     may_divide s h e =
         let t = h.claimed seat _ e in
         record {
           as_many = h.as_many;
           claimed = λ j u f. ⊎_elim (λ x. each_seat (λ v. AreSo s.words v.claims) s.views seat (lone_claim w a) (t.0, tt) h.claimed j u x)
               (λ (x : lone_claim z b ≡ u). subst (λ (v : BoardView). AreSo s.words v.claims) x t.1) (at_snoc (set s.views seat (lone_claim w a)) (lone_claim z b) u j f);
+          posted = λ i x t n. cut_granted s.views seat (board_view (claim w a ∷ claim z b ∷ []) 1 0 []) (lone_claim w a) (lone_claim z b) (claim i x) e
+              (λ has. ⊎_elim (λ first. inl (inl first)) (λ second. inr second) has) (h.posted i x t n);
         }
 
 -- each of these claims is so
@@ -169,3 +220,26 @@ pub read_more : (out : List ℕ) (i x : ℕ) (cs : List Claim) → length out �
 read_more out i x cs n h new c k lt = dite (ℕ_discrete c.word i)
     (λ z. index_of-at (out ++ x ∷ []) c.word c.identity (ap (λ (j : ℕ). get_elem? (out ++ x ∷ []) j) (z ∙ sym n) ∙ at_last out x (length out) refl ∙ ap some (agreed i x c cs new k z)))
     (λ z. let long : c.word < length out = omega arith in index_of-at (out ++ x ∷ []) c.word c.identity (before out (x ∷ []) c.word long ∙ at-index_of out c.word c.identity long (h c k (omega arith))))
+
+pub claimed_where : (count : ℕ) (words : List ℕ) (views : List BoardView) (word who : ℕ) → KeepsBoard count words views → get_elem? words word ≡ some who → who ≢ 0 → IsGranted views (claim word who)
+claimed_where count words views word who kept there not_zero = kept.posted word who there not_zero
+
+-- a board on which nothing was posted
+all_zero : (n word who : ℕ) → get_elem? (replicate n 0) word ≡ some who → 0 ≡ who
+all_zero zero word who e = absurd (some-ne-none who (sym e))
+all_zero (suc n) zero who e = some-injective 0 who e
+all_zero (suc n) (suc word) who e = all_zero n word who e
+
+lone_view_is : (seat : ℕ) (v : BoardView) → get_elem? (no_claim ∷ []) seat ≡ some v → no_claim ≡ v
+lone_view_is zero v e = some-injective no_claim v e
+lone_view_is (suc seat) v e = absurd (some-ne-none v (sym e))
+
+fresh_words : (names : ℕ) → KeepsBoard names (replicate names 0) (no_claim ∷ [])
+fresh_words names = record {
+  as_many = length-replicate names 0;
+  claimed = λ seat v e. subst (λ (u : BoardView). AreSo (replicate names 0) u.claims) (lone_view_is seat v e) tt;
+  posted = λ word who e not_zero. absurd (not_zero (sym (all_zero names word who e)));
+}
+
+pub fresh_board : (names : ℕ) → names ≤ 127 → KeepsBoard names (take names (replicate 127 0)) (no_claim ∷ [])
+fresh_board names few = subst (λ (l : List ℕ). KeepsBoard names l (no_claim ∷ [])) (sym (take-replicate names 127 0 few)) (fresh_words names)

@@ -30,10 +30,6 @@ pub record AreTogether (v : BoardView) : Type 0 where
 abbrev pub LooksOn : {S : Type 0} → Step S → Me S BoardView → ℕ → Me S BoardView → Type 0
 LooksOn s before found after = (after ≡ before) × AreTogether after.0 × (length before.0.claims ≡ 2)
 
--- a new seat comes, by a load
-abbrev pub Begins : {S : Type 0} → Step S → Me S BoardView → ℕ → Me S BoardView → Type 0
-Begins s before found after = after ≡ (board_view [] 1 0 [], [])
-
 -- of these claims those of this word are of what was found in it
 abbrev pub AgreeWith : ℕ → ℕ → List Claim → Type 0
 AgreeWith word found [] = Unit {0}

@@ -1,5 +1,5 @@
 -- what a seat of a name board knows
-use Rattle.std.specs.Prelude.{ℕ, ◌+◌, List, [], ◌∷◌, ◌++◌}
+use Rattle.std.specs.Prelude.{ℕ, suc, ◌+◌, List, [], ◌∷◌, ◌++◌}
 use Rattle.raw_parts.specs.declared.board_view.Claim.{Claim}
 use Rattle.raw_parts.specs.declared.board_view.BoardView.{BoardView}
 
@@ -24,6 +24,6 @@ no_claim = claims_of []
 abbrev pub lone_claim : ℕ → ℕ → BoardView
 lone_claim word identity = claims_of (claim word identity ∷ [])
 
--- the claims of two seats, with the accesses of both; what was found and read is the first's
+-- the claims of two seats, with the accesses of both and that by which they became one; what was found and read is the first's
 abbrev pub united : BoardView → BoardView → BoardView
-united v w = board_view (v.claims ++ w.claims) (v.accesses + w.accesses) v.found v.read
+united v w = board_view (v.claims ++ w.claims) (suc (v.accesses + w.accesses)) v.found v.read

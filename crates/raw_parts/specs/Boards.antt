@@ -1,5 +1,5 @@
 -- a name board and its seats, as callers see them
-use Rattle.std.specs.Prelude.{◌≡◌, ◌≢◌, ◌<◌, ◌≤◌, ◌+◌, ◌-◌, ℕ, List, [], ◌∷◌, reverse, slice_index}
+use Rattle.std.specs.Prelude.{◌≡◌, ◌≢◌, ◌<◌, ◌≤◌, ◌+◌, ◌-◌, ℕ, List, [], ◌∷◌, reverse, slice_index, if◌then◌else◌, ◌==◌, ◌||◌}
 use Rattle.atomic_table.specs.Seated.{TableId}
 use Rattle.raw_parts.specs.declared.board_view.BoardView.{BoardView}
 use Rattle.raw_parts.specs.BoardView.{claim}
@@ -43,9 +43,18 @@ abbrev pub reading_of : TableId → List BoardView → LastReading
 reading_of board [] = record { board = board; accesses = 0; read = [] }
 reading_of board (v ∷ vs) = record { board = board; accesses = v.accesses; read = v.read }
 
--- a seat has read each word of the board in its turn, by one access each after that by which it came, and found these
-abbrev pub HasReadAll : TableId → List ℕ → LastReading → Type 0
-HasReadAll board words r = (r.board ≡ board) × (r.read ≡ reverse words) × (r.accesses ≡ board.words + 1)
+-- how many accesses a post makes that found this: one, and one more where a seat is split off for the grant
+abbrev pub post_cost : ℕ → ℕ → ℕ
+post_cost found identity = if found == 0 || found == identity then 2 else 1
+
+-- how many accesses a look makes that found this: one, and one more where a seat is split off for what was found
+abbrev pub look_cost : ℕ → ℕ
+look_cost found = if found == 0 then 1 else 2
+
+-- a seat of the board has taken over so many grants, by one access each, and has read each word in its turn, by one access
+-- each, and found these
+abbrev pub HasReadAll : ReaderId → ℕ → List ℕ → LastReading → Type 0
+HasReadAll seat grants words r = (r.board ≡ seat.board) × (r.read ≡ reverse words) × (r.accesses ≡ seat.accesses + grants + seat.board.words)
 
 -- this view has the claim that a grant tells
 abbrev pub HasClaimOf : BoardView → GrantId → Type 0

@@ -6,10 +6,10 @@ ghost use mathlib.Core.Option.{some};
 ghost use Rattle.raw_parts.specs.declared.board_view.Claim.{Claim};
 ghost use Rattle.raw_parts.specs.BoardRule.{IsClaimed};
 ghost use Rattle.raw_parts.specs.BoardView.{lone_claim};
-ghost use Rattle.raw_parts.specs.Boards.{IsBoardTable, FindsClaims, GrantId, HasClaimOf, HasReadAll, MayHold, grant_of, reader_of};
+ghost use Rattle.raw_parts.specs.Boards.{IsBoardTable, FindsClaims, GrantId, HasClaimOf, HasReadAll, MayHold, grant_of, look_cost, post_cost, reader_of};
 
 use crate::board_seats::{Grant, LastRead, ReaderSeat};
-use crate::board_steps::{Begin, Boarding, Find, Hand, LookOn, Part, Post, Read, Unite};
+use crate::board_steps::{Boarding, Find, Hand, LookOn, Part, Post, Read, Unite};
 use crate::board_view::BoardView;
 use atomic_table::{Badge, Seat, Shared, Table};
 use std::alloc::{AllocError, Allocator};
@@ -46,22 +46,31 @@ fn look_together(
     (left, right)
 }
 
-/// A seat takes over the claim of one grant.
-fn gather(table: &Words, seat: &mut Seat<u8, BoardView>, grant: Grant)
-    requires board { IsBoardTable table.now.table_id table.now.key }
-    requires ours { (seat.old.table_id ≡ table.now.table_id) × (seat.old.me.1 ≡ []) }
-    requires grant { grant.board ≡ table.now.table_id }
-    ensures ours { (seat.new.table_id ≡ table.now.table_id) × (seat.new.me.1 ≡ []) }
-    ensures same { (seat.new.me.0.accesses ≡ seat.old.me.0.accesses) × (seat.new.me.0.read ≡ seat.old.me.0.read) }
-    ensures more { (c : Claim) → IsClaimed c seat.old.me.0.claims → IsClaimed c seat.new.me.0.claims }
-    ensures claim { HasClaimOf seat.new.me.0 grant }
+/// The seat of a grant: it has that claim, and has made no access.
+fn claimed_by(grant: Grant) -> Seat<u8, BoardView>
+    ensures ours { (result.table_id ≡ grant.board) × (result.me.1 ≡ []) }
+    ensures claim { HasClaimOf result.me.0 grant }
+    ensures none { (result.me.0.accesses ≡ 0) × (result.me.0.read ≡ []) }
 {
     let Grant {
         word: _,
         identity: _,
         badge,
     } = grant;
-    table.join_seat::<Unite>(seat, badge.into_seat::<u8>());
+    badge.into_seat::<u8>()
+}
+
+/// A seat takes over the claim of one grant.
+fn gather(table: &Words, seat: &mut Seat<u8, BoardView>, grant: Grant)
+    requires board { IsBoardTable table.now.table_id table.now.key }
+    requires ours { (seat.old.table_id ≡ table.now.table_id) × (seat.old.me.1 ≡ []) }
+    requires grant { grant.board ≡ table.now.table_id }
+    ensures ours { (seat.new.table_id ≡ table.now.table_id) × (seat.new.me.1 ≡ []) }
+    ensures same { (seat.new.me.0.accesses ≡ seat.old.me.0.accesses + 1) × (seat.new.me.0.read ≡ seat.old.me.0.read) }
+    ensures more { (c : Claim) → IsClaimed c seat.old.me.0.claims → IsClaimed c seat.new.me.0.claims }
+    ensures claim { HasClaimOf seat.new.me.0 grant }
+{
+    table.join_seat::<Unite>(seat, claimed_by(grant));
 }
 
 /// A seat takes over the claims of some grants.
@@ -70,7 +79,7 @@ fn gather_all<C: Allocator>(table: &Words, seat: &mut Seat<u8, BoardView>, mut o
     requires ours { (seat.old.table_id ≡ table.now.table_id) × (seat.old.me.1 ≡ []) }
     requires out { (i : ℕ) (g : GrantId) → get_elem? out.items i ≡ some g → g.board ≡ table.now.table_id }
     ensures ours { (seat.new.table_id ≡ table.now.table_id) × (seat.new.me.1 ≡ []) }
-    ensures same { (seat.new.me.0.accesses ≡ seat.old.me.0.accesses) × (seat.new.me.0.read ≡ seat.old.me.0.read) }
+    ensures same { (seat.new.me.0.accesses ≡ seat.old.me.0.accesses + vec_len out) × (seat.new.me.0.read ≡ seat.old.me.0.read) }
     ensures claims { (i : ℕ) (g : GrantId) → get_elem? out.items i ≡ some g → HasClaimOf seat.new.me.0 g }
 {
     while let Some(grant) = out.pop() {
@@ -162,8 +171,7 @@ impl<A: Allocator + Clone> Board<A> {
         ensures only { IfErr result (λ r. r ≡ Refusal.NoMemory) }
     {
         let alloc = self.alloc.clone()?;
-        let (_, mut seat) = self.table.shared.load_new_seat::<Begin>(0);
-        gather(&self.table.shared, &mut seat, grant);
+        let mut seat = claimed_by(grant);
         match read_all(
             &self.table.shared,
             self.table.word_count(),
@@ -209,10 +217,10 @@ impl<A: Allocator> Board<A> {
         }
     }
 
-    /// A further seat, split off one of this board.
+    /// A further seat, split off one of this board by one access of that one.
     pub fn reader(&self, seat: &mut ReaderSeat) -> ReaderSeat
         requires { seat.old.board ≡ self.now }
-        ensures seat { seat.new ≡ seat.old }
+        ensures seat { seat.new ≡ reader_of self.now (seat.old.accesses + 1) seat.old.found }
         ensures new { result ≡ reader_of self.now 0 0 }
     {
         let ReaderSeat { seat } = seat;
@@ -221,12 +229,13 @@ impl<A: Allocator> Board<A> {
         }
     }
 
-    /// Posts an identity at a name: one compare-exchange, from 0 to the identity. The grant of just these where the word
+    /// Posts an identity at a name: one compare-exchange, from 0 to the identity, and one access more for a grant. The grant of just these where the word
     /// was 0 or held the identity, as the seat shows what it found there. None where it holds another; and, with no access, where the
     /// identity is 0 and where there is no such name. The seat is of this board.
     pub fn post(&self, seat: &mut ReaderSeat, name: u64, identity: u64) -> Option<Grant>
         requires { seat.old.board ≡ self.now }
-        ensures asked { MayHold self.now name identity → seat.new ≡ reader_of self.now (seat.old.accesses + 1) seat.new.found }
+        ensures asked { MayHold self.now name identity →
+            seat.new ≡ reader_of self.now (seat.old.accesses + post_cost seat.new.found identity) seat.new.found }
         ensures unasked { (name ≡ 0) ⊎ (self.now.words < name) ⊎ (identity ≡ 0) → seat.new ≡ seat.old }
         ensures seat { seat.new.board ≡ self.now }
         ensures grant { IfSome result (λ g. g ≡ grant_of self.now name identity) }
@@ -250,12 +259,12 @@ impl<A: Allocator> Board<A> {
         })
     }
 
-    /// Looks a name up: one load. The grant of just these where the word holds the identity, as the seat shows what it found there.
+    /// Looks a name up: one load, and one access more where the word is not 0. The grant of just these where the word holds the identity, as the seat shows what it found there.
     /// None where it does not; and, with no access, where the identity is 0 and where there is no such name. The seat is of this
     /// board.
     pub fn confirm(&self, seat: &mut ReaderSeat, name: u64, identity: u64) -> Option<Grant>
         requires { seat.old.board ≡ self.now }
-        ensures asked { MayHold self.now name identity → seat.new ≡ reader_of self.now (seat.old.accesses + 1) seat.new.found }
+        ensures asked { MayHold self.now name identity → seat.new ≡ reader_of self.now (seat.old.accesses + look_cost seat.new.found) seat.new.found }
         ensures unasked { (name ≡ 0) ⊎ (self.now.words < name) ⊎ (identity ≡ 0) → seat.new ≡ seat.old }
         ensures seat { seat.new.board ≡ self.now }
         ensures grant { IfSome result (λ g. g ≡ grant_of self.now name identity) }
@@ -316,19 +325,22 @@ impl<A: Allocator> Board<A> {
     }
 
     /// Ends the board, and tells its words by rising name. `out` is the grants that the caller has, each of which finds its
-    /// identity there; all are of this board. The words are what a last seat found, which read each once: `LastRead` keeps that.
+    /// identity there; all are of this board, as the seat is. The words are what the seat found, which took each grant over and read each
+    /// word once: `LastRead` keeps that.
     pub fn close_all<B: Allocator, C: Allocator>(
         self,
+        seat: ReaderSeat,
         alloc: B,
         out: Vec<Grant, C>,
     ) -> Result<(Vec<u64, B>, LastRead), AllocError>
+        requires seat { seat.board ≡ self }
         requires ours { (i : ℕ) (g : GrantId) → get_elem? out.items i ≡ some g → g.board ≡ self }
         ensures count { IfOk result (λ r. vec_len r.0 ≡ self.words) }
         ensures grants { IfOk result (λ r. (i : ℕ) (g : GrantId) → get_elem? out.items i ≡ some g →
             slice_index r.0.items (g.name - 1) ≡ g.identity) }
-        ensures read { IfOk result (λ r. HasReadAll self r.0.items r.1) }
+        ensures read { IfOk result (λ r. HasReadAll seat (vec_len out) r.0.items r.1) }
     {
-        let (_, mut seat) = self.table.shared.load_new_seat::<Begin>(0);
+        let ReaderSeat { mut seat } = seat;
         gather_all(&self.table.shared, &mut seat, out);
         let words = read_all(
             &self.table.shared,

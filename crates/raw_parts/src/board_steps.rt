@@ -1,8 +1,8 @@
 //! The rule of a name board's table, and the kinds of step that keep it.
 
-ghost use Rattle.std.specs.Prelude.{[], take, drop};
+ghost use Rattle.std.specs.Prelude.{[], suc, take, drop};
 ghost use Rattle.raw_parts.specs.BoardRule.{KeepsBoardRule};
-ghost use Rattle.raw_parts.specs.BoardSteps.{Posts, Finds, LooksOn, Begins, Reads};
+ghost use Rattle.raw_parts.specs.BoardSteps.{Posts, Finds, LooksOn, Reads};
 ghost use Rattle.raw_parts.specs.BoardView.{board_view, claims_of, no_claim, united};
 
 use crate::board_view::BoardView;
@@ -31,16 +31,16 @@ impl<S> Play<S, BoardView> for Find {
     ghost then = { Finds };
 }
 
-/// The claims go to a new seat. Its accesses stay with the first.
+/// The claims go to a new seat. The accesses stay with the first, and the split counts as one more.
 pub struct Hand;
 
 impl Split<BoardView> for Hand {
-    ghost left = { λ v. board_view [] v.accesses v.found v.read };
+    ghost left = { λ v. board_view [] (suc v.accesses) v.found v.read };
 
     ghost right = { λ v. claims_of v.claims };
 }
 
-/// Two seats become one, which has the claims of both. The other is spent: it claims nothing.
+/// Two seats become one, which has the claims and the accesses of both, and one access more. The other is spent: it claims nothing.
 pub struct Unite;
 
 impl Join<BoardView> for Unite {
@@ -56,20 +56,13 @@ impl<S> Play<S, BoardView> for LookOn {
     ghost then = { LooksOn };
 }
 
-/// They part again: the first claim stays.
+/// They part again: the first claim stays. Both are seats of grants, whose accesses no caller sees.
 pub struct Part;
 
 impl Split<BoardView> for Part {
-    ghost left = { λ v. board_view (take 1 v.claims) v.accesses v.found v.read };
+    ghost left = { λ v. claims_of (take 1 v.claims) };
 
     ghost right = { λ v. claims_of (drop 1 v.claims) };
-}
-
-/// A new seat comes, by a load.
-pub struct Begin;
-
-impl<S> Play<S, BoardView> for Begin {
-    ghost then = { Begins };
 }
 
 /// The board ends: a seat reads the next word.

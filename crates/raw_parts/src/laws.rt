@@ -2,7 +2,7 @@
 
 ghost use Rattle.std.specs.Prelude.{ℕ, List};
 ghost use Rattle.splitter.specs.Invariant.{IsSplitter};
-ghost use Rattle.raw_parts.specs.BoardRule.{HoldsWhatIsClaimed, HasOneIdentity};
+ghost use Rattle.raw_parts.specs.BoardRule.{HoldsWhatIsClaimed, HasOneIdentity, IsClaimedWhereNotZero};
 ghost use Rattle.raw_parts.specs.SplitterRule.{IsKept, MeetsWhomItNames};
 ghost use Rattle.raw_parts.specs.declared.splitter_view.SplitterView.{SplitterView};
 
@@ -15,8 +15,9 @@ pub fn law_of_the_rule()
 {}
 
 /// A law, which runs nothing: where the rule is kept, the word of each claim holds its identity, which is not 0; so two
-/// claims of one word, whoever has them, are of one identity.
+/// claims of one word, whoever has them, are of one identity. Some seat claims what stands in a word that is not 0.
 pub fn law_of_the_board()
     ensures claimed { HoldsWhatIsClaimed }
     ensures one { HasOneIdentity }
+    ensures posted { IsClaimedWhereNotZero }
 {}

@@ -1,12 +1,16 @@
 //! Several replicas that share one log in memory.
 
-ghost use Rattle.std.specs.Prelude.{◌≡◌, ◌≢◌, ◌<◌, ℕ, [], ◌∷◌, ◌++◌, ◌⊎◌, length, slice_get, false, Some, Ok, Err, OnOk, OnErr, IfErr};
+ghost use Rattle.std.specs.Prelude.{◌≡◌, ◌≢◌, ◌<◌, ◌≤◌, ◌+◌, ℕ, [], ◌∷◌, ◌++◌, ◌⊎◌, length, slice_get, true, false, not, Some, Ok, Err, OnOk, OnErr, IfErr};
 ghost use Rattle.replicated_log.specs.Causes.{FailsInMemory, MayCause, MayFail};
 ghost use Rattle.replicated_log.specs.Groups.{IsOneHistory, StaysOneHistory, TellsOneMore};
-ghost use Rattle.replicated_log.specs.Replicas.{FaultLeaves};
+ghost use Rattle.replicated_log.specs.Places.{IsTaken, stands_in};
+ghost use Rattle.replicated_log.specs.Replicas.{FaultLeaves, OneMore, ServeLeaves};
 ghost use Rattle.replicated_log.specs.ReplicaState.{ReplicaState};
-ghost use Rattle.replicated_log.specs.declared.replica.Step.TheVariants.{Answered};
-ghost use Rattle.replicated_log.specs.declared.serve_fault.ServeFault.TheVariants.{TooLong};
+ghost use Rattle.replicated_log.specs.declared.replica.Step.TheVariants.{Answered, Nothing, Passed};
+ghost use Rattle.replicated_log.specs.declared.serve_fault.Cause.TheVariants.{Busy};
+ghost use Rattle.replicated_log.specs.declared.serve_fault.Cause.TheVariants as cause;
+ghost use Rattle.replicated_log.specs.declared.serve_fault.ServeFault.TheVariants.{TooLong, Unknown};
+ghost use Rattle.replicated_log.specs.declared.store_fault.StoreFault.{StoreFault};
 
 use crate::machine::Machine;
 use crate::memory_store::MemoryStore;
@@ -81,6 +85,13 @@ impl<M: Machine + Drop> Group<M> {
         ensures answered { result ≡ Ok Answered → (start : M) → TellsOneMore M.applies start self.old self.new batch.now replies.new }
         ensures history { (start : M) → StaysOneHistory M.applies start self.old self.new }
         ensures leaves { (r s : ReplicaState M) → slice_get self.old.replicas at ≡ Some r → slice_get self.new.replicas at ≡ Some s → IfErr result (λ cause. FaultLeaves r cause s) }
+        ensures passed { (r s : ReplicaState M) → slice_get self.old.replicas at ≡ Some r → slice_get self.new.replicas at ≡ Some s →
+            result ≡ Ok Passed → OneMore M.applies (stands_in self.new.log) r s }
+        ensures nothing { (r s : ReplicaState M) → slice_get self.old.replicas at ≡ Some r → slice_get self.new.replicas at ≡ Some s →
+            result ≡ Ok Nothing → (s ≡ record r { behind = not r.behind }) × (r.spoiled ≡ false) }
+        ensures missed { (r : ReplicaState M) → slice_get self.old.replicas at ≡ Some r → result ≡ Ok Nothing → r.behind ≡ true → length self.new.log ≤ r.place }
+        ensures stood { (r : ReplicaState M) → slice_get self.old.replicas at ≡ Some r → result ≡ Ok Nothing → r.behind ≡ false → IsTaken (stands_in self.new.log) r.place }
+        ensures lost { (s : ReplicaState M) → slice_get self.new.replicas at ≡ Some s → (fault : StoreFault) → result ≡ Err (cause.Store fault) → s.behind ≡ true }
         ensures fault { IfErr result (MayCause FailsInMemory) }
     {
         self.replicas[at].step(&mut self.store, batch, replies)
@@ -101,6 +112,9 @@ impl<M: Machine + Drop> Group<M> {
         ensures history { (start : M) → StaysOneHistory M.applies start self.old self.new }
         ensures too_long { 65536 < length batch.now → result ≡ Err TooLong }
         ensures refused { result ≡ Err TooLong → 65536 < length batch.now }
+        ensures leaves { (r s : ReplicaState M) → slice_get self.old.replicas at ≡ Some r → slice_get self.new.replicas at ≡ Some s → IfErr result (λ fault. ServeLeaves r fault s) }
+        ensures busy { (r s : ReplicaState M) → slice_get self.old.replicas at ≡ Some r → slice_get self.new.replicas at ≡ Some s →
+            result ≡ Err (Unknown Busy) → r.place + 333333 ≤ s.place }
         ensures fault { IfErr result (MayFail FailsInMemory) }
     {
         self.replicas[at].serve(&mut self.store, batch, replies)

@@ -5,6 +5,8 @@ ghost use Rattle.replicated_log.specs.Groups.{IsDetermined, IsDueIn, Told};
 ghost use Rattle.replicated_log.specs.Places.{Contradicts, Keeps, stands_in};
 ghost use Rattle.replicated_log.specs.Replicas.{IsAnswered, IsDueAt, IsReplica};
 ghost use Rattle.replicated_log.specs.ReplicaState.{ReplicaState};
+ghost use Rattle.replicated_log.specs.declared.replica.TheConstants.{MOST_BATCH, MOST_STEPS};
+ghost use Rattle.replicated_log.specs.declared.store.TheConstants.{MOST_PLACES};
 
 use crate::machine::Machine;
 use crate::store::Store;
@@ -32,4 +34,11 @@ pub fn law_of_following<M: Machine, S: Store>()
 /// A law, which runs nothing: a log in memory never tells of one place both that something stands there and that nothing does.
 pub fn law_of_memory()
     ensures { Contradicts stands_in (λ log place. length log ≤ place) → ⊥ }
+{}
+
+/// A law, which runs nothing: how many places a log has, how long a batch may be, and how many steps are taken for one.
+pub fn law_of_limits()
+    ensures places { MOST_PLACES ≡ 10000000000000000 }
+    ensures batch { MOST_BATCH ≡ 65536 }
+    ensures steps { MOST_STEPS ≡ 1000000 }
 {}

@@ -32,7 +32,7 @@ pub mod store;
 pub mod store_fault;
 
 pub use group::Group;
-pub use laws::{law_of_agreement, law_of_following, law_of_memory};
+pub use laws::{law_of_agreement, law_of_following, law_of_limits, law_of_memory};
 pub use machine::Machine;
 pub use memory_store::MemoryStore;
 pub use replica::{MOST_BATCH, MOST_STEPS, Replica, Step};

@@ -295,6 +295,7 @@ impl<M: Machine> Replica<M> {
         ensures fault { IfErr result (λ cause. EndsBy self.old cause self.new) }
         ensures well { OnOk result (self.new.spoiled ≡ false) }
         ensures spoiled { self.old.spoiled ≡ true → (result ≡ Err Spoiled) × (self.new ≡ self.old) }
+        ensures not_busy { result ≢ Err Busy }
         ensures goes_on { self.new.spoiled ≡ false → GoesOn M.applies (S.stands store.new) self.old self.new }
         ensures same { Same (S.stands store.old) (S.stands store.new) }
         ensures cause { IfErr result (MayCause S.fails) }
@@ -326,6 +327,7 @@ impl<M: Machine> Replica<M> {
         ensures well { OnOk result (self.new.spoiled ≡ false) }
         ensures unanswered { M.silent replies.new }
         ensures spoiled { self.old.spoiled ≡ true → (result ≡ Err Spoiled) × (self.new ≡ self.old) }
+        ensures not_busy { result ≢ Err Busy }
         ensures goes_on { self.new.spoiled ≡ false → GoesOn M.applies (S.stands store.new) self.old self.new }
         ensures follows { (start : M) → IsReplica M.applies (S.stands store.old) start self.old → IsReplica M.applies (S.stands store.new) start self.new }
         ensures same { Same (S.stands store.old) (S.stands store.new) }

@@ -7,7 +7,7 @@ use mathlib.Core.Logic.{dite}
 use native.Mathlib.Decide.{ℕ_discrete}
 use lib.ListN.{get_elem?}
 use Rattle.atomic_table.specs.Table.{State, Step, step, Allows, Enters, Arrives, Joins, Splits, keeps}
-use Rattle.word_pool.specs.PoolView.{at_rest, coming, spent, sighting, passing, passing_aside, going, looked, looked_aside, swapped, swapped_hint, lone, resting, view_of, no_call, united, read_at, call_of, first_of}
+use Rattle.word_pool.specs.PoolView.{at_rest, coming, sighting, passing, passing_aside, going, looked, looked_aside, swapped, swapped_hint, lone, resting, view_of, no_call, united, read_at, call_of, first_of}
 use Rattle.word_pool.specs.PoolRule.{KeepsPool, KeepsPoolRule, IsHolder}
 use Rattle.word_pool.specs.PoolSteps.{Comes, ComesBySwap, Looks, Takes, LooksAside, TakesAside, Frees, LooksOn, ReadsFirst, ReadsOn, IsWordFor, IsUnderRule}
 use Rattle.word_pool.proofs.Tallies.{tally_set, tally_snoc, tally_has, tally_two, tally_finds, sum_both}
@@ -149,8 +149,8 @@ module _ {S : Type 0} (count slots : ℕ) where
       let found : ℕ = slice_index s.words (p * 8) in
       let new : PoolView = lone (looked_aside p found at_rest) [] in
       let kept : KeepsPool count s.words (s.views ++ new ∷ []) = dite (ℕ_discrete found 0)
-      (λ z. let a = eq-eqb found 0 z in rw a (arrive_kept count s.words s.views h (lone (spent at_rest) []) (λ q. refl)))
-      (λ z. let a = ne_eqb found 0 z in rw a (arrive_kept count s.words s.views h (lone (passing_aside p at_rest) []) (λ q. refl))) in
+      (λ z. let a = eq-eqb found 0 z in rw a (arrive_kept count s.words s.views h (lone (sighting at_rest) []) (λ q. refl)))
+      (λ z. let a = ne_eqb found 0 z in rw a (arrive_kept count s.words s.views h (lone (passing_aside 0 p at_rest) []) (λ q. refl))) in
       (new, kept, (p, refl, refl))
 
   module _ (seat : ℕ) (c : Call) (past : List Call) where
@@ -159,7 +159,7 @@ module _ {S : Type 0} (count slots : ℕ) where
         → KeepsPool count (slice_set s.words 0 (slice_index s.words 0)) (set s.views seat (lone (looked (slice_index s.words 0) (coming moment c)) past))
     come_kept moment s is h e = rw (reread s.words 0) (dite (ℕ_discrete (slice_index s.words 0) 0)
         (λ z. let a = eq-eqb (slice_index s.words 0) 0 z in rw a (still_kept count s.words s.views h seat (lone c past) (lone (sighting (coming moment c)) past) e (λ q. let b = rests_none q c is in omega arith)))
-        (λ z. let a = ne_eqb (slice_index s.words 0) 0 z in rw a (still_kept count s.words s.views h seat (lone c past) (lone (passing 0 (coming moment c)) past) e (λ q. let b = rests_none q c is in omega arith))))
+        (λ z. let a = ne_eqb (slice_index s.words 0) 0 z in rw a (still_kept count s.words s.views h seat (lone c past) (lone (passing c.lost (coming moment c)) past) e (λ q. let b = rests_none q c is in omega arith))))
 
     pub may_come_back : (st : Step S) → c.stage ≡ AtRest → Allows {S = S} {V = PoolView} (KeepsPoolRule count) slots seat (lone c past, []) 0 (λ n. n) (Comes st (lone c past, []))
     may_come_back st is s h _ e _ = (lone (looked (slice_index s.words 0) (coming 1 c)) past, keeps, tt, come_kept 1 s is h e, (1, refl))

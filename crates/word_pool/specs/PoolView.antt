@@ -24,17 +24,17 @@ at_rest =
       crowds = [];
     }
 
--- it comes to the first place, at this moment
+-- it comes to the first place, at this moment, with what it met and lost at a hint
 abbrev pub coming : ℕ → Call → Call
-coming moment c = record at_rest { stage = Seeking; met_aside = c.met_aside; accesses = c.accesses; came = moment }
+coming moment c = record at_rest { stage = Seeking; met_aside = c.met_aside; accesses = c.accesses; lost = c.lost; came = moment }
 
 -- one access more, which changes nothing else
 abbrev pub spent : Call → Call
 spent c = record c { accesses = suc c.accesses }
 
--- one access more, which met this place of a hint held
-abbrev pub passing_aside : ℕ → Call → Call
-passing_aside place c = record c { met_aside = place ∷ c.met_aside; accesses = suc c.accesses }
+-- one access more, which met this place of a hint held: it has then lost so many races
+abbrev pub passing_aside : ℕ → ℕ → Call → Call
+passing_aside lost place c = record c { met_aside = place ∷ c.met_aside; accesses = suc c.accesses; sighted = false; lost = lost }
 
 -- a look that found its place free
 abbrev pub sighting : Call → Call
@@ -70,11 +70,11 @@ swapped moment crowds found c = if found == 0 then taking moment crowds c else p
 
 -- a look at this place of a hint by a call at rest found this
 abbrev pub looked_aside : ℕ → ℕ → Call → Call
-looked_aside place found c = if found == 0 then spent c else passing_aside place c
+looked_aside place found c = if found == 0 then sighting c else passing_aside c.lost place c
 
 -- a swap of 1 into this place by a call at rest found this
 abbrev pub swapped_hint : ℕ → ℕ → ℕ → Call → Call
-swapped_hint place moment found c = if found == 0 then taking_hint place moment c else passing_aside place c
+swapped_hint place moment found c = if found == 0 then taking_hint place moment c else passing_aside (races c) place c
 
 -- one access more, which met this place held
 abbrev pub meeting : ℕ → Call → Call

@@ -57,6 +57,8 @@ fn take_from(
     ensures aside_in_vain { IfErr result (λ a. a.call.met_aside ≡ (call_of seat.me.0).met_aside) }
     ensures accesses_in_vain { IfErr result (λ a. a.call.accesses + from ≡ (call_of seat.me.0).accesses + numbers) }
     ensures races_in_vain { IfErr result (λ a. from < numbers → a.call.lost ≡ races (call_of seat.me.0)) }
+    ensures lost { IfOk result (λ h. (call_of seat.me.0).lost ≤ h.call.lost) }
+    ensures lost_in_vain { IfErr result (λ a. (call_of seat.me.0).lost ≤ a.call.lost) }
 {
     for place in from..numbers {
         let found = table.swap::<Take>(&mut seat, (place * STRIDE) as usize, 1);
@@ -152,6 +154,8 @@ impl<A: Allocator> PoolOver<Pooling, A> {
         ensures all_held { IfErr result (λ a. HasMetAllHeld self.now a) }
         ensures aside_in_vain { IfErr result (λ a. a.call.met_aside ≡ (call_of seat.me.0).met_aside) }
         ensures accesses_in_vain { IfErr result (λ a. a.call.accesses + 1 ≡ (call_of seat.me.0).accesses + self.now.numbers) }
+        ensures lost { IfOk result (λ h. (call_of seat.me.0).lost ≤ h.call.lost) }
+        ensures lost_in_vain { IfErr result (λ a. (call_of seat.me.0).lost ≤ a.call.lost) }
     {
         if found == 0 {
             return Ok(Held::of(seat, 0));
@@ -160,7 +164,8 @@ impl<A: Allocator> PoolOver<Pooling, A> {
     }
 
     /// The same, but it tries the number of a hint first, by a look and, where that finds it free, a swap. Where it is held it
-    /// walks from 1 upward, by swaps alone where the hint's swap lost a race: the call keeps that it met the hint's number held. A
+    /// walks from 1 upward, by swaps alone where the hint's swap lost a race: the call keeps that it met the hint's number held, and that
+    /// it lost a race there. So it makes at most one access more than the pool has numbers, and one more only where it lost a race. A
     /// hint that is no number of this pool but 1 is none.
     pub fn acquire_near(&self, hint: u64) -> Result<Held, AllHeld>
         ensures ours { IfOk result (λ h. h.pool ≡ self.now.table) }
@@ -168,9 +173,9 @@ impl<A: Allocator> PoolOver<Pooling, A> {
         ensures hint { IfOk result (λ h. h.call.hinted ≡ true → (h.number ≡ hint) × (h.call.accesses ≡ 2)) }
         ensures tried { IfOk result (λ h. h.call.hinted ≡ false → IsHint self.now hint → HasMetHintHeld hint h) }
         ensures below { IfOk result (λ h. h.call.hinted ≡ false → h.call.met ≡ first_places (h.number - 1)) }
-        ensures accesses { IfOk result (λ h. h.call.accesses ≤ h.number + 2) }
+        ensures accesses { IfOk result (λ h. (h.call.accesses ≤ h.number + 2) × IsWithin (self.now.numbers + 1) h.call) }
         ensures all_held { IfErr result (λ a. HasMetAllHeld self.now a) }
-        ensures accesses_in_vain { IfErr result (λ a. a.call.accesses ≤ self.now.numbers + 2) }
+        ensures accesses_in_vain { IfErr result (λ a. IsWithin (self.now.numbers + 1) a.call) }
         ensures tried_in_vain { IfErr result (λ a. IsHint self.now hint → HasMetHintHeld hint a) }
     {
         if hint <= 1 || self.numbers < hint {

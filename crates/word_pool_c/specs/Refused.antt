@@ -1,4 +1,4 @@
--- what a call met, that got a number or none
+-- what a call met, that got a number or none, and what one leaves that gave its number back
 use Rattle.std.specs.Prelude.{◌≡◌, ◌≤◌, ◌+◌, ◌-◌, ℕ, true, false}
 use Rattle.word_pool.specs.PoolView.{first_places}
 use Rattle.word_pool.specs.Pools.{PoolId, CallId, HasMetAllHeld, HasMetHintHeld, IsHint}
@@ -12,3 +12,7 @@ pub record WasSought (hint : ℕ) (p : PoolId) (h : CallId) : Type 0 where
   pub near : h.call.hinted ≡ true → h.number ≡ hint
   pub below : h.call.hinted ≡ false → h.call.met ≡ first_places (h.number - 1)
   pub tried : h.call.hinted ≡ false → IsHint p hint → HasMetHintHeld hint h
+
+-- the receipt of a call whose number was given back, by one access more
+abbrev pub IsReceiptOf : CallId → CallId → Type 0
+IsReceiptOf h r = (r.pool ≡ h.pool) × (r.number ≡ h.number) × (r.call.accesses ≡ h.call.accesses + 1)

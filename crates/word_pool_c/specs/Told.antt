@@ -1,11 +1,12 @@
 -- what the numbers say that cross to C
 use Rattle.std.specs.Prelude.{◌≡◌, ◌≤◌, ◌+◌, ℕ, IsSomeAnd}
 use Rattle.std.specs.Arc.{arc_value}
-use Rattle.word_pool_c.specs.Refused.{MetAllInTime, WasSought}
-use Rattle.word_grid.specs.Law.{WalkSpec}
-use Rattle.word_grid.specs.Seats.{EndedWalk, GridId, place_of}
-use Rattle.word_pool_c.specs.Lines.{IsHeldInLine}
+use Rattle.word_pool_c.specs.Refused.{IsReceiptOf, MetAllInTime, WasSought}
+use Rattle.word_pool.specs.Pools.{CallId}
+use Rattle.word_pool_c.specs.Lines.{IsHeldInLine, IsTicketOf}
+use Rattle.word_pool_c.specs.Grids.{IsNextOf}
 use Rattle.word_pool_c.specs.declared.member.Member.{Member}
+use Rattle.word_pool_c.specs.declared.grid_member.GridMember.{GridMember}
 use Rattle.word_pool_c.specs.declared.line_member.LineMember.{LineMember}
 
 -- a member holds this number of its pool, which it got by at most so many accesses, as it was sought
@@ -18,10 +19,18 @@ HoldsNumber hint number m =
 abbrev pub WasRefused : ℕ → Member → Type 0
 WasRefused hint m = IsSomeAnd m.refused (MetAllInTime hint (arc_value m.pool))
 
--- a walk has ended in this grid at the place of which this is the number, from 1, as its law says
-abbrev pub IsToldAs : ℕ → GridId → EndedWalk → Type 0
-IsToldAs number grid e = (place_of e + 1 ≡ number) × (e.grid ≡ grid) × WalkSpec e
-
 -- a member holds this number of its line
 abbrev pub HoldsInLine : ℕ → LineMember → Type 0
 HoldsInLine number m = IsSomeAnd m.held (IsHeldInLine number (arc_value m.line))
+
+-- a member has the receipt of this call, whose number it gave back
+abbrev pub HasReceiptOf : CallId → Member → Type 0
+HasReceiptOf h m = IsSomeAnd m.released (IsReceiptOf h)
+
+-- a member has the ticket with which this call came, whose number it gave back
+abbrev pub HasTicketOf : CallId → LineMember → Type 0
+HasTicketOf h m = IsSomeAnd m.ticket (IsTicketOf h)
+
+-- a member of a grid that deals its seats has dealt one more, the next, to this other
+abbrev pub DealtNext : GridMember → GridMember → GridMember → Type 0
+DealtNext before after other = IsSomeAnd before.dealer (λ d. IsSomeAnd after.dealer (λ e. IsSomeAnd other.seat (IsNextOf d e)))

@@ -2,7 +2,8 @@
 
 ghost use Rattle.std.specs.Prelude.{◌≡◌, ◌≢◌, ◌≤◌, IfSome, IsSome, IsSomeAnd, None, Some, true, false};
 ghost use Rattle.std.specs.Arc.{arc_value};
-ghost use Rattle.word_pool_c.specs.Told.{IsToldAs};
+ghost use Rattle.word_pool_c.specs.Grids.{IsToldAs};
+ghost use Rattle.word_pool_c.specs.Told.{DealtNext};
 ghost use Rattle.word_pool_c.specs.declared.grid_member.GridMember.{GridMember};
 
 use crate::grid_handle::GridHandle;
@@ -15,7 +16,7 @@ use word_grid::WordGrid;
 fn open_grid(alloc: Global, most: u64) -> Option<Box<GridMember, Global>>
     ensures range { IsSome result → (1 ≤ most) × (most ≤ 64) }
     ensures most { IfSome result (λ b. (arc_value b.value.grid).size.most ≡ most) }
-    ensures seat { IfSome result (λ b. IsSome b.value.seat) }
+    ensures seat { IfSome result (λ b. IsSome b.value.seat × IsSome b.value.dealer) }
 {
     let (grid, mut dealer) = WordGrid::new(alloc, most).ok()?;
     let seat = grid.deal(&mut dealer);
@@ -39,7 +40,7 @@ fn open_grid(alloc: Global, most: u64) -> Option<Box<GridMember, Global>>
 #[unsafe(no_mangle)]
 pub extern "C" fn word_grid_new(alloc: Global, handle: &mut GridHandle, most: u64) -> bool
     requires empty { handle.old.grid ≡ None }
-    ensures made { result ≡ true → IsSomeAnd handle.new.grid (λ m. ((arc_value m.grid).size.most ≡ most) × IsSome m.seat) }
+    ensures made { result ≡ true → IsSomeAnd handle.new.grid (λ m. ((arc_value m.grid).size.most ≡ most) × IsSome m.seat × IsSome m.dealer) }
     ensures range { result ≡ true → (1 ≤ most) × (most ≤ 64) }
     ensures none { result ≡ false → handle.new.grid ≡ None }
 {
@@ -56,6 +57,8 @@ fn second(alloc: Global, first: &mut GridMember) -> Option<Box<GridMember, Globa
     ensures grid { arc_value first.new.grid ≡ arc_value first.old.grid }
     ensures same { (first.new.seat ≡ first.old.seat) × (first.new.entered ≡ first.old.entered) }
     ensures ours { IfSome result (λ b. (arc_value b.value.grid ≡ arc_value first.old.grid) × IsSome b.value.seat) }
+    ensures dealt { IfSome result (λ b. DealtNext first.old first.new b.value) }
+    ensures dealer { IsSome first.old.dealer → IsSome first.new.dealer }
 {
     let grid = Arc::try_clone(&first.grid).ok()?;
     let seat = Some(first.deal()?);
@@ -86,6 +89,8 @@ pub extern "C" fn word_grid_join(
     requires empty { other.old.grid ≡ None }
     ensures held { IsSomeAnd handle.new.grid (λ m. (arc_value m.grid ≡ arc_value grid.grid) × (m.seat ≡ grid.seat) × (m.entered ≡ grid.entered)) }
     ensures joined { result ≡ true → IsSomeAnd other.new.grid (λ m. (arc_value m.grid ≡ arc_value grid.grid) × IsSome m.seat) }
+    ensures dealt { result ≡ true → IsSomeAnd handle.new.grid (λ m. IsSomeAnd other.new.grid (DealtNext grid m)) }
+    ensures dealer { IsSome grid.dealer → IsSomeAnd handle.new.grid (λ m. IsSome m.dealer) }
     ensures none { result ≡ false → other.new.grid ≡ None }
 {
     let mut whole = mem::replace(handle, GridHandle::blank(alloc)).into_box();

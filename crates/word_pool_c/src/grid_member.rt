@@ -1,9 +1,9 @@
 //! One thread's part in a shared grid.
 
-ghost use Rattle.std.specs.Prelude.{◌≡◌, ◌≢◌, IfSome, IsSome, IsSomeAnd, None};
+ghost use Rattle.std.specs.Prelude.{◌≡◌, ◌≢◌, ◌≤◌, ◌⊎◌, IfNone, IfSome, IsSome, IsSomeAnd, None};
 ghost use Rattle.std.specs.Arc.{arc_value};
 ghost use Rattle.std.proofs.Props.{props};
-ghost use Rattle.word_pool_c.specs.Told.{IsToldAs};
+ghost use Rattle.word_pool_c.specs.Grids.{IsNextOf, IsToldAs};
 
 use std::alloc::Global;
 use std::sync::Arc;
@@ -27,7 +27,9 @@ impl GridMember {
         ensures grid { arc_value self.new.grid ≡ arc_value self.old.grid }
         ensures same { (self.new.seat ≡ self.old.seat) × (self.new.entered ≡ self.old.entered) }
         ensures ours { IfSome result (λ s. s.grid ≡ arc_value self.old.grid) }
-        ensures dealer { IsSome result → IsSome self.old.dealer }
+        ensures dealt { IfSome result (λ s. IsSomeAnd self.old.dealer (λ d. IsSomeAnd self.new.dealer (λ e. IsNextOf d e s))) }
+        ensures due { IfNone result ((self.old.dealer ≡ None) ⊎ IsSomeAnd self.old.dealer (λ d. (arc_value self.old.grid).most ≤ d.dealt)) }
+        ensures none { IfNone result (self.new.dealer ≡ self.old.dealer) }
     {
         let mut dealer = self.dealer.take()?;
         let seat = self.grid.deal(&mut dealer);

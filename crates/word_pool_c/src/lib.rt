@@ -21,7 +21,7 @@
 
 ghost use Rattle.std.specs.Prelude.{◌≡◌, ◌≢◌, ◌≤◌, ◌⊎◌, IfSome, IsSome, IsSomeAnd, None, Some, true, false};
 ghost use Rattle.std.specs.Arc.{arc_value};
-ghost use Rattle.word_pool_c.specs.Told.{HoldsNumber, WasRefused};
+ghost use Rattle.word_pool_c.specs.Told.{HasReceiptOf, HoldsNumber, WasRefused};
 ghost use Rattle.word_pool_c.specs.declared.member.Member.{Member};
 
 pub mod grid;
@@ -142,6 +142,7 @@ pub extern "C" fn word_pool_release(alloc: Global, handle: &mut Handle) -> u64
     ensures none { IsSomeAnd handle.new.pool (λ m. (arc_value m.pool ≡ arc_value pool.pool) × (m.held ≡ None)) }
     ensures number { result ≢ 0 → IsSomeAnd pool.held (λ h. h.number ≡ result) }
     ensures zero { result ≡ 0 → pool.held ≡ None }
+    ensures receipt { IfSome pool.held (λ h. IsSomeAnd handle.new.pool (HasReceiptOf h)) }
 {
     let mut whole = mem::replace(handle, Handle::blank(alloc)).into_box();
     let number = whole.release();

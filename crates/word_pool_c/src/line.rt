@@ -2,7 +2,7 @@
 
 ghost use Rattle.std.specs.Prelude.{◌≡◌, ◌≢◌, ◌≤◌, ◌⊎◌, IfSome, IsSome, IsSomeAnd, None, Some, true, false};
 ghost use Rattle.std.specs.Arc.{arc_value};
-ghost use Rattle.word_pool_c.specs.Told.{HoldsInLine};
+ghost use Rattle.word_pool_c.specs.Told.{HasTicketOf, HoldsInLine};
 ghost use Rattle.word_pool_c.specs.declared.line_member.LineMember.{LineMember};
 
 use crate::line_handle::LineHandle;
@@ -46,6 +46,7 @@ fn another(alloc: Global, first: &mut LineMember) -> Option<Box<LineMember, Glob
     ensures line { arc_value first.new.line ≡ arc_value first.old.line }
     ensures same { (first.new.ticket ≡ first.old.ticket) × (first.new.held ≡ first.old.held) }
     ensures ours { IfSome result (λ b. (arc_value b.value.line ≡ arc_value first.old.line) × IsSome b.value.ticket × (b.value.held ≡ None)) }
+    ensures dealer { IsSome first.old.tickets → IsSome first.new.tickets }
 {
     let line = Arc::try_clone(&first.line).ok()?;
     let ticket = Some(first.deal()?);
@@ -65,6 +66,7 @@ pub extern "C" fn line_pool_join(
     requires empty { other.old.line ≡ None }
     ensures held { IsSomeAnd handle.new.line (λ m. (arc_value m.line ≡ arc_value line.line) × (m.ticket ≡ line.ticket) × (m.held ≡ line.held)) }
     ensures joined { result ≡ true → IsSomeAnd other.new.line (λ m. (arc_value m.line ≡ arc_value line.line) × IsSome m.ticket × (m.held ≡ None)) }
+    ensures dealer { IsSome line.tickets → IsSomeAnd handle.new.line (λ m. IsSome m.tickets) }
     ensures none { result ≡ false → other.new.line ≡ None }
 {
     let mut whole = mem::replace(handle, LineHandle::blank(alloc)).into_box();
@@ -104,7 +106,7 @@ pub extern "C" fn line_pool_release(alloc: Global, handle: &mut LineHandle) -> u
     ghost line: { LineMember }
     requires held { handle.old.line ≡ Some line }
     ensures none { IsSomeAnd handle.new.line (λ m. (arc_value m.line ≡ arc_value line.line) × (m.held ≡ None)) }
-    ensures ready { IsSome line.held → IsSomeAnd handle.new.line (λ m. IsSome m.ticket) }
+    ensures ready { IfSome line.held (λ h. IsSomeAnd handle.new.line (HasTicketOf h)) }
     ensures number { result ≢ 0 → IsSomeAnd line.held (λ h. h.number ≡ result) }
     ensures zero { result ≡ 0 → (line.held ≡ None) × IsSomeAnd handle.new.line (λ m. m.ticket ≡ line.ticket) }
 {

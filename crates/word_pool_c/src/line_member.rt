@@ -1,9 +1,9 @@
 //! One thread's part in a shared line.
 
-ghost use Rattle.std.specs.Prelude.{◌≡◌, ◌≢◌, ◌⊎◌, IfSome, IsSome, IsSomeAnd, None};
+ghost use Rattle.std.specs.Prelude.{◌≡◌, ◌≢◌, ◌-◌, ◌⊎◌, IfNone, IfSome, IsSome, IsSomeAnd, None};
 ghost use Rattle.std.specs.Arc.{arc_value};
 ghost use Rattle.std.proofs.Props.{props};
-ghost use Rattle.word_pool_c.specs.Lines.{IsHeldInLine};
+ghost use Rattle.word_pool_c.specs.Lines.{IsHeldInLine, IsTicketOf};
 
 use std::alloc::Global;
 use std::sync::Arc;
@@ -47,6 +47,8 @@ impl LineMember {
         ensures line { arc_value self.new.line ≡ arc_value self.old.line }
         ensures same { (self.new.ticket ≡ self.old.ticket) × (self.new.held ≡ self.old.held) }
         ensures ours { IfSome result (λ t. t.pool ≡ (arc_value self.old.line).table) }
+        ensures left { IfSome self.old.tickets (λ t. IsSomeAnd self.new.tickets (λ u. u.numbers ≡ t.numbers - 1)) }
+        ensures due { IfNone result ((self.old.tickets ≡ None) ⊎ IsSomeAnd self.old.tickets (λ t. t.numbers ≡ 0)) }
         ensures tickets { IsSome result → IsSome self.old.tickets }
     {
         let mut tickets = self.tickets.take()?;
@@ -83,7 +85,7 @@ impl LineMember {
         ensures line { arc_value self.new.line ≡ arc_value self.old.line }
         ensures none { self.new.held ≡ None }
         ensures number { result ≢ 0 → IsSomeAnd self.old.held (λ h. h.number ≡ result) }
-        ensures ready { IsSome self.old.held → IsSome self.new.ticket }
+        ensures ready { IfSome self.old.held (λ h. IsSomeAnd self.new.ticket (IsTicketOf h)) }
         ensures zero { result ≡ 0 → (self.old.held ≡ None) × (self.new.ticket ≡ self.old.ticket) }
     {
         match self.held.take() {

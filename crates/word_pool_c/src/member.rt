@@ -2,19 +2,21 @@
 
 ghost use Rattle.std.specs.Prelude.{◌≡◌, ◌≢◌, ◌≤◌, ◌+◌, ◌⊎◌, IfSome, IsSome, IsSomeAnd, None};
 ghost use Rattle.std.specs.Arc.{arc_value};
-ghost use Rattle.word_pool_c.specs.Refused.{MetAllInTime, WasSought};
+ghost use Rattle.word_pool_c.specs.Refused.{IsReceiptOf, MetAllInTime, WasSought};
 ghost use Rattle.std.proofs.Props.{props};
 
 use std::alloc::Global;
 use std::sync::Arc;
-use word_pool::{AllHeld, Held, WordPool};
+use word_pool::{AllHeld, Held, Released, WordPool};
 
-/// The pool, which all members share, what this one holds, and what its last walk met, where that got no number.
+/// The pool, which all members share, what this one holds, what its last walk met, where that got no number, and the receipt for the
+/// number that it gave back last.
 #[derive(Drop)]
 pub struct Member {
     pub(crate) pool: Arc<WordPool<Global>, Global>,
     pub(crate) held: Option<Held>,
     pub(crate) refused: Option<AllHeld>,
+    pub(crate) released: Option<Released>,
     ghost ours: { IfSome held (λ h. h.pool ≡ (arc_value pool).table) } by { Prim.hlevel props },
 }
 
@@ -28,6 +30,7 @@ impl Member {
             pool,
             held: None,
             refused: None,
+            released: None,
         }
     }
 
@@ -59,17 +62,18 @@ impl Member {
         }
     }
 
-    /// Gives back the number that is held, and tells it. 0 where none is.
+    /// Gives back the number that is held, keeps the receipt, and tells the number. 0 where none is.
     pub fn release(&mut self) -> u64
         ensures pool { arc_value self.new.pool ≡ arc_value self.old.pool }
         ensures none { self.new.held ≡ None }
         ensures number { result ≢ 0 → IsSomeAnd self.old.held (λ h. h.number ≡ result) }
         ensures zero { result ≡ 0 → self.old.held ≡ None }
+        ensures receipt { IfSome self.old.held (λ h. IsSomeAnd self.new.released (IsReceiptOf h)) }
     {
         match self.held.take() {
             Some(held) => {
                 let number = held.number();
-                self.pool.release(held);
+                self.released = Some(self.pool.release(held));
                 number
             }
             None => 0,

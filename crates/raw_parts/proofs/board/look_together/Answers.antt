@@ -1,5 +1,6 @@
 use Rattle.std.proofs.Common.{◌≡◌, ◌∷◌, [], ◌∙◌, refl}
-use Rattle.raw_parts.proofs.Common.{step, claim, claims_of, united}
+use Rattle.raw_parts.proofs.Common.{step, claim, united}
+use Rattle.raw_parts.specs.BoardView.{board_view}
 use mathlib.Core.Option.{none}
 use Rattle.raw_parts.proofs.Claims.{may_unite, may_look_on, may_divide}
 use Rattle.raw_parts.proofs.board.look_together.Goals as goal
@@ -10,7 +11,7 @@ join_seat-requires c =
 
 pub load-requires : goal.load-requires
 load-requires c =
-    let both : c.join_seat.new.seat.me ≡ (claims_of (claim c.args._one.0 c.args._one.1 ∷ claim c.args._other.0 c.args._other.1 ∷ []), []) =
+    let both : c.join_seat.new.seat.me ≡ (board_view (claim c.args._one.0 c.args._one.1 ∷ claim c.args._other.0 c.args._other.1 ∷ []) 1 0 [], []) =
     c.join_seat.ensures.2 ∙ (λ i. (united (c.requires.left i).0 (c.requires.right i).0, (c.requires.left i).1)) in
     (c.join_seat.ensures.0 ∙ c.requires.ours.0, c.requires.board.0, rw both (may_look_on _ _ _ _ _ _ _ (step 0 0 0 0 none)))
 

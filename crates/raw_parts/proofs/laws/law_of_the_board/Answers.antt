@@ -1,4 +1,4 @@
-use Rattle.raw_parts.proofs.Claims.{granted_is_so, granted_one}
+use Rattle.raw_parts.proofs.Claims.{granted_is_so, granted_one, claimed_where}
 use Rattle.raw_parts.proofs.laws.law_of_the_board.Goals as goal
 
 pub returns-clause-claimed : goal.returns-clause-claimed
@@ -6,3 +6,6 @@ returns-clause-claimed c = granted_is_so
 
 pub returns-clause-one : goal.returns-clause-one
 returns-clause-one c = granted_one
+
+pub returns-clause-posted : goal.returns-clause-posted
+returns-clause-posted c = claimed_where

@@ -1,4 +1,4 @@
-use Rattle.std.proofs.Common.{◌≡◌, ◌+◌, ◌<◌, [], false}
+use Rattle.std.proofs.Common.{◌≡◌, ◌+◌, ◌<◌, ◌≤◌, [], false}
 use Rattle.word_pool.specs.PoolView.{call_of, races, IsSeeking}
 use Rattle.word_pool.proofs.word_pool.take_from.Given as goal
 
@@ -10,5 +10,6 @@ invariant-loop-place l = record {
   few : (call_of l.seat.me.0).accesses + l.from ≡ (call_of l.initial.seat.me.0).accesses + l.place;
   races : races (call_of l.seat.me.0) ≡ races (call_of l.initial.seat.me.0);
   aside : (call_of l.seat.me.0).met_aside ≡ (call_of l.initial.seat.me.0).met_aside;
+  lost : (call_of l.initial.seat.me.0).lost ≤ (call_of l.seat.me.0).lost;
   unseen : l.from < l.place → (call_of l.seat.me.0).sighted ≡ false;
 }

@@ -1,7 +1,7 @@
 use Rattle.std.proofs.Common.{◌≡◌, ◌++◌, [], ◌∷◌, ap, sym, ◌∙◌, length, length-append, arith}
 use Rattle.locked_world.proofs.Common.{option_or, exchange, with_view, kept_of, side_by_side, name_kept, name_given, KeptState}
 use Rattle.locked_world.proofs.Keeping.{kept_push}
-use Rattle.locked_world.proofs.Naming.{name_more}
+use Rattle.locked_world.proofs.FirstNames.{name_more}
 use Rattle.locked_world.proofs.kept_log.KeptLog.push_reserved.Goals as goal
 use Rattle.locked_world.proofs.kept_log.KeptLog.push_reserved.Goals.{After-push_reserved-2}
 

@@ -1,13 +1,9 @@
 use Rattle.std.proofs.Common.{sym, ◌∙◌, ◌-◌, ◌<◌, subst}
 use Rattle.raw_parts.proofs.Common.{TableId, claim}
-use Rattle.raw_parts.proofs.Claims.{may_begin}
 use Rattle.raw_parts.proofs.board.Board.close.Goals as goal
-
-pub load_new_seat-seat-requires : goal.load_new_seat-seat-requires
-load_new_seat-seat-requires g c = (c.self.invariant.0, may_begin c.self.inside.table.shared.key _)
 
 pub returns-in-Ok-clause-grant : goal.returns-in-Ok-clause-grant
 returns-in-Ok-clause-grant g c =
-    let has = c.gather.ensures.claim in
+    let has = c.claimed_by-seat.ensures.claim in
     let place = c.args.grant.name - 1 in
     c.in-Ok.ensures.claims (claim place c.args.grant.identity) has.0 (subst (λ (t : TableId). place < t.words) (c.requires ∙ sym c.self.view_is) has.1)

@@ -1,10 +1,6 @@
 use Rattle.std.proofs.Common.{sym, ◌∙◌, ◌-◌, ◌<◌, subst}
 use Rattle.raw_parts.proofs.Common.{TableId, claim}
-use Rattle.raw_parts.proofs.Claims.{may_begin}
 use Rattle.raw_parts.proofs.board.Board.close_all.Goals as goal
-
-pub load_new_seat-seat-requires : goal.load_new_seat-seat-requires
-load_new_seat-seat-requires g c = (c.self.invariant.0, may_begin c.self.inside.table.shared.key _)
 
 pub returns-clause-grants : goal.returns-clause-grants
 returns-clause-grants g c = λ i h e.

@@ -1,20 +1,20 @@
 use Rattle.std.proofs.Common.{rules, ◌≡◌, ◌≢◌, ◌-◌, ◌*◌, ℕ, ap, refl, eq-eqb, ne_eqb, ◌∙◌, arith, []}
-use Rattle.word_pool.proofs.Common.{Me, step, PoolView, at_rest, call_of, lone, spent, looked_aside, passing_aside, swapped_hint, PoolId}
+use Rattle.word_pool.proofs.Common.{Me, step, PoolView, at_rest, call_of, lone, sighting, looked_aside, passing_aside, swapped_hint, PoolId}
 use mathlib.Core.Option.{none}
 use Rattle.word_pool.proofs.Keeping.{may_come_back, may_come_back_by_swap, may_look_aside, may_take_aside}
 use Rattle.word_pool.proofs.word_pool.PoolOver+Pooling+A.acquire_near.Goals as goal
 
 -- a look at the place of a hint that met it held, and one that found it free
 avoided : (hint place found : ℕ) (after : Me ℕ PoolView) → hint * 8 ≡ place * 8 → found ≢ 0
-    → after ≡ (lone (looked_aside place found at_rest) [], []) → after ≡ (lone (passing_aside hint at_rest) [], [])
+    → after ≡ (lone (looked_aside place found at_rest) [], []) → after ≡ (lone (passing_aside 0 hint at_rest) [], [])
 avoided hint place found after same ne e = let a = ne_eqb found 0 ne in let b : place ≡ hint = omega arith in e ∙ rw (a, b) refl
 
-sighted : (place found : ℕ) (after : Me ℕ PoolView) → found ≡ 0 → after ≡ (lone (looked_aside place found at_rest) [], []) → after ≡ (lone (spent at_rest) [], [])
+sighted : (place found : ℕ) (after : Me ℕ PoolView) → found ≡ 0 → after ≡ (lone (looked_aside place found at_rest) [], []) → after ≡ (lone (sighting at_rest) [], [])
 sighted place found after z e = let a = eq-eqb found 0 z in e ∙ rw a refl
 
 -- a swap of 1 into the place of a hint that met it held leaves the call at rest
-missed : (hint place moment found : ℕ) (before after : Me ℕ PoolView) → before ≡ (lone (spent at_rest) [], []) → hint * 8 ≡ place * 8 → found ≢ 0
-    → after ≡ (lone (swapped_hint place moment found (call_of before.0)) before.0.past, before.1) → after ≡ (lone (passing_aside hint (spent at_rest)) [], [])
+missed : (hint place moment found : ℕ) (before after : Me ℕ PoolView) → before ≡ (lone (sighting at_rest) [], []) → hint * 8 ≡ place * 8 → found ≢ 0
+    → after ≡ (lone (swapped_hint place moment found (call_of before.0)) before.0.past, before.1) → after ≡ (lone (passing_aside 1 hint (sighting at_rest)) [], [])
 missed hint place moment found before after b same ne e = let a = ne_eqb found 0 ne in let d : place ≡ hint = omega arith in e ∙ rw (b, a, d) refl
 
 pub load_new_seat-aside-requires : goal.load_new_seat-aside-requires
@@ -33,7 +33,7 @@ load-found-requires g c =
     let me = avoided (c.args.hint - 1) aside.0 c.load_new_seat-aside.result.0 c.load_new_seat-aside.result.1.me aside.1 (omega (arith, c.if-aside-ne0.true)) aside.2 in (
       c.load_new_seat-aside.ensures.0,
       omega arith,
-      rw me (may_come_back c.self.inside.table.shared.key _ _ (passing_aside (c.args.hint - 1) at_rest) [] (step 0 0 0 0 none) refl),
+      rw me (may_come_back c.self.inside.table.shared.key _ _ (passing_aside 0 (c.args.hint - 1) at_rest) [] (step 0 0 0 0 none) refl),
     )
 
 pub swap-at_swap-requires : goal.swap-at_swap-requires
@@ -47,7 +47,7 @@ swap-at_swap-requires g c =
     let me = sighted aside.0 c.load_new_seat-aside.result.0 c.load_new_seat-aside.result.1.me (omega (arith, c.if-aside-ne0.false)) aside.2 in (
       c.load_new_seat-aside.ensures.0,
       omega arith,
-      rw me (may_take_aside c.self.inside.table.shared.key _ _ (spent at_rest) [] (c.args.hint - 1) 0 1 0 none (omega arith) refl),
+      rw me (may_take_aside c.self.inside.table.shared.key _ _ (sighting at_rest) [] (c.args.hint - 1) 0 1 0 none (omega arith) refl),
     )
 
 pub swap-found-requires : goal.swap-found-requires
@@ -61,7 +61,7 @@ swap-found-requires g c =
     let me = missed (c.args.hint - 1) hint.0 hint.2 c.swap-at_swap.result c.load_new_seat-aside.result.1.me c.swap-at_swap.new.seat.me before hint.1 (omega (arith, c.if-at_swap-eq0.false)) hint.3 in (
       c.swap-at_swap.ensures.0 ∙ c.load_new_seat-aside.ensures.0,
       omega arith,
-      rw me (may_come_back_by_swap c.self.inside.table.shared.key _ _ (passing_aside (c.args.hint - 1) (spent at_rest)) [] (step 0 0 0 0 none) (omega arith) refl),
+      rw me (may_come_back_by_swap c.self.inside.table.shared.key _ _ (passing_aside 1 (c.args.hint - 1) (sighting at_rest)) [] (step 0 0 0 0 none) (omega arith) refl),
     )
 
 pub walk_by_swaps-requires-clause-some : goal.walk_by_swaps-requires-clause-some
