@@ -70,6 +70,14 @@ fn drawing(alloc: Global, line: &str) -> Option<(u64, u64, u64, u64, u64, WorldK
     }
 }
 
+// The threads, the rounds and the seed of what the words of a line ask to race.
+fn racing(alloc: Global, line: &str) -> Option<(u64, u64, u64)> {
+    match ask(alloc, words_of(alloc, line).as_slice()) {
+        Ok(Ask::Race(r)) => Some((r.threads, r.rounds, r.seed)),
+        _ => None,
+    }
+}
+
 // The world, the port, the workers and the count of what the words of a line ask to serve.
 fn serving(alloc: Global, line: &str) -> Option<(WorldKind, u64, u64, u64)> {
     match ask(alloc, words_of(alloc, line).as_slice()) {
@@ -117,6 +125,26 @@ fn drawings_and_servings_are_read(rt: HostRuntime) {
     // No word at all is refused, which no shell can give.
     let none: [&str; 0] = [];
     assert!(rt; matches!(ask(rt.alloc(), &none), Err(Misuse::Words(_))));
+}
+
+#[test]
+fn races_are_read(rt: HostRuntime) {
+    let most = "slotctl race --threads 16 --rounds 1000000 --seed 18446744073709551615";
+    let told = [
+        racing(rt.alloc(), "slotctl race"),
+        racing(rt.alloc(), most),
+        racing(rt.alloc(), "slotctl race --threads 0"),
+        racing(rt.alloc(), "slotctl race --threads 17"),
+        racing(rt.alloc(), "slotctl race --rounds 1000001"),
+    ];
+    let due = [
+        Some((4, 1, 1)),
+        Some((16, 1_000_000, u64::MAX)),
+        None,
+        None,
+        None,
+    ];
+    assert!(rt; told == due);
 }
 
 // A line with no option of a hosting, one with each, and what it is kept in.

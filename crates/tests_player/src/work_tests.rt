@@ -62,11 +62,11 @@ fn ends<T: Threads + Sync>(threads: &T, alloc: Global, ending: &Ending) -> bool 
     writer.into_inner().taken.as_slice() == ending.text && is_told && status == ending.status
 }
 
-// The status of an outcome, or 100 where the program is left to serve.
+// The status of an outcome, or 100 where the caller is left to race, to serve or to host.
 fn status_of(outcome: &Outcome<'_>) -> u8 {
     match outcome {
         Outcome::Ended(status) => *status,
-        Outcome::Serve(_) | Outcome::Host(_) => 100,
+        Outcome::Race(_) | Outcome::Serve(_) | Outcome::Host(_) => 100,
     }
 }
 
