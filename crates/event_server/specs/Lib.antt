@@ -5,3 +5,4 @@ pub mod Seats
 pub mod Gathering
 pub mod Told
 pub mod Rounds
+pub mod Asking
