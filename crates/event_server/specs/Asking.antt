@@ -1,11 +1,10 @@
 -- lines that ask who holds numbers, among what waits of a connection
-use Rattle.std.specs.Prelude.{◌≡◌, ◌⊎◌, ◌≤◌, ◌<◌, ℕ, ◌++◌, List, [], length, take, drop, get_or, true, false, Option, Some, None}
+use Rattle.std.specs.Prelude.{◌≡◌, ◌⊎◌, ◌≤◌, ◌<◌, ℕ, ◌++◌, List, [], length, take, drop, get_or, suc, true, false, Some}
 use Rattle.command_lines.specs.Lines.{has_no_lf}
 use Rattle.slot_array.specs.SlotsState.{SlotsState}
 use Rattle.held_lines.specs.Held.{held_query, held_text}
 use Rattle.held_lines.specs.declared.query.HeldQuery.{HeldQuery}
 use Rattle.held_lines.specs.declared.query.TheConstants.{QUERY_MAX}
-use Rattle.event_server.specs.Seats.{Seating}
 use Rattle.event_server.specs.WireState.{WireState}
 
 -- the first so many of these bytes are a line that asks this, and its LF
@@ -38,28 +37,3 @@ pub record AnswersQuery (slots : SlotsState ℕ) (s s' : WireState) : Type 0 whe
 -- it is answered, or nothing changes
 abbrev pub MayAnswer : SlotsState ℕ → WireState → WireState → Type 0
 MayAnswer slots s s' = (s' ≡ s) ⊎ AnswersQuery slots s s'
-
-module _ {C : Type 0} (on : Seating C) (slots : SlotsState ℕ) where
-  -- a connection is answered, and nothing is read or sent; an empty seat stays empty
-  abbrev pub SeatAnswers : Option C → Option C → Type 0
-  SeatAnswers None None = Unit {0}
-  SeatAnswers None (Some c) = ⊥
-  SeatAnswers (Some c) None = ⊥
-  SeatAnswers (Some c) (Some d) = MayAnswer slots (on.wire c) (on.wire d) × (on.left d ≡ on.left c) × (on.gone d ≡ on.gone c)
-
-  -- each is answered from these slots, or is as it was
-  pub record QueriesAnswered (seats seats' : List (Option C)) : Type 0 where
-    pub each : (i : ℕ) → SeatAnswers (get_or seats i None) (get_or seats' i None)
-    pub many : length seats' ≡ length seats
-
-  -- one is
-  pub record SeatAnswered (Due : C → Type 0) (key : ℕ) (seats seats' : List (Option C)) : Type 0 where
-    pub was : C
-    pub is : C
-    pub was_there : get_or seats key None ≡ Some was
-    pub is_there : get_or seats' key None ≡ Some is
-    pub due : Due was
-    pub done : Due is → ⊥
-    pub answers : SeatAnswers (Some was) (Some is)
-    pub others : (i : ℕ) → (i ≡ key → ⊥) → get_or seats' i None ≡ get_or seats i None
-    pub many : length seats' ≡ length seats

@@ -6,3 +6,4 @@ pub mod Gathering
 pub mod Told
 pub mod Rounds
 pub mod Asking
+pub mod Answering

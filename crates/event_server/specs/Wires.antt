@@ -10,6 +10,7 @@ use Rattle.player.specs.Says.{Spoke, IsSilent}
 use Rattle.player.specs.Texts.{replies_of}
 use Rattle.player.specs.Turns.{Turn}
 use Rattle.player.specs.declared.form.TheConstants.{TURN_ROOM}
+use Rattle.event_server.specs.Asking.{MayAsk}
 use Rattle.event_server.specs.Told.{bytes_of, ends_of}
 use Rattle.event_server.specs.WireState.{WireState}
 use Rattle.event_server.specs.declared.look.Look.{Look}

@@ -28,6 +28,8 @@ pub struct Batch<A: Allocator> {
     pub most: usize,
     /// Lines of requests, in the order in which they will be taken, each with its LF.
     pub lines: Vec<u8, A>,
+    /// Whether it is asked too who holds numbers.
+    pub holds: bool,
 }
 
 impl<A: Allocator> Batch<A> {
@@ -39,6 +41,7 @@ impl<A: Allocator> Batch<A> {
             kind,
             most,
             lines: Vec::new(alloc),
+            holds: false,
         }
     }
 }
@@ -83,6 +86,7 @@ fn gather_at<S: Stream, A: Allocator, B: Allocator>(
         if let Some(connection) = &mut seats[key] {
             if let Stage::Queued = connection.stage {
                 connection.gather(batch.kind, batch.most, room, &mut batch.lines);
+                batch.holds = batch.holds || connection.asks_holders();
             }
         }
     }
@@ -105,6 +109,7 @@ pub fn gather<S: Stream, A: Allocator, B: Allocator>(
     ensures room { IsRoom room.new }
 {
     batch.lines.clear();
+    batch.holds = false;
     let mut looked = 0;
     while looked < ready.len() && has_room(batch.most, &batch.lines) {
         gather_at(batch, room, seats, ready[looked]);
@@ -194,7 +199,7 @@ fn learn<D, K: Keep<D>, B: Allocator>(
         K.learns keep.old service.old batch.now.lines.items keep.new service.new }
     ensures lost { result ≡ Ok Ahead.Lost → K.waits keep.old service.old keep.new service.new }
 {
-    if batch.lines.is_empty() {
+    if batch.lines.is_empty() && !batch.holds {
         return Ok(Ahead::Known);
     }
     keep.learn(service, &batch.lines)
