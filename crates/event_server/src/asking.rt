@@ -1,6 +1,7 @@
 //! Lines that ask who holds numbers, among bytes.
 
-ghost use Rattle.std.specs.Prelude.{◌≡◌, ◌≤◌, ◌<◌, length, take, drop, Some, IfSome, IsTrue};
+ghost use Rattle.std.specs.Prelude.{◌≡◌, ◌≤◌, ◌<◌, true, length, drop, get_or, IfSome};
+ghost use Rattle.command_lines.specs.Lines.{has_no_lf};
 ghost use Rattle.held_lines.specs.declared.query.TheConstants.{QUERY_MAX};
 ghost use Rattle.event_server.specs.Asking.{IsBeginning, IsQueryOf, MayAsk};
 
@@ -22,21 +23,38 @@ pub(crate) fn first_query(bytes: &[u8]) -> Option<(HeldQuery, usize)>
     Some((query, end + 1))
 }
 
+// Whether the first of these bytes is that of a line that asks.
+fn begins(bytes: &[u8]) -> bool
+    ensures { result ≡ true → get_or bytes.now 0 0 ≡ 104 }
+{
+    match bytes {
+        [first, ..] => *first == FIRST,
+        [] => false,
+    }
+}
+
+// Whether no line ends in these bytes.
+fn lacks_end(bytes: &[u8]) -> bool
+    ensures { result ≡ true → has_no_lf bytes.now ≡ true }
+{
+    memchr(LF, bytes).is_none()
+}
+
 /// Whether these bytes are the beginning of a line that may ask who holds numbers, with no LF.
 pub(crate) fn is_beginning(bytes: &[u8]) -> bool
-    ensures { IsTrue result → IsBeginning bytes.now }
+    ensures { result ≡ true → IsBeginning bytes.now }
 {
-    match bytes.first() {
-        Some(byte) => *byte == FIRST && bytes.len() <= QUERY_MAX && memchr(LF, bytes).is_none(),
-        None => false,
-    }
+    begins(bytes) && bytes.len() <= QUERY_MAX && lacks_end(bytes)
 }
 
 // Whether these bytes begin with a line that asks who holds numbers, or that may come to ask it.
 fn may_ask(bytes: &[u8]) -> bool
-    ensures { IsTrue result → MayAsk bytes.now }
+    ensures { result ≡ true → MayAsk bytes.now }
 {
-    first_query(bytes).is_some() || is_beginning(bytes)
+    match first_query(bytes) {
+        Some(_) => true,
+        None => is_beginning(bytes),
+    }
 }
 
 // Where the line behind the first of these bytes begins, or else their end.

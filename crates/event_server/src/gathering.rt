@@ -86,7 +86,6 @@ fn gather_at<S: Stream, A: Allocator, B: Allocator>(
         if let Some(connection) = &mut seats[key] {
             if let Stage::Queued = connection.stage {
                 connection.gather(batch.kind, batch.most, room, &mut batch.lines);
-                batch.holds = batch.holds || connection.asks_holders();
             }
         }
     }
@@ -109,7 +108,6 @@ pub fn gather<S: Stream, A: Allocator, B: Allocator>(
     ensures room { IsRoom room.new }
 {
     batch.lines.clear();
-    batch.holds = false;
     let mut looked = 0;
     while looked < ready.len() && has_room(batch.most, &batch.lines) {
         gather_at(batch, room, seats, ready[looked]);
@@ -189,6 +187,23 @@ fn take_looked<R, D: Service<R>, S: Stream, A: Allocator, B: Allocator>(
     }
 }
 
+// Whether a connection of these seats asks who holds numbers, as it was looked at.
+fn any_asks_holders<S: Stream, A: Allocator>(
+    seats: &[Option<Connection<S, A>>],
+    called: &[usize],
+) -> bool {
+    for key in called {
+        if *key < seats.len() {
+            if let Some(connection) = &seats[*key] {
+                if connection.asks_holders() {
+                    return true;
+                }
+            }
+        }
+    }
+    false
+}
+
 // Has the keeper learn a batch, where there is something in it.
 fn learn<D, K: Keep<D>, B: Allocator>(
     service: &mut D,
@@ -234,6 +249,7 @@ pub fn turn_ahead<R, D: Service<R>, K: Keep<D>, S: Stream, A: Allocator, B: Allo
 {
     let looked = gather(batch, room, seats, ready);
     let called = &ready[..looked];
+    batch.holds = any_asks_holders(seats, called);
     match learn(service, keep, batch)? {
         Ahead::Known => {
             take_looked(rt, service, room, seats, called);

@@ -506,9 +506,11 @@ impl Hosting {
 // Whether the connection of any of these seats has something that waits, as a line that asks who holds numbers does.
 fn any_asks(seats: &[Option<Connection<Socket, Global>>], called: &[usize]) -> bool {
     for key in called {
-        if let Some(Some(connection)) = seats.get(*key) {
-            if connection.wire.has_input() {
-                return true;
+        if *key < seats.len() {
+            if let Some(connection) = &seats[*key] {
+                if connection.wire.has_input() {
+                    return true;
+                }
             }
         }
     }

@@ -141,6 +141,7 @@ impl Look {
         Look {
             asks: false,
             long: self.goes_on,
+            holds: self.holds,
             ..self.nothing()
         }
     }

@@ -6,7 +6,7 @@ ghost use Rattle.player.specs.Runs.{Runs};
 ghost use Rattle.player.specs.Turns.{Turn};
 ghost use Rattle.player.specs.declared.form.TheConstants.{TURN_ROOM};
 ghost use Rattle.held_lines.specs.declared.query.TheConstants.{QUERY_MAX};
-ghost use Rattle.event_server.specs.Asking.{IsQueryOf, MayAsk};
+ghost use Rattle.event_server.specs.Asking.{IsBeginning, IsQueryOf, MayAsk};
 ghost use Rattle.event_server.specs.Wires.{IsFull, IsNewWire, Takes, TakesFirst};
 
 use crate::asking::{before_query, first_query, is_beginning};
@@ -141,16 +141,15 @@ impl<A: Allocator> Wire<A> {
 
     /// Whether nothing waits but the beginning of a line that may ask who holds numbers: then more of it is to come.
     pub fn waits_for_more(&self) -> bool
-        ensures none { IsTrue result → 0 < length self.now.inbox → MayAsk self.now.inbox }
-        ensures few { IsTrue result → length self.now.inbox ≤ QUERY_MAX }
+        ensures none { result ≡ true → 0 < length self.now.inbox → MayAsk self.now.inbox }
+        ensures few { result ≡ true → length self.now.inbox ≤ QUERY_MAX }
     {
         self.inbox.is_empty() || self.is_begun()
     }
 
     // Whether the beginning of a line waits that may ask who holds numbers.
     fn is_begun(&self) -> bool
-        ensures asks { IsTrue result → MayAsk self.now.inbox }
-        ensures few { IsTrue result → length self.now.inbox ≤ QUERY_MAX }
+        ensures { result ≡ true → IsBeginning self.now.inbox }
     {
         !self.in_line && !self.is_over() && is_beginning(&self.inbox)
     }
