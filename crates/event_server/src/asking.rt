@@ -37,7 +37,10 @@ fn begins(bytes: &[u8]) -> bool
 fn lacks_end(bytes: &[u8]) -> bool
     ensures { result ≡ true → has_no_lf bytes.now ≡ true }
 {
-    memchr(LF, bytes).is_none()
+    match memchr(LF, bytes) {
+        Some(_) => false,
+        None => true,
+    }
 }
 
 /// Whether these bytes are the beginning of a line that may ask who holds numbers, with no LF.

@@ -143,6 +143,7 @@ impl<A: Allocator> Wire<A> {
     pub fn waits_for_more(&self) -> bool
         ensures none { result ≡ true → 0 < length self.now.inbox → MayAsk self.now.inbox }
         ensures few { result ≡ true → length self.now.inbox ≤ QUERY_MAX }
+        ensures most { length self.now.inbox ≤ UNSENT_ROOM }
     {
         self.inbox.is_empty() || self.is_begun()
     }

@@ -13,5 +13,5 @@ returns g c =
       bytes = rw same c.read_at_most.ensures.bytes;
       same = c.read_at_most.ensures.same;
       few = c.read_at_most.ensures.few;
-      room = rw same (omega (arith, whole, c.requires.0), c.requires.1);
+      room = rw same (omega (arith, whole, c.requires.room.0), c.requires.room.1);
     }

@@ -42,7 +42,9 @@ returns-clause-full g c = λ whole some.
     let all = c.deref.result.now in
     let inbox : c.note_taken.new.self.inbox ≡ drop n all = ap (λ (q : WireState). q.inbox) is ∙ ap (λ l. drop n l) (c.hold.ensures.same.1 ∙ sym c.deref.ensures.value) in
     let left : length c.note_taken.new.self.inbox ≡ length all - n = ap length inbox ∙ length-drop n all in
-    let inside : free ≤ length all = rw c.deref.ensures.value (rw c.self.view_is c.free-free.ensures.inside) in
+    let inside = subst (λ (l : List ℕ). free ≤ length l) (sym c.deref.ensures.value) (subst (λ (q : WireState). free ≤ length q.inbox) (sym c.self.view_is) c.free-free.ensures.inside) in
+    let asked = subst (λ (l : List ℕ). free < length l → MayAsk (drop free l)) (sym c.deref.ensures.value)
+        (subst (λ (q : WireState). free < length q.inbox → MayAsk (drop free q.inbox)) (sym c.self.view_is) c.free-free.ensures.asks) in
     let few = length-take-le free all inside in
     let held = c.hold.ensures.held (sym (ap (λ (q : WireState). q.broken) is) ∙ whole) in
     let unsent = ap (λ (q : WireState). length q.outbox) is ∙ ap length held.0 ∙ length-append c.self.inside.outbox.items c.take_some-taken.new.out in
@@ -50,7 +52,7 @@ returns-clause-full g c = λ whole some.
     elim (leb_tells free n) as (λ _. (UNSENT_ROOM < length c.note_taken.new.self.outbox + TURN_ROOM) ⊎ MayAsk c.note_taken.new.self.inbox) [
       | inl e ↦
           let at_end : n ≡ free = (let taken = c.take_some-taken.ensures.taken in let le = e.1 in omega (arith, taken, few, le)) in
-          let asks = c.free-free.ensures.asks (let ls = ap length (c.self.view_is) in omega (arith, left, some, at_end)) in
+          let asks = asked (omega (arith, left, some, at_end)) in
           inr (subst MayAsk (sym (inbox ∙ ap (λ (k : ℕ). drop k all) at_end)) asks)
       | inr e ↦
           let full = c.take_some-taken.ensures.full (let lt = e.1 in omega (arith, lt, few)) in
