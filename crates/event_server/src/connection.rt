@@ -406,7 +406,8 @@ impl<S: Stream, A: Allocator> Connection<S, A> {
         requires reply { length self.old.wire.outbox + TURN_ROOM ≤ UNSENT_ROOM }
         requires count { self.old.wire.talker.summary.lines ≤ MOST_LINES }
         requires room { IsRoom room.old }
-        ensures takes { (turns : List Turn) × Runs D.may service.old turns service.new × ((Takes turns [] true self.old.wire self.new.wire) ⊎ (Takes turns [] false self.old.wire self.new.wire)) }
+        ensures takes { (turns : List Turn) × Runs D.may service.old turns service.new ×
+            (Takes turns [] true self.old.wire self.new.wire ⊎ Takes turns [] false self.old.wire self.new.wire) }
         ensures all { HasTakenAll self.new.wire }
         ensures stream { self.new.stream ≡ self.old.stream }
         ensures stage { self.new.stage ≡ self.old.stage }
@@ -423,12 +424,7 @@ impl<S: Stream, A: Allocator> Connection<S, A> {
 
     /// Answers the line that waits first, where that asks who holds numbers and there is room: where the service learns its answers ahead, only
     /// if the line was looked at. The keeper tells who holds them.
-    pub fn answer<D, K: Keep<D>, B: Allocator>(
-        &mut self,
-        service: &D,
-        keep: &K,
-        room: &mut Room<B>,
-    )
+    pub fn answer<D, K: Keep<D>, B: Allocator>(&mut self, service: &D, keep: &K, room: &mut Room<B>)
         requires room { IsRoom room.old }
         ensures answers { MayAnswer (K.holds keep.now service.now) self.old.wire self.new.wire }
         ensures stream { self.new.stream ≡ self.old.stream }

@@ -120,7 +120,12 @@ impl<D: Disk> Keep<Chronicle> for Recorded<D> {
 
     ghost holds = { λ k c. slots_of (desk_of c.hall) };
 
-    fn put_held<B: Allocator>(&self, chronicle: &Chronicle, query: HeldQuery, out: &mut Replies<B>) {
+    fn put_held<B: Allocator>(
+        &self,
+        chronicle: &Chronicle,
+        query: HeldQuery,
+        out: &mut Replies<B>,
+    ) {
         put_held(chronicle.hall().slots(), query, out);
     }
 

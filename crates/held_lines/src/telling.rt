@@ -44,7 +44,12 @@ fn put_line<A: Allocator, B: Allocator>(slots: &Slots<u64, A>, before: u8, out: 
 {
     let number = before + 1;
     if let Some(id) = slots.pool().holder_of(number) {
-        put_holder(u64::from(number), id, value_behind(slots.values(), before), out);
+        put_holder(
+            u64::from(number),
+            id,
+            value_behind(slots.values(), before),
+            out,
+        );
     }
 }
 

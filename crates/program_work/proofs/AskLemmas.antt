@@ -11,7 +11,7 @@ use Rattle.clap.specs.Simple.{is_simple}
 use Rattle.clap.specs.declared.error.kind.ErrorKind.{ErrorKind}
 use Rattle.clap.specs.declared.error.kind.ErrorKind.TheVariants.{OutOfMemory}
 use Rattle.clap.proofs.OnLiterals.{clap_on_literals}
-use Rattle.program_work.specs.declared.asked.Ask.TheVariants.{Play, Check, Migrate, Show, Draw, Serve, Host}
+use Rattle.program_work.specs.declared.asked.Ask.TheVariants.{Play, Check, Migrate, Show, Draw, Serve, Host, Held}
 use Rattle.program_work.specs.declared.misuse.Misuse.{Misuse}
 use Rattle.program_work.specs.declared.misuse.Misuse.TheVariants.{Help, Words, Memory}
 use Rattle.program_work.specs.Asked.{AsksFor, GiveAsked, IsAsked, IsDrawingOf, IsHostingOf, IsPlayingOf, IsMisuse, IsMisuseOf, IsRefusal, IsServingOf, IsShowingOf, is_help, is_refusal, subcommand_name}
@@ -71,6 +71,7 @@ nothing_played rows none (Show s) same h = apart (codes "show") (codes "play") r
 nothing_played rows none (Draw d) same h = apart (codes "draw") (codes "play") refl same
 nothing_played rows none (Serve s) same h = apart (codes "serve") (codes "play") refl same
 nothing_played rows none (Host x) same h = apart (codes "host") (codes "play") refl same
+nothing_played rows none Held same h = apart (codes "held") (codes "play") refl same
 
 -- nothing of the name `show`, where its options give nothing
 pub nothing_shown : (rows : List Row) → ((s : Showing) → IsShowingOf rows s → ⊥) → (a : Ask) → subcommand_name a ≡ codes "show" → GiveAsked rows a → ⊥
@@ -81,6 +82,7 @@ nothing_shown rows none (Show s) same h = none s h
 nothing_shown rows none (Draw d) same h = apart (codes "draw") (codes "show") refl same
 nothing_shown rows none (Serve s) same h = apart (codes "serve") (codes "show") refl same
 nothing_shown rows none (Host x) same h = apart (codes "host") (codes "show") refl same
+nothing_shown rows none Held same h = apart (codes "held") (codes "show") refl same
 
 -- nothing of the name `draw`, where its options give nothing
 pub nothing_drawn : (rows : List Row) → ((d : Drawing) → IsDrawingOf rows d → ⊥) → (a : Ask) → subcommand_name a ≡ codes "draw" → GiveAsked rows a → ⊥
@@ -91,6 +93,7 @@ nothing_drawn rows none (Show s) same h = apart (codes "show") (codes "draw") re
 nothing_drawn rows none (Draw d) same h = none d h
 nothing_drawn rows none (Serve s) same h = apart (codes "serve") (codes "draw") refl same
 nothing_drawn rows none (Host x) same h = apart (codes "host") (codes "draw") refl same
+nothing_drawn rows none Held same h = apart (codes "held") (codes "draw") refl same
 
 -- nothing of the name `serve`, where its options give nothing
 pub nothing_served : (rows : List Row) → ((s : Serving) → IsServingOf rows s → ⊥) → (a : Ask) → subcommand_name a ≡ codes "serve" → GiveAsked rows a → ⊥
@@ -101,6 +104,7 @@ nothing_served rows none (Show s) same h = apart (codes "show") (codes "serve") 
 nothing_served rows none (Draw d) same h = apart (codes "draw") (codes "serve") refl same
 nothing_served rows none (Serve s) same h = none s h
 nothing_served rows none (Host x) same h = apart (codes "host") (codes "serve") refl same
+nothing_served rows none Held same h = apart (codes "held") (codes "serve") refl same
 
 -- nothing of the name `host`, where its options give nothing
 pub nothing_hosted : (rows : List Row) → ((x : Hosting) → IsHostingOf rows x → ⊥) → (a : Ask) → subcommand_name a ≡ codes "host" → GiveAsked rows a → ⊥
@@ -111,6 +115,7 @@ nothing_hosted rows none (Show s) same h = apart (codes "show") (codes "host") r
 nothing_hosted rows none (Draw d) same h = apart (codes "draw") (codes "host") refl same
 nothing_hosted rows none (Serve s) same h = apart (codes "serve") (codes "host") refl same
 nothing_hosted rows none (Host x) same h = none x h
+nothing_hosted rows none Held same h = apart (codes "held") (codes "host") refl same
 
 -- what was met, from its name and its rows
 pub both_met : {X A B : Type 0} (f : X → A) (g : X → B) (o : Option X) (a : A) (b : B) → Some a ≡ option_map f o →

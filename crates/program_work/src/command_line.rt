@@ -274,6 +274,16 @@ const HOST: Manual = Manual {
     ],
 };
 
+// `slotctl held`.
+const HELD: Manual = Manual {
+    name: "held",
+    about: "Writes who holds numbers by the journal of the standard input",
+    examples: "Examples:
+  slotctl held < journal
+  slotctl play --record < lines | slotctl held",
+    choices: &[],
+};
+
 /// A subcommand.
 #[derive(Clone, Copy, Drop)]
 enum Subcommand {
@@ -284,6 +294,7 @@ enum Subcommand {
     Draw,
     Serve,
     Host,
+    Held,
 }
 
 // The subcommands, in the order of the help.
@@ -295,6 +306,7 @@ const SUBCOMMANDS: &[Subcommand] = &[
     Subcommand::Draw,
     Subcommand::Serve,
     Subcommand::Host,
+    Subcommand::Held,
 ];
 
 impl Subcommand {
@@ -310,6 +322,7 @@ impl Subcommand {
             Subcommand::Draw => DRAW,
             Subcommand::Serve => SERVE,
             Subcommand::Host => HOST,
+            Subcommand::Held => HELD,
         }
     }
 }

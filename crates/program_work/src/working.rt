@@ -91,5 +91,6 @@ pub fn work<T: Threads + Sync, R: Source, W: Sink>(
         Ask::Show(_) => unreachable!(),
         Ask::Serve(_) => unreachable!(),
         Ask::Host(_) => unreachable!(),
+        Ask::Held => unreachable!(),
     }
 }

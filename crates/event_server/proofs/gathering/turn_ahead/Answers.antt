@@ -49,4 +49,4 @@ returns-in_err-keep-in-Known-clause-unsent g c =
     let k = c.take_looked.ensures.taken in
     let on = seats_of g.S.Stream.left g.S.Stream.gone in
     always_wrong c.from_residual-in_err-keep-in-Known.result (NoneSent on c.args.seats.now c.take_looked.new.seats)
-        (none_sent_looked on k.0 c.args.seats.now c.gather-looked.new.seats c.take_looked.new.seats c.gather-looked.ensures.gathered k.1.each)
+    (none_sent_looked on k.0 c.args.seats.now c.gather-looked.new.seats c.take_looked.new.seats c.gather-looked.ensures.gathered k.1.each)

@@ -44,7 +44,7 @@ returns-clause-full g c = λ whole some.
     let left : length c.note_taken.new.self.inbox ≡ length all - n = ap length inbox ∙ length-drop n all in
     let inside = subst (λ (l : List ℕ). free ≤ length l) (sym c.deref.ensures.value) (subst (λ (q : WireState). free ≤ length q.inbox) (sym c.self.view_is) c.free-free.ensures.inside) in
     let asked = subst (λ (l : List ℕ). free < length l → MayAsk (drop free l)) (sym c.deref.ensures.value)
-        (subst (λ (q : WireState). free < length q.inbox → MayAsk (drop free q.inbox)) (sym c.self.view_is) c.free-free.ensures.asks) in
+    (subst (λ (q : WireState). free < length q.inbox → MayAsk (drop free q.inbox)) (sym c.self.view_is) c.free-free.ensures.asks) in
     let few = length-take-le free all inside in
     let held = c.hold.ensures.held (sym (ap (λ (q : WireState). q.broken) is) ∙ whole) in
     let unsent = ap (λ (q : WireState). length q.outbox) is ∙ ap length held.0 ∙ length-append c.self.inside.outbox.items c.take_some-taken.new.out in
