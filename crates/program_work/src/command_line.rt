@@ -280,7 +280,7 @@ const HELD: Manual = Manual {
     about: "Writes who holds numbers by the journal of the standard input",
     examples: "Examples:
   slotctl held < journal
-  slotctl play --record < lines | slotctl held",
+  ssh machine cat /var/lib/slotctl/journal | slotctl held",
     choices: &[],
 };
 
