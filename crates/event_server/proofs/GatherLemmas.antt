@@ -1,9 +1,9 @@
 -- what is gathered of connections before their lines are taken
 use Rattle.std.proofs.Common.{◌≡◌, inl, inr, ℕ, ◌<◌, if◌then◌else◌, Bool, true, false, set, take, List, [], ◌++◌, length, get_or, Option, Some, None, refl, sym, ap, subst, ◌∙◌, append_assoc}
-use Rattle.event_server.proofs.Common.{append-nil, get_or-set_same, get_or-set_other, length-set, cases_eq, Consumes, Look, WireState, WorldKind, requests_seen}
+use Rattle.event_server.proofs.Common.{append-nil, get_or-set_same, get_or-set_other, length-set, cases_eq, Consumes, Look, Turn, TurnLog, WireState, WorldKind, requests_seen, turns_of}
 use Rattle.event_server.specs.Told.{behind, bytes_of, ends_of, long_of, requests, requests_in}
 use Rattle.std.proofs.KnownBytes.{Consumes-nil, Consumes-trans}
-use Rattle.event_server.specs.Seats.{Seating}
+use Rattle.event_server.specs.Seats.{NoneSent, Seating, SeatTakes}
 use Rattle.event_server.specs.Gathering.{GathersOf, SeatGathers, Gathered}
 
 -- these bytes came, and wait where it is at no fault
@@ -47,6 +47,16 @@ module _ {C : Type 0} (on : Seating C) where
 
   pub gathered_more : (xs ys zs : List (Option C)) → Gathered on xs ys → Gathered on ys zs → Gathered on xs zs
   gathered_more xs ys zs a b = record { each = λ i. seat_gathers_more (get_or xs i None) (get_or ys i None) (get_or zs i None) (a.each i) (b.each i); many = b.many ∙ a.many }
+
+  sent_none : (turns : List Turn) (c d : C) (x : Option C) → SeatGathers on (Some c) x → SeatTakes on turns x (Some d) → on.gone d ≡ on.gone c
+  sent_none turns c d None gathers takes = absurd gathers
+  sent_none turns c d (Some m) gathers takes = takes.1 ∙ gathers.1
+
+  -- what is gathered and then taken sends nothing
+  pub none_sent_looked : (log : TurnLog) (seats mid seats' : List (Option C)) → Gathered on seats mid → ((i : ℕ) → SeatTakes on (turns_of i log) (get_or mid i None) (get_or seats' i None)) →
+      NoneSent on seats seats'
+  none_sent_looked log seats mid seats' gathered takes i c d was is = sent_none (turns_of i log) c d (get_or mid i None)
+      (subst (λ (x : Option C). SeatGathers on x (get_or mid i None)) was (gathered.each i)) (subst (λ (x : Option C). SeatTakes on (turns_of i log) (get_or mid i None) x) is (takes i))
 
   -- one connection is gathered of where it sits
   pub gathered_at : (key : ℕ) (seats : List (Option C)) (was is : C) → key < length seats → get_or seats key None ≡ Some was →

@@ -1,6 +1,7 @@
 mod Common
 mod WireLemmas
 mod SeatLemmas
+mod AnswerLemmas
 mod GatherLemmas
 mod LookLemmas
 mod ToldLemmas

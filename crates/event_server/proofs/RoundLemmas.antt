@@ -1,5 +1,5 @@
 -- what a server does, one thing after another
-use Rattle.std.proofs.Common.{◌≡◌, ◌⊎◌, inl, inr, ℕ, List, [], ◌∷◌, ◌++◌, Option, Result, Ok, Err, IfOk, OnOk, is_ok, true, take, refl, subst}
+use Rattle.std.proofs.Common.{◌≡◌, ◌⊎◌, inl, inr, ℕ, List, [], ◌∷◌, ◌++◌, Option, Result, Ok, Err, IfOk, OnErr, OnOk, is_ok, true, take, refl, subst}
 use Rattle.event_server.proofs.Common.{Request, ShownReply, Look, WorldKind}
 use Rattle.player.specs.Shared.{all_turns}
 use Rattle.event_server.specs.Gathering.{TurnAhead}
@@ -13,6 +13,11 @@ use Rattle.event_server.specs.Seats.{LoopTurn, Seating, ServedTurn}
 pub always : {T E : Type 0} (result : Result T E) (P : Type 0) → P → OnOk result P
 always (Ok done) P is = is
 always (Err fault) P is = tt
+
+-- and where it went wrong
+pub always_wrong : {T E : Type 0} (result : Result T E) (P : Type 0) → P → OnErr result P
+always_wrong (Ok done) P is = tt
+always_wrong (Err fault) P is = is
 
 module _ {T K : Type 0} (may : T → Request → ShownReply → T → Type 0) (learns : K → T → List ℕ → K → T → Type 0) (keeps waits : K → T → K → T → Type 0) where
   -- nothing was done

@@ -1,5 +1,5 @@
 -- what a wire takes
-use Rattle.std.proofs.Common.{◌≡◌, ◌≤◌, ℕ, length, true, false, Bool, List, [], ◌∷◌, ◌++◌, ◌||◌, take, drop, Option, Some, None, Result, Ok, Err, refl, sym, ap, subst, ◌∙◌, arith, append_assoc}
+use Rattle.std.proofs.Common.{◌≡◌, ◌⊎◌, inl, inr, ◌≤◌, ◌<◌, ◌+◌, ℕ, length, true, false, Bool, List, [], ◌∷◌, ◌++◌, ◌||◌, take, drop, Option, Some, None, Result, Ok, Err, refl, sym, ap, subst, ◌∙◌, arith, append_assoc}
 use Rattle.event_server.proofs.Common.{Consumes-nil, ShownReply, Request, WorldKind, Runs, Turn, WireState, bytes_of, Look}
 use Rattle.std.proofs.lemmas.Grind.{flat_map-append}
 use Rattle.std.proofs.lemmas.List.{append-nil, take-append-drop, take-append-le, length-append}
@@ -10,7 +10,15 @@ use Rattle.player.specs.Says.{Says, Spoke}
 use Rattle.player.specs.Texts.{turn_reply, replies_of}
 use Rattle.player.specs.TalkerState.{TalkerState}
 use Rattle.player.proofs.ProgressLemmas.{after_bytes-append}
-use Rattle.event_server.specs.Wires.{Takes, TakesEnd, TakesFirst, TakesLooked, TakesOf, after_taken}
+use Rattle.player.specs.declared.form.TheConstants.{TURN_ROOM}
+use Rattle.event_server.specs.Asking.{MayAsk}
+use Rattle.event_server.specs.declared.wire.TheConstants.{UNSENT_ROOM}
+use Rattle.event_server.specs.Wires.{IsFull, Takes, TakesEnd, TakesFirst, TakesLooked, TakesOf, after_taken}
+
+-- there is no room for a reply, or what waits may ask who holds numbers
+pub full_or_asks : (s : WireState) → (UNSENT_ROOM < length s.outbox + TURN_ROOM) ⊎ MayAsk s.inbox → IsFull s ⊎ MayAsk s.inbox
+full_or_asks s (inl full) = inl (inl full)
+full_or_asks s (inr asks) = inr asks
 
 pub or_false : (b : Bool) → b ≡ (b || false)
 or_false true = refl
@@ -68,6 +76,11 @@ takes_some turns left left' came s s' few gave t = record { came = came; ends = 
 -- the end came
 pub takes_at_end : (turns : List Turn) (left left' : Option (List ℕ)) (s s' : WireState) → Consumes left left' [] → IsAtEnd left' → Takes turns [] true s s' → TakesOf turns left s left' s'
 takes_at_end turns left left' s s' gave end t = record { came = []; ends = true; few = omega arith; gave = gave; at_end = λ h. end; takes = t }
+
+-- and what waited was taken before it, where anything did
+pub takes_last : (turns : List Turn) (left left' : Option (List ℕ)) (s s' : WireState) → Consumes left left' [] → IsAtEnd left' → Takes turns [] true s s' ⊎ Takes turns [] false s s' → TakesOf turns left s left' s'
+takes_last turns left left' s s' gave end (inl t) = takes_at_end turns left left' s s' gave end t
+takes_last turns left left' s s' gave end (inr t) = takes_some turns left left' [] s s' (omega arith) gave t
 
 -- where what came cannot wait it is at fault
 abbrev pub takes_refused : (came : List ℕ) (s s' : WireState) → s' ≡ record s { broken = true } → Takes [] came false s s'

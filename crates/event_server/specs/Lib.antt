@@ -5,3 +5,5 @@ pub mod Seats
 pub mod Gathering
 pub mod Told
 pub mod Rounds
+pub mod Asking
+pub mod Answering

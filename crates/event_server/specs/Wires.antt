@@ -10,6 +10,7 @@ use Rattle.player.specs.Says.{Spoke, IsSilent}
 use Rattle.player.specs.Texts.{replies_of}
 use Rattle.player.specs.Turns.{Turn}
 use Rattle.player.specs.declared.form.TheConstants.{TURN_ROOM}
+use Rattle.event_server.specs.Asking.{MayAsk}
 use Rattle.event_server.specs.Told.{bytes_of, ends_of}
 use Rattle.event_server.specs.WireState.{WireState}
 use Rattle.event_server.specs.declared.look.Look.{Look}
@@ -51,10 +52,10 @@ pub record TakesOf (turns : List Turn) (left : Option (List ℕ)) (s : WireState
 abbrev pub IsFull : WireState → Type 0
 IsFull s = (UNSENT_ROOM < length s.outbox + TURN_ROOM) ⊎ (MOST_LINES < s.talker.summary.lines)
 
--- nothing that came waits to be taken, unless it is full, at fault or at its end: so where a line waited and there was room for a reply, a
--- line at least was taken
+-- nothing that came waits to be taken, unless it is full, at fault or at its end, or what waits asks who holds numbers or begins to: so where
+-- another line waited and there was room for a reply, a line at least was taken
 abbrev pub HasTakenAll : WireState → Type 0
-HasTakenAll s = s.broken ≡ false → s.ended ≡ false → 0 < length s.inbox → IsFull s
+HasTakenAll s = s.broken ≡ false → s.ended ≡ false → 0 < length s.inbox → IsFull s ⊎ MayAsk s.inbox
 
 -- by some turns, which lead the service from w to u
 abbrev pub SomeTaken : {T : Type 0} → (T → Request → ShownReply → T → Type 0) → T → T → Option (List ℕ) → WireState → Option (List ℕ) → WireState → Type 0

@@ -1,6 +1,6 @@
 //! A connection: its stream, and what is held of it.
 
-ghost use Rattle.std.specs.Prelude.{◌≡◌, ◌+◌, ◌++◌, ◌≤◌, true, false, List, [], length, take, drop, IsTrue};
+ghost use Rattle.std.specs.Prelude.{◌≡◌, ◌⊎◌, ◌+◌, ◌++◌, ◌≤◌, ◌<◌, true, false, List, [], length, take, drop, IfOk, IsTrue};
 ghost use Rattle.std.specs.Io.{ReadsAtMost};
 ghost use Rattle.std.specs.Io.KnownBytes.{Appends, ReadConsumes};
 ghost use Rattle.commands.specs.Requests.{Request};
@@ -10,18 +10,26 @@ ghost use Rattle.player.specs.Turns.{Turn};
 ghost use Rattle.player.specs.declared.form.TheConstants.{TURN_ROOM};
 ghost use Rattle.event_server.specs.Rooms.{IsRoom};
 ghost use Rattle.event_server.specs.Told.{asks_of, requests_seen, IsSameGrant};
-ghost use Rattle.event_server.specs.Wires.{HasTakenAll, SomeTaken, TakesEnd, TakesLooked, SendsTo};
+ghost use Rattle.held_lines.specs.declared.query.TheConstants.{QUERY_MAX};
+ghost use Rattle.event_server.specs.Asking.{MayAnswer, MayAsk};
+ghost use Rattle.event_server.specs.Wires.{HasTakenAll, SomeTaken, Takes, TakesEnd, TakesLooked, SendsTo};
 ghost use Rattle.event_server.specs.Gathering.{GathersOf};
+ghost use Rattle.event_server.specs.declared.room.TheConstants.{READ_ROOM};
 ghost use Rattle.event_server.specs.declared.wire.TheConstants.{UNSENT_ROOM, MOST_LINES};
 
+use crate::keep::Keep;
 use crate::look::{Limits, Look};
 use crate::room::{READ_ROOM, Room};
 use crate::stream::Stream;
 use crate::wire::{MOST_LINES, UNSENT_ROOM, Wire};
 use commands::WorldKind;
+use held_lines::QUERY_MAX;
 use player::{Service, TURN_ROOM};
 use std::alloc::Allocator;
 use std::io::{self, ErrorKind};
+
+/// So many bytes are read at most, behind the beginning of a line that may ask who holds numbers.
+const MOST_READ: usize = READ_ROOM - QUERY_MAX;
 
 /// Where a connection stands in a turn of the loop.
 #[derive(Clone, Copy, Debug, Drop, PartialEq, Eq)]
@@ -59,19 +67,25 @@ fn read_at_most<S: Stream>(stream: &mut S, chunk: &mut [u8], most: usize) -> io:
     ensures bytes { ReadConsumes (S.left stream.old) (S.left stream.new) result chunk.new }
     ensures same { S.gone stream.new ≡ S.gone stream.old }
     ensures size { length chunk.new ≡ length chunk.old }
+    ensures few { IfOk result (λ count. count ≤ most) }
 {
     stream.read_some(&mut chunk[..most])
 }
 
-// Reads once into the room.
-fn read_into<S: Stream, B: Allocator>(stream: &mut S, room: &mut Room<B>) -> io::Result<usize>
-    requires { IsRoom room.old }
+// Reads once into the room, at most so many bytes.
+fn read_into<S: Stream, B: Allocator>(
+    stream: &mut S,
+    room: &mut Room<B>,
+    most: usize,
+) -> io::Result<usize>
+    requires room { IsRoom room.old }
+    requires most { (1 ≤ most) × (most ≤ READ_ROOM) }
     ensures bound { ReadsAtMost result room.new.chunk.items }
     ensures bytes { ReadConsumes (S.left stream.old) (S.left stream.new) result room.new.chunk.items }
     ensures same { S.gone stream.new ≡ S.gone stream.old }
+    ensures few { IfOk result (λ count. count ≤ most) }
     ensures room { IsRoom room.new }
 {
-    let most = room.most();
     read_at_most(stream, &mut room.chunk, most)
 }
 
@@ -114,7 +128,7 @@ impl<S: Stream, A: Allocator> Connection<S, A> {
         let sends = self.writable && !self.wire.unsent().is_empty();
         let waits = match self.look {
             Some(look) => look.more,
-            None => self.wire.has_input(),
+            None => !self.wire.waits_for_more(),
         };
         let takes = self.may_take() && (waits || self.readable);
         !self.wire.is_broken() && (sends || takes)
@@ -149,9 +163,9 @@ impl<S: Stream, A: Allocator> Connection<S, A> {
         if !self.may_take() {
             return;
         }
-        if self.wire.has_input() {
+        if !self.wire.waits_for_more() {
             self.wire
-                .take(rt, service, &mut room.view, &[], &mut room.replies);
+                .take(rt, service, &mut room.view, &[], false, &mut room.replies);
         } else if self.readable {
             self.read(rt, service, room);
         }
@@ -206,7 +220,7 @@ impl<S: Stream, A: Allocator> Connection<S, A> {
         ensures stage { self.new.stage ≡ self.old.stage }
         ensures room { IsRoom room.new }
     {
-        match read_into(&mut self.stream, room) {
+        match read_into(&mut self.stream, room, READ_ROOM) {
             Ok(0) => self
                 .wire
                 .finish(rt, service, &mut room.view, &mut room.replies),
@@ -253,6 +267,14 @@ impl<S: Stream, A: Allocator> Connection<S, A> {
         self.gather_bytes(&mut room.chunk);
         if !self.wire.is_broken() {
             self.look_over(kind, most, batch);
+        }
+    }
+
+    /// Whether a line that was looked at asks who holds numbers.
+    pub fn asks_holders(&self) -> bool {
+        match self.look {
+            Some(look) => look.holds,
+            None => false,
         }
     }
 
@@ -308,7 +330,7 @@ impl<S: Stream, A: Allocator> Connection<S, A> {
         ensures stage { self.new.stage ≡ Stage.Idle }
     {
         if let Some(look) = self.look {
-            if look.asks {
+            if look.asks || look.holds {
                 self.wire.fail();
             }
             self.look = Some(look.untaken());
@@ -339,11 +361,12 @@ impl<S: Stream, A: Allocator> Connection<S, A> {
         }
     }
 
-    // Reads once, and takes what that gives.
+    // Reads once, and takes what that gives. At the end what waits is taken first, and the end is read again in the next turn.
     fn read<R, D: Service<R>, B: Allocator>(&mut self, rt: &R, service: &mut D, room: &mut Room<B>)
         requires knows { (q : Request) → D.knows q ≡ true }
         requires whole { self.old.wire.broken ≡ false }
-        requires none { self.old.wire.inbox ≡ [] }
+        requires none { 0 < length self.old.wire.inbox → MayAsk self.old.wire.inbox }
+        requires few { length self.old.wire.inbox ≤ QUERY_MAX }
         requires reply { length self.old.wire.outbox + TURN_ROOM ≤ UNSENT_ROOM }
         requires count { self.old.wire.talker.summary.lines ≤ MOST_LINES }
         requires room { IsRoom room.old }
@@ -353,21 +376,76 @@ impl<S: Stream, A: Allocator> Connection<S, A> {
         ensures stage { self.new.stage ≡ self.old.stage }
         ensures room { IsRoom room.new }
     {
-        match read_into(&mut self.stream, room) {
-            Ok(0) => self
-                .wire
-                .finish(rt, service, &mut room.view, &mut room.replies),
+        let most = room.most().min(MOST_READ);
+        match read_into(&mut self.stream, room, most) {
+            Ok(0) => self.take_last(rt, service, room),
             Ok(count) => {
-                self.readable = self.hung || count == room.most();
+                self.readable = self.hung || count == most;
                 self.wire.take(
                     rt,
                     service,
                     &mut room.view,
                     &room.chunk[..count],
+                    false,
                     &mut room.replies,
                 );
             }
             Err(fault) => note_fault(&fault, &mut self.readable, &mut self.wire),
+        }
+    }
+
+    // The end was read. What waits is taken before it, where anything does.
+    fn take_last<R, D: Service<R>, B: Allocator>(
+        &mut self,
+        rt: &R,
+        service: &mut D,
+        room: &mut Room<B>,
+    )
+        requires knows { (q : Request) → D.knows q ≡ true }
+        requires whole { self.old.wire.broken ≡ false }
+        requires reply { length self.old.wire.outbox + TURN_ROOM ≤ UNSENT_ROOM }
+        requires count { self.old.wire.talker.summary.lines ≤ MOST_LINES }
+        requires room { IsRoom room.old }
+        ensures takes { (turns : List Turn) × Runs D.may service.old turns service.new ×
+            (Takes turns [] true self.old.wire self.new.wire ⊎ Takes turns [] false self.old.wire self.new.wire) }
+        ensures all { HasTakenAll self.new.wire }
+        ensures stream { self.new.stream ≡ self.old.stream }
+        ensures stage { self.new.stage ≡ self.old.stage }
+        ensures room { IsRoom room.new }
+    {
+        if self.wire.has_input() {
+            self.wire
+                .take(rt, service, &mut room.view, &[], true, &mut room.replies);
+        } else {
+            self.wire
+                .finish(rt, service, &mut room.view, &mut room.replies);
+        }
+    }
+
+    /// Answers the line that waits first, where that asks who holds numbers and there is room: where the service learns its answers ahead, only
+    /// if the line was looked at. The keeper tells who holds them.
+    pub fn answer<D, K: Keep<D>, B: Allocator>(&mut self, service: &D, keep: &K, room: &mut Room<B>)
+        requires room { IsRoom room.old }
+        ensures answers { MayAnswer (K.holds keep.now service.now) self.old.wire self.new.wire }
+        ensures stream { self.new.stream ≡ self.old.stream }
+        ensures stage { self.new.stage ≡ Stage.Taken }
+        ensures room { IsRoom room.new }
+    {
+        self.stage = Stage::Taken;
+        if !self.may_take() || !self.may_ask() {
+            return;
+        }
+        if let Some((query, count)) = self.wire.query() {
+            keep.put_held(service, query, &mut room.replies);
+            self.wire.answer(count, &mut room.replies);
+        }
+    }
+
+    // Whether a line that asks who holds numbers may be answered in this turn.
+    fn may_ask(&self) -> bool {
+        match self.look {
+            Some(look) => look.holds,
+            None => true,
         }
     }
 

@@ -28,6 +28,8 @@ pub struct Batch<A: Allocator> {
     pub most: usize,
     /// Lines of requests, in the order in which they will be taken, each with its LF.
     pub lines: Vec<u8, A>,
+    /// Whether it is asked too who holds numbers.
+    pub holds: bool,
 }
 
 impl<A: Allocator> Batch<A> {
@@ -39,6 +41,7 @@ impl<A: Allocator> Batch<A> {
             kind,
             most,
             lines: Vec::new(alloc),
+            holds: false,
         }
     }
 }
@@ -184,6 +187,23 @@ fn take_looked<R, D: Service<R>, S: Stream, A: Allocator, B: Allocator>(
     }
 }
 
+// Whether a connection of these seats asks who holds numbers, as it was looked at.
+fn any_asks_holders<S: Stream, A: Allocator>(
+    seats: &[Option<Connection<S, A>>],
+    called: &[usize],
+) -> bool {
+    for key in called {
+        if *key < seats.len() {
+            if let Some(connection) = &seats[*key] {
+                if connection.asks_holders() {
+                    return true;
+                }
+            }
+        }
+    }
+    false
+}
+
 // Has the keeper learn a batch, where there is something in it.
 fn learn<D, K: Keep<D>, B: Allocator>(
     service: &mut D,
@@ -194,7 +214,7 @@ fn learn<D, K: Keep<D>, B: Allocator>(
         K.learns keep.old service.old batch.now.lines.items keep.new service.new }
     ensures lost { result ≡ Ok Ahead.Lost → K.waits keep.old service.old keep.new service.new }
 {
-    if batch.lines.is_empty() {
+    if batch.lines.is_empty() && !batch.holds {
         return Ok(Ahead::Known);
     }
     keep.learn(service, &batch.lines)
@@ -229,6 +249,7 @@ pub fn turn_ahead<R, D: Service<R>, K: Keep<D>, S: Stream, A: Allocator, B: Allo
 {
     let looked = gather(batch, room, seats, ready);
     let called = &ready[..looked];
+    batch.holds = any_asks_holders(seats, called);
     match learn(service, keep, batch)? {
         Ahead::Known => {
             take_looked(rt, service, room, seats, called);

@@ -5,11 +5,14 @@ ghost use Rattle.commands.specs.Requests.{Request};
 ghost use Rattle.event_server.specs.Rooms.{IsRoom};
 ghost use Rattle.event_server.specs.Rounds.{WasServed};
 
+use crate::answering::answer_queries;
+use crate::connection::Connection;
 use crate::gathering::{Batch, Called, turn_ahead};
 use crate::host_fault::HostFault;
 use crate::house::House;
 use crate::keep::{Keep, Tally};
 use crate::room::Room;
+use crate::socket::Socket;
 use crate::teller::Teller;
 use crate::turns::turn;
 use commands::WorldKind;
@@ -345,9 +348,30 @@ impl Hosting {
         match called {
             Ok(called) => {
                 self.note_lost(called);
+                self.answer(service, keep, room, called);
                 self.settle(called.count())
             }
             Err(fault) => Err(HostFault::Keep(fault)),
+        }
+    }
+
+    // Answers who asks who holds numbers, where any may.
+    fn answer<D, K: Keep<D>>(
+        &mut self,
+        service: &D,
+        keep: &K,
+        room: &mut Room<Global>,
+        called: Called,
+    )
+        requires { IsRoom room.old }
+        ensures { IsRoom room.new }
+    {
+        if let Called::Served(count) = called {
+            let House { seats, ready, .. } = &mut self.house;
+            let few = count.min(ready.len());
+            if any_asks(seats, &ready[..few]) {
+                answer_queries(service, keep, room, seats, &ready[..few]);
+            }
         }
     }
 
@@ -406,7 +430,7 @@ impl Hosting {
     // Notes whether the answers that were wanted in a turn were learnt, where any were.
     fn note_lost(&mut self, called: Called) {
         if let Some(batch) = &self.batch {
-            if !batch.lines.is_empty() {
+            if batch.holds || !batch.lines.is_empty() {
                 self.lost = matches!(called, Called::Unserved(_));
             }
         }
@@ -477,6 +501,20 @@ impl Hosting {
         put_line(format!(in self.alloc; "served {served}\n"), output)?;
         Ok(Hosted { served })
     }
+}
+
+// Whether the connection of any of these seats has something that waits, as a line that asks who holds numbers does.
+fn any_asks(seats: &[Option<Connection<Socket, Global>>], called: &[usize]) -> bool {
+    for key in called {
+        if *key < seats.len() {
+            if let Some(connection) = &seats[*key] {
+                if connection.wire.has_input() {
+                    return true;
+                }
+            }
+        }
+    }
+    false
 }
 
 // Writes a line, where there was memory for it.

@@ -1,6 +1,14 @@
 //! What is kept of a turn before its replies go out.
 
-ghost use Rattle.std.specs.Prelude.{◌≡◌, ℕ, List, OnOk};
+ghost use Rattle.std.specs.Prelude.{◌≡◌, ◌≤◌, ◌+◌, ◌++◌, ℕ, List, length, OnOk};
+ghost use Rattle.command_lines.specs.declared.replies.TheConstants.{HELD_REPLIES};
+ghost use Rattle.slot_array.specs.SlotsState.{SlotsState};
+ghost use Rattle.held_lines.specs.Held.{held_text};
+ghost use Rattle.held_lines.specs.declared.telling.TheConstants.{HELD_ROOM};
+
+use command_lines::{HELD_REPLIES, Replies};
+use held_lines::{HELD_ROOM, HeldQuery};
+use std::alloc::Allocator;
 
 /// What a service and its keeper tell of themselves to whoever looks on.
 #[derive(Clone, Copy, Debug, Drop, PartialEq, Eq)]
@@ -33,6 +41,15 @@ pub trait Keep<D> {
 
     /// The keeper and the service were so, and are so once the keeper went on by itself, or answers were not learnt in time.
     ghost waits: { Self → D → Self → D → Type 0 };
+
+    /// The pool and its slots, as they are where all is kept that the service told.
+    ghost holds: { Self → D → SlotsState ℕ };
+
+    /// Appends who holds numbers, as it is asked.
+    fn put_held<B: Allocator>(&self, service: &D, query: HeldQuery, out: &mut Replies<B>)
+        requires room { length out.old + HELD_ROOM ≤ HELD_REPLIES }
+        ensures text { out.new ≡ out.old ++ held_text (holds self.now service.now) query }
+        ensures short { length out.new ≤ length out.old + HELD_ROOM };
 
     /// Whether so much is told that it is to be kept before any other connection has its turn. It is not asked where `most_ahead` is some:
     /// then each connection has its turn whose lines were told.

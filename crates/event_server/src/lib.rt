@@ -22,6 +22,8 @@
 //! Not promised, and shown by running it: that a connection that is due has its turn soon, and what sockets carry.
 #![tactic(auto)]
 
+pub mod answering;
+mod asking;
 pub mod connection;
 pub mod gathering;
 pub mod host_fault;
@@ -36,6 +38,7 @@ pub mod teller;
 pub mod turns;
 pub mod wire;
 
+pub use answering::answer_queries;
 pub use connection::{Connection, Stage};
 pub use gathering::{Batch, Called, gather, turn_ahead};
 pub use host_fault::HostFault;

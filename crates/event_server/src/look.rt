@@ -6,6 +6,7 @@ ghost use Rattle.event_server.specs.Told.{requests, behind, requests_in, HasLook
 
 use crate::wire::UNSENT_ROOM;
 use commands::{Command, Event, WorldKind};
+use held_lines::held_query;
 use memchr::memchr;
 use player::{REPLY_ROOM, TURN_ROOM, parse_line};
 use std::alloc::{AllocError, Allocator};
@@ -39,6 +40,8 @@ pub struct Look {
     pub long: bool,
     /// Whether such a line goes on behind what it takes.
     pub goes_on: bool,
+    /// Whether the line that waits first asks who holds numbers, and is to be answered in this turn.
+    pub holds: bool,
 }
 
 /// What a turn takes of a line.
@@ -116,17 +119,19 @@ impl Look {
             at_end: false,
             long: false,
             goes_on: false,
+            holds: false,
         }
     }
 
     /// Nothing of what waits is taken in the next turn.
     pub fn nothing(self) -> Look
-        ensures { result ≡ record self { bytes = 0; ends = false; goes_on = self.long } }
+        ensures { result ≡ record self { bytes = 0; ends = false; goes_on = self.long; holds = false } }
     {
         Look {
             bytes: 0,
             ends: false,
             goes_on: self.long,
+            holds: false,
             ..self
         }
     }
@@ -136,6 +141,7 @@ impl Look {
         Look {
             asks: false,
             long: self.goes_on,
+            holds: self.holds,
             ..self.nothing()
         }
     }
@@ -198,7 +204,7 @@ impl Look {
         ensures looked { IfOk result (λ whole. HasLooked limits.old.kind self.old.long self.old.asks batch.old.items bytes.now
             self.new.bytes self.new.goes_on self.new.asks batch.new.items) }
         ensures none { result ≡ Ok true → has_no_lf (drop self.new.bytes bytes.now) ≡ true }
-        ensures rest { self.new ≡ record self.old { bytes = self.new.bytes; asks = self.new.asks; goes_on = self.new.goes_on } }
+        ensures rest { self.new ≡ record self.old { bytes = self.new.bytes; asks = self.new.asks; goes_on = self.new.goes_on; holds = self.new.holds } }
         ensures limits { limits.new ≡ record limits.old { said = limits.new.said } }
         ensures kept { (more : List ℕ) × (batch.new.items ≡ batch.old.items ++ more) }
     {
@@ -207,6 +213,10 @@ impl Look {
             let Some(end) = memchr(LF, rest) else {
                 return Ok(true);
             };
+            if !self.goes_on && held_query(&rest[..end]).is_some() {
+                self.holds = self.bytes == 0;
+                return Ok(false);
+            }
             self.bytes += end + 1;
             if !self.take_line(&rest[..end], limits, batch)? {
                 return Ok(false);

@@ -1,13 +1,17 @@
 //! A connection without its stream.
 
-ghost use Rattle.std.specs.Prelude.{◌≡◌, ◌↔◌, ◌+◌, ◌<◌, ◌≤◌, ◌++◌, true, false, List, [], length, drop, IfOk, IsTrue};
+ghost use Rattle.std.specs.Prelude.{◌≡◌, ◌↔◌, ◌+◌, ◌<◌, ◌≤◌, ◌++◌, true, false, ◌⊎◌, List, [], length, drop, take, Some, IfOk, IfSome, IsTrue};
 ghost use Rattle.player.specs.Knows.{Knows};
 ghost use Rattle.player.specs.Runs.{Runs};
 ghost use Rattle.player.specs.Turns.{Turn};
 ghost use Rattle.player.specs.declared.form.TheConstants.{TURN_ROOM};
+ghost use Rattle.held_lines.specs.declared.query.TheConstants.{QUERY_MAX};
+ghost use Rattle.event_server.specs.Asking.{IsBeginning, IsQueryOf, MayAsk};
 ghost use Rattle.event_server.specs.Wires.{IsFull, IsNewWire, Takes, TakesFirst};
 
+use crate::asking::{before_query, first_query, is_beginning};
 use commands::WorldKind;
+use held_lines::HeldQuery;
 use player::{AsReplies, Replies, Service, TURN_ROOM, Talker};
 use std::alloc::Allocator;
 use std::marker::Model;
@@ -15,6 +19,9 @@ use step_memory::{NoMemory, View};
 
 /// No more bytes of replies wait to be sent. Where there is no room for one reply more, no line is taken.
 pub const UNSENT_ROOM: usize = 65_536;
+
+/// What ends a line.
+const LF: u8 = 10;
 
 /// Past so many lines no more are taken, so that their counts stay numbers of 64 bits.
 pub const MOST_LINES: u64 = 1 << 63;
@@ -28,6 +35,8 @@ pub struct Wire<A: Allocator> {
     outbox: Vec<u8, A>,
     ended: bool,
     broken: bool,
+    /// Whether a line was begun and not ended by what was taken last.
+    in_line: bool,
 }
 
 impl<A: Allocator> Model for Wire<A> {
@@ -70,6 +79,7 @@ impl<A: Allocator + Clone> Wire<A> {
             outbox: Vec::new(alloc),
             ended: false,
             broken: false,
+            in_line: false,
         })
     }
 }
@@ -129,14 +139,77 @@ impl<A: Allocator> Wire<A> {
         self.outbox.len() <= UNSENT_ROOM - TURN_ROOM && self.talker.summary().lines <= MOST_LINES
     }
 
-    /// Takes lines of what waits and of these bytes, which came behind it, as long as there is room for one reply more. The rest waits.
-    /// Where memory is refused it is at fault.
+    /// Whether nothing waits but the beginning of a line that may ask who holds numbers: then more of it is to come.
+    pub fn waits_for_more(&self) -> bool
+        ensures none { result ≡ true → 0 < length self.now.inbox → MayAsk self.now.inbox }
+        ensures few { result ≡ true → length self.now.inbox ≤ QUERY_MAX }
+        ensures most { length self.now.inbox ≤ UNSENT_ROOM }
+    {
+        self.inbox.is_empty() || self.is_begun()
+    }
+
+    // Whether the beginning of a line waits that may ask who holds numbers.
+    fn is_begun(&self) -> bool
+        ensures { result ≡ true → IsBeginning self.now.inbox }
+    {
+        !self.in_line && !self.is_over() && is_beginning(&self.inbox)
+    }
+
+    /// What is asked by the line that waits first, where that asks who holds numbers, and how many bytes the line has with its LF.
+    pub fn query(&self) -> Option<(HeldQuery, usize)>
+        ensures { IfSome result (λ r. IsQueryOf self.now.inbox r.0 r.1) }
+    {
+        if self.in_line || self.is_over() {
+            return None;
+        }
+        first_query(&self.inbox)
+    }
+
+    /// The line that waits first, of so many bytes with its LF, was answered by what these replies are: they wait to be sent. Where memory is
+    /// refused it is at fault.
+    pub fn answer<B: Allocator>(&mut self, count: usize, replies: &mut Replies<B>)
+        requires inside { count ≤ length self.old.inbox }
+        requires room { length self.old.outbox + length replies.old ≤ UNSENT_ROOM }
+        ensures same { (self.new.talker ≡ self.old.talker) × (self.new.ended ≡ self.old.ended) }
+        ensures taken { self.new.inbox ≡ drop count self.old.inbox }
+        ensures held { self.new.broken ≡ false → (self.new.outbox ≡ self.old.outbox ++ replies.old) × (self.old.broken ≡ false) }
+        ensures empty { replies.new ≡ [] }
+    {
+        self.hold(replies);
+        drop_front(&mut self.inbox, count);
+    }
+
+    // How many of the bytes that wait a turn takes: all where no more are to come, or else those before a line that asks who holds numbers.
+    fn free(&self, last: bool) -> usize
+        ensures inside { result ≤ length self.now.inbox }
+        ensures asks { result < length self.now.inbox → MayAsk (drop result self.now.inbox) }
+    {
+        if last || self.is_over() {
+            return self.inbox.len();
+        }
+        before_query(!self.in_line, &self.inbox)
+    }
+
+    // So many of the bytes that waited were taken.
+    fn note_taken(&mut self, count: usize)
+        requires { count ≤ length self.old.inbox }
+        ensures { self.new ≡ record self.old { inbox = drop count self.old.inbox } }
+    {
+        if 0 < count {
+            self.in_line = self.inbox[count - 1] != LF;
+        }
+        drop_front(&mut self.inbox, count);
+    }
+
+    /// Takes lines of what waits and of these bytes, which came behind it, as long as there is room for one reply more, up to a line that
+    /// asks who holds numbers; where they are the last that come, that one too. The rest waits. Where memory is refused it is at fault.
     pub fn take<R, D: Service<R>, B: Allocator>(
         &mut self,
         rt: &R,
         service: &mut D,
         view: &mut View,
         bytes: &[u8],
+        last: bool,
         replies: &mut Replies<B>,
     )
         requires knows { Knows D.knows self.old.talker.kind }
@@ -145,18 +218,19 @@ impl<A: Allocator> Wire<A> {
         requires count { self.old.talker.summary.lines ≤ MOST_LINES }
         requires empty { replies.old ≡ [] }
         ensures takes { (turns : List Turn) × Runs D.may service.old turns service.new × Takes turns bytes.now false self.old self.new }
-        ensures full { self.new.broken ≡ false → 0 < length self.new.inbox → UNSENT_ROOM < length self.new.outbox + TURN_ROOM }
+        ensures full { self.new.broken ≡ false → 0 < length self.new.inbox → (UNSENT_ROOM < length self.new.outbox + TURN_ROOM) ⊎ MayAsk self.new.inbox }
         ensures empty { replies.new ≡ [] }
     {
         if !self.add(bytes) {
             return;
         }
+        let free = self.free(last);
         let most = UNSENT_ROOM - self.outbox.len();
         let taken = self
             .talker
-            .take_some(rt, service, view, &self.inbox, most, replies);
+            .take_some(rt, service, view, &self.inbox[..free], most, replies);
         self.hold(replies);
-        drop_front(&mut self.inbox, taken);
+        self.note_taken(taken);
     }
 
     /// Takes the end of what comes, before which nothing waits to be taken.
@@ -204,7 +278,7 @@ impl<A: Allocator> Wire<A> {
             .talker
             .take_some(rt, service, view, &self.inbox[..few], most, replies);
         self.hold(replies);
-        drop_front(&mut self.inbox, used);
+        self.note_taken(used);
     }
 
     /// These bytes came, and wait to be taken. Where memory is refused it is at fault.

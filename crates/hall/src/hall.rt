@@ -3,6 +3,7 @@
 ghost use Rattle.std.specs.Prelude.{◌≡◌, ◌≤◌, ◌⊎◌, ◌↔◌, [], length, slice_get, IfOk, IfErr, Err, false};
 ghost use Rattle.commands.specs.Config.{gives_names};
 ghost use Rattle.desk.specs.Desk.{owner_reply};
+ghost use Rattle.desk.specs.Held.{slots_of};
 ghost use Rattle.desk.specs.Names.{IsOwnerReply};
 ghost use Rattle.commands.specs.Replies.{with_view};
 ghost use Rattle.hall.specs.Halls.{hall_of, desk_of, SatisfiesSpec, hall_refusal, HallMay};
@@ -10,6 +11,7 @@ ghost use Rattle.hall.specs.Halls.{hall_of, desk_of, SatisfiesSpec, hall_refusal
 use crate::log::Log;
 use commands::{Config, Event, Exchange, Reply};
 use desk::Desk;
+use slot_array::Slots;
 use std::alloc::Global;
 use std::marker::Model;
 use step_memory::{Refusal, View};
@@ -138,6 +140,13 @@ impl Hall {
             self.history.push_reserved(event, reply, view);
         }
         reply
+    }
+
+    /// The pool and its slots, for what watches from outside.
+    pub fn slots(&self) -> &Slots<u64, Global>
+        ensures { result.now ≡ slots_of (desk_of self.now) }
+    {
+        self.held.desk.slots()
     }
 
     /// Who has a name, or that nobody has it; `OutOfRange` unless the number is from 1 to 2m - 1, for m participants. It

@@ -1,3 +1,4 @@
 pub mod Kept
 pub mod Hosting
 pub mod Exports
+pub mod Holders

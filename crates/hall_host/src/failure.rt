@@ -17,6 +17,9 @@ pub enum HostFailure {
     /// To listen or to wait failed, so the system told.
     #[error("network fault: {0}")]
     Network(ErrorKind),
+    /// What it was to read could not be read.
+    #[error("read fault")]
+    Input,
     /// What it tells was not taken.
     #[error("write fault")]
     Output,

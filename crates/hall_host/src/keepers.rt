@@ -1,14 +1,18 @@
 //! What is kept of the turns of a loop over a hall.
 
 ghost use Rattle.std.specs.Prelude.{◌≡◌, OnOk};
+ghost use Rattle.desk.specs.Held.{slots_of};
+ghost use Rattle.hall.specs.Halls.{desk_of};
 ghost use Rattle.journal.specs.Compactings.{KeepsWhenCompacted, MayCompact};
 ghost use Rattle.journal.specs.Journals.{Stands};
 ghost use Rattle.hall_host.specs.Kept.{KeptBy, MayCompactHall, Rests};
 
 use event_server::{Ahead, Keep, Tally};
 use hall::{Compactor, Hall};
+use held_lines::{HeldQuery, put_held};
 use journal::{Chronicle, Disk, Journal, JournalFault, law_of_crashes};
-use std::alloc::Global;
+use player::Replies;
+use std::alloc::{Allocator, Global};
 
 /// Where so many bytes of lines wait they are kept before the next connection has its turn: the lines of one more turn, 64 KiB of the
 /// shortest commands, have room behind them, since a chronicle refuses memory where a megabyte waits.
@@ -36,6 +40,12 @@ impl Keep<Hall> for Unrecorded {
     ghost learns = { λ k h lines l u. Rests k h l u };
 
     ghost waits = { λ k h l u. Rests k h l u };
+
+    ghost holds = { λ k h. slots_of (desk_of h) };
+
+    fn put_held<B: Allocator>(&self, hall: &Hall, query: HeldQuery, out: &mut Replies<B>) {
+        put_held(hall.slots(), query, out);
+    }
 
     fn is_full(&self, _hall: &Hall) -> bool {
         false
@@ -107,6 +117,17 @@ impl<D: Disk> Keep<Chronicle> for Recorded<D> {
     ghost learns = { λ k c lines l u. Rests k c l u };
 
     ghost waits = { λ k c l u. Rests k c l u };
+
+    ghost holds = { λ k c. slots_of (desk_of c.hall) };
+
+    fn put_held<B: Allocator>(
+        &self,
+        chronicle: &Chronicle,
+        query: HeldQuery,
+        out: &mut Replies<B>,
+    ) {
+        put_held(chronicle.hall().slots(), query, out);
+    }
 
     fn is_full(&self, chronicle: &Chronicle) -> bool {
         FULL_BYTES < chronicle.waiting().len()

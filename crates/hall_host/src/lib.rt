@@ -13,6 +13,7 @@
 
 pub mod export;
 pub mod failure;
+pub mod holders;
 pub mod keepers;
 pub mod laws;
 pub mod log_plan;
@@ -20,6 +21,7 @@ pub mod start;
 
 pub use export::write_events;
 pub use failure::HostFailure;
+pub use holders::write_holders;
 pub use keepers::{Recorded, Unrecorded};
 pub use laws::{law_of_hosted_journals, law_of_hosting};
 pub use log_plan::LogPlan;

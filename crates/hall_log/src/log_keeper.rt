@@ -14,8 +14,10 @@ use crate::tape::Tape;
 use commands::Config;
 use event_server::{Ahead, Keep, Tally};
 use hall::Hall;
+use held_lines::{HeldQuery, put_held};
+use player::Replies;
 use replicated_log::{Cause, MOST_BATCH, MOST_PLACES, ServeFault, Store, StoreFault};
-use std::alloc::{AllocError, Global};
+use std::alloc::{AllocError, Allocator, Global};
 
 /// What ends a line.
 const LF: u8 = 10;
@@ -261,6 +263,15 @@ impl<S: Store, T: Pause> Keep<Tape> for LogKeeper<S, T> {
     ghost learns = { λ k w lines l u. IsLearnt (S.stands l.log.store) l.log.config k.log.replica.place lines u l.log.replica };
 
     ghost waits = { λ k w l u. HasGoneOn (S.stands k.log.store) (S.stands l.log.store) k.log.config l.log.config k.log.replica l.log.replica u };
+
+    ghost use Rattle.desk.specs.Held.{slots_of};
+    ghost use Rattle.hall.specs.Halls.{desk_of};
+
+    ghost holds = { λ k w. slots_of (desk_of k.log.replica.machine) };
+
+    fn put_held<B: Allocator>(&self, _tape: &Tape, query: HeldQuery, out: &mut Replies<B>) {
+        put_held(self.log.hall().slots(), query, out);
+    }
 
     fn is_full(&self, _tape: &Tape) -> bool {
         false

@@ -11,7 +11,7 @@ use Rattle.clap.specs.Simple.{is_simple}
 use Rattle.clap.specs.declared.error.kind.ErrorKind.{ErrorKind}
 use Rattle.clap.specs.declared.error.kind.ErrorKind.TheVariants.{OutOfMemory}
 use Rattle.clap.proofs.OnLiterals.{clap_on_literals}
-use Rattle.program_work.specs.declared.asked.Ask.TheVariants.{Play, Check, Migrate, Show, Draw, Race, Serve, Host}
+use Rattle.program_work.specs.declared.asked.Ask.TheVariants.{Play, Check, Migrate, Show, Draw, Race, Serve, Host, Held}
 use Rattle.program_work.specs.declared.misuse.Misuse.{Misuse}
 use Rattle.program_work.specs.declared.misuse.Misuse.TheVariants.{Help, Words, Memory}
 use Rattle.program_work.specs.Asked.{AsksFor, GiveAsked, IsAsked, IsDrawingOf, IsHostingOf, IsPlayingOf, IsMisuse, IsMisuseOf, IsRefusal, IsRacingOf, IsServingOf, IsShowingOf, is_help, is_refusal, subcommand_name}
@@ -72,6 +72,7 @@ nothing_played rows none (Draw d) same h = apart (codes "draw") (codes "play") r
 nothing_played rows none (Race r) same h = apart (codes "race") (codes "play") refl same
 nothing_played rows none (Serve s) same h = apart (codes "serve") (codes "play") refl same
 nothing_played rows none (Host x) same h = apart (codes "host") (codes "play") refl same
+nothing_played rows none Held same h = apart (codes "held") (codes "play") refl same
 
 -- nothing of the name `show`, where its options give nothing
 pub nothing_shown : (rows : List Row) → ((s : Showing) → IsShowingOf rows s → ⊥) → (a : Ask) → subcommand_name a ≡ codes "show" → GiveAsked rows a → ⊥
@@ -83,6 +84,7 @@ nothing_shown rows none (Draw d) same h = apart (codes "draw") (codes "show") re
 nothing_shown rows none (Race r) same h = apart (codes "race") (codes "show") refl same
 nothing_shown rows none (Serve s) same h = apart (codes "serve") (codes "show") refl same
 nothing_shown rows none (Host x) same h = apart (codes "host") (codes "show") refl same
+nothing_shown rows none Held same h = apart (codes "held") (codes "show") refl same
 
 -- nothing of the name `draw`, where its options give nothing
 pub nothing_drawn : (rows : List Row) → ((d : Drawing) → IsDrawingOf rows d → ⊥) → (a : Ask) → subcommand_name a ≡ codes "draw" → GiveAsked rows a → ⊥
@@ -94,6 +96,7 @@ nothing_drawn rows none (Draw d) same h = none d h
 nothing_drawn rows none (Race r) same h = apart (codes "race") (codes "draw") refl same
 nothing_drawn rows none (Serve s) same h = apart (codes "serve") (codes "draw") refl same
 nothing_drawn rows none (Host x) same h = apart (codes "host") (codes "draw") refl same
+nothing_drawn rows none Held same h = apart (codes "held") (codes "draw") refl same
 
 -- nothing of the name `race`, where its options give nothing
 pub nothing_raced : (rows : List Row) → ((r : Racing) → IsRacingOf rows r → ⊥) → (a : Ask) → subcommand_name a ≡ codes "race" → GiveAsked rows a → ⊥
@@ -105,6 +108,7 @@ nothing_raced rows none (Draw d) same h = apart (codes "draw") (codes "race") re
 nothing_raced rows none (Race r) same h = none r h
 nothing_raced rows none (Serve s) same h = apart (codes "serve") (codes "race") refl same
 nothing_raced rows none (Host x) same h = apart (codes "host") (codes "race") refl same
+nothing_raced rows none Held same h = apart (codes "held") (codes "race") refl same
 
 -- nothing of the name `serve`, where its options give nothing
 pub nothing_served : (rows : List Row) → ((s : Serving) → IsServingOf rows s → ⊥) → (a : Ask) → subcommand_name a ≡ codes "serve" → GiveAsked rows a → ⊥
@@ -116,6 +120,7 @@ nothing_served rows none (Draw d) same h = apart (codes "draw") (codes "serve") 
 nothing_served rows none (Race r) same h = apart (codes "race") (codes "serve") refl same
 nothing_served rows none (Serve s) same h = none s h
 nothing_served rows none (Host x) same h = apart (codes "host") (codes "serve") refl same
+nothing_served rows none Held same h = apart (codes "held") (codes "serve") refl same
 
 -- nothing of the name `host`, where its options give nothing
 pub nothing_hosted : (rows : List Row) → ((x : Hosting) → IsHostingOf rows x → ⊥) → (a : Ask) → subcommand_name a ≡ codes "host" → GiveAsked rows a → ⊥
@@ -127,6 +132,7 @@ nothing_hosted rows none (Draw d) same h = apart (codes "draw") (codes "host") r
 nothing_hosted rows none (Race r) same h = apart (codes "race") (codes "host") refl same
 nothing_hosted rows none (Serve s) same h = apart (codes "serve") (codes "host") refl same
 nothing_hosted rows none (Host x) same h = none x h
+nothing_hosted rows none Held same h = apart (codes "held") (codes "host") refl same
 
 -- what was met, from its name and its rows
 pub both_met : {X A B : Type 0} (f : X → A) (g : X → B) (o : Option X) (a : A) (b : B) → Some a ≡ option_map f o →

@@ -16,7 +16,7 @@ use Rattle.commands.specs.declared.config.Config.{Config}
 use Rattle.commands.specs.declared.kind.WorldKind.{WorldKind}
 use Rattle.program_work.specs.CommandLine.{slotctl_app}
 use Rattle.program_work.specs.declared.asked.Ask.{Ask}
-use Rattle.program_work.specs.declared.asked.Ask.TheVariants.{Play, Check, Migrate, Show, Draw, Race, Serve, Host}
+use Rattle.program_work.specs.declared.asked.Ask.TheVariants.{Play, Check, Migrate, Show, Draw, Race, Serve, Host, Held}
 use Rattle.program_work.specs.declared.asked.Drawing.{Drawing}
 use Rattle.program_work.specs.declared.asked.Hosting.{Hosting}
 use Rattle.program_work.specs.declared.asked.Keeping.{Keeping}
@@ -134,6 +134,7 @@ subcommand_name (Draw drawing) = codes "draw"
 subcommand_name (Race racing) = codes "race"
 subcommand_name (Serve serving) = codes "serve"
 subcommand_name (Host hosting) = codes "host"
+subcommand_name Held = codes "held"
 
 -- what clap matched there gives this
 abbrev pub GiveAsked : List Row → Ask → Type 0
@@ -145,6 +146,7 @@ GiveAsked rows (Draw drawing) = IsDrawingOf rows drawing
 GiveAsked rows (Race racing) = IsRacingOf rows racing
 GiveAsked rows (Serve serving) = IsServingOf rows serving
 GiveAsked rows (Host hosting) = IsHostingOf rows hosting
+GiveAsked rows Held = ⊤
 
 -- the subcommand that clap met, with what it matched there, asks for this
 abbrev pub IsAsked : Option (List ℕ × List Row) → Ask → Type 0

@@ -8,7 +8,7 @@ use Rattle.clap.specs.declared.builder.value_parser.ValueParser.TheVariants.{Uns
 use Rattle.program_work.specs.declared.command_line.Choice.{Choice}
 use Rattle.program_work.specs.declared.command_line.Manual.{Manual}
 use Rattle.program_work.specs.declared.command_line.Subcommand.{Subcommand}
-use Rattle.program_work.specs.declared.command_line.Subcommand.TheVariants.{Play, Check, Migrate, Show, Draw, Race, Serve, Host}
+use Rattle.program_work.specs.declared.command_line.Subcommand.TheVariants.{Play, Check, Migrate, Show, Draw, Race, Serve, Host, Held}
 use Rattle.program_work.specs.declared.command_line.Takes.{Takes}
 use Rattle.program_work.specs.declared.command_line.Takes.TheVariants.{Text, TextOr, Number, Needed, Nothing}
 
@@ -117,6 +117,10 @@ host_app = with_options (codes "host") (world_option ∷ m_option ∷ k_option �
     ∷ number_option (codes "idle") 0 31536000 (codes "600") ∷ text_option (codes "journal") ∷ text_option (codes "etcd") ∷ text_option (codes "prefix")
     ∷ number_option (codes "patience") 1 3600 (codes "10") ∷ flag (codes "export") ∷ flag (codes "verbose") ∷ [])
 
+-- `held` has no options
+abbrev pub held_app : App
+held_app = new_app (codes "held")
+
 -- the program before it has a subcommand, one of which has to be given
 abbrev pub bare_app : App
 bare_app =
@@ -126,7 +130,7 @@ bare_app =
 -- the program with all its subcommands
 abbrev pub slotctl_app : App
 slotctl_app = fold (λ app sub. with_subcommand app sub.top) bare_app
-    (play_app ∷ check_app ∷ migrate_app ∷ show_app ∷ draw_app ∷ race_app ∷ serve_app ∷ host_app ∷ [])
+    (play_app ∷ check_app ∷ migrate_app ∷ show_app ∷ draw_app ∷ race_app ∷ serve_app ∷ host_app ∷ held_app ∷ [])
 
 -- what an option of a table is
 abbrev pub rule_taking : List ℕ → Takes → Rule
@@ -156,6 +160,7 @@ subcommand_app Draw = draw_app
 subcommand_app Race = race_app
 subcommand_app Serve = serve_app
 subcommand_app Host = host_app
+subcommand_app Held = held_app
 
 abbrev pub with_entry : App → Subcommand → App
 with_entry app sub = with_subcommand app (subcommand_app sub).top

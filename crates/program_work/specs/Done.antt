@@ -15,7 +15,7 @@ use Rattle.run_checker.specs.declared.verdict.Verdict.{Verdict}
 use Rattle.schedule_player.specs.Recorded.{IsRecorded}
 use Rattle.commands.specs.declared.config.Config.{Config}
 use Rattle.program_work.specs.declared.asked.Ask.{Ask}
-use Rattle.program_work.specs.declared.asked.Ask.TheVariants.{Play, Check, Migrate, Show, Draw, Race, Serve, Host}
+use Rattle.program_work.specs.declared.asked.Ask.TheVariants.{Play, Check, Migrate, Show, Draw, Race, Serve, Host, Held}
 use Rattle.program_work.specs.declared.asked.Drawing.{Drawing}
 use Rattle.program_work.specs.declared.asked.Showing.{Showing}
 use Rattle.program_work.specs.declared.failure.Failure.{Failure}
@@ -56,15 +56,16 @@ IsPlayedBy false config reading writing status =
 IsPlayedBy true config reading writing status =
     (recorded : Result (Unit {0}) Fault) × (status ≡ status_after recorded) × IsRecorded config reading writing recorded
 
--- it is neither to show a record nor to race, to serve or to host
+-- it is neither to show a record nor to race, to serve, to host or to tell who holds numbers
 abbrev pub is_work : Ask → Bool
 is_work (Show showing) = false
 is_work (Race racing) = false
 is_work (Serve serving) = false
 is_work (Host hosting) = false
+is_work Held = false
 is_work a = true
 
--- what was asked for, which is neither to show nor to race, to serve or to host, is done, and answers this status: a run is
+-- what was asked for, which is none of these, is done, and answers this status: a run is
 -- played; or a record is checked, or written again; or nothing is read, and a drawing is written
 abbrev pub IsWorked : {R W : Type 0} → Ask → Reading R → Writing W → Result ℕ Fault → Type 0
 IsWorked (Play playing) reading writing status = IsPlayedBy playing.recorded playing.config reading writing status
@@ -81,7 +82,7 @@ HasWorked ask reading writing result = (status : Result ℕ Fault) × (result �
 abbrev pub HasShown : {R W : Type 0} → Showing → Reading R → Writing W → Result Outcome Failure → Type 0
 HasShown showing reading writing result = (shown : Result Verdict Fault) × (result ≡ outcome_shown shown) × IsShownFor (stretch_asked showing) reading writing shown
 
--- to race, to serve and to host is left, with nothing read or written
+-- to race, to serve, to host and to tell who holds numbers is left, with nothing read or written
 abbrev pub IsDoneFor : {R W : Type 0} → Ask → Reading R → Writing W → Result Outcome Failure → Type 0
 IsDoneFor (Play config) reading writing result = HasWorked (Play config) reading writing result
 IsDoneFor Check reading writing result = HasWorked Check reading writing result
@@ -91,6 +92,7 @@ IsDoneFor (Draw drawing) reading writing result = HasWorked (Draw drawing) readi
 IsDoneFor (Race racing) reading writing result = (result ≡ Ok (outcome.Race racing)) × (reading.new ≡ reading.old) × (writing.new ≡ writing.old)
 IsDoneFor (Serve serving) reading writing result = (result ≡ Ok (outcome.Serve serving)) × (reading.new ≡ reading.old) × (writing.new ≡ writing.old)
 IsDoneFor (Host hosting) reading writing result = (result ≡ Ok (outcome.Host hosting)) × (reading.new ≡ reading.old) × (writing.new ≡ writing.old)
+IsDoneFor Held reading writing result = (result ≡ Ok outcome.Held) × (reading.new ≡ reading.old) × (writing.new ≡ writing.old)
 
 -- where the words ask for nothing that is done, nothing is read or written; what they ask for is done
 abbrev pub IsDone : {R W : Type 0} → Reading R → Writing W → Result Ask Misuse → Result Outcome Failure → Type 0

@@ -25,6 +25,8 @@ pub enum Ask<'a> {
     Serve(Serving),
     /// A hall that is hosted.
     Host(Hosting<'a>),
+    /// Who holds numbers by a record.
+    Held,
 }
 
 /// The run that is played.

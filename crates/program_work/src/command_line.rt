@@ -300,6 +300,16 @@ const HOST: Manual = Manual {
     ],
 };
 
+// `slotctl held`.
+const HELD: Manual = Manual {
+    name: "held",
+    about: "Writes who holds numbers by the journal of the standard input",
+    examples: "Examples:
+  slotctl held < journal
+  ssh machine cat /var/lib/slotctl/journal | slotctl held",
+    choices: &[],
+};
+
 /// A subcommand.
 #[derive(Clone, Copy, Drop)]
 enum Subcommand {
@@ -311,6 +321,7 @@ enum Subcommand {
     Race,
     Serve,
     Host,
+    Held,
 }
 
 // The subcommands, in the order of the help.
@@ -323,6 +334,7 @@ const SUBCOMMANDS: &[Subcommand] = &[
     Subcommand::Race,
     Subcommand::Serve,
     Subcommand::Host,
+    Subcommand::Held,
 ];
 
 impl Subcommand {
@@ -339,6 +351,7 @@ impl Subcommand {
             Subcommand::Race => RACE,
             Subcommand::Serve => SERVE,
             Subcommand::Host => HOST,
+            Subcommand::Held => HELD,
         }
     }
 }

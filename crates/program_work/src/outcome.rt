@@ -13,4 +13,6 @@ pub enum Outcome<'a> {
     Serve(Serving),
     /// To host a hall.
     Host(Hosting<'a>),
+    /// To tell who holds numbers by a record.
+    Held,
 }

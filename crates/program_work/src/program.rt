@@ -22,7 +22,8 @@ use std::thread::Threads;
 
 /// Does what the words of a command line ask for, the first of which is the program's name, and answers the status of the
 /// program: 0 where it was done and for help, 1 where a verdict is other than yes, 2 where the words are refused, 3 at a fault or for want
-/// of memory. Help goes to `output` beside what is done, every other text to `errors`. To race, to serve and to host is left to the caller.
+/// of memory. Help goes to `output` beside what is done, every other text to `errors`. To race, to serve, to host and to tell who holds numbers
+/// is left to the caller.
 pub fn program<'a, T: Threads + Sync, S: AsStr, R: Source, W: Sink, E: Write>(
     rt: &T,
     alloc: Global,
@@ -57,7 +58,7 @@ pub fn program_over<'a, T: Threads + Sync, S: AsStr, R: Read + Drop, W: Write + 
     program(rt, alloc, words, &mut input, &mut output, errors)
 }
 
-/// Does what the words ask for, but to race, to serve and to host.
+/// Does what the words ask for, but to race, to serve, to host and to tell who holds numbers.
 pub fn done<'a, T: Threads + Sync, S: AsStr, R: Source, W: Sink>(
     rt: &T,
     alloc: Global,
@@ -82,6 +83,9 @@ pub fn done<'a, T: Threads + Sync, S: AsStr, R: Source, W: Sink>(
     }
     if let Ask::Host(hosting) = asked {
         return Ok(Outcome::Host(hosting));
+    }
+    if let Ask::Held = asked {
+        return Ok(Outcome::Held);
     }
     if let Ask::Show(showing) = asked {
         return after_showing(show_for(alloc, showing, input, output));

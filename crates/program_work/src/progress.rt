@@ -13,7 +13,10 @@ const LOOKS_A_SECOND: u64 = 20;
 /// Whether the words ask for work that may take long: a check, a migration, a page, or a drawing.
 pub fn may_take_long<S: AsStr>(words: &[S]) -> bool {
     match words.get(1) {
-        Some(word) => matches!(word.as_str(), "check" | "migrate" | "show" | "draw"),
+        Some(word) => matches!(
+            word.as_str(),
+            "check" | "migrate" | "show" | "draw" | "held"
+        ),
         None => false,
     }
 }

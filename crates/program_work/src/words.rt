@@ -189,6 +189,7 @@ fn asked_of<'a>(name: &str, options: &ArgMatches<'a>) -> Option<Ask<'a>>
         "race" => Some(Ask::Race(race_given(options)?)),
         "serve" => Some(Ask::Serve(serve_given(options)?)),
         "host" => Some(Ask::Host(host_given(options)?)),
+        "held" => Some(Ask::Held),
         _ => None,
     }
 }

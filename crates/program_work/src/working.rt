@@ -92,5 +92,6 @@ pub fn work<T: Threads + Sync, R: Source, W: Sink>(
         Ask::Race(_) => unreachable!(),
         Ask::Serve(_) => unreachable!(),
         Ask::Host(_) => unreachable!(),
+        Ask::Held => unreachable!(),
     }
 }

@@ -12,7 +12,7 @@ ghost use Rattle.std.specs.Prelude.{◌≡◌};
 
 mod race;
 
-use hall_host::{HostFailure, HostPlan, Keeping, LogPlan, export_hall, host_hall};
+use hall_host::{HostFailure, HostPlan, Keeping, LogPlan, export_hall, host_hall, write_holders};
 use locked_world::Opened;
 use player::{Fault, Tried};
 use program_work::program::{program_over, report};
@@ -156,6 +156,7 @@ fn report_hosted<W: Write, E: Write>(
         HostFailure::BadRecord(line) => {
             return report_judged(Failure::BadRecord(line), failure, output, errors);
         }
+        HostFailure::Input => Failure::Fault(Fault::Read),
         HostFailure::Output => Failure::Fault(Fault::Write),
         HostFailure::Memory => Failure::Fault(Fault::Memory),
         other => return tell(&other, errors),
@@ -213,6 +214,10 @@ fn main(rt: HostRuntime) -> ExitCode {
                 Err(fault) => report_served(fault, &mut output, &mut errors),
             }
         }
+        Outcome::Held => match write_holders(alloc, &mut rt.stdin(), &mut output) {
+            Ok(()) => 0,
+            Err(failure) => report_hosted(alloc, failure, &mut output, &mut errors),
+        },
         Outcome::Host(hosting) => {
             let seen = errors.is_terminal();
             match host_words(&rt, alloc, hosting, seen, &mut output, &mut errors) {

@@ -1,12 +1,13 @@
 //! A stream, a service and its keeper that watch what a turn does.
 
-ghost use Rattle.std.specs.Prelude.{None, true, ⊤};
+ghost use Rattle.std.specs.Prelude.{None, true, ⊤, []};
 ghost use Rattle.commands.specs.declared.reply.Reply.TheVariants.{Ok as Accepted};
 
 use commands::{Command, Event, Reply, WorldKind};
 use event_server::{Ahead, Keep, Stream, Tally};
-use player::{Service, parse_line};
-use std::alloc::Global;
+use held_lines::HeldQuery;
+use player::{Replies, Service, parse_line};
+use std::alloc::{Allocator, Global};
 use std::io;
 use std::io::{Error, ErrorKind};
 use step_memory::View;
@@ -139,6 +140,15 @@ impl Keep<Told> for Teller {
     ghost learns = { λ k w lines l u. ⊤ };
 
     ghost waits = { λ k w l u. ⊤ };
+
+    ghost holds = { λ k w. record { pool = record { size = 0; bits = record { first = tt; values = []; bits = [] }; competitors = [] }; values = [] } };
+
+    fn put_held<B: Allocator>(&self, _service: &Told, query: HeldQuery, out: &mut Replies<B>) {
+        match query {
+            HeldQuery::All => out.put(b"ok\n"),
+            HeldQuery::Of(_) => out.put(b"none\n"),
+        }
+    }
 
     fn is_full(&self, _service: &Told) -> bool {
         false

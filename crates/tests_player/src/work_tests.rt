@@ -66,7 +66,7 @@ fn ends<T: Threads + Sync>(threads: &T, alloc: Global, ending: &Ending) -> bool 
 fn status_of(outcome: &Outcome<'_>) -> u8 {
     match outcome {
         Outcome::Ended(status) => *status,
-        Outcome::Race(_) | Outcome::Serve(_) | Outcome::Host(_) => 100,
+        Outcome::Race(_) | Outcome::Serve(_) | Outcome::Host(_) | Outcome::Held => 100,
     }
 }
 

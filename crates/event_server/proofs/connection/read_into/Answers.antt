@@ -12,5 +12,6 @@ returns g c =
       bound = rw same c.read_at_most.ensures.bound;
       bytes = rw same c.read_at_most.ensures.bytes;
       same = c.read_at_most.ensures.same;
-      room = rw same (omega (arith, whole, c.requires.0), c.requires.1);
+      few = c.read_at_most.ensures.few;
+      room = rw same (omega (arith, whole, c.requires.room.0), c.requires.room.1);
     }

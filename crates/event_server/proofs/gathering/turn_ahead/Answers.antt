@@ -1,8 +1,9 @@
 use Rattle.std.proofs.lemmas.List.{length-take-le}
 use Rattle.std.proofs.Common.{◌≡◌, Ok, ap, sym, take}
 use Rattle.event_server.specs.declared.connection.Stage.TheVariants as stage
-use Rattle.event_server.specs.Seats.{seats_of}
-use Rattle.event_server.proofs.GatherLemmas.{gathered_more}
+use Rattle.event_server.specs.Seats.{NoneSent, seats_of}
+use Rattle.event_server.proofs.RoundLemmas.{always_wrong}
+use Rattle.event_server.proofs.GatherLemmas.{gathered_more, none_sent_looked}
 use Rattle.event_server.proofs.ToldLemmas.{told_broken, taken_told}
 use Rattle.event_server.proofs.gathering.turn_ahead.Goals as goal
 
@@ -36,3 +37,16 @@ returns-in-Lost-clause-unserved g c =
 
 pub slice_bounds-called-end : goal.slice_bounds-called-end
 slice_bounds-called-end g c = sym (length-take-le c.gather-looked.result c.args.ready.now c.gather-looked.ensures.looked.0)
+
+pub returns-in_ok-keep-in-Known-clause-rest : goal.returns-in_ok-keep-in-Known-clause-rest
+returns-in_ok-keep-in-Known-clause-rest g c = c.send_replies.ensures.rest c.take_looked.ensures.done
+
+pub returns-in-Lost-clause-lost : goal.returns-in-Lost-clause-lost
+returns-in-Lost-clause-lost g c = λ called same. c.in_ok-learn.ensures.lost (ap Ok c.in-Lost.is)
+
+pub returns-in_err-keep-in-Known-clause-unsent : goal.returns-in_err-keep-in-Known-clause-unsent
+returns-in_err-keep-in-Known-clause-unsent g c =
+    let k = c.take_looked.ensures.taken in
+    let on = seats_of g.S.Stream.left g.S.Stream.gone in
+    always_wrong c.from_residual-in_err-keep-in-Known.result (NoneSent on c.args.seats.now c.take_looked.new.seats)
+    (none_sent_looked on k.0 c.args.seats.now c.gather-looked.new.seats c.take_looked.new.seats c.gather-looked.ensures.gathered k.1.each)

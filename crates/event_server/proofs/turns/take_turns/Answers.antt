@@ -57,3 +57,13 @@ returns-after-loop-called-clause-served g c =
     let i = c.loop-called.invariant in
     same_served (seats_of g.S.Stream.left g.S.Stream.gone) (λ x. x.stage ≡ stage.Queued) (take c.loop-called.called c.args.ready.now) c.args.seats.now c.loop-called.seats
     (first_called (λ x. x.stage ≡ stage.Queued → ⊥) c.loop-called.called c.args.ready.now c.loop-called.seats i.inside i.done) i.all
+
+pub returns-else-not-is_full-clause-done : goal.returns-else-not-is_full-clause-done
+returns-else-not-is_full-clause-done g c =
+    let i = c.loop-called.invariant in
+    first_called (λ x. x.stage ≡ stage.Queued → ⊥) c.loop-called.called c.args.ready.now c.loop-called.seats i.inside i.done
+
+pub returns-after-loop-called-clause-done : goal.returns-after-loop-called-clause-done
+returns-after-loop-called-clause-done g c =
+    let i = c.loop-called.invariant in
+    first_called (λ x. x.stage ≡ stage.Queued → ⊥) c.loop-called.called c.args.ready.now c.loop-called.seats i.inside i.done

@@ -1,25 +1,20 @@
-use Rattle.std.proofs.Common.{◌≡◌, ◌||◌, rules, Bool, ◌≤◌, [], true, false, inl, length, take, refl, ap, sym, ◌∙◌, arith}
+use Rattle.std.proofs.Common.{◌≡◌, rules, ◌≤◌, ◌<◌, ℕ, List, [], inr, length, take, refl, ap, sym, subst, ◌∙◌}
 use Rattle.std.specs.Io.KnownBytes.{Consumes, IsAtEnd}
+use Rattle.event_server.specs.Asking.{MayAsk}
 use Rattle.event_server.specs.WireState.{WireState}
-use Rattle.event_server.proofs.WireLemmas.{takes_at_end, takes_none, takes_some, consumes_kept}
+use Rattle.event_server.proofs.WireLemmas.{full_or_asks, takes_last, takes_none, takes_some, consumes_kept}
 use Rattle.event_server.proofs.connection.Connection.read.Goals as goal
-
-or_true : (b : Bool) → (b || true) ≡ true
-or_true true = refl
-or_true false = refl
 
 pub returns-in-Err-clause-all : goal.returns-in-Err-clause-all
 returns-in-Err-clause-all g c = λ whole on some.
-    let none = ap (λ (q : WireState). length q.inbox) c.note_fault.ensures.wire ∙ ap (λ l. length l) c.requires.none in
-    absurd (omega (arith, some, none))
+    let same : c.note_fault.new.wire.inbox ≡ c.args.self.now.wire.inbox = ap (λ (q : WireState). q.inbox) c.note_fault.ensures.wire in
+    inr (subst MayAsk (sym same) (c.requires.none (subst (λ (l : List ℕ). 0 < length l) same some)))
 
 pub returns-after-self-clause-all : goal.returns-after-self-clause-all
-returns-after-self-clause-all g c = λ whole on some. inl (c.take.ensures.full whole some)
+returns-after-self-clause-all g c = λ whole on some. full_or_asks c.take.new.self (c.take.ensures.full whole some)
 
 pub returns-in-Ok-eq0-clause-all : goal.returns-in-Ok-eq0-clause-all
-returns-in-Ok-eq0-clause-all g c = λ whole on some.
-    let ends : true ≡ false = sym (or_true c.args.self.now.wire.ended) ∙ sym c.finish.ensures.takes.2.ended_is ∙ on in
-    absurd cc
+returns-in-Ok-eq0-clause-all g c = c.take_last.ensures.all
 
 pub returns-in-Err-clause-takes : goal.returns-in-Err-clause-takes
 returns-in-Err-clause-takes g c =
@@ -48,14 +43,17 @@ returns-in-Ok-eq0-clause-takes g c =
     let left' = g.S.Stream.left c.read_into.new.stream in
     let gave : Consumes left left' [] = search rules in
     let end : IsAtEnd left' = search rules in
-    let f = c.finish.ensures.takes in
-    (f.0, f.1, takes_at_end f.0 left left' c.args.self.now.wire c.finish.new.self gave end f.2)
+    let t = c.take_last.ensures.takes in
+    let s = c.args.self.now.wire in
+    let s' = c.take_last.new.self.wire in
+    let stream : g.S.Stream.left c.take_last.new.self.stream ≡ left' = ap (λ x. g.S.Stream.left x) c.take_last.ensures.stream in
+    (t.0, t.1, rw stream (takes_last t.0 left left' s s' gave end t.2))
 
 pub returns-after-self-clause-room : goal.returns-after-self-clause-room
 returns-after-self-clause-room g c = (c.read_into.ensures.room.0, c.take.ensures.empty)
 
 pub returns-in-Ok-eq0-clause-room : goal.returns-in-Ok-eq0-clause-room
-returns-in-Ok-eq0-clause-room g c = (c.read_into.ensures.room.0, c.finish.ensures.empty)
+returns-in-Ok-eq0-clause-room g c = c.take_last.ensures.room
 
 pub returns-in-Err-clause-room : goal.returns-in-Err-clause-room
 returns-in-Err-clause-room g c = c.read_into.ensures.room
@@ -64,13 +62,13 @@ pub returns-after-self-clause-unsent : goal.returns-after-self-clause-unsent
 returns-after-self-clause-unsent g c = c.read_into.ensures.same
 
 pub returns-in-Ok-eq0-clause-unsent : goal.returns-in-Ok-eq0-clause-unsent
-returns-in-Ok-eq0-clause-unsent g c = c.read_into.ensures.same
+returns-in-Ok-eq0-clause-unsent g c = ap (λ x. g.S.Stream.gone x) c.take_last.ensures.stream ∙ c.read_into.ensures.same
 
 pub returns-in-Err-clause-unsent : goal.returns-in-Err-clause-unsent
 returns-in-Err-clause-unsent g c = c.read_into.ensures.same
 
 pub returns-in-Ok-eq0-clause-stage : goal.returns-in-Ok-eq0-clause-stage
-returns-in-Ok-eq0-clause-stage g c = refl
+returns-in-Ok-eq0-clause-stage g c = c.take_last.ensures.stage
 
 pub returns-after-self-clause-stage : goal.returns-after-self-clause-stage
 returns-after-self-clause-stage g c = refl

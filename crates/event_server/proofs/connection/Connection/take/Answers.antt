@@ -1,6 +1,6 @@
-use Rattle.std.proofs.Common.{[], inl, arith, refl}
+use Rattle.std.proofs.Common.{[], inl, inr, arith, refl}
 use Rattle.std.proofs.KnownBytes.{Consumes-nil}
-use Rattle.event_server.proofs.WireLemmas.{takes_idle, takes_some}
+use Rattle.event_server.proofs.WireLemmas.{takes_idle, takes_some, full_or_asks}
 use Rattle.event_server.proofs.connection.Connection.take.Goals as goal
 
 pub returns-then-not-may_take : goal.returns-then-not-may_take
@@ -12,13 +12,13 @@ returns-then-not-may_take g c = record {
   room = c.requires.room;
 }
 
-pub returns-then-has_input : goal.returns-then-has_input
-returns-then-has_input g c =
+pub returns-then-not-waits_for_more : goal.returns-then-not-waits_for_more
+returns-then-not-waits_for_more g c =
     let left = g.S.Stream.left c.args.self.now.stream in
     let t = c.take.ensures.takes in
     record {
       takes = (t.0, t.1, takes_some t.0 left left [] c.args.self.now.wire c.take.new.self (omega arith) (Consumes-nil left) t.2);
-      all = λ whole on some. inl (c.take.ensures.full whole some);
+      all = λ whole on some. full_or_asks c.take.new.self (c.take.ensures.full whole some);
       unsent = refl;
       stage = refl;
       room = (c.requires.room.0, c.take.ensures.empty);
@@ -30,7 +30,7 @@ returns-then-self g c = record { takes = c.read.ensures.takes; all = c.read.ensu
 pub returns-else-self : goal.returns-else-self
 returns-else-self g c = record {
   takes = ([], refl, takes_idle _ _ c.args.self.now.wire (Consumes-nil (g.S.Stream.left c.args.self.now.stream)));
-  all = λ whole on some. absurd (let t = c.if-has_input.ensures.some.1 some in cc);
+  all = λ whole on some. inr (c.if-not-waits_for_more.ensures.none refl some);
   unsent = refl;
   stage = refl;
   room = c.requires.room;
@@ -40,7 +40,7 @@ pub take-requires-clause-whole : goal.take-requires-clause-whole
 take-requires-clause-whole g c = c.if-not-may_take.ensures.whole refl
 
 pub take-requires-clause-few : goal.take-requires-clause-few
-take-requires-clause-few g c = omega (arith, c.if-has_input.ensures.few)
+take-requires-clause-few g c = omega (arith, c.if-not-waits_for_more.ensures.most)
 
 pub take-requires-clause-count : goal.take-requires-clause-count
 take-requires-clause-count g c = c.if-not-may_take.ensures.count refl

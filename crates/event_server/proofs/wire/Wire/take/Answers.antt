@@ -1,6 +1,14 @@
-use Rattle.std.proofs.Common.{◌≡◌, ◌∙◌, ◌++◌, ◌-◌, [], arith, true, false, refl, sym, ap, drop, length, length-append, length-drop}
+use Rattle.std.proofs.Common.{◌≡◌, ◌⊎◌, ◌∙◌, ◌++◌, ◌-◌, ◌+◌, ◌≤◌, ◌<◌, ℕ, List, [], inl, inr, arith, true, false, refl, sym, ap, subst, drop, take, length, length-append, length-drop}
+use Rattle.std.proofs.lemmas.Bool.Decides.{leb_tells}
+use Rattle.std.proofs.lemmas.List.{length-take-le}
+use Rattle.player.specs.Progress.{after_bytes}
+use Rattle.player.specs.Says.{Says}
+use Rattle.player.specs.Texts.{turn_reply}
+use Rattle.player.specs.declared.form.TheConstants.{TURN_ROOM}
+use Rattle.event_server.specs.Asking.{MayAsk}
 use Rattle.event_server.specs.WireState.{WireState}
-use Rattle.event_server.proofs.WireLemmas.{takes_refused, takes_said}
+use Rattle.event_server.specs.declared.wire.TheConstants.{UNSENT_ROOM}
+use Rattle.event_server.proofs.WireLemmas.{cut_first, takes_refused, takes_said}
 use Rattle.event_server.proofs.wire.Wire.take.Goals as goal
 
 pub returns-then-not-add-clause-takes : goal.returns-then-not-add-clause-takes
@@ -10,14 +18,18 @@ pub returns-clause-takes : goal.returns-clause-takes
 returns-clause-takes g c =
     let s = c.args.self.now in
     let n = c.take_some-taken.result in
+    let free = c.free-free.result in
     let was = c.self.view_is ∙ c.add.ensures.added c.if-not-add.false in
-    let is = c.self-2.view_is in
+    let is = c.note_taken.ensures in
     let same = c.hold.ensures.same in
     let waits = ap (λ (q : WireState). q.inbox) was in
-    let s' : WireState = record { talker = c.self-2.inside.talker; inbox = c.drop_front.new.bytes.items; outbox = c.self-2.inside.outbox.items; ended = c.self-2.inside.ended; broken = c.self-2.inside.broken } in
-    takes_said g.D.Service.may c.args.service.now c.take_some-taken.new.service s s' c.self.inside.talker c.take_some-taken.new.self c.args.replies.now c.take_some-taken.new.out
-    (ap (λ (q : WireState). q.talker) was) (sym (ap (λ (q : WireState). q.talker) is ∙ same.0)) c.requires.empty c.args.bytes.now c.deref.result.now n (c.deref.ensures.value ∙ waits) c.take_some-taken.ensures.says c.take_some-taken.ensures.kept
-    (c.drop_front.ensures ∙ ap (λ l. drop n l) (ap (λ (q : WireState). q.inbox) is ∙ same.1 ∙ sym c.deref.ensures.value)) (ap (λ (q : WireState). q.ended) is ∙ same.2 ∙ ap (λ (q : WireState). q.ended) was)
+    let all = c.deref.result.now in
+    let cut = cut_first n free all c.take_some-taken.ensures.taken in
+    takes_said g.D.Service.may c.args.service.now c.take_some-taken.new.service s c.note_taken.new.self c.self.inside.talker c.take_some-taken.new.self c.args.replies.now c.take_some-taken.new.out
+    (ap (λ (q : WireState). q.talker) was) (sym (ap (λ (q : WireState). q.talker) is ∙ same.0)) c.requires.empty c.args.bytes.now all n (c.deref.ensures.value ∙ waits)
+    (subst (λ (l : List ℕ). Says g.D.Service.may turn_reply c.args.service.now c.self.inside.talker c.args.replies.now c.take_some-taken.new.service c.take_some-taken.new.self c.take_some-taken.new.out (λ p. after_bytes c.self.inside.talker.kind p l)) cut c.take_some-taken.ensures.says)
+    c.take_some-taken.ensures.kept
+    (ap (λ (q : WireState). q.inbox) is ∙ ap (λ l. drop n l) (same.1 ∙ sym c.deref.ensures.value)) (ap (λ (q : WireState). q.ended) is ∙ same.2 ∙ ap (λ (q : WireState). q.ended) was)
     (λ h.
     let held = c.hold.ensures.held (sym (ap (λ (q : WireState). q.broken) is) ∙ h) in
     (ap (λ (q : WireState). q.outbox) is ∙ held.0 ∙ ap (λ l. l ++ c.take_some-taken.new.out) (ap (λ (q : WireState). q.outbox) was), sym (ap (λ (q : WireState). q.broken) was) ∙ held.1))
@@ -25,14 +37,27 @@ returns-clause-takes g c =
 pub returns-clause-full : goal.returns-clause-full
 returns-clause-full g c = λ whole some.
     let n = c.take_some-taken.result in
-    let is = c.self-2.view_is in
-    let inbox : c.self-2.inside.inbox.items ≡ c.deref.result.now = ap (λ (q : WireState). q.inbox) is ∙ c.hold.ensures.same.1 ∙ sym c.deref.ensures.value in
-    let left : length c.drop_front.new.bytes.items ≡ length c.deref.result.now - n = ap length c.drop_front.ensures ∙ length-drop n c.self-2.inside.inbox.items ∙ ap (λ l. length l - n) inbox in
+    let free = c.free-free.result in
+    let is = c.note_taken.ensures in
+    let all = c.deref.result.now in
+    let inbox : c.note_taken.new.self.inbox ≡ drop n all = ap (λ (q : WireState). q.inbox) is ∙ ap (λ l. drop n l) (c.hold.ensures.same.1 ∙ sym c.deref.ensures.value) in
+    let left : length c.note_taken.new.self.inbox ≡ length all - n = ap length inbox ∙ length-drop n all in
+    let inside = subst (λ (l : List ℕ). free ≤ length l) (sym c.deref.ensures.value) (subst (λ (q : WireState). free ≤ length q.inbox) (sym c.self.view_is) c.free-free.ensures.inside) in
+    let asked = subst (λ (l : List ℕ). free < length l → MayAsk (drop free l)) (sym c.deref.ensures.value)
+    (subst (λ (q : WireState). free < length q.inbox → MayAsk (drop free q.inbox)) (sym c.self.view_is) c.free-free.ensures.asks) in
+    let few = length-take-le free all inside in
     let held = c.hold.ensures.held (sym (ap (λ (q : WireState). q.broken) is) ∙ whole) in
     let unsent = ap (λ (q : WireState). length q.outbox) is ∙ ap length held.0 ∙ length-append c.self.inside.outbox.items c.take_some-taken.new.out in
-    let full = c.take_some-taken.ensures.full (omega (arith, left, some)) in
     let room = c.len-most.ensures in
-    omega (arith, full, unsent, room)
+    elim (leb_tells free n) as (λ _. (UNSENT_ROOM < length c.note_taken.new.self.outbox + TURN_ROOM) ⊎ MayAsk c.note_taken.new.self.inbox) [
+      | inl e ↦
+          let at_end : n ≡ free = (let taken = c.take_some-taken.ensures.taken in let le = e.1 in omega (arith, taken, few, le)) in
+          let asks = asked (omega (arith, left, some, at_end)) in
+          inr (subst MayAsk (sym (inbox ∙ ap (λ (k : ℕ). drop k all) at_end)) asks)
+      | inr e ↦
+          let full = c.take_some-taken.ensures.full (let lt = e.1 in omega (arith, lt, few)) in
+          inl (omega (arith, full, unsent, room))
+    ]
 
 pub returns-clause-empty : goal.returns-clause-empty
 returns-clause-empty g c = c.hold.ensures.empty
@@ -40,4 +65,4 @@ returns-clause-empty g c = c.hold.ensures.empty
 pub returns-then-not-add-clause-full : goal.returns-then-not-add-clause-full
 returns-then-not-add-clause-full g c = λ whole some.
     let bad : true ≡ false = sym (ap (λ (q : WireState). q.broken) (c.add.ensures.refused c.if-not-add.true)) ∙ whole in
-    cc
+    absurd cc

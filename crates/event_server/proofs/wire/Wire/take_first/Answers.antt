@@ -12,13 +12,13 @@ returns-clause-takes g c =
     let s = c.args.self.now in
     let n = c.take_some-used.result in
     let was = c.self.view_is in
-    let is = c.self-2.view_is in
+    let is = c.note_taken.ensures in
     let same = c.hold.ensures.same in
     let all : c.deref.result.now ≡ s.inbox = c.deref.ensures.value ∙ ap (λ (q : WireState). q.inbox) was in
     let few = c.min-few.result in
     let first : take few c.deref.result.now ≡ take few s.inbox = ap (λ l. take few l) all in
     let cut = cut_first n few c.deref.result.now c.take_some-used.ensures.taken ∙ ap (λ l. take n l) all in
-    let s' : WireState = record { talker = c.self-2.inside.talker; inbox = c.drop_front.new.bytes.items; outbox = c.self-2.inside.outbox.items; ended = c.self-2.inside.ended; broken = c.self-2.inside.broken } in
+    let s' = c.note_taken.new.self in
     let le : n ≤ length (take few s.inbox) = subst (λ (l : List ℕ). n ≤ length l) first c.take_some-used.ensures.taken in
     let least : few ≡ min c.args.count (length s.inbox) = search rules in
     let count : take few s.inbox ≡ take c.args.count s.inbox = ap (λ (k : ℕ). take k s.inbox) least ∙ take_min c.args.count s.inbox in
@@ -26,7 +26,7 @@ returns-clause-takes g c =
     (ap (λ (q : WireState). q.talker) was) (sym (ap (λ (q : WireState). q.talker) is ∙ same.0)) c.requires.empty c.args.count few n
     (subst (λ (l : List ℕ). Says g.D.Service.may turn_reply c.args.service.now c.self.inside.talker c.args.replies.now c.take_some-used.new.service c.take_some-used.new.self c.take_some-used.new.out (λ p. after_bytes c.self.inside.talker.kind p l)) cut c.take_some-used.ensures.says)
     le count c.take_some-used.ensures.kept
-    (c.drop_front.ensures ∙ ap (λ l. drop n l) (ap (λ (q : WireState). q.inbox) is ∙ same.1 ∙ ap (λ (q : WireState). q.inbox) was)) (ap (λ (q : WireState). q.ended) is ∙ same.2 ∙ ap (λ (q : WireState). q.ended) was)
+    (ap (λ (q : WireState). q.inbox) is ∙ ap (λ l. drop n l) (same.1 ∙ ap (λ (q : WireState). q.inbox) was)) (ap (λ (q : WireState). q.ended) is ∙ same.2 ∙ ap (λ (q : WireState). q.ended) was)
     (λ h.
     let held = c.hold.ensures.held (sym (ap (λ (q : WireState). q.broken) is) ∙ h) in
     (ap (λ (q : WireState). q.outbox) is ∙ held.0 ∙ ap (λ l. l ++ c.take_some-used.new.out) (ap (λ (q : WireState). q.outbox) was), sym (ap (λ (q : WireState). q.broken) was) ∙ held.1))

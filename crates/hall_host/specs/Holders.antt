@@ -1,0 +1,15 @@
+-- who holds numbers by the record of a hall
+use Rattle.std.specs.Prelude.{ℕ, List, Option, IfSome}
+use Rattle.std.specs.Io.KnownBytes.{Appends}
+use Rattle.desk.specs.Held.{slots_of}
+use Rattle.hall.specs.HallState.{HallState}
+use Rattle.hall.specs.Halls.{desk_of}
+use Rattle.held_lines.specs.Held.{held_text}
+use Rattle.held_lines.specs.declared.query.HeldQuery.TheVariants.{All}
+use Rattle.journal.specs.Journals.{IsHallOf}
+
+-- of the hall whose record these bytes are, once a torn last line is cut, it is told who holds numbers
+pub record TellsHolders (record_bytes before now : Option (List ℕ)) : Type 0 where
+  pub hall : HallState
+  pub recorded : IfSome record_bytes (λ bytes. IsHallOf hall bytes)
+  pub told : Appends before now (held_text (slots_of (desk_of hall)) All)
