@@ -2,7 +2,6 @@
 #![deny(missing_docs, missing_debug_implementations, unsafe_op_in_unsafe_fn)]
 #![deny(clippy::undocumented_unsafe_blocks)]
 
-#[cfg(any(test, not(beglushan_proved)))]
 mod atomics;
 mod desk;
 #[cfg(all(test, beglushan_proved))]
@@ -17,8 +16,8 @@ mod numbers;
 mod padded;
 mod per_thread;
 mod per_thread_iter;
-#[cfg(any(test, not(beglushan_proved)))]
-#[cfg_attr(beglushan_proved, allow(dead_code))]
+mod places;
+#[cfg_attr(beglushan_proved, allow(dead_code, unused_imports))]
 mod plain;
 mod pool;
 mod process;
@@ -38,10 +37,11 @@ use plain as library;
 use proved as library;
 
 pub use error::Error;
-pub use names::{Names, Seat, MOST_SEATS};
+pub use names::{Names, Seat, MOST_PROPOSALS, MOST_SEATS};
 pub use numbers::{Holder, Numbers};
 pub use per_thread::PerThread;
 pub use per_thread_iter::{Iter, IterMut};
+pub use places::{PlaceSeat, Places, MOST_PLACE_SEATS};
 pub use pool::{Lent, Pool, MOST_NUMBERS};
 pub use shared_slots::SharedSlots;
 pub use slot::{OwnedSlot, Slot, SlotOf};

@@ -1,69 +1,142 @@
-//! Names for good, by splitters.
+//! Names for good, by renaming.
 
 use crate::error::Error;
-use crate::library::GridMember;
+use crate::plain::NamesMember;
 use std::cell::Cell;
 use std::fmt;
 use std::marker::PhantomData;
+use std::sync::{Arc, Mutex, PoisonError};
 
 /// The most seats of [`Names`].
-pub const MOST_SEATS: usize = 64;
+pub const MOST_SEATS: usize = 16;
 
-/// Names for good, by the grid of splitters of Moir and Anderson (1995). Each of `most` threads has a seat, and takes a name by
-/// it once.
+/// The most proposals of a seat of [`Names`].
+pub const MOST_PROPOSALS: usize = 1000;
+
+/// The most proposals of a seat where the caller does not say.
+const PROPOSALS: usize = 64;
+
+/// Names for good, by the renaming of Attiya and others (1990). Each of `most` threads has a seat, for an identity of 64 bits, and
+/// takes a name by it once.
 ///
-/// A seat's one call is wait-free, by reads and writes alone. If `b` seats have entered, its own among them, the name is at most
-/// `b(b + 1)/2`, whatever `most` is. The call makes at most `4b` accesses. A pool has smaller numbers, which come back.
+/// A seat's one call is wait-free, by reads and writes alone: a thread that stops for good holds up nobody. The call proposes numbers
+/// in rounds, until no other seat proposes the same. Then that is its name, which is at most `2b - 1` if `b` seats have begun, its own
+/// among them, whatever `most` and the identities are. [`Places`](crate::Places) are taken sooner and are larger. A pool has smaller
+/// numbers, which come back.
+///
+/// A seat that has made `limit` proposals in vain has a name too: `2 * most` and a place of its own, from 0 and below
+/// `most(most + 1)/2`. All `b` seats make at most `3(5^b - 1)/4` proposals together, so with a greater limit none comes to that.
+///
+/// The seat that is dealt first waits while another is dealt, and a deal waits while the call of that seat runs. If all seats are
+/// dealt before the threads begin, nobody waits.
 ///
 /// ```
 /// use beglushan::Names;
 ///
 /// let mut names = Names::new(8)?;
-/// let (one, other) = (names.deal().expect("eight seats"), names.deal().expect("eight seats"));
-/// assert_eq!(one.enter(), 1); // alone so far
-/// let second = std::thread::spawn(|| other.enter()).join().expect("nothing panics");
-/// assert!((2..=3).contains(&second)); // two have entered
+/// let (one, other) = (names.deal(0x9e37_79b9)?, names.deal(71)?);
+/// assert_eq!(one.name(), 1); // alone so far
+/// let second = std::thread::spawn(|| other.name()).join().expect("nothing panics");
+/// assert!((2..=3).contains(&second)); // two have begun
 /// # Ok::<(), beglushan::Error>(())
 /// ```
 pub struct Names {
-    seats: Vec<Seat>,
+    most: usize,
+    limit: usize,
+    /// To whom seats were dealt.
+    dealt: Vec<u64>,
+    /// The first seat, which deals the others. None until it is dealt.
+    first: Option<Arc<Mutex<NamesMember>>>,
 }
 
 impl Names {
-    /// Seats for so many threads, from 1 to [`MOST_SEATS`].
+    /// Seats for so many threads, from 1 to [`MOST_SEATS`], each of which makes at most 64 proposals.
     ///
     /// # Errors
     ///
     /// - [`Error::Size`]: `most` is out of range.
     /// - [`Error::NoMemory`]: an allocation failed.
     pub fn new(most: usize) -> Result<Names, Error> {
-        if most == 0 || MOST_SEATS < most {
-            return Err(Error::Size {
-                asked: most,
-                most: MOST_SEATS,
-            });
-        }
-        let first = GridMember::first(most).ok_or(Error::NoMemory)?;
-        let mut seats = vec![Seat::of(first)];
-        for _ in 1..most {
-            let next = seats[0].member.join().ok_or(Error::NoMemory)?;
-            seats.push(Seat::of(next));
-        }
-        // The first is dealt first.
-        seats.reverse();
-        Ok(Names { seats })
+        Names::with_limit(most, PROPOSALS)
     }
 
-    /// One seat more, if there is one left.
-    pub fn deal(&mut self) -> Option<Seat> {
-        self.seats.pop()
+    /// Seats for so many threads, each of which makes at most `limit` proposals, from 1 to [`MOST_PROPOSALS`].
+    ///
+    /// # Errors
+    ///
+    /// - [`Error::Size`]: `most` is out of range, or else `limit` is.
+    /// - [`Error::NoMemory`]: an allocation failed.
+    pub fn with_limit(most: usize, limit: usize) -> Result<Names, Error> {
+        in_range(most, MOST_SEATS)?;
+        in_range(limit, MOST_PROPOSALS)?;
+        let mut dealt = Vec::new();
+        let room = dealt.try_reserve_exact(most);
+        room.map_err(|_| Error::NoMemory)?;
+        Ok(Names {
+            most,
+            limit,
+            dealt,
+            first: None,
+        })
+    }
+
+    /// One seat more, for the thread of this identity.
+    ///
+    /// # Errors
+    ///
+    /// The first that applies:
+    ///
+    /// - [`Error::Full`]: all seats are dealt.
+    /// - [`Error::Identity`]: the identity is 0, or has a seat.
+    /// - [`Error::NoMemory`]: an allocation failed. Then a seat is lost, and counts as dealt to this identity, unless it is the first.
+    pub fn deal(&mut self, identity: u64) -> Result<Seat, Error> {
+        if self.left() == 0 {
+            return Err(Error::Full { most: self.most });
+        }
+        if identity == 0 || self.dealt.contains(&identity) {
+            return Err(Error::Identity { identity });
+        }
+        let member = match &self.first {
+            Some(first) => {
+                // The library may have dealt a seat although it had no memory for it.
+                self.dealt.push(identity);
+                let joined = call_first(first, |first| first.join(identity));
+                Member::Other(joined.ok_or(Error::NoMemory)?)
+            }
+            None => {
+                let first = NamesMember::first(self.most, self.limit, identity);
+                let first = Arc::new(Mutex::new(first.ok_or(Error::NoMemory)?));
+                self.dealt.push(identity);
+                self.first = Some(Arc::clone(&first));
+                Member::First(first)
+            }
+        };
+        let one_thread = PhantomData;
+        Ok(Seat {
+            identity,
+            member,
+            one_thread,
+        })
     }
 
     /// How many seats are left.
     #[must_use]
     pub fn left(&self) -> usize {
-        self.seats.len()
+        self.most - self.dealt.len()
     }
+}
+
+fn in_range(asked: usize, most: usize) -> Result<(), Error> {
+    if (1..=most).contains(&asked) {
+        Ok(())
+    } else {
+        Err(Error::Size { asked, most })
+    }
+}
+
+/// Makes a call of the first seat, which may have another under way.
+fn call_first<R>(first: &Mutex<NamesMember>, call: impl FnOnce(&mut NamesMember) -> R) -> R {
+    call(&mut first.lock().unwrap_or_else(PoisonError::into_inner))
 }
 
 impl fmt::Debug for Names {
@@ -72,35 +145,48 @@ impl fmt::Debug for Names {
     }
 }
 
+/// A seat of the library. The first one deals the others too.
+enum Member {
+    First(Arc<Mutex<NamesMember>>),
+    Other(NamesMember),
+}
+
 /// What lets one thread take a name, once:
 ///
 /// ```compile_fail,E0382
-/// let seat = beglushan::Names::new(1).unwrap().deal().unwrap();
-/// let name = seat.enter();
-/// let another = seat.enter();
+/// let seat = beglushan::Names::new(1).unwrap().deal(7).unwrap();
+/// let name = seat.name();
+/// let another = seat.name();
 /// ```
 #[must_use = "a seat that is dropped is lost"]
 pub struct Seat {
-    member: GridMember,
+    identity: u64,
+    member: Member,
     // A cell is not `Sync`, and so neither is a seat.
     one_thread: PhantomData<Cell<()>>,
 }
 
 impl fmt::Debug for Seat {
     fn fmt(&self, f: &mut fmt::Formatter<'_>) -> fmt::Result {
-        f.debug_struct("Seat").finish_non_exhaustive()
+        let mut seat = f.debug_struct("Seat");
+        seat.field("identity", &self.identity)
+            .finish_non_exhaustive()
     }
 }
 
 impl Seat {
-    fn of(member: GridMember) -> Seat {
-        let one_thread = PhantomData;
-        Seat { member, one_thread }
+    /// The identity to which the seat was dealt.
+    #[must_use]
+    pub fn identity(&self) -> u64 {
+        self.identity
     }
 
-    /// A name, from 1, that no other seat of the grid has or will have.
+    /// A name, from 1, that no other seat of these names has or will have.
     #[must_use]
-    pub fn enter(mut self) -> usize {
-        self.member.enter()
+    pub fn name(self) -> usize {
+        match self.member {
+            Member::First(first) => call_first(&first, NamesMember::name),
+            Member::Other(mut member) => member.name(),
+        }
     }
 }
