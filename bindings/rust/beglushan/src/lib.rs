@@ -2,6 +2,7 @@
 #![deny(missing_docs, missing_debug_implementations, unsafe_op_in_unsafe_fn)]
 #![deny(clippy::undocumented_unsafe_blocks)]
 
+#[cfg(any(test, not(beglushan_proved)))]
 mod atomics;
 mod desk;
 #[cfg(all(test, beglushan_proved))]
@@ -17,7 +18,8 @@ mod padded;
 mod per_thread;
 mod per_thread_iter;
 mod places;
-#[cfg_attr(beglushan_proved, allow(dead_code, unused_imports))]
+#[cfg(any(test, not(beglushan_proved)))]
+#[cfg_attr(beglushan_proved, allow(dead_code))]
 mod plain;
 mod pool;
 mod process;

@@ -1,11 +1,10 @@
 //! Names for good, by renaming.
 
 use crate::error::Error;
-use crate::plain::NamesMember;
+use crate::library::{NamesDealer, NamesMember};
 use std::cell::Cell;
 use std::fmt;
 use std::marker::PhantomData;
-use std::sync::{Arc, Mutex, PoisonError};
 
 /// The most seats of [`Names`].
 pub const MOST_SEATS: usize = 16;
@@ -27,8 +26,7 @@ const PROPOSALS: usize = 64;
 /// A seat that has made `limit` proposals in vain has a name too: `2 * most` and a place of its own, from 0 and below
 /// `most(most + 1)/2`. All `b` seats make at most `3(5^b - 1)/4` proposals together, so with a greater limit none comes to that.
 ///
-/// The seat that is dealt first waits while another is dealt, and a deal waits while the call of that seat runs. If all seats are
-/// dealt before the threads begin, nobody waits.
+/// Seats may be dealt while others are named. Nobody waits for that.
 ///
 /// ```
 /// use beglushan::Names;
@@ -42,11 +40,11 @@ const PROPOSALS: usize = 64;
 /// ```
 pub struct Names {
     most: usize,
-    limit: usize,
-    /// To whom seats were dealt.
+    /// To whom seats were dealt, or would have been if there had been memory.
     dealt: Vec<u64>,
-    /// The first seat, which deals the others. None until it is dealt.
-    first: Option<Arc<Mutex<NamesMember>>>,
+    dealer: NamesDealer,
+    // A cell is not `Sync`, and so neither are names.
+    one_thread: PhantomData<Cell<()>>,
 }
 
 impl Names {
@@ -72,11 +70,13 @@ impl Names {
         let mut dealt = Vec::new();
         let room = dealt.try_reserve_exact(most);
         room.map_err(|_| Error::NoMemory)?;
+        let dealer = NamesDealer::new(most, limit).ok_or(Error::NoMemory)?;
+        let one_thread = PhantomData;
         Ok(Names {
             most,
-            limit,
             dealt,
-            first: None,
+            dealer,
+            one_thread,
         })
     }
 
@@ -88,7 +88,7 @@ impl Names {
     ///
     /// - [`Error::Full`]: all seats are dealt.
     /// - [`Error::Identity`]: the identity is 0, or has a seat.
-    /// - [`Error::NoMemory`]: an allocation failed. Then a seat is lost, and counts as dealt to this identity, unless it is the first.
+    /// - [`Error::NoMemory`]: an allocation failed. Then a seat is lost, and counts as dealt to this identity.
     pub fn deal(&mut self, identity: u64) -> Result<Seat, Error> {
         if self.left() == 0 {
             return Err(Error::Full { most: self.most });
@@ -96,21 +96,9 @@ impl Names {
         if identity == 0 || self.dealt.contains(&identity) {
             return Err(Error::Identity { identity });
         }
-        let member = match &self.first {
-            Some(first) => {
-                // The library may have dealt a seat although it had no memory for it.
-                self.dealt.push(identity);
-                let joined = call_first(first, |first| first.join(identity));
-                Member::Other(joined.ok_or(Error::NoMemory)?)
-            }
-            None => {
-                let first = NamesMember::first(self.most, self.limit, identity);
-                let first = Arc::new(Mutex::new(first.ok_or(Error::NoMemory)?));
-                self.dealt.push(identity);
-                self.first = Some(Arc::clone(&first));
-                Member::First(first)
-            }
-        };
+        // The library deals a seat although it has no memory for it.
+        self.dealt.push(identity);
+        let member = self.dealer.join(identity).ok_or(Error::NoMemory)?;
         let one_thread = PhantomData;
         Ok(Seat {
             identity,
@@ -134,21 +122,10 @@ fn in_range(asked: usize, most: usize) -> Result<(), Error> {
     }
 }
 
-/// Makes a call of the first seat, which may have another under way.
-fn call_first<R>(first: &Mutex<NamesMember>, call: impl FnOnce(&mut NamesMember) -> R) -> R {
-    call(&mut first.lock().unwrap_or_else(PoisonError::into_inner))
-}
-
 impl fmt::Debug for Names {
     fn fmt(&self, f: &mut fmt::Formatter<'_>) -> fmt::Result {
         f.debug_struct("Names").field("left", &self.left()).finish()
     }
-}
-
-/// A seat of the library. The first one deals the others too.
-enum Member {
-    First(Arc<Mutex<NamesMember>>),
-    Other(NamesMember),
 }
 
 /// What lets one thread take a name, once:
@@ -161,7 +138,7 @@ enum Member {
 #[must_use = "a seat that is dropped is lost"]
 pub struct Seat {
     identity: u64,
-    member: Member,
+    member: NamesMember,
     // A cell is not `Sync`, and so neither is a seat.
     one_thread: PhantomData<Cell<()>>,
 }
@@ -183,10 +160,7 @@ impl Seat {
 
     /// A name, from 1, that no other seat of these names has or will have.
     #[must_use]
-    pub fn name(self) -> usize {
-        match self.member {
-            Member::First(first) => call_first(&first, NamesMember::name),
-            Member::Other(mut member) => member.name(),
-        }
+    pub fn name(mut self) -> usize {
+        self.member.name()
     }
 }

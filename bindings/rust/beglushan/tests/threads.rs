@@ -40,7 +40,7 @@ macro_rules! is_not {
 
 #[test]
 fn may_not() {
-    is_not!(Sync: Slot, OwnedSlot, Seat, Places, PlaceSeat, MutexGuard<'static, Cell<u64>>);
+    is_not!(Sync: Slot, OwnedSlot, Names, Seat, Places, PlaceSeat, MutexGuard<'static, Cell<u64>>);
     is_not!(Sync: Slots<Rc<u64>>, Slots<MutexGuard<'static, u64>>, SharedSlots<Cell<u64>>);
     is_not!(Sync: PerThread<Rc<u64>>, PerThread<MutexGuard<'static, u64>>, Worker, OwnedWorker, Stay);
     is_not!(Send: Slots<Rc<u64>>, SharedSlots<Rc<u64>>, PerThread<Rc<u64>>);

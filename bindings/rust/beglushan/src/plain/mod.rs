@@ -11,7 +11,7 @@ mod pool;
 
 pub(crate) use grid::GridMember;
 pub(crate) use line::LineMember;
-pub(crate) use names::NamesMember;
+pub(crate) use names::{NamesDealer, NamesMember};
 pub(crate) use pool::Member;
 
 use crate::atomics::{AtomicU8, SeqCst};

@@ -10,10 +10,9 @@ const MOST_SEATS: usize = 16;
 /// The most proposals of a seat.
 const MOST_PROPOSALS: usize = 1000;
 
-/// The identity and the proposal of each seat that proposes one, by seat. A proposal is from 1 to 31, and 0 is none.
+/// The proposal of each seat. A proposal is from 1 to 31, and 0 is none.
 #[derive(Default)]
 struct View {
-    identities: [u64; MOST_SEATS],
     proposals: [u8; MOST_SEATS],
 }
 
@@ -24,12 +23,10 @@ impl View {
         all.any(|(other, proposal)| other != seat && *proposal == number)
     }
 
-    /// How many seats that propose have an identity which is not above that of this seat.
+    /// How many of the seats up to this one propose something. As in the proved program, seats rank by their numbers.
     fn rank(&self, seat: usize) -> usize {
-        let own = self.identities[seat];
-        let all = self.identities.iter().zip(&self.proposals);
-        all.filter(|(identity, proposal)| **proposal != 0 && **identity <= own)
-            .count()
+        let up_to = self.proposals[..=seat].iter();
+        up_to.filter(|proposal| **proposal != 0).count()
     }
 
     /// What a seat that proposes something proposes next: the number that is free of others' proposals and, among those, at its rank.
@@ -42,7 +39,6 @@ impl View {
 
 /// A proposal, with the view that its seat scanned before. It is written before a segment names it, and not after.
 struct Record {
-    identity: AtomicU64,
     proposal: AtomicU64,
     /// How many proposals the seat has made, with this one.
     number: AtomicU64,
@@ -53,15 +49,13 @@ struct Record {
 impl Record {
     fn blank() -> Record {
         Record {
-            identity: AtomicU64::new(0),
             proposal: AtomicU64::new(0),
             number: AtomicU64::new(0),
             view: [AtomicU64::new(0), AtomicU64::new(0)],
         }
     }
 
-    fn write(&self, identity: u64, proposal: u8, number: usize, view: &View) {
-        self.identity.store(identity, SeqCst);
+    fn write(&self, proposal: u8, number: usize, view: &View) {
         self.proposal.store(u64::from(proposal), SeqCst);
         self.number.store(number as u64, SeqCst);
         for (word, seats) in self.view.iter().zip(view.proposals.chunks(8)) {
@@ -70,13 +64,14 @@ impl Record {
         }
     }
 
-    fn proposals(&self) -> [u8; MOST_SEATS] {
+    /// The view that stands here.
+    fn view(&self) -> View {
         let words = self.view.each_ref().map(|word| word.load(SeqCst));
         let mut proposals = [0; MOST_SEATS];
         for (seats, word) in proposals.chunks_mut(8).zip(words) {
             seats.copy_from_slice(&word.to_le_bytes());
         }
-        proposals
+        View { proposals }
     }
 }
 
@@ -113,22 +108,6 @@ impl Shared {
         }
     }
 
-    /// The view that stands in a record.
-    fn view_in(&self, record: &Record) -> View {
-        let proposals = record.proposals();
-        let mut identities = [0; MOST_SEATS];
-        for (seat, identity) in identities.iter_mut().enumerate() {
-            if proposals[seat] != 0 {
-                // A seat that proposes has written its first record.
-                *identity = self.records[seat * self.limit].identity.load(SeqCst);
-            }
-        }
-        View {
-            identities,
-            proposals,
-        }
-    }
-
     /// Reads each segment once. The view with which the scan ends: what it met, if that is what the collect before met; or the view
     /// of a seat that changes for the second time, which that seat scanned within this scan.
     fn collect(&self, known: &mut Sightings, is_first: bool) -> Option<View> {
@@ -138,7 +117,6 @@ impl Shared {
                 continue;
             };
             let (seat, record) = (index as usize / self.limit, &self.records[index as usize]);
-            known.view.identities[seat] = record.identity.load(SeqCst);
             known.view.proposals[seat] = record.proposal.load(SeqCst) as u8;
             let number = record.number.load(SeqCst);
             let before = std::mem::replace(&mut known.numbers[seat], number);
@@ -146,7 +124,7 @@ impl Shared {
                 continue;
             }
             if std::mem::replace(&mut known.has_changed[seat], true) {
-                return Some(self.view_in(record));
+                return Some(record.view());
             }
             differs = true;
         }
@@ -166,53 +144,54 @@ impl Shared {
     }
 }
 
-/// A seat of names, which is named once.
-pub(crate) struct NamesMember {
+/// Who deals the seats of names.
+pub(crate) struct NamesDealer {
     shared: Arc<Shared>,
-    seat: usize,
-    identity: u64,
-    /// To whom seats are dealt. Only the first seat deals them.
+    /// To whom seats are dealt.
     dealt: Vec<u64>,
-    name: Option<usize>,
 }
 
-impl NamesMember {
-    /// The first seat of new names for `most` seats, each of which makes at most `limit` proposals. None if there are none such.
-    pub(crate) fn first(most: usize, limit: usize, identity: u64) -> Option<NamesMember> {
+impl NamesDealer {
+    /// Who deals the seats of new names for `most` seats, each of which makes at most `limit` proposals. None if there are none such.
+    pub(crate) fn new(most: usize, limit: usize) -> Option<NamesDealer> {
         let is_size = (1..=MOST_SEATS).contains(&most) && (1..=MOST_PROPOSALS).contains(&limit);
-        (is_size && identity != 0).then(|| NamesMember {
+        is_size.then(|| NamesDealer {
             shared: Arc::new(Shared::new(most, limit)),
-            seat: 0,
-            identity,
-            dealt: vec![identity],
-            name: None,
+            dealt: Vec::new(),
         })
     }
 
-    /// The next seat, for another identity. This is the first seat. None if all are dealt, or one is to this identity.
+    /// The next seat, for this identity. None if the identity is 0 or has a seat, or all are dealt.
     pub(crate) fn join(&mut self, identity: u64) -> Option<NamesMember> {
         let seat = self.dealt.len();
-        if seat == 0 || seat == self.shared.most || identity == 0 || self.dealt.contains(&identity)
-        {
+        if identity == 0 || self.dealt.contains(&identity) || seat == self.shared.most {
             return None;
         }
         self.dealt.push(identity);
         Some(NamesMember {
             shared: Arc::clone(&self.shared),
             seat,
-            identity,
-            dealt: Vec::new(),
             name: None,
         })
     }
+}
 
+/// A seat of names, which is named once.
+pub(crate) struct NamesMember {
+    shared: Arc<Shared>,
+    seat: usize,
+    name: Option<usize>,
+}
+
+impl NamesMember {
     /// The name of this seat, from 1. If its proposals are spent, it is twice the most seats and the place at which its walk has
     /// stopped, from 0.
     pub(crate) fn name(&mut self) -> usize {
         if let Some(name) = self.name {
             return name;
         }
-        let place = walk(&self.shared.doors, self.identity);
+        // The participant of the proved program has the seat's number, from 1, as its identity.
+        let place = walk(&self.shared.doors, self.seat as u64 + 1);
         let spent = 2 * self.shared.most + place;
         let name = self.rename(place).map_or(spent, usize::from);
         self.name = Some(name);
@@ -238,7 +217,7 @@ impl NamesMember {
         let shared = &self.shared;
         let view = shared.scan();
         let index = self.seat * shared.limit + number - 1;
-        shared.records[index].write(self.identity, proposal, number, &view);
+        shared.records[index].write(proposal, number, &view);
         shared.segments[place].store(index as u64 + 1, SeqCst);
     }
 }
