@@ -1,7 +1,7 @@
 /* Small numbers for threads, with no lock: the proved pool over raw words as a C library, for C99 and later and for C++.
  *
  * Link `libword_pool_c.a` with `heap.c`, which is its heap over malloc, or with the kit's `liblibc_c.a`; `bindings/c/test` shows
- * how. `bindings/c/counters.c` is a program with a counter for each thread. In short, with no answer looked at:
+ * how. `bindings/c/counters.c` and `names.c` are programs with a counter for each thread. In short, with no answer looked at:
  *
  *     struct word_pool first = {0}, mine = {0};
  *     word_pool_new(&first, 64);                      a pool, with a handle for the thread that makes it ...
