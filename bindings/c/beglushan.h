@@ -1,7 +1,7 @@
 /* Small numbers for threads, with no lock: the proved pool over raw words as a C library, for C99 and later and for C++.
  *
  * Link `libword_pool_c.a` with `heap.c`, which is its heap over malloc, or with the kit's `liblibc_c.a`; `bindings/c/test` shows
- * how. `bindings/c/counters.c` is a program with a counter for each thread. In short, with no answer looked at:
+ * how. `bindings/c/counters.c` and `names.c` are programs with a counter for each thread. In short, with no answer looked at:
  *
  *     struct word_pool first = {0}, mine = {0};
  *     word_pool_new(&first, 64);                      a pool, with a handle for the thread that makes it ...
@@ -89,6 +89,36 @@ uint64_t word_grid_enter(struct word_grid *grid);
 /* Ends this handle, which is of zero bytes then, and with the last one the grid's memory. Its place stays taken. */
 void word_grid_free(struct word_grid *grid);
 
+/* Names: each thread gets a name of its own, at most 2b - 1 where `b` have begun, by reads and writes alone, with no lock and no wait.
+ *
+ * One handle deals the seats and has none. Each thread has a handle of its own, with one seat, for an identity of 64 bits that no
+ * other seat is for. All share the names, so `word_names_name` may run in all at once, and while further seats are dealt. What a caller
+ * owes is as above: a handle is used by one call at a time; it is made of zero bytes before `word_names_new`, or before it is the
+ * second handle of `word_names_join`; and it holds names where any other call is given it. */
+
+/* Zero: no names. */
+struct word_names {
+    void *at;
+};
+
+/* Makes names for `most` threads, from 1 to 16, each of which makes at most `limit` proposals, from 1 to 1000. This handle deals the
+ * seats, and has none. False, with nothing made, elsewhere and where memory was refused. */
+bool word_names_new(struct word_names *names, uint64_t most, uint64_t limit);
+
+/* A handle for one more thread, with the next seat, for the thread of this identity. `names` is the handle that `word_names_new`
+ * made. False, with none made, where the identity is 0 or a seat was dealt to it already, where all seats are dealt, where `names` is
+ * another handle, and where memory was refused; a seat dealt then is lost. */
+bool word_names_join(struct word_names *names, struct word_names *other, uint64_t identity);
+
+/* Proposes numbers with this handle's seat until no other seat proposes the same, and tells the name, from 1: where `b` had begun
+ * until then, itself among them, it is at most 2b - 1. Where the seat has made all its proposals, it is 2 * most and the seat's place,
+ * from 0 and below most(most + 1)/2; that is so of none where `limit` is above 3(5^b - 1)/4. No two handles of the same names have one
+ * name. A second call tells the same. 0 where the handle has no seat: it is the one that deals them. */
+uint64_t word_names_name(struct word_names *names);
+
+/* Ends this handle, which is of zero bytes then, and with the last one the memory of the names. Its name stays taken. */
+void word_names_free(struct word_names *names);
+
 /* A line: as many tickets as numbers, so a thread with a ticket always gets a number, and a small one where few have or seek one.
  *
  * Each thread has a handle of its own, with one ticket; those that were joined share one line. What a caller owes is as above: a
@@ -120,7 +150,7 @@ uint64_t line_pool_release(struct line_pool *line);
 void line_pool_free(struct line_pool *line);
 
 /* The same calls for who can't be sure of his handles: a null pointer, or a handle that holds nothing where one has to, is
- * answered by false, 0 or nothing at all; and a handle that holds a pool or grid is not made anew. */
+ * answered by false, 0 or nothing at all; and a handle that holds something is not made anew. */
 
 static inline bool beglushan_pool_new(struct word_pool *pool, uint64_t size)
 {
@@ -173,6 +203,28 @@ static inline void beglushan_grid_free(struct word_grid *grid)
 {
     if (grid && grid->at) {
         word_grid_free(grid);
+    }
+}
+
+static inline bool beglushan_names_new(struct word_names *names, uint64_t most, uint64_t limit)
+{
+    return names && !names->at && word_names_new(names, most, limit);
+}
+
+static inline bool beglushan_names_join(struct word_names *names, struct word_names *other, uint64_t identity)
+{
+    return names && names->at && other && !other->at && word_names_join(names, other, identity);
+}
+
+static inline uint64_t beglushan_names_name(struct word_names *names)
+{
+    return names && names->at ? word_names_name(names) : 0;
+}
+
+static inline void beglushan_names_free(struct word_names *names)
+{
+    if (names && names->at) {
+        word_names_free(names);
     }
 }
 

@@ -1,5 +1,5 @@
 /* Four threads take numbers of one pool and give them back: no two have one number at once. Then 64 threads enter a grid,
- * round after round: no two have one place. */
+ * round after round: no two have one place. Then up to 16 threads are named: no two have one name, and `b` have none above 2b - 1. */
 #include "beglushan.h"
 
 #include <pthread.h>
@@ -89,6 +89,85 @@ static bool enter_alone(void)
     return good;
 }
 
+enum { NAMED = 16, PROPOSALS = 64 };
+
+static uint64_t names[NAMED];
+
+struct namer {
+    struct word_names names;
+    int seat;
+};
+
+/* An identity of 64 bits for each seat. */
+static uint64_t identity(int seat)
+{
+    return ((uint64_t)seat + 1) * UINT64_C(0x9e3779b97f4a7c15);
+}
+
+static void *take_name(void *given)
+{
+    struct namer *namer = given;
+    names[namer->seat] = word_names_name(&namer->names);
+    return NULL;
+}
+
+static bool name_together(int begun)
+{
+    struct namer namers[NAMED] = {{{0}, 0}};
+    pthread_t threads[NAMED];
+    bool seen[2 * NAMED] = {false};
+    struct word_names dealer = {0}, none = {0};
+    bool good = word_names_new(&dealer, (uint64_t)begun, PROPOSALS);
+    for (int i = 0; good && i < begun; i++) {
+        namers[i].seat = i;
+        good = !word_names_join(&dealer, &namers[i].names, i == 0 ? 0 : identity(i - 1))
+            && word_names_join(&dealer, &namers[i].names, identity(i))
+            && !word_names_join(&namers[i].names, &none, identity(i + 1));
+    }
+    if (!good || word_names_join(&dealer, &none, identity(begun)) || word_names_name(&dealer) != 0) {
+        return false;
+    }
+    word_names_free(&dealer);
+    for (int i = 0; i < begun; i++) {
+        if (pthread_create(&threads[i], NULL, take_name, &namers[i]) != 0) {
+            return false;
+        }
+    }
+    for (int i = 0; i < begun; i++) {
+        pthread_join(threads[i], NULL);
+    }
+    for (int i = 0; i < begun; i++) {
+        uint64_t name = names[i];
+        if (name < 1 || 2 * (uint64_t)begun <= name || seen[name] || word_names_name(&namers[i].names) != name) {
+            good = false;
+        } else {
+            seen[name] = true;
+        }
+        word_names_free(&namers[i].names);
+    }
+    return good;
+}
+
+/* The first proposes once and is named. The others propose once and see that taken, so they have their places above all such names. */
+static bool name_above(void)
+{
+    struct word_names dealer = {0}, first = {0}, second = {0}, third = {0};
+    bool refused = !word_names_new(&dealer, 0, 1) && !word_names_new(&dealer, NAMED + 1, 1) && !word_names_new(&dealer, 3, 0)
+        && !word_names_new(&dealer, 3, 1001) && !beglushan_names_new(NULL, 3, 1)
+        && beglushan_names_name(NULL) + beglushan_names_name(&dealer) == 0 && !beglushan_names_join(&dealer, &first, 7);
+    bool made = beglushan_names_new(&dealer, 3, 1) && !beglushan_names_new(&dealer, 3, 1) && !beglushan_names_join(&dealer, &first, 0)
+        && beglushan_names_join(&dealer, &first, 7) && beglushan_names_join(&dealer, &second, 8)
+        && !beglushan_names_join(&dealer, &second, 9) && word_names_join(&dealer, &third, 9) && beglushan_names_name(&dealer) == 0;
+    bool named = beglushan_names_name(&first) == 1 && word_names_name(&second) >= 6 && word_names_name(&third) >= 6
+        && word_names_name(&second) != word_names_name(&third) && word_names_name(&second) < 12 && word_names_name(&third) < 12;
+    beglushan_names_free(&dealer);
+    beglushan_names_free(&first);
+    beglushan_names_free(&second);
+    beglushan_names_free(&third);
+    beglushan_names_free(NULL);
+    return refused && made && named && dealer.at == NULL && first.at == NULL && second.at == NULL && third.at == NULL;
+}
+
 /* Null pointers and handles that hold nothing are answered, and a handle that holds a pool is not made anew. */
 static bool answers_what_is_missing(void)
 {
@@ -128,7 +207,7 @@ static bool lines_always_give(void)
 
 int main(void)
 {
-    if (!answers_what_is_missing() || !lines_always_give()) {
+    if (!answers_what_is_missing() || !lines_always_give() || !name_above()) {
         return 1;
     }
     struct word_pool pools[THREADS] = {{0}};
@@ -164,5 +243,12 @@ int main(void)
         bad += !enter_together();
     }
     printf("%d threads through a grid, %d rounds, %d bad\n", SEATS, ROUNDS, bad);
-    return clashes != 0 || bad != 0;
+    int unlike = 0;
+    for (int round = 0; round < ROUNDS; round++) {
+        for (int begun = 1; begun <= NAMED; begun++) {
+            unlike += !name_together(begun);
+        }
+    }
+    printf("1 to %d threads named, %d rounds each, %d bad\n", NAMED, ROUNDS, unlike);
+    return clashes != 0 || bad != 0 || unlike != 0;
 }

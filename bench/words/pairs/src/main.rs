@@ -1,8 +1,17 @@
-//! Nanoseconds for a pair of acquire and release at 1, 2 and 4 threads: the proved pool over raw words, the same walk over
-//! plain words in Rust, and a heap of free numbers under a mutex.
+//! Two kinds of work over raw words, beside others that do the same.
+//!
+//!     word_pairs          both, one after the other
+//!     word_pairs stays    nanoseconds for a pair of acquire and release at 1, 2 and 4 threads: the proved pool over raw words, the
+//!                         same walk over plain words in Rust, and a heap of free numbers under a mutex
+//!     word_pairs names    nanoseconds for a name where 1 to 16 threads race: the proved names, the same program over plain words in
+//!                         Rust, and the same under a mutex that is held for a name or for each access
 
+mod accesses;
 mod plain;
+mod plain_names;
 mod proved;
+mod proved_names;
+mod races;
 mod timed;
 
 use plain::PlainWords;
@@ -16,6 +25,18 @@ use timed::timed;
 const NUMBERS: u64 = 64;
 
 fn main() {
+    match std::env::args().nth(1).as_deref() {
+        None => {
+            stays();
+            races::names();
+        }
+        Some("stays") => stays(),
+        Some("names") => races::names(),
+        Some(_) => panic!("word_pairs, word_pairs stays, or word_pairs names"),
+    }
+}
+
+fn stays() {
     for threads in [1, 2, 4] {
         for near in [false, true] {
             let how = if near { "hint" } else { "from 1" };

@@ -86,6 +86,14 @@ fn sizes_are_refused_alike() {
         let proved = proved::GridMember::first(size).is_some();
         assert_eq!(proved, plain::GridMember::first(size).is_some(), "{size}");
     }
+    let sizes = [0, 1, 2, 16, 17, 1000, 1001, usize::MAX];
+    let pairs = sizes.map(|most| sizes.map(|limit| (most, limit)));
+    for (most, limit) in pairs.into_iter().flatten() {
+        same(
+            proved::NamesDealer::new(most, limit).is_some(),
+            plain::NamesDealer::new(most, limit).is_some(),
+        );
+    }
 }
 
 #[test]
@@ -128,6 +136,36 @@ fn grids_answer_alike() {
         for _ in 0..3 * most {
             let place = draws.below(most);
             same(proved[place].enter(), plain[place].enter());
+        }
+    }
+}
+
+/// An identity that has few in common with others.
+fn drawn_identity(draws: &mut Draws) -> u64 {
+    let low = draws.below(1 << 32) as u64;
+    [low << 32, low, low % 7][draws.below(3)]
+}
+
+#[test]
+fn names_answer_alike() {
+    for round in 0..300 {
+        let mut draws = Draws(round);
+        let (most, limit) = (1 + draws.below(16), 1 + draws.below(4));
+        let mut dealers = (
+            proved::NamesDealer::new(most, limit).expect("a size"),
+            plain::NamesDealer::new(most, limit).expect("a size"),
+        );
+        let mut seats = Vec::new();
+        for _ in 0..8 * most {
+            let identity = drawn_identity(&mut draws);
+            let joined = (dealers.0.join(identity), dealers.1.join(identity));
+            same(joined.0.is_some(), joined.1.is_some());
+            seats.extend(joined.0.zip(joined.1));
+            // None is dealt yet where 0 alone was asked for.
+            let place = draws.below(seats.len().max(1));
+            if let Some((proved, plain)) = seats.get_mut(place) {
+                same(proved.name(), plain.name());
+            }
         }
     }
 }
@@ -275,5 +313,55 @@ fn grids_keep_the_same_laws() {
         plain::GridMember::first,
         plain::GridMember::join,
         plain::GridMember::enter,
+    );
+}
+
+/// The laws of names: the seats that begin have names of their own, of at most `2b - 1` if `b` begin and none is spent.
+fn keeps_the_laws_of_names<D, M: Send>(
+    new: fn(usize, usize) -> Option<D>,
+    join: fn(&mut D, u64) -> Option<M>,
+    name: fn(&mut M) -> usize,
+) {
+    const MOST: usize = 16;
+    for round in 0..200 {
+        let begun = 1 + round % MOST;
+        let mut draws = Draws(round as u64);
+        let mut dealer = new(MOST, 64).expect("a size");
+        let mut seats = Vec::new();
+        while seats.len() < begun {
+            seats.extend(join(&mut dealer, drawn_identity(&mut draws)));
+        }
+        let gate = Barrier::new(begun);
+        let names: BTreeSet<usize> = thread::scope(|scope| {
+            let begin = |mut seat: M| {
+                let gate = &gate;
+                scope.spawn(move || {
+                    gate.wait();
+                    let told = name(&mut seat);
+                    assert_eq!(name(&mut seat), told, "it has a name");
+                    told
+                })
+            };
+            let threads: Vec<_> = seats.into_iter().map(begin).collect();
+            let told =
+                |thread: thread::ScopedJoinHandle<'_, usize>| thread.join().expect("none panics");
+            threads.into_iter().map(told).collect()
+        });
+        assert_eq!(names.len(), begun, "two have one name");
+        assert!(names.iter().all(|name| (1..2 * begun).contains(name)));
+    }
+}
+
+#[test]
+fn names_keep_the_same_laws() {
+    keeps_the_laws_of_names(
+        proved::NamesDealer::new,
+        proved::NamesDealer::join,
+        proved::NamesMember::name,
+    );
+    keeps_the_laws_of_names(
+        plain::NamesDealer::new,
+        plain::NamesDealer::join,
+        plain::NamesMember::name,
     );
 }

@@ -28,6 +28,11 @@ pub enum Error {
         /// How many places there are.
         most: usize,
     },
+    /// The identity is 0, which is nobody's, or it has a seat already.
+    Identity {
+        /// The identity.
+        identity: u64,
+    },
     /// No number was free until the time was over.
     TimedOut,
     /// The call came from within another call of this thread that makes what it asks for.
@@ -44,6 +49,8 @@ impl fmt::Display for Error {
             }
             Error::NoMemory => f.write_str("no memory"),
             Error::Full { most } => write!(f, "all of {most} places are taken"),
+            Error::Identity { identity: 0 } => f.write_str("0 is nobody's identity"),
+            Error::Identity { identity } => write!(f, "identity {identity} has a seat already"),
             Error::TimedOut => f.write_str("no number was free in time"),
             Error::Nested => f.write_str("called from within the call that makes the value"),
             Error::Forked => f.write_str("the process was forked in the midst of a call"),

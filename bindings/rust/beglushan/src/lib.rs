@@ -17,6 +17,7 @@ mod numbers;
 mod padded;
 mod per_thread;
 mod per_thread_iter;
+mod places;
 #[cfg(any(test, not(beglushan_proved)))]
 #[cfg_attr(beglushan_proved, allow(dead_code))]
 mod plain;
@@ -38,10 +39,11 @@ use plain as library;
 use proved as library;
 
 pub use error::Error;
-pub use names::{Names, Seat, MOST_SEATS};
+pub use names::{Names, Seat, MOST_PROPOSALS, MOST_SEATS};
 pub use numbers::{Holder, Numbers};
 pub use per_thread::PerThread;
 pub use per_thread_iter::{Iter, IterMut};
+pub use places::{PlaceSeat, Places, MOST_PLACE_SEATS};
 pub use pool::{Lent, Pool, MOST_NUMBERS};
 pub use shared_slots::SharedSlots;
 pub use slot::{OwnedSlot, Slot, SlotOf};

@@ -2,7 +2,7 @@
 
 #![cfg(all(target_os = "linux", target_pointer_width = "64", not(miri)))]
 
-use beglushan::{Error, PerThread, Pool, Slots, Workers, PROVED};
+use beglushan::{Error, Names, PerThread, Pool, Slots, Workers, PROVED};
 use std::alloc::{GlobalAlloc, Layout, System};
 use std::cell::Cell;
 use std::ptr;
@@ -92,6 +92,9 @@ fn told_at_once() {
     let pool = Pool::new(4).expect("there is memory");
     let workers = Workers::new(4).expect("there is memory");
     let values = PerThread::<Cell<u64>>::new();
+    let mut names = Names::new(16).expect("there is memory");
+    let mut others = Names::new(3).expect("there is memory");
+    let first = others.deal(1).expect("there is memory");
     let begun = Instant::now();
 
     let hoard = Hoard::all();
@@ -100,6 +103,10 @@ fn told_at_once() {
     let attached = workers.attach().map(drop);
     let valued = values.try_with(|_| ());
     let slots = Slots::try_new(&pool, |_| 0_u64).map(drop);
+    let named = Names::new(16).map(drop);
+    let dealt = names.deal(1).map(drop);
+    let other = others.deal(2).map(drop);
+    let name = first.name();
     let taken = begun.elapsed();
     drop(hoard);
 
@@ -108,6 +115,9 @@ fn told_at_once() {
     assert_eq!(attached, Err(Error::NoMemory));
     assert_eq!(valued, Err(Error::NoMemory));
     assert_eq!(slots, Err(Error::NoMemory));
+    assert_eq!(named, Err(Error::NoMemory));
+    assert_eq!((dealt, other), (Err(Error::NoMemory), Err(Error::NoMemory)));
+    assert_eq!(name, 1, "a name takes no memory");
     assert!(taken < Duration::from_secs(50), "a call waited for memory");
 
     // All is as before where there is memory again.
@@ -117,4 +127,10 @@ fn told_at_once() {
         1
     );
     assert_eq!(values.try_with(Cell::get), Ok(0));
+    // A seat for which there was no memory is lost.
+    assert_eq!((names.left(), others.left()), (15, 1));
+    assert_eq!(names.deal(1).err(), Some(Error::Identity { identity: 1 }));
+    assert_eq!(names.deal(2).map(|seat| seat.name()), Ok(1));
+    assert_eq!(others.deal(2).err(), Some(Error::Identity { identity: 2 }));
+    assert!((2..=3).contains(&others.deal(3).expect("one is left").name()));
 }

@@ -1,8 +1,8 @@
 //! What may go to other threads, and what a thread leaves when it ends.
 
 use beglushan::{
-    Error, Names, OwnedSlot, OwnedWorker, PerThread, Pool, Seat, SharedSlots, Slot, Slots, Stay,
-    Worker, Workers,
+    Error, Names, OwnedSlot, OwnedWorker, PerThread, PlaceSeat, Places, Pool, Seat, SharedSlots,
+    Slot, Slots, Stay, Worker, Workers,
 };
 use std::cell::{Cell, RefCell};
 use std::panic::{catch_unwind, AssertUnwindSafe, RefUnwindSafe, UnwindSafe};
@@ -21,7 +21,8 @@ fn may_go_or_be_shared() {
     is_shared::<SharedSlots<AtomicU64>>();
     is_shared::<(PerThread<AtomicU64>, PerThread<Cell<u64>>)>();
     is_shared::<(Error, Workers)>();
-    goes::<(Slot, OwnedSlot, Names, Seat, Worker, OwnedWorker, Stay)>();
+    goes::<(Slot, OwnedSlot, Worker, OwnedWorker, Stay)>();
+    goes::<(Names, Seat, Places, PlaceSeat)>();
     goes::<(SharedSlots<Cell<u64>>, PerThread<Cell<u64>>)>();
 }
 
@@ -39,7 +40,7 @@ macro_rules! is_not {
 
 #[test]
 fn may_not() {
-    is_not!(Sync: Slot, OwnedSlot, Names, Seat, MutexGuard<'static, Cell<u64>>);
+    is_not!(Sync: Slot, OwnedSlot, Names, Seat, Places, PlaceSeat, MutexGuard<'static, Cell<u64>>);
     is_not!(Sync: Slots<Rc<u64>>, Slots<MutexGuard<'static, u64>>, SharedSlots<Cell<u64>>);
     is_not!(Sync: PerThread<Rc<u64>>, PerThread<MutexGuard<'static, u64>>, Worker, OwnedWorker, Stay);
     is_not!(Send: Slots<Rc<u64>>, SharedSlots<Rc<u64>>, PerThread<Rc<u64>>);

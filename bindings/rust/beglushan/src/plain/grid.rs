@@ -6,9 +6,38 @@ use crate::atomics::{Arc, AtomicU64, SeqCst};
 const MOST_SEATS: usize = 64;
 
 /// One splitter: who came last, and whether somebody has gone in.
-struct Door {
+pub(super) struct Door {
     last: AtomicU64,
     is_taken: AtomicU64,
+}
+
+/// The doors of a grid for so many walks, which nobody has come to.
+pub(super) fn doors(most: usize) -> Box<[Door]> {
+    let door = |_| Door {
+        last: AtomicU64::new(0),
+        is_taken: AtomicU64::new(0),
+    };
+    (0..most * (most + 1) / 2).map(door).collect()
+}
+
+/// The door at which a walk of this identity stops, from 0, by diagonals.
+pub(super) fn walk(doors: &[Door], identity: u64) -> usize {
+    let (mut down, mut right) = (0, 0);
+    loop {
+        let diagonal = down + right;
+        let place = diagonal * (diagonal + 1) / 2 + down;
+        let door = &doors[place];
+        door.last.store(identity, SeqCst);
+        if door.is_taken.load(SeqCst) != 0 {
+            right += 1;
+            continue;
+        }
+        door.is_taken.store(1, SeqCst);
+        if door.last.load(SeqCst) == identity {
+            return place;
+        }
+        down += 1;
+    }
 }
 
 /// A seat of a grid, which enters once.
@@ -24,12 +53,8 @@ pub(crate) struct GridMember {
 impl GridMember {
     /// The first seat of a new grid of `most` seats. None if there is no grid of so many.
     pub(crate) fn first(most: usize) -> Option<GridMember> {
-        let door = || Door {
-            last: AtomicU64::new(0),
-            is_taken: AtomicU64::new(0),
-        };
         (1..=MOST_SEATS).contains(&most).then(|| GridMember {
-            doors: Arc::new((0..most * (most + 1) / 2).map(|_| door()).collect()),
+            doors: Arc::new(doors(most)),
             seat: 1,
             most: most as u64,
             dealt: 1,
@@ -57,21 +82,6 @@ impl GridMember {
         if std::mem::replace(&mut self.has_entered, true) {
             return 0;
         }
-        let (mut down, mut right) = (0, 0);
-        loop {
-            let diagonal = down + right;
-            let place = diagonal * (diagonal + 1) / 2 + down;
-            let door = &self.doors[place];
-            door.last.store(self.seat, SeqCst);
-            if door.is_taken.load(SeqCst) != 0 {
-                right += 1;
-                continue;
-            }
-            door.is_taken.store(1, SeqCst);
-            if door.last.load(SeqCst) == self.seat {
-                return place + 1;
-            }
-            down += 1;
-        }
+        walk(&self.doors, self.seat) + 1
     }
 }

@@ -1,14 +1,17 @@
 //! The calls of the library in Rust, over `std::sync::atomic`. **They are not proved.** They serve targets that have no proved
 //! library, and tools that want to see each access: Miri, loom, ThreadSanitizer.
 //!
-//! Each walk makes the accesses of the proved code, in its order.
+//! Each walk makes the accesses of the proved code, in its order. Those of names are the reads and writes of registers: a record, which
+//! is a register's value, has words of another form.
 
 mod grid;
 mod line;
+mod names;
 mod pool;
 
 pub(crate) use grid::GridMember;
 pub(crate) use line::LineMember;
+pub(crate) use names::{NamesDealer, NamesMember};
 pub(crate) use pool::Member;
 
 use crate::atomics::{AtomicU8, SeqCst};

@@ -2,16 +2,18 @@
 
 mod grid;
 mod line;
+mod names;
 mod pool;
 
 pub(crate) use grid::GridMember;
 pub(crate) use line::LineMember;
+pub(crate) use names::{NamesDealer, NamesMember};
 pub(crate) use pool::Member;
 
 use std::num::NonZeroUsize;
 use std::ptr::{self, NonNull};
 
-/// A handle of the library that holds a pool, a grid or a line. The library's `alloc: Global` takes no bytes, so nothing is
+/// A handle of the library that holds a pool, a grid, a line or names. The library's `alloc: Global` takes no bytes, so nothing is
 /// passed for it.
 #[repr(transparent)]
 struct Handle {
@@ -33,7 +35,7 @@ impl Handle {
         let mut at = self.at.as_ptr();
         let told = call(&raw mut at);
         // SAFETY: the library proves of each of these calls that the handle holds something afterwards (`held`, `pool`,
-        // `grid`, `line`), and a handle that holds something is no null pointer.
+        // `grid`, `line`, `names`), and a handle that holds something is no null pointer.
         self.at = unsafe { NonNull::new_unchecked(at) };
         told
     }

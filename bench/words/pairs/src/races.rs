@@ -1,0 +1,148 @@
+//! Races of threads for names, and what a name takes.
+
+use crate::accesses::{Accesses, Atomic, Held};
+use crate::plain_names::{Renaming, Words};
+use crate::proved_names::ProvedSeat;
+use std::sync::atomic::{AtomicUsize, Ordering::SeqCst};
+use std::sync::{Arc, Barrier, Mutex};
+use std::time::Instant;
+
+/// The most seats of each race's names, and the most proposals of a seat.
+const SEATS: usize = 16;
+const LIMIT: usize = 64;
+
+/// How many races there are of each kind in a turn, and how many turns.
+const RACES: usize = 200;
+const TURNS: usize = 7;
+
+/// What names one thread of a race. It is called once, and dropped when the time is taken.
+type Seat = Box<dyn FnMut() -> u64 + Send>;
+
+/// A kind of names: what it is called, and the seats of a race for these identities.
+type Kind = (&'static str, fn(&[u64]) -> Vec<Seat>);
+
+const KINDS: [Kind; 4] =
+    [("proved names", proved), ("plain words", plain), ("mutex held for a name", held), ("mutex held for each access", locked)];
+
+fn proved(identities: &[u64]) -> Vec<Seat> {
+    let seats = ProvedSeat::all(SEATS, LIMIT, identities).into_iter();
+    seats.map(|mut seat| -> Seat { Box::new(move || seat.name()) }).collect()
+}
+
+/// The words of a race, and a mutex that not every kind takes.
+type Shared = (Words, Mutex<()>);
+
+/// The seats of a race over words of Rust's own, each of which is named so.
+fn over(identities: &[u64], name: fn(&Shared, usize) -> u64) -> Vec<Seat> {
+    let shared = Arc::new((Words::new(SEATS, LIMIT), Mutex::new(())));
+    let seats = 0..identities.len();
+    seats
+        .map(|seat| -> Seat {
+            let shared = Arc::clone(&shared);
+            Box::new(move || name(&shared, seat))
+        })
+        .collect()
+}
+
+fn rename<A: Accesses>(words: &Words, by: A, seat: usize) -> u64 {
+    Renaming { words, by, seat }.name()
+}
+
+fn plain(identities: &[u64]) -> Vec<Seat> {
+    over(identities, |(words, _), seat| rename(words, Atomic, seat))
+}
+
+fn held(identities: &[u64]) -> Vec<Seat> {
+    over(identities, |(words, mutex), seat| {
+        let _held = mutex.lock().unwrap();
+        rename(words, Held, seat)
+    })
+}
+
+fn locked(identities: &[u64]) -> Vec<Seat> {
+    over(identities, |(words, mutex), seat| rename(words, mutex, seat))
+}
+
+/// Waits until all threads are here, and has them go on at once.
+fn meet(here: &AtomicUsize, all: usize) {
+    here.fetch_add(1, SeqCst);
+    while here.load(SeqCst) < all {
+        std::thread::yield_now();
+    }
+}
+
+/// What a thread of a race does: its name, and nanoseconds until it had it.
+fn run(seat: &mut Seat, here: &AtomicUsize, threads: usize) -> (u64, u64) {
+    meet(here, threads);
+    let from = Instant::now();
+    let name = seat();
+    (name, from.elapsed().as_nanos() as u64)
+}
+
+/// Identities of 64 bits, which differ from race to race.
+fn identities(race: usize, threads: usize) -> Vec<u64> {
+    let first = (race * threads) as u64;
+    (first..).map(|number| (number + 1).wrapping_mul(0x9E37_79B9_7F4A_7C15)).take(threads).collect()
+}
+
+/// What each thread of some races took, in nanoseconds.
+fn race(kind: &Kind, threads: usize) -> Vec<u64> {
+    let seats: Vec<Mutex<Option<Seat>>> = (0..threads).map(|_| Mutex::new(None)).collect();
+    let told: Vec<Mutex<(u64, u64)>> = (0..threads).map(|_| Mutex::new((0, 0))).collect();
+    let (begin, end) = (Barrier::new(threads + 1), Barrier::new(threads + 1));
+    let here = AtomicUsize::new(0);
+    let mut times = Vec::new();
+    std::thread::scope(|scope| {
+        for (seat, told) in seats.iter().zip(&told) {
+            let (begin, end, here) = (&begin, &end, &here);
+            scope.spawn(move || {
+                for race in 1..=RACES {
+                    begin.wait();
+                    let mut seat = seat.lock().unwrap().take().expect("it is dealt");
+                    *told.lock().unwrap() = run(&mut seat, here, race * threads);
+                    end.wait();
+                }
+            });
+        }
+        for number in 0..RACES {
+            let dealt = (kind.1)(&identities(number, threads));
+            for (seat, dealt) in seats.iter().zip(dealt) {
+                *seat.lock().unwrap() = Some(dealt);
+            }
+            begin.wait();
+            end.wait();
+            let told: Vec<(u64, u64)> = told.iter().map(|told| *told.lock().unwrap()).collect();
+            let mut names: Vec<u64> = told.iter().map(|told| told.0).collect();
+            names.sort_unstable();
+            names.dedup();
+            assert!(names.len() == threads && names[0] > 0 && names[threads - 1] < 2 * threads as u64, "{names:?}");
+            times.extend(told.iter().map(|told| told.1));
+        }
+    });
+    times
+}
+
+fn median(mut times: Vec<u64>) -> u64 {
+    times.sort_unstable();
+    times[times.len() / 2]
+}
+
+/// Prints a table: nanoseconds of wall time that a thread takes for a name, by how many threads race at once. Each kind races in turn,
+/// and the least median of the turns counts.
+pub fn names() {
+    const THREADS: [usize; 5] = [1, 2, 4, 8, 16];
+    let mut least = [[u64::MAX; THREADS.len()]; KINDS.len()];
+    for _ in 0..TURNS {
+        for (column, threads) in THREADS.iter().enumerate() {
+            for (row, kind) in KINDS.iter().enumerate() {
+                least[row][column] = least[row][column].min(median(race(kind, *threads)));
+            }
+        }
+    }
+    println!("{:<32}{}", "nanoseconds a name", THREADS.map(|threads| format!("{threads:>8}")).concat());
+    for (kind, times) in KINDS.iter().zip(least) {
+        println!("{:<32}{}", kind.0, times.map(|time| format!("{time:>8}")).concat());
+    }
+    let over = std::array::from_fn(|column| least[0][column] as f64 / least[1][column] as f64);
+    println!("{:<32}{}", "proved over plain", <[f64; 5]>::map(over, |ratio| format!("{ratio:>8.2}")).concat());
+}
