@@ -137,9 +137,10 @@ where
         } = running;
         // Opens the words, so that the machine's bound is known to be small.
         let _size = self.words.size();
+        let first = P::first();
         let note = self
             .words
-            .step(&mut seat, number, &mut written, &mut program);
+            .step(&mut seat, number, &mut written, &mut program, &first);
         let accesses = accesses + 1;
         match note.outcome() {
             Some(outcome) => Ok(EnteredSeat {

@@ -276,8 +276,96 @@ impl<P: WordProgram, A: Allocator> Words<P, A>
 where
     P::Value: Drop,
 {
-    /// One access of a program, and what the program makes of the answer.
+    /// What the program makes of the record that was read last. A function of its own, since most registers are not written.
+    #[inline(never)]
+    fn take_written(
+        &self,
+        seat: &mut Seat<u8, SeatView<P, P::Output>>,
+        program: &mut P,
+        slot: usize,
+    ) -> Note<P::Output>
+        requires ours { seat.old.table_id ≡ self.now.table }
+        requires read { HasRead P.law self.now.size slot seat.old.me }
+        ensures ours { seat.new.table_id ≡ self.now.table }
+        ensures same { seat.new.me ≡ seat.old.me }
+        ensures after { program.new ≡ P.steps.resumed program.old (answer.Value (P.law.decode (read_in seat.old.me))) }
+        ensures note { result ≡ P.steps.note program.old (answer.Value (P.law.decode (read_in seat.old.me))) }
+    {
+        let got = self.recall(seat, slot);
+        if program.read_on(&got) {
+            return Note::Quiet;
+        }
+        program.resume(Answer::Value(got))
+    }
+
+    /// What the program makes of a register that was not written, where it does not just go on.
+    #[inline(never)]
+    fn take_first(program: &mut P) -> Note<P::Output>
+        ensures after { program.new ≡ P.steps.resumed program.old (answer.Value P.law.first) }
+        ensures note { result ≡ P.steps.note program.old (answer.Value P.law.first) }
+    {
+        program.resume(Answer::Value(P::first()))
+    }
+
+    /// A read of a register that holds a record, and what the program makes of it: nothing is moved where the register was not
+    /// written and the program goes on.
+    fn step_read(
+        &self,
+        seat: &mut Seat<u8, SeatView<P, P::Output>>,
+        number: u64,
+        written: usize,
+        program: &mut P,
+        register: P::Reg,
+        first: &P::Value,
+    ) -> Note<P::Output>
+        requires ours { seat.old.table_id ≡ self.now.table }
+        requires before { Stands P.steps P.law self.now.size number written program.old [] seat.old.me }
+        requires reads { P.steps.next program.old ≡ Read register }
+        requires record { P.law.is_word register ≡ false }
+        requires first { first.now ≡ P.law.first }
+        ensures ours { seat.new.table_id ≡ self.now.table }
+        ensures after { HasStepped P.steps P.law self.now.size number written program.new result seat.old.me seat.new.me }
+    {
+        let at = P::place(self.size, register);
+        let found = self.table.shared.load::<ReadRecord<P>>(seat, at);
+        if found != 0 {
+            return self.take_written(seat, program, (found - 1) as usize);
+        }
+        if program.read_on(first) {
+            return Note::Quiet;
+        }
+        Self::take_first(program)
+    }
+
+    /// One access of a program, and what the program makes of the answer. `first` is what stands in a register that was not
+    /// written.
     pub(crate) fn step(
+        &self,
+        seat: &mut Seat<u8, SeatView<P, P::Output>>,
+        number: u64,
+        written: &mut usize,
+        program: &mut P,
+        first: &P::Value,
+    ) -> Note<P::Output>
+        requires ours { seat.old.table_id ≡ self.now.table }
+        requires before { Stands P.steps P.law self.now.size number written.old program.old [] seat.old.me }
+        requires range { number < self.now.size.most }
+        requires first { first.now ≡ P.law.first }
+        ensures ours { seat.new.table_id ≡ self.now.table }
+        ensures after { HasStepped P.steps P.law self.now.size number written.new program.new result seat.old.me seat.new.me }
+    {
+        let Some(register) = program.reads() else {
+            return self.step_whole(seat, number, written, program);
+        };
+        if P::is_word(register) {
+            return self.step_whole(seat, number, written, program);
+        }
+        self.step_read(seat, number, *written, program, register, first)
+    }
+
+    /// One access of a program, and what the program makes of the answer, which is moved to it.
+    #[inline(never)]
+    fn step_whole(
         &self,
         seat: &mut Seat<u8, SeatView<P, P::Output>>,
         number: u64,
@@ -327,8 +415,9 @@ where
         let mut program = P::start(self.size, number + 1);
         let mut written = 0;
         let mut accesses = 0;
+        let first = P::first();
         loop {
-            let note = self.step(seat, number, &mut written, &mut program);
+            let note = self.step(seat, number, &mut written, &mut program, &first);
             accesses += 1;
             if let Some(outcome) = note.outcome() {
                 return (program, outcome, accesses);

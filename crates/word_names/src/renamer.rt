@@ -89,4 +89,12 @@ where
         self.round = follow.round;
         note_of_reply(follow.reply)
     }
+
+    fn reads(&self) -> Option<U::Reg> {
+        self.client.reads()
+    }
+
+    fn read_on(&mut self, got: &U::Value) -> bool {
+        self.client.read_on(got)
+    }
 }

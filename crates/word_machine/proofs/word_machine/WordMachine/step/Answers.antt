@@ -34,8 +34,8 @@ invariant_of-result-in-None g c =
           (goes_on g.P.StepProgram.steps law g.met.P.WordProgram.sound _ _ _ _ _ _ _ after (still_on _ none) none),
     )
 
-pub returns-in-None-clause-few : goal.returns-in-None-clause-few
-returns-in-None-clause-few g c =
+pub returns-clause-few : goal.returns-clause-few
+returns-clause-few g c =
     let after = c.step-note.ensures.after in
     let made = few g.P.StepProgram.steps g.P.WordProgram.law g.met.P.WordProgram.sound _ _ _ _ _ _ _ after in
     let before = c.running.invariant.1 in

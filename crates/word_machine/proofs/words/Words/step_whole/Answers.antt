@@ -1,8 +1,8 @@
 use Rattle.std.proofs.Common.{ap, sym, refl, arith, ◌∙◌}
 use Rattle.word_machine.proofs.Common.{Value, Done, records_in}
 use Rattle.word_machine.proofs.Reaching.{has_stepped, no_test, no_clear, no_idle}
-use Rattle.word_machine.proofs.words.Words.step.Goals as goal
-use Rattle.word_machine.proofs.words.Words.step.Goals.{in-Read, in-Write, in-TestAndSet, in-Clear, in-Nothing}
+use Rattle.word_machine.proofs.words.Words.step_whole.Goals as goal
+use Rattle.word_machine.proofs.words.Words.step_whole.Goals.{in-Read, in-Write, in-TestAndSet, in-Clear, in-Nothing}
 
 pub returns-clause-after : goal.returns-clause-after
 returns-clause-after g c = elim c.match-next.branch [
