@@ -7,7 +7,8 @@ use Rattle.commands.specs.declared.reply.Reply.TheVariants.{Named, Spent, Refuse
 use Rattle.desk.specs.NamedAmong.{goes_on}
 use Rattle.locked_world.specs.Renamed.{AreAbove, IsStepped, IsPlainStep}
 use Rattle.locked_world.specs.declared.kept.Kept.{Kept}
-use Rattle.locked_world.proofs.Fronts.{prefix_self, prefix_trans}
+use Rattle.locked_world.proofs.Fronts.{prefix_trans}
+use Rattle.locked_world.specs.ServingProofs.{prefix_self}
 use Rattle.locked_world.proofs.Standing.{sound_after, seen_after}
 
 pub stepped_not : (c : Config) (id : ℕ) (s : CallerState) → IsStepped c id 0 s s

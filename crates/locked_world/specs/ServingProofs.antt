@@ -1,6 +1,6 @@
 -- there is an answer to each request
-use Rattle.std.proofs.Common.{◌≡◌, inl, inr, Option, Some, None, refl, sym, ap}
-use Rattle.locked_world.proofs.Fronts.{prefix_self}
+use Rattle.std.proofs.Common.{◌≡◌, inl, inr, Option, Some, None, List, [], ◌∷◌, refl, sym, ap}
+use mathlib.Core.List.{IsPrefix}
 use Rattle.step_memory.specs.declared.refusal.Refusal.{Refusal}
 use Rattle.step_memory.specs.declared.refusal.Refusal.TheVariants as refusal
 use Rattle.commands.specs.declared.config.Config.{Config}
@@ -12,6 +12,11 @@ use Rattle.commands.specs.Requests.Request.{Take, OwnerOf}
 use Rattle.locked_world.specs.CallerState.{CallerState}
 use Rattle.hall.specs.Halls.{hall_of, desk_of, hall_refusal, reply_unless, after_unless}
 use Rattle.locked_world.specs.Serving.{ClerkServes}
+
+-- each list begins with itself
+pub prefix_self : {A : Type 0} (xs : List A) → IsPrefix xs xs
+prefix_self [] = ([], refl)
+prefix_self (x ∷ xs) = (let r = prefix_self xs in r.0, ap (λ ys. x ∷ ys) (prefix_self xs).1)
 
 -- the hall of what a caller has seen refuses each event, by its rules or for want of memory
 pub clerk_answers : (c : Config) (s : CallerState) (q : Request) → (r : ShownReply) × (t : CallerState) × ClerkServes c s q r t

@@ -1,4 +1,5 @@
-use Rattle.std.proofs.Common.{◌≡◌, false, subst, refl, ap}
+use Rattle.std.proofs.Common.{◌≡◌, Err, false, subst, refl, ap, ◌∙◌}
+use Rattle.step_memory.specs.declared.refusal.Refusal.TheVariants.{Full}
 use Rattle.locked_world.proofs.Common.{Begin, Ok, ShownReply, is_refusal, with_view, CallerState, HallMay, IsTaken}
 use Rattle.hall.proofs.Histories.{begins_ok}
 use Rattle.locked_world.proofs.Places.{opened}
@@ -21,4 +22,7 @@ returns g c =
       hall = subst (λ (q : ShownReply). HallMay h (Begin c.args.id) q u) is may;
       same = tt;
       refused = tt;
+      more = c.apply-reply.ensures.opened ∙ c.in_ok-clerk.ensures.more;
+      full = λ all. let no : c.open.result ≡ Err Full = c.open.ensures.full.1 all in let was = c.in_ok-clerk.was in absurd cc;
+      due = tt;
     }
