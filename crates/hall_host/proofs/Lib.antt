@@ -1,3 +1,4 @@
+mod HolderLemmas
 mod HostingLemmas
 mod KeptLemmas
 mod ExportLemmas

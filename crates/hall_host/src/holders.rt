@@ -4,10 +4,9 @@ ghost use Rattle.std.specs.Prelude.{IfOk, IfSome, OnOk, ◌≡◌};
 ghost use Rattle.std.specs.Io.KnownBytes.{Appends};
 ghost use Rattle.held_lines.specs.Held.{held_text};
 ghost use Rattle.held_lines.specs.declared.query.HeldQuery.TheVariants.{All};
-ghost use Rattle.journal.specs.Journals.{IsHallOf};
 ghost use Rattle.desk.specs.Held.{slots_of};
 ghost use Rattle.hall.specs.Halls.{desk_of};
-ghost use Rattle.hall_host.specs.Holders.{TellsHolders};
+ghost use Rattle.hall_host.specs.Holders.{IsOfHall, TellsHolders};
 
 use crate::failure::HostFailure;
 use commands::Config;
@@ -45,7 +44,7 @@ fn config_of(alloc: Global, bytes: &[u8]) -> Result<Config, HostFailure> {
 
 // The hall whose record these bytes are, once a torn last line is cut.
 fn recorded_hall(alloc: Global, bytes: &[u8]) -> Result<Hall, HostFailure>
-    ensures { IfOk result (λ h. IsHallOf h bytes.now) }
+    ensures { IfOk result (λ h. IsOfHall h bytes.now) }
 {
     let config = config_of(alloc, bytes)?;
     let mut header = Replies::new(alloc)?;
