@@ -7,7 +7,7 @@ ghost use Rattle.run_page.specs.Page.{page_between, page_middle};
 pub const MIDDLE: &str = r#"</pre>
 </details>
 <section class="card still" id="still">
-<h2>Reaches the last event</h2>
+<h2>After the last event</h2>
 <p>Each participant with the access that it makes next, its place, its name and its number of the pool, which it probes or holds with
 what is in its slot; what stands in the registers and segments that were reached, names, slots, and the size of the pool.</p>
 <ul>
