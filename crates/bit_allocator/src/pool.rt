@@ -181,7 +181,7 @@ impl<A: Allocator> Pool<A> {
     pub fn enter(&mut self, id: u64) -> Result<(), Refusal>
         ensures answer { result ≡ enter_answer self.old id }
         ensures state { self.new ≡ after_enter self.old id }
-        ensures refused { OnErr result (self.new ≡ self.old) }
+        ensures unchanged_on_error { OnErr result (self.new ≡ self.old) }
         ensures after { Extends pool self.old self.new (Entered id result) }
         ensures law { SatisfiesSpec pool self.new }
     {
@@ -210,7 +210,7 @@ impl<A: Allocator> Pool<A> {
     pub fn probe(&mut self, id: u64) -> Result<Probe, Refusal>
         ensures answer { result ≡ probe_answer self.old id }
         ensures state { self.new ≡ after_probe self.old id }
-        ensures refused { OnErr result (self.new ≡ self.old) }
+        ensures unchanged_on_error { OnErr result (self.new ≡ self.old) }
         ensures after { Extends pool self.old self.new (Probed id result) }
         ensures law { SatisfiesSpec pool self.new }
 
@@ -239,7 +239,7 @@ impl<A: Allocator> Pool<A> {
     #[tactic(auto, using(crate::proofs::PoolKeeps::pool_law))]
     pub fn acquire(&mut self, id: u64) -> Result<u8, Refusal>
         ensures acquired { IfOk result (λ n. IsAcquired self.old id n self.new) }
-        ensures refused { IfErr result (λ why. (enter_answer self.old id ≡ Err why) × (self.new ≡ self.old)) }
+        ensures unchanged_on_error { IfErr result (λ why. (enter_answer self.old id ≡ Err why) × (self.new ≡ self.old)) }
         ensures range { IfOk result (λ n. (1 ≤ n) × (n ≤ self.new.size)) }
         ensures after { LeadsByStay id self.old self.new result }
         ensures law { SatisfiesSpec pool self.new }
@@ -258,7 +258,7 @@ impl<A: Allocator> Pool<A> {
     pub fn leave(&mut self, id: u64) -> Result<u8, Refusal>
         ensures answer { result ≡ number_answer self.old id }
         ensures state { self.new ≡ after_leave self.old id }
-        ensures refused { OnErr result (self.new ≡ self.old) }
+        ensures unchanged_on_error { OnErr result (self.new ≡ self.old) }
         ensures after { Extends pool self.old self.new (Left id result) }
         ensures law { SatisfiesSpec pool self.new }
 
@@ -295,7 +295,7 @@ impl<A: Allocator> Pool<A> {
     pub fn widen(&mut self, size: u64) -> Result<(), Refusal>
         ensures answer { result ≡ widen_answer self.old size }
         ensures state { self.new ≡ after_widen self.old size }
-        ensures refused { OnErr result (self.new ≡ self.old) }
+        ensures unchanged_on_error { OnErr result (self.new ≡ self.old) }
         ensures after { Extends pool self.old self.new (Widened size result) }
         ensures law { SatisfiesSpec pool self.new }
 

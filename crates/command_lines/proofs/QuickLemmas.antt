@@ -8,7 +8,7 @@ use Rattle.command_lines.specs.Digits.{DigitsSoFar}
 use Rattle.command_lines.specs.Quick.{IsNumberBefore, IsCommandBefore, is_of_words, word_of_four}
 use Rattle.command_lines.specs.PieceProofs.{passes_too, lacks, pieces-cut, pieces-last}
 
--- the bytes past a beginning, as a slice gives them
+-- the bytes past a prefix, as a slice gives them
 pub rest_of-slice : (bytes : List ℕ) (n : ℕ) → take (length bytes - n) (drop n bytes) ≡ drop n bytes
 rest_of-slice bytes n = take_all (length bytes - n) (drop n bytes) (omega (arith, length-drop n bytes))
 
@@ -112,7 +112,7 @@ is_letter b = nat_le 97 b && nat_le b 122
 short-line : (n : ℕ) → n ≤ 100 → nat_lt 100 n ≡ false
 short-line n le = grind (arith, nat_tests)
 
--- the command at a beginning, which a word with its space and others are
+-- the command at a prefix, which a word with its space and others are
 first_command : (by : ℕ) (world : WorldKind) (word bytes rest : List ℕ) (ws : List (List ℕ)) (command : Command) (count end : ℕ) → bytes ≡ word ++ 32 ∷ rest → end ≡ length word + suc count →
     length word ≤ 5 → list_all is_letter word ≡ true → count < length rest → get_or rest count 0 ≡ by → AreOthers (take count rest) ws → command_of world word ws ≡ Ok command →
     IsCommandBefore by world bytes command end

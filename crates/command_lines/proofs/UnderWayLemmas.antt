@@ -13,7 +13,7 @@ module _ (text : List ℕ) (before : Option (List ℕ)) where
     whole = way.whole ∙ sym (append_assoc way.written held rest) ∙ ap (λ l. (way.written ++ held) ++ (l ++ rest)) (sym is);
   }
 
-  -- a part of what was held is written: a beginning of the text
+  -- a part of what was held is written: a prefix of the text
   pub sent_part : (old now : Option (List ℕ)) (held rest : List ℕ) → IsUnderWay text before old held rest → HasPartOf old now held → HasPartOf before now text
   sent_part old now held rest way part =
       let front : List ℕ = way.written ++ take part.0 held in

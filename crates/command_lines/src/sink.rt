@@ -28,7 +28,7 @@ pub trait Sink: Write {
         ensures failed { failed self.new ≡ failed self.old + write_failures (length buf.now) result };
 }
 
-/// Writes the whole text; `Fault::Write` where the writer failed or took nothing, after which a beginning of the text is
+/// Writes the whole text; `Fault::Write` where the writer failed or took nothing, after which a prefix of the text is
 /// written.
 pub fn put_all<W: Sink>(writer: &mut W, text: &[u8]) -> Result<(), Fault>
     requires room { W.calls writer.old + length text.now ≤ 2 ^ 100 }

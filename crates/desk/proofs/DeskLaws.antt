@@ -24,7 +24,7 @@ use Rattle.slot_array.proofs.SlotsKeep.{slots_proved}
 use Rattle.rename_core.specs.RenameWorld.{fresh_world, owner_by}
 use Rattle.rename_core.proofs.NamedPlaces.{owner_is, answers_unrefused}
 use Rattle.rename_core.proofs.PlacesLaw.{grid_lawful, tree_lawful}
-use Rattle.desk.specs.Desk.{fresh_in, desk_rules, owner_told, owner_over, IsFreshDesk, LeadsDesk}
+use Rattle.desk.specs.Desk.{fresh_in, desk_rules, owner_reported, owner_over, IsFreshDesk, LeadsDesk}
 use Rattle.desk.specs.DeskRules.{fresh_over, after_over}
 use Rattle.desk.specs.DeskRun.{IsDeskRun, IsDeskRunOf, desk_terms, desk_bounds}
 use Rattle.desk.specs.DeskValue.{DeskValue}
@@ -37,8 +37,8 @@ use Rattle.desk.proofs.NamesGiven as given
 use Rattle.desk.proofs.Refusing.{refuses_as_said}
 
 -- what is told of a number is right, where this is who was given it
-told_right : (most n : ℕ) (r : List Exchange) (owner : Option ℕ) → IsOwnerIn r n owner → IsOwnerReply most r n (owner_told most n owner)
-told_right most n r owner is = elim (eqb_tells n 0) [
+reported_right : (most n : ℕ) (r : List Exchange) (owner : Option ℕ) → IsOwnerIn r n owner → IsOwnerReply most r n (owner_reported most n owner)
+reported_right most n r owner is = elim (eqb_tells n 0) [
   | inl none ↦ rw none.0 (record { out_of_range = λ out. refl; in_range = λ within. absurd (let some = within.some in let zero = none.1 in omega arith) })
   | inr some ↦ elim (leb_tells (2 * most) n) [
     | inl large ↦ rw (some.0, large.0) (record { out_of_range = λ out. refl; in_range = λ within. absurd (let small = within.small in let l = large.1 in let one = within.some in omega arith) })
@@ -76,7 +76,7 @@ module _ {S R V U K : Type 0} (W : KnownPlaces S R V U K) where
       let owns = owner_is W laws kind may_grow at_once w.names n (a.first, limit) (rename_calls calls) a.names run.names.object run.names.run in
       let is = given.owner_is (desk_terms (W.most_of a.first) limit (is_tree kind)) (bounds (W.most_of a.first)) size (map exchange_of calls) run n (owner_by n w.names.rounds) owns in
       let room : w.names.snap.most ≡ most = most_after W (fresh_names W (a.first, limit)) (rename_calls calls) w.names a.names.run ∙ a.room in
-      subst (λ (m : ℕ). IsOwnerReply m (map exchange_of calls) n (owner_over w n)) room (told_right w.names.snap.most n (map exchange_of calls) (owner_by n w.names.rounds) is)
+      subst (λ (m : ℕ). IsOwnerReply m (map exchange_of calls) n (owner_over w n)) room (reported_right w.names.snap.most n (map exchange_of calls) (owner_by n w.names.rounds) is)
 
 pub fresh : BeginsDesk
 fresh c (OverGrid w) is = (is.0, subst (λ (x : _). ReachesDesk grid_places Rename c.m c.limit c.k x []) (sym is.1) (fresh_places grid_places Rename fresh_grid grid_empty c is.0))

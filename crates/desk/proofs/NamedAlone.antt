@@ -164,8 +164,8 @@ steps_are p [] = refl
 steps_are p (Renamed (Began q answer) ∷ calls) = let rest = steps_are p calls in omega arith
 steps_are p (Renamed (Stepped q (Ok said)) ∷ calls) =
     let rest = steps_are p calls in
-    let told = accepted said in
-    rw told (elim (q == p) as (λ b. cond (b && true) (steps_of p (map exchange_of calls) + 1) (steps_of p (map exchange_of calls)) ≡ cond b 1 0 + call_steps p (rename_calls calls)) [ true ↦ omega arith | false ↦ omega arith ])
+    let reported = accepted said in
+    rw reported (elim (q == p) as (λ b. cond (b && true) (steps_of p (map exchange_of calls) + 1) (steps_of p (map exchange_of calls)) ≡ cond b 1 0 + call_steps p (rename_calls calls)) [ true ↦ omega arith | false ↦ omega arith ])
 steps_are p (Renamed (Stepped q (Err why)) ∷ calls) =
     let rest = steps_are p calls in
     elim (q == p) as (λ b. cond (b && false) (steps_of p (map exchange_of calls) + 1) (steps_of p (map exchange_of calls)) ≡ 0 + call_steps p (rename_calls calls)) [ true ↦ omega arith | false ↦ omega arith ]
@@ -186,7 +186,7 @@ two_left terms o p calls run h = record {
     | false ↦ λ _. refl
     | true ↦ λ e. absurd (elim (was_spent terms new_object o p calls run e) [
       | inl first ↦ (let two : false ≡ true = first in cc)
-      | inr told ↦ h.unspent told
+      | inr reported ↦ h.unspent reported
     ])
   ] refl;
   left = (let c = count_is terms new_object o p calls run in let l = h.left in omega arith);
@@ -207,8 +207,8 @@ names_soon_alone terms bounds size before more run p two alone =
       | inr on ↦
           let few = on.1 in
           inr (
-            λ told. (
-                let spent : run.names.object.spent p ≡ true = has_spent terms new_object run.names.object p run.calls run.names.run (subst (λ (x : List Exchange). WasSpent p x) (sym run.spelled) told) in
+            λ reported. (
+                let spent : run.names.object.spent p ≡ true = has_spent terms new_object run.names.object p run.calls run.names.run (subst (λ (x : List Exchange). WasSpent p x) (sym run.spelled) reported) in
                 let two : true ≡ false = sym spent ∙ on.0 in
                 absurd (cc)),
             omega arith,

@@ -70,11 +70,11 @@ going_call terms o p said (Stepped q (Err why)) x on allowed = absurd (
     let e : reply.Refused why ≡ said = ap (λ (z : Exchange). z.reply) x in
     let no : false ≡ true = ap goes_on e ∙ on in
     cc)
-going_call terms o p said (Stepped q (Ok told)) x on allowed =
+going_call terms o p said (Stepped q (Ok reported)) x on allowed =
     let e : event.Step q ≡ event.Step p = ap (λ (z : Exchange). z.event) x in
     let same : q ≡ p = cc in
-    let shown : shown_step told ≡ said = ap (λ (z : Exchange). z.reply) x in
-    subst (λ (u : ℕ). IsGoing (after_step o q told) u) same (still_going o q told (ap goes_on shown ∙ on) (going_by o q allowed.0))
+    let shown : shown_step reported ≡ said = ap (λ (z : Exchange). z.reply) x in
+    subst (λ (u : ℕ). IsGoing (after_step o q reported) u) same (still_going o q reported (ap goes_on shown ∙ on) (going_by o q allowed.0))
 
 -- so after calls that are shown as one step
 going_after : (terms : RenameTerms) (o o' : RenameObject) (p : ℕ) (said : ShownReply) (calls : List DeskCall) → map exchange_of calls ≡ exchange (event.Step p) said ∷ [] → goes_on said ≡ true → Run after (Allows terms) o (rename_calls calls) o' → IsGoing o' p
@@ -103,8 +103,8 @@ spent_by o p due = elim (o.begun p) as (λ z. o.begun p ≡ z → o.spent p ≡ 
 
 spent_call : (terms : RenameTerms) (o : RenameObject) (p : ℕ) (h : Call StepReply) → exchange_of (Renamed h) ≡ exchange (event.Step p) (reply.Refused refusal.Spent) → Allows terms o h → (after o h).spent p ≡ true
 spent_call terms o p (Began q a) x allowed = absurd (let e : event.Begin q ≡ event.Step p = ap (λ (z : Exchange). z.event) x in cc)
-spent_call terms o p (Stepped q (Ok told)) x allowed = absurd (
-    let no : false ≡ true = sym (accepted told) ∙ ap (λ (z : Exchange). is_refusal z.reply) x in
+spent_call terms o p (Stepped q (Ok reported)) x allowed = absurd (
+    let no : false ≡ true = sym (accepted reported) ∙ ap (λ (z : Exchange). is_refusal z.reply) x in
     cc)
 spent_call terms o p (Stepped q (Err why)) x allowed =
     let e : event.Step q ≡ event.Step p = ap (λ (z : Exchange). z.event) x in
@@ -138,11 +138,11 @@ module _ (terms : RenameTerms) (bounds : SnapBounds) (size : ℕ) (r : List Exch
   spent_in : (p : ℕ) → o.spent p ≡ true → WasSpent p r
   spent_in p h = elim (was_spent terms new_object o p run.calls run.names.run h) [
     | inl first ↦ absurd (let two : false ≡ true = first in cc)
-    | inr told ↦ subst (λ (x : List Exchange). WasSpent p x) run.spelled told
+    | inr reported ↦ subst (λ (x : List Exchange). WasSpent p x) run.spelled reported
   ]
 
   in_spent : (p : ℕ) → WasSpent p r → o.spent p ≡ true
-  in_spent p told = has_spent terms new_object o p run.calls run.names.run (subst (λ (x : List Exchange). WasSpent p x) (sym run.spelled) told)
+  in_spent p reported = has_spent terms new_object o p run.calls run.names.run (subst (λ (x : List Exchange). WasSpent p x) (sym run.spelled) reported)
 
   many : o.many ≡ begun_in r
   many = many_is terms bounds size r run
@@ -192,6 +192,6 @@ names_soon_among terms bounds size r run = record {
   few = few terms bounds size r run;
   ended = λ b p l. ended terms bounds size r run b l p;
   early = λ b p before said l. early terms bounds size r run b l p before said;
-  unspent = λ b p l under told. never_spent terms bounds size r run b l p under (in_spent terms bounds size r run p told);
-  unrefused = λ b p l under told. never_spent terms bounds size r run b l p under (refused_spent terms new_object run.names.object p run.calls run.names.run (subst (λ (x : List Exchange). IsAmong (exchange (event.Step p) (reply.Refused refusal.Spent)) x) (sym run.spelled) told));
+  unspent = λ b p l under reported. never_spent terms bounds size r run b l p under (in_spent terms bounds size r run p reported);
+  unrefused = λ b p l under reported. never_spent terms bounds size r run b l p under (refused_spent terms new_object run.names.object p run.calls run.names.run (subst (λ (x : List Exchange). IsAmong (exchange (event.Step p) (reply.Refused refusal.Spent)) x) (sym run.spelled) reported));
 }

@@ -1,4 +1,4 @@
--- an event is refused, want of memory aside, just as the desk says beforehand
+-- an event is refused, failed allocations aside, just as the desk says beforehand
 use Rattle.std.proofs.Common.{◌≡◌, ◌↔◌, ℕ, List, Option, Some, None, Result, Ok, Err, IsOk, refl}
 use Rattle.desk.proofs.Common.{Refusal, begin_refusal, done_unless, KnownPlaces, StepReply, Quiet, Event, DeskState}
 use Rattle.step_memory.specs.Participant.{program_of}
@@ -23,7 +23,7 @@ use Rattle.desk.specs.DeskRules.{fetched, refusal_of, refusal_over, reply_over}
 
 -- this reply is a refusal just where there is a reason for one
 abbrev IsSaid : ShownReply → Option Refusal → Type 0
-IsSaid told said = (why : Refusal) → (told ≡ Refused why) ↔ (said ≡ Some why)
+IsSaid reported said = (why : Refusal) → (reported ≡ Refused why) ↔ (said ≡ Some why)
 
 said_done : (o : Option Refusal) → IsSaid (done_reply (done_unless o)) o
 said_done None why = (λ e. cc, λ e. cc)
@@ -58,8 +58,8 @@ no_refused_step said why e = cc
 said_step : (answer : Result StepReply Refusal) (due : Option Refusal) → (due ≡ None → IsOk answer) → ((why : Refusal) → due ≡ Some why → answer ≡ Err why) → IsSaid (step_reply answer) due
 said_step (Ok said) None ok err why = (λ e. absurd (no_refused_step said why e), λ e. cc)
 said_step (Ok said) (Some due) ok err why = absurd (let e = err due refl in cc)
-said_step (Err told) None ok err why = absurd (let e = ok refl in cc)
-said_step (Err told) (Some due) ok err why = let same = err due refl in (λ e. cc, λ e. cc)
+said_step (Err reported) None ok err why = absurd (let e = ok refl in cc)
+said_step (Err reported) (Some due) ok err why = let same = err due refl in (λ e. cc, λ e. cc)
 
 -- a step that its round refuses is refused so
 module _ {S R V U K : Type 0} (W : KnownPlaces S R V U K) (w : RenameState S U K) (p : ℕ) where

@@ -34,22 +34,22 @@ abbrev pub desk_grows : DeskValue → Event → Bool
 desk_grows (OverGrid w) e = false
 desk_grows (OverTree w) e = grows_over tree_places w e
 
--- the one reply to an event and the one desk after it; over a tree want of memory instead, at a step of which nothing else
+-- the one reply to an event and the one desk after it; over a tree an allocation failure instead, at a step of which nothing else
 -- is due
 abbrev pub desk_rules : Rules DeskValue
 desk_rules = record { reply = desk_reply; after = desk_after; grows = desk_grows }
 
--- why an event would be refused, want of memory aside
+-- why an event would be refused, failed allocations aside
 abbrev pub desk_refusal : DeskValue → Event → Option Refusal
 desk_refusal (OverGrid w) e = refusal_over w e
 desk_refusal (OverTree w) e = refusal_over w e
 
 -- what is told of a number, where names are from 1 to 2m - 1
-abbrev pub owner_told : ℕ → ℕ → Option ℕ → ShownReply
-owner_told most number owner = if (number == 0) || nat_le (2 * most) number then reply.Refused refusal.OutOfRange else reply.Owner owner
+abbrev pub owner_reported : ℕ → ℕ → Option ℕ → ShownReply
+owner_reported most number owner = if (number == 0) || nat_le (2 * most) number then reply.Refused refusal.OutOfRange else reply.Owner owner
 
 abbrev pub owner_over : {S U K : Type 0} → DeskState S U K → ℕ → ShownReply
-owner_over w number = owner_told w.names.snap.most number (owner_by number w.names.rounds)
+owner_over w number = owner_reported w.names.snap.most number (owner_by number w.names.rounds)
 
 -- who has a name, as a desk tells it
 abbrev pub owner_reply : DeskValue → ℕ → ShownReply

@@ -43,7 +43,7 @@ module _ {S U K : Type 0} where
     slots = record { pool = fresh_pool size; values = replicate size 0 };
   }
 
-  -- why an event would be refused, want of memory aside
+  -- why an event would be refused, failed allocations aside
   abbrev pub refusal_over : DeskState S U K → Event → Option Refusal
   refusal_over w (Begin p) = begin_refusal w.names.snap p
   refusal_over w (Step p) = step_refusal w.names p

@@ -44,12 +44,12 @@ DeskKeepsRuns = (c : Config) (w : DeskValue) (calls : List DeskCall) → IsAfter
 
 -- what a desk tells of a name is right after these exchanges
 abbrev pub TellsOwners : DeskValue → ℕ → ShownReply → Type 0
-TellsOwners w n told = (c : Config) (calls : List DeskCall) → IsAfterDesk c w calls → IsOwnerReply c.m (map exchange_of calls) n told
+TellsOwners w n reported = (c : Config) (calls : List DeskCall) → IsAfterDesk c w calls → IsOwnerReply c.m (map exchange_of calls) n reported
 
 abbrev pub DeskTellsOwners : Type 0
 DeskTellsOwners = (w : DeskValue) (n : ℕ) → TellsOwners w n (owner_reply w n)
 
--- an event is refused, want of memory aside, just as the desk says beforehand
+-- an event is refused, failed allocations aside, just as the desk says beforehand
 abbrev pub RefusesAsSaid : DeskValue → Event → Type 0
 RefusesAsSaid w e = (c : Config) (calls : List DeskCall) → IsAfterDesk c w calls → (why : Refusal) → (desk_reply w e ≡ reply.Refused why) ↔ (desk_refusal w e ≡ Some why)
 

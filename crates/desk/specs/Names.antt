@@ -40,12 +40,12 @@ pub record IsNumber (most n : ℕ) : Type 0 where
   pub small : n ≤ 2 * most - 1
 
 -- the reply tells who was given the name among the exchanges, or that it was given to nobody
-pub record TellsOwner (r : List Exchange) (n : ℕ) (told : ShownReply) : Type 0 where
+pub record TellsOwner (r : List Exchange) (n : ℕ) (reported : ShownReply) : Type 0 where
   pub owner : Option ℕ
-  pub is : told ≡ reply.Owner owner
+  pub is : reported ≡ reply.Owner owner
   pub given : IsOwnerIn r n owner
 
 -- the right answer, after these exchanges, to who has a name: a refusal exactly where names don't reach there
-pub record IsOwnerReply (most : ℕ) (r : List Exchange) (n : ℕ) (told : ShownReply) : Type 0 where
-  pub out_of_range : (IsNumber most n → ⊥) → told ≡ reply.Refused refusal.OutOfRange
-  pub in_range : IsNumber most n → TellsOwner r n told
+pub record IsOwnerReply (most : ℕ) (r : List Exchange) (n : ℕ) (reported : ShownReply) : Type 0 where
+  pub out_of_range : (IsNumber most n → ⊥) → reported ≡ reply.Refused refusal.OutOfRange
+  pub in_range : IsNumber most n → TellsOwner r n reported

@@ -5,7 +5,7 @@ use Rattle.commands.specs.declared.event.Event.{Event}
 use Rattle.commands.specs.Replies.{ShownReply}
 use Rattle.commands.specs.declared.reply.Reply.TheVariants as reply
 
--- the reply to an event and the state after it, and whether it may be refused for want of memory instead
+-- the reply to an event and the state after it, and whether it may be refused because an allocation failed instead
 pub record Rules (T : Type 0) : Type 0 where
   pub reply : T → Event → ShownReply
   pub after : T → Event → T

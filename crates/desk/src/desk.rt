@@ -72,7 +72,7 @@ impl<A: Allocator + Clone> Desk<A> {
         }
     }
 
-    /// Takes one event and answers it, by at most one access. A refusal changes nothing. Want of memory is answered only
+    /// Takes one event and answers it, by at most one access. A refusal changes nothing. an allocation failure is answered only
     /// where the step makes a node of a tree and nothing else is due; then the event may be asked again and is the same
     /// event.
     pub fn apply(&mut self, event: Event) -> Reply<View>
@@ -93,12 +93,12 @@ impl<A: Allocator + Clone> Desk<A> {
         }
     }
 
-    /// Why an event would be refused, want of memory aside. It changes nothing.
+    /// Why an event would be refused, failed allocations aside. It changes nothing.
     pub fn refusal(&self, event: Event) -> Option<Refusal>
         ensures value { result ≡ desk_refusal self.now event }
 
         // After every list of calls it is what `apply` would answer.
-        ensures told { RefusesAsSaid self.now event }
+        ensures reported { RefusesAsSaid self.now event }
     {
         match &self.parts {
             Parts::Grid(desk) => desk.refusal(event),
@@ -173,7 +173,7 @@ impl<A: Allocator + Clone> Desk<A> {
         ensures value { result ≡ owner_reply self.now number }
 
         // It is who was given the name, among the exchanges of the events so far.
-        ensures told { TellsOwners self.now number result }
+        ensures reported { TellsOwners self.now number result }
     {
         match &self.parts {
             Parts::Grid(desk) => desk.owner(number),

@@ -9,10 +9,10 @@
 //!
 //! What is proved, over every list of events: each reply is the one that the renaming world, the pool or the slots give
 //! (`Desk::apply`: one reply and one desk after it, or, only over a tree where a step makes a node and nothing else is due,
-//! want of memory with nothing changed); the exchanges, events with their replies, are a *run*, which the renaming object,
+//! an allocation failure with nothing changed); the exchanges, events with their replies, are a *run*, which the renaming object,
 //! the pool and the slots, begun fresh, can answer in order, within their counts of steps (`law_of_desk`: `law`); and so,
 //! among the exchanges, nobody was given two names, no two were given one, and each name is from 1 to 2b - 1 where b have
-//! begun (`law_of_names`). Who is told to have a name is who was given it (`Desk::owner`: `told`). What an event would be
+//! begun (`law_of_names`). Who is told to have a name is who was given it (`Desk::owner`: `reported`). What an event would be
 //! refused is said beforehand (`Desk::refusal`).
 //!
 //! A reply may show a view, which takes a kilobyte. Where events are many, `Desk::apply_short` answers in a few bytes and puts

@@ -88,7 +88,7 @@ impl<W: RenamePlaces<A>, A: Allocator> DeskOver<W, A> {
         self.names.name_of(id)
     }
 
-    /// Why an event would be refused, want of memory aside.
+    /// Why an event would be refused, failed allocations aside.
     pub(crate) fn refusal(&self, event: Event) -> Option<Refusal>
         ensures { result ≡ refusal_over self.now event }
     {

@@ -11,4 +11,4 @@ pub use Rattle.command_lines.specs.Events.{event_words, event_lines}
 pub use Rattle.command_lines.specs.Written.{HasPartOf}
 pub use Rattle.drawn_schedules.specs.declared.tally.Tally.{Tally}
 pub use Rattle.drawn_schedules.specs.Schedule.{begins_from, opened, schedule, steps_drawn}
-pub use Rattle.drawn_schedules.specs.Runs.{PlaysFrom, HasDrawn, IsToldOf}
+pub use Rattle.drawn_schedules.specs.Runs.{PlaysFrom, HasDrawn, IsReportedOf}

@@ -16,7 +16,7 @@ use Rattle.desk.specs.DeskValue.{DeskValue}
 use Rattle.desk.specs.Names.{begun_in, begun_more}
 use Rattle.desk.specs.Rules.{may_by}
 use Rattle.desk.proofs.DeskLaws.{fresh, goes_on, law}
-use Rattle.drawn_schedules.specs.Runs.{IsAmple, HasPlayed, PlaysFrom, IsDrawnRun, AreDrawnRuns, HasDrawn, IsToldOf, numbers_line, run_line, run_lines}
+use Rattle.drawn_schedules.specs.Runs.{IsAmple, HasPlayed, PlaysFrom, IsDrawnRun, AreDrawnRuns, HasDrawn, IsReportedOf, numbers_line, run_line, run_lines}
 use Rattle.drawn_schedules.proofs.UnderWayLemmas.{at_first}
 use Rattle.drawn_schedules.specs.Tally.{IsTallyOf, how_many, is_named, is_spent, one_more_if}
 
@@ -162,8 +162,8 @@ module _ (config : Config) (seed ids n : ℕ) where
         runs = has.runs ++ r ∷ [];
         drawn = drawn_push 0 has.runs r has.drawn (subst (λ (i : ℕ). IsDrawnRun config ((seed + i) % 2 ^ 64) ids n r) (sym number ∙ sym zero_and) run);
         count_is = length-append has.runs (r ∷ []) ∙ ap (λ i. i + 1) number;
-        told =
-            let way = has.told in
+        reported =
+            let way = has.reported in
             let whole : run_lines 0 has.runs ++ run_line (length has.runs) r ≡ way.written ++ (held' ++ []) =
             ap (λ l. l ++ run_line (length has.runs) r) (way.whole ∙ ap (λ l. way.written ++ l) (append-nil held))
             ∙ append_assoc way.written held (run_line (length has.runs) r)
@@ -176,28 +176,28 @@ module _ (config : Config) (seed ids n : ℕ) where
       }
 
   -- what is told of the lines is told otherwise
-  pub told_otherwise : (count : ℕ) (P Q : List ℕ → Type 0) → HasDrawn config seed ids n count P → ((text : List ℕ) → P text → Q text) → HasDrawn config seed ids n count Q
-  told_otherwise count P Q has weaker = record { runs = has.runs; drawn = has.drawn; count_is = has.count_is; told = weaker (run_lines 0 has.runs) has.told }
+  pub reported_otherwise : (count : ℕ) (P Q : List ℕ → Type 0) → HasDrawn config seed ids n count P → ((text : List ℕ) → P text → Q text) → HasDrawn config seed ids n count Q
+  reported_otherwise count P Q has weaker = record { runs = has.runs; drawn = has.drawn; count_is = has.count_is; reported = weaker (run_lines 0 has.runs) has.reported }
 
   -- before the first run
   pub no_run_yet : (before : Option (List ℕ)) (held : List ℕ) → held ≡ [] → HasDrawn config seed ids n 0 (λ text. IsUnderWay text before before held [])
-  no_run_yet before held none = record { runs = []; drawn = tt; count_is = refl; told = rw none (at_first [] before) }
+  no_run_yet before held none = record { runs = []; drawn = tt; count_is = refl; reported = rw none (at_first [] before) }
 
 -- the numbers of one run more are told
-pub told_one_more : (config : Config) (seed ids n first i : ℕ) (tallies : List (Option Tally)) (told : Option Tally) → i < length tallies → IsToldOf config seed ids n (first + i) told →
-    ((k : ℕ) (d : Option Tally) → k < i → IsToldOf config seed ids n (first + k) (get_or tallies k d)) → (k : ℕ) (d : Option Tally) → k < i + 1 → IsToldOf config seed ids n (first + k) (get_or (set tallies i told) k d)
-told_one_more config seed ids n first i tallies told inside here before k d low = elim (eqb_tells k i) [
-  | inl e ↦ subst (IsToldOf config seed ids n (first + k)) (sym (get_or-set_at tallies i k told d e.1 inside)) (subst (λ (j : ℕ). IsToldOf config seed ids n (first + j) told) (sym e.1) here)
-  | inr e ↦ subst (IsToldOf config seed ids n (first + k)) (sym (get_or-set_other tallies i k told d e.1)) (before k d (let other = e.1 in le_and_other k i low other))
+pub reported_one_more : (config : Config) (seed ids n first i : ℕ) (tallies : List (Option Tally)) (reported : Option Tally) → i < length tallies → IsReportedOf config seed ids n (first + i) reported →
+    ((k : ℕ) (d : Option Tally) → k < i → IsReportedOf config seed ids n (first + k) (get_or tallies k d)) → (k : ℕ) (d : Option Tally) → k < i + 1 → IsReportedOf config seed ids n (first + k) (get_or (set tallies i reported) k d)
+reported_one_more config seed ids n first i tallies reported inside here before k d low = elim (eqb_tells k i) [
+  | inl e ↦ subst (IsReportedOf config seed ids n (first + k)) (sym (get_or-set_at tallies i k reported d e.1 inside)) (subst (λ (j : ℕ). IsReportedOf config seed ids n (first + j) reported) (sym e.1) here)
+  | inr e ↦ subst (IsReportedOf config seed ids n (first + k)) (sym (get_or-set_other tallies i k reported d e.1)) (before k d (let other = e.1 in le_and_other k i low other))
 ]
   where
     le_and_other : (a b : ℕ) → a < b + 1 → a ≢ b → a < b
     le_and_other a b l n = grind (arith, l, n)
 
 -- the numbers of a run that was made are told
-pub told_if_made : {E : Type 0} (config : Config) (seed ids n j : ℕ) (made : Result Tally E) → IfOk made (λ t. (r : List Exchange) × IsDrawnRun config ((seed + j) % 2 ^ 64) ids n r × IsTallyOf r t) → IsToldOf config seed ids n j (result_ok made)
-told_if_made config seed ids n j (Ok t) h = h
-told_if_made config seed ids n j (Err e) h = tt
+pub reported_if_made : {E : Type 0} (config : Config) (seed ids n j : ℕ) (made : Result Tally E) → IfOk made (λ t. (r : List Exchange) × IsDrawnRun config ((seed + j) % 2 ^ 64) ids n r × IsTallyOf r t) → IsReportedOf config seed ids n j (result_ok made)
+reported_if_made config seed ids n j (Ok t) h = h
+reported_if_made config seed ids n j (Err e) h = tt
 
 -- what a vector holds once all its places are written
 pub written_all : {X : Type 0} (n : ℕ) (xs ys : List X) → length xs ≡ n → take n (xs ++ ys) ≡ xs

@@ -31,7 +31,7 @@ second_half this that old mid held held' none past =
     subst (λ (l : List ℕ). IsUnderWay (this ++ that) old mid held' l) (sym (append-nil that))
     (past (this ++ that) that old (subst (λ (l : List ℕ). IsUnderWay (this ++ that) old old l (this ++ that)) (sym none) (at_first (this ++ that) old)))
 
--- what is written of it is a beginning
+-- what is written of it is a prefix
 pub part_written : (text : List ℕ) (before now : Option (List ℕ)) (held rest : List ℕ) → IsUnderWay text before now held rest → HasPartOf before now text
 part_written text before now held rest way =
     let all = ap length way.whole in

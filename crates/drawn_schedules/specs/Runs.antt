@@ -44,12 +44,12 @@ pub record IsDrawnRun (config : Config) (seed ids n : ℕ) (r : List Exchange) :
   pub after : IsAfterDesk config last calls
 
 -- these are the numbers of the run of this number; none says nothing of it
-abbrev pub IsToldOf : Config → ℕ → ℕ → ℕ → ℕ → Option Tally → Type 0
-IsToldOf config seed ids n j told = IfSome told (λ t. (r : List Exchange) × IsDrawnRun config ((seed + j) % 2 ^ 64) ids n r × IsTallyOf r t)
+abbrev pub IsReportedOf : Config → ℕ → ℕ → ℕ → ℕ → Option Tally → Type 0
+IsReportedOf config seed ids n j reported = IfSome reported (λ t. (r : List Exchange) × IsDrawnRun config ((seed + j) % 2 ^ 64) ids n r × IsTallyOf r t)
 
 -- and these, of the runs from number 0 on
-abbrev pub AreTold : Config → ℕ → ℕ → ℕ → List (Option Tally) → Type 0
-AreTold config seed ids n tallies = (i : ℕ) (d : Option Tally) → i < length tallies → IsToldOf config seed ids n i (slice_index_or tallies i d)
+abbrev pub AreReported : Config → ℕ → ℕ → ℕ → List (Option Tally) → Type 0
+AreReported config seed ids n tallies = (i : ℕ) (d : Option Tally) → i < length tallies → IsReportedOf config seed ids n i (slice_index_or tallies i d)
 
 -- the line of a run: its number, and how many have begun, were named and were spent
 abbrev pub numbers_line : ℕ → ℕ → ℕ → ℕ → List ℕ
@@ -70,12 +70,12 @@ run_lines j [] = []
 run_lines j (r ∷ rs) = run_line j r ++ run_lines (j + 1) rs
 
 -- so many runs were made, and this is so of the text of their lines
-pub record HasDrawn (config : Config) (seed ids n count : ℕ) (Told : List ℕ → Type 0) : Type 0 where
+pub record HasDrawn (config : Config) (seed ids n count : ℕ) (Reported : List ℕ → Type 0) : Type 0 where
   pub runs : List (List Exchange)
   pub drawn : AreDrawnRuns config seed ids n 0 runs
   pub count_is : length runs ≡ count
-  pub told : Told (run_lines 0 runs)
+  pub reported : Reported (run_lines 0 runs)
 
--- at most so many runs were made, of whose lines the writer has gained a beginning
+-- at most so many runs were made, of whose lines the writer has gained a prefix
 abbrev pub HasDrawnPart : Config → ℕ → ℕ → ℕ → ℕ → Option (List ℕ) → Option (List ℕ) → Type 0
 HasDrawnPart config seed ids n most before now = (count : ℕ) × (count ≤ most) × HasDrawn config seed ids n count (HasPartOf before now)

@@ -3,7 +3,7 @@
 ghost use Rattle.std.specs.Prelude.{◌≡◌, ◌<◌, ◌≤◌, ◌+◌, ◌^◌, ◌⊎◌, ℕ, Option, Err, true, length, slice_index_or, IfErr, OnOk, OnErr};
 ghost use Rattle.std.specs.Io.KnownBytes.{Appends};
 ghost use Rattle.commands.specs.Config.{gives_names};
-ghost use Rattle.drawn_schedules.specs.Runs.{HasDrawn, HasDrawnPart, IsToldOf};
+ghost use Rattle.drawn_schedules.specs.Runs.{HasDrawn, HasDrawnPart, IsReportedOf};
 ghost use Rattle.drawn_schedules.specs.declared.tally.Tally.{Tally};
 
 use crate::runs::{play_schedules, play_share, write_tallies};
@@ -45,7 +45,7 @@ fn play_shares<R: Threads + Sync>(
     requires names { gives_names config.world ≡ true }
     requires steps { plan.steps + 64 < 2 ^ 64 }
     requires long { length tallies.old < 2 ^ 64 }
-    ensures told { (i : ℕ) (d : Option Tally) → i < length tallies.old → IsToldOf config plan.seed plan.ids plan.steps i (slice_index_or tallies.new i d) }
+    ensures reported { (i : ℕ) (d : Option Tally) → i < length tallies.old → IsReportedOf config plan.seed plan.ids plan.steps i (slice_index_or tallies.new i d) }
     ensures len { length tallies.new ≡ length tallies.old }
 {
     thread::for_each_chunk_mut(

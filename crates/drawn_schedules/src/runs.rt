@@ -7,7 +7,7 @@ ghost use Rattle.commands.specs.declared.exchange.Exchange.{Exchange};
 ghost use Rattle.commands.specs.Config.{gives_names};
 ghost use Rattle.desk.specs.Desk.{IsFreshDesk};
 ghost use Rattle.drawn_schedules.specs.Schedule.{begins_from, opened, steps_drawn};
-ghost use Rattle.drawn_schedules.specs.Runs.{AreTold, HasDrawn, HasDrawnPart, IsDrawnRun, IsToldOf, PlaysFrom, numbers_line};
+ghost use Rattle.drawn_schedules.specs.Runs.{AreReported, HasDrawn, HasDrawnPart, IsDrawnRun, IsReportedOf, PlaysFrom, numbers_line};
 ghost use Rattle.drawn_schedules.specs.Tally.{IsTallyOf};
 ghost use Rattle.drawn_schedules.specs.declared.tally.Tally.{Tally};
 
@@ -211,7 +211,7 @@ pub(crate) fn play_share<A: Allocator + Clone>(
     requires names { gives_names config.world ≡ true }
     requires steps { plan.steps + 64 < 2 ^ 64 }
     requires last { first + length tallies.old < 2 ^ 64 }
-    ensures { (i : ℕ) (d : Option Tally) → i < length tallies.old → IsToldOf config plan.seed plan.ids plan.steps (first + i) (slice_index_or tallies.new i d) }
+    ensures { (i : ℕ) (d : Option Tally) → i < length tallies.old → IsReportedOf config plan.seed plan.ids plan.steps (first + i) (slice_index_or tallies.new i d) }
 {
     let mut arena = Bump::new(alloc);
     for i in 0..tallies.len() {
@@ -234,9 +234,9 @@ pub(crate) fn write_tallies<A: Allocator, W: Sink>(
     writer: &mut W,
 ) -> Result<(), Fault>
     requires writes { W.calls writer.old < 2 ^ 64 }
-    ensures ok { OnOk result ((config : Config) (seed ids n : ℕ) → AreTold config seed ids n tallies.now →
+    ensures ok { OnOk result ((config : Config) (seed ids n : ℕ) → AreReported config seed ids n tallies.now →
         HasDrawn config seed ids n (length tallies.now) (Appends (W.contents writer.old) (W.contents writer.new))) }
-    ensures part { OnErr result ((config : Config) (seed ids n : ℕ) → AreTold config seed ids n tallies.now →
+    ensures part { OnErr result ((config : Config) (seed ids n : ℕ) → AreReported config seed ids n tallies.now →
         HasDrawnPart config seed ids n (length tallies.now) (W.contents writer.old) (W.contents writer.new)) }
     ensures only { IfErr result (λ fault. (fault ≡ Fault.Write) ⊎ (fault ≡ Fault.Memory)) }
     ensures failed { result ≡ Err Fault.Write → W.failed writer.old < W.failed writer.new }

@@ -116,7 +116,7 @@ fn draw_steps<A: Allocator, W: Sink>(
 /// generator `Lcg64Xsh32` of the seed modulo `ids` (this project's profile).
 ///
 /// `Fault::Memory` where its buffer was refused, with nothing written; `Fault::Write` where the writer failed or took nothing,
-/// with a beginning of the text written.
+/// with a prefix of the text written.
 pub fn draw_schedule<A: Allocator, W: Sink>(
     alloc: A,
     plan: Schedule,

@@ -15,7 +15,7 @@ module _ {C : Type 0} (on : Seating C) (slots : SlotsState ℕ) where
   seat_unasked (Some c) = (inl refl, refl, refl)
 
   pub seat_answered : (Due : C → Type 0) (key : ℕ) (seats : List (Option C)) (was is : C) → key < length seats → get_or seats key None ≡ Some was → Due was → (Due is → ⊥) →
-      MayAnswer slots (on.wire was) (on.wire is) → on.left is ≡ on.left was → on.gone is ≡ on.gone was → SeatAnswered on slots Due key seats (set seats key (Some is))
+      MayAnswer slots (on.buffers was) (on.buffers is) → on.left is ≡ on.left was → on.gone is ≡ on.gone was → SeatAnswered on slots Due key seats (set seats key (Some is))
   seat_answered Due key seats was is below there due done answers unread unsent = record {
     was = was;
     is = is;

@@ -3,8 +3,8 @@ use Rattle.std.proofs.Common.{◌≡◌, ◌⊎◌, inl, inr, ℕ, ◌+◌, ◌<
 use Rattle.std.proofs.lemmas.List.{get_or-take, length-take-le}
 use Rattle.event_server.proofs.Common.{cases_eq, SeatIs, EachIs}
 use Rattle.event_server.specs.Seats.{Seating, Served}
-use Rattle.event_server.specs.Wires.{HasTakenAll}
-use Rattle.event_server.proofs.ToldLemmas.{IsFirst, last}
+use Rattle.event_server.specs.ConnectionBuffers.{HasTakenAll}
+use Rattle.event_server.proofs.ReportedLemmas.{IsFirst, last}
 use Rattle.event_server.specs.declared.connection.Stage.{Stage}
 use Rattle.event_server.specs.declared.connection.Stage.TheVariants as stage
 
@@ -77,9 +77,9 @@ module _ {C : Type 0} where
       ]
 
   -- whoever was due and is not any more is not as before
-  pub same_served : (on : Seating C) (Due : C → Type 0) (keys : List ℕ) (seats seats' : List (Option C)) → EachIs (λ c. Due c → ⊥) keys seats' → SameOrIs (λ c. HasTakenAll (on.wire c)) seats seats' →
+  pub same_served : (on : Seating C) (Due : C → Type 0) (keys : List ℕ) (seats seats' : List (Option C)) → EachIs (λ c. Due c → ⊥) keys seats' → SameOrIs (λ c. HasTakenAll (on.buffers c)) seats seats' →
       Served on Due keys seats seats'
-  same_served on Due keys seats seats' done so i c among there due = elim (so i) as (λ _. SeatIs (λ d. HasTakenAll (on.wire d)) (get_or seats' i None)) [
+  same_served on Due keys seats seats' done so i c among there due = elim (so i) as (λ _. SeatIs (λ d. HasTakenAll (on.buffers d)) (get_or seats' i None)) [
     | inl same ↦ absurd (let not : SeatIs (λ d. Due d → ⊥) (Some c) = subst (λ (x : Option C). SeatIs (λ d. Due d → ⊥) x) (same ∙ there) (done i among) in not due)
     | inr is ↦ is
   ]

@@ -14,10 +14,10 @@ pub use Rattle.player.specs.Shared.{TurnLog, turns_of, tagged}
 pub use Rattle.player.specs.SharedProofs.{all-append, all-tagged, of-append, of-same, of-other}
 pub use Rattle.player.specs.Turns.{Turn}
 pub use Rattle.event_server.specs.Seats.{Seating, SeatIs, SeatIdle, EachIs, seats_of}
-pub use Rattle.event_server.specs.WireState.{WireState}
-pub use Rattle.event_server.specs.Gathering.{Gathered, SeatAsks, SeatBroken, SeatLooked}
-pub use Rattle.event_server.specs.Told.{HasLooked, SeatLines, all_lines, bytes_of, requests_seen}
-pub use Rattle.event_server.specs.Wires.{TakesLooked}
-pub use Rattle.event_server.specs.declared.look.Look.{Look}
-pub use Rattle.event_server.specs.Rooms.{IsRoom}
-pub use Rattle.event_server.specs.declared.look.Limits.{Limits}
+pub use Rattle.event_server.specs.BuffersState.{BuffersState}
+pub use Rattle.event_server.specs.Gathering.{Gathered, SeatAsks, SeatBroken, SeatPeeked}
+pub use Rattle.event_server.specs.Reported.{HasPeeked, SeatLines, all_lines, bytes_of, requests_seen}
+pub use Rattle.event_server.specs.ConnectionBuffers.{TakesPeeked}
+pub use Rattle.event_server.specs.declared.peek.Peek.{Peek}
+pub use Rattle.event_server.specs.SharedBuffers.{AreShared}
+pub use Rattle.event_server.specs.declared.peek.Limits.{Limits}

@@ -1,26 +1,26 @@
 -- what is gathered of connections before their lines are taken
 use Rattle.std.proofs.Common.{◌≡◌, inl, inr, ℕ, ◌<◌, if◌then◌else◌, Bool, true, false, set, take, List, [], ◌++◌, length, get_or, Option, Some, None, refl, sym, ap, subst, ◌∙◌, append_assoc}
-use Rattle.event_server.proofs.Common.{append-nil, get_or-set_same, get_or-set_other, length-set, cases_eq, Consumes, Look, Turn, TurnLog, WireState, WorldKind, requests_seen, turns_of}
-use Rattle.event_server.specs.Told.{behind, bytes_of, ends_of, long_of, requests, requests_in}
+use Rattle.event_server.proofs.Common.{append-nil, get_or-set_same, get_or-set_other, length-set, cases_eq, Consumes, Peek, Turn, TurnLog, BuffersState, WorldKind, requests_seen, turns_of}
+use Rattle.event_server.specs.Reported.{behind, bytes_of, ends_of, long_of, requests, requests_in}
 use Rattle.std.proofs.KnownBytes.{Consumes-nil, Consumes-trans}
 use Rattle.event_server.specs.Seats.{NoneSent, Seating, SeatTakes}
 use Rattle.event_server.specs.Gathering.{GathersOf, SeatGathers, Gathered}
 
 -- these bytes came, and wait where it is at no fault
-pub gathers : (left left' : Option (List ℕ)) (came : List ℕ) (s s' : WireState) → Consumes left left' came → s'.talker ≡ s.talker → s'.outbox ≡ s.outbox → s'.ended ≡ s.ended →
+pub gathers : (left left' : Option (List ℕ)) (came : List ℕ) (s s' : BuffersState) → Consumes left left' came → s'.responder ≡ s.responder → s'.outbox ≡ s.outbox → s'.ended ≡ s.ended →
     (s'.broken ≡ false → (s'.inbox ≡ s.inbox ++ came) × (s.broken ≡ false)) → GathersOf left s left' s'
-gathers left left' came s s' gave talker outbox ended kept = record { came = came; gave = gave; talker_is = talker; outbox_is = outbox; ended_is = ended; kept = kept }
+gathers left left' came s s' gave responder outbox ended kept = record { came = came; gave = gave; responder_is = responder; outbox_is = outbox; ended_is = ended; kept = kept }
 
 -- nothing came
-pub gathers_none : (left left' : Option (List ℕ)) (s s' : WireState) → Consumes left left' [] → s'.talker ≡ s.talker → s'.outbox ≡ s.outbox → s'.ended ≡ s.ended →
+pub gathers_none : (left left' : Option (List ℕ)) (s s' : BuffersState) → Consumes left left' [] → s'.responder ≡ s.responder → s'.outbox ≡ s.outbox → s'.ended ≡ s.ended →
     (s'.broken ≡ false → (s'.inbox ≡ s.inbox) × (s.broken ≡ false)) → GathersOf left s left' s'
-gathers_none left left' s s' gave talker outbox ended kept = gathers left left' [] s s' gave talker outbox ended (λ h. let k = kept h in (k.0 ∙ sym (append-nil s.inbox), k.1))
+gathers_none left left' s s' gave responder outbox ended kept = gathers left left' [] s s' gave responder outbox ended (λ h. let k = kept h in (k.0 ∙ sym (append-nil s.inbox), k.1))
 
-pub gathers_more : (left mid left' : Option (List ℕ)) (s m s' : WireState) → GathersOf left s mid m → GathersOf mid m left' s' → GathersOf left s left' s'
+pub gathers_more : (left mid left' : Option (List ℕ)) (s m s' : BuffersState) → GathersOf left s mid m → GathersOf mid m left' s' → GathersOf left s left' s'
 gathers_more left mid left' s m s' a b = record {
   came = a.came ++ b.came;
   gave = Consumes-trans left mid left' a.came b.came a.gave b.gave;
-  talker_is = b.talker_is ∙ a.talker_is;
+  responder_is = b.responder_is ∙ a.responder_is;
   outbox_is = b.outbox_is ∙ a.outbox_is;
   ended_is = b.ended_is ∙ a.ended_is;
   kept = λ h.
@@ -32,7 +32,7 @@ gathers_more left mid left' s m s' a b = record {
 module _ {C : Type 0} (on : Seating C) where
   seat_gathers_none : (x : Option C) → SeatGathers on x x
   seat_gathers_none None = tt
-  seat_gathers_none (Some c) = (gathers_none (on.left c) (on.left c) (on.wire c) (on.wire c) (Consumes-nil (on.left c)) refl refl refl (λ h. (refl, h)), refl)
+  seat_gathers_none (Some c) = (gathers_none (on.left c) (on.left c) (on.buffers c) (on.buffers c) (Consumes-nil (on.left c)) refl refl refl (λ h. (refl, h)), refl)
 
   seat_gathers_more : (x y z : Option C) → SeatGathers on x y → SeatGathers on y z → SeatGathers on x z
   seat_gathers_more None None None a b = tt
@@ -40,7 +40,7 @@ module _ {C : Type 0} (on : Seating C) where
   seat_gathers_more None (Some c) z a b = absurd a
   seat_gathers_more (Some c) None z a b = absurd a
   seat_gathers_more (Some c) (Some d) None a b = b
-  seat_gathers_more (Some c) (Some d) (Some e) a b = (gathers_more (on.left c) (on.left d) (on.left e) (on.wire c) (on.wire d) (on.wire e) a.0 b.0, b.1 ∙ a.1)
+  seat_gathers_more (Some c) (Some d) (Some e) a b = (gathers_more (on.left c) (on.left d) (on.left e) (on.buffers c) (on.buffers d) (on.buffers e) a.0 b.0, b.1 ∙ a.1)
 
   pub gathered_none : (seats : List (Option C)) → Gathered on seats seats
   gathered_none seats = record { each = λ i. seat_gathers_none (get_or seats i None); many = refl }
@@ -53,14 +53,14 @@ module _ {C : Type 0} (on : Seating C) where
   sent_none turns c d (Some m) gathers takes = takes.1 ∙ gathers.1
 
   -- what is gathered and then taken sends nothing
-  pub none_sent_looked : (log : TurnLog) (seats mid seats' : List (Option C)) → Gathered on seats mid → ((i : ℕ) → SeatTakes on (turns_of i log) (get_or mid i None) (get_or seats' i None)) →
+  pub none_sent_peeked : (log : TurnLog) (seats mid seats' : List (Option C)) → Gathered on seats mid → ((i : ℕ) → SeatTakes on (turns_of i log) (get_or mid i None) (get_or seats' i None)) →
       NoneSent on seats seats'
-  none_sent_looked log seats mid seats' gathered takes i c d was is = sent_none (turns_of i log) c d (get_or mid i None)
+  none_sent_peeked log seats mid seats' gathered takes i c d was is = sent_none (turns_of i log) c d (get_or mid i None)
       (subst (λ (x : Option C). SeatGathers on x (get_or mid i None)) was (gathered.each i)) (subst (λ (x : Option C). SeatTakes on (turns_of i log) (get_or mid i None) x) is (takes i))
 
   -- one connection is gathered of where it sits
   pub gathered_at : (key : ℕ) (seats : List (Option C)) (was is : C) → key < length seats → get_or seats key None ≡ Some was →
-      GathersOf (on.left was) (on.wire was) (on.left is) (on.wire is) → on.gone is ≡ on.gone was → Gathered on seats (set seats key (Some is))
+      GathersOf (on.left was) (on.buffers was) (on.left is) (on.buffers is) → on.gone is ≡ on.gone was → Gathered on seats (set seats key (Some is))
   gathered_at key seats was is below there gathers unsent = record {
     each = λ i. elim (cases_eq i key) as (λ _. SeatGathers on (get_or seats i None) (get_or (set seats key (Some is)) i None)) [
       | inl same ↦ subst (λ (k : ℕ). SeatGathers on (get_or seats k None) (get_or (set seats key (Some is)) k None)) (sym same)
@@ -78,6 +78,6 @@ no_line kind true = refl
 no_line kind false = refl
 
 -- where no byte was looked at, and no end, nothing was seen
-pub none_seen : (kind : WorldKind) (s : WireState) (look : Option Look) → bytes_of look ≡ 0 → ends_of look ≡ false → requests_seen kind s look ≡ []
-none_seen kind s look bytes ends = elim s.talker.over as (λ over. (if over then [] else requests_in kind (long_of look) (take (bytes_of look) s.inbox) (ends_of look)) ≡ [])
-    [ true ↦ refl | false ↦ rw (bytes, ends) (no_line kind (long_of look)) ]
+pub none_seen : (kind : WorldKind) (s : BuffersState) (peek : Option Peek) → bytes_of peek ≡ 0 → ends_of peek ≡ false → requests_seen kind s peek ≡ []
+none_seen kind s peek bytes ends = elim s.responder.over as (λ over. (if over then [] else requests_in kind (long_of peek) (take (bytes_of peek) s.inbox) (ends_of peek)) ≡ [])
+    [ true ↦ refl | false ↦ rw (bytes, ends) (no_line kind (long_of peek)) ]

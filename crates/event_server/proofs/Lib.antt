@@ -1,9 +1,9 @@
 mod Common
-mod WireLemmas
+mod BuffersLemmas
 mod SeatLemmas
 mod AnswerLemmas
 mod GatherLemmas
-mod LookLemmas
-mod ToldLemmas
+mod PeekLemmas
+mod ReportedLemmas
 mod CallLemmas
 mod RoundLemmas

@@ -1,13 +1,13 @@
 -- what a server does, one thing after another
 use Rattle.std.proofs.Common.{◌≡◌, ◌⊎◌, inl, inr, ℕ, List, [], ◌∷◌, ◌++◌, Option, Result, Ok, Err, IfOk, OnErr, OnOk, is_ok, true, take, refl, subst}
-use Rattle.event_server.proofs.Common.{Request, ShownReply, Look, WorldKind}
+use Rattle.event_server.proofs.Common.{Request, ShownReply, Peek, WorldKind}
 use Rattle.player.specs.Shared.{all_turns}
-use Rattle.event_server.specs.Gathering.{TurnAhead}
+use Rattle.event_server.specs.Gathering.{PrefetchedIteration}
 use Rattle.event_server.specs.declared.gathering.Called.{Called}
 use Rattle.event_server.specs.declared.gathering.Called.TheVariants as called
 use Rattle.event_server.specs.Rounds.{AllDone, Deed, WasServed}
-use Rattle.event_server.specs.Rounds.Deed.{Waits, Learns, Serves}
-use Rattle.event_server.specs.Seats.{LoopTurn, Seating, ServedTurn}
+use Rattle.event_server.specs.Rounds.Deed.{Waits, Prefetches, Serves}
+use Rattle.event_server.specs.Seats.{LoopIteration, Seating, ServedIteration}
 
 -- what is so is so where a call went well
 pub always : {T E : Type 0} (result : Result T E) (P : Type 0) → P → OnOk result P
@@ -19,50 +19,50 @@ pub always_wrong : {T E : Type 0} (result : Result T E) (P : Type 0) → P → O
 always_wrong (Ok done) P is = tt
 always_wrong (Err fault) P is = is
 
-module _ {T K : Type 0} (may : T → Request → ShownReply → T → Type 0) (learns : K → T → List ℕ → K → T → Type 0) (keeps waits : K → T → K → T → Type 0) where
+module _ {T K : Type 0} (may : T → Request → ShownReply → T → Type 0) (prefetches : K → T → List ℕ → K → T → Type 0) (persists waits : K → T → K → T → Type 0) where
   -- nothing was done
-  pub served_none : (k : K) (w : T) → WasServed may learns keeps waits k w k w
+  pub served_none : (k : K) (w : T) → WasServed may prefetches persists waits k w k w
   served_none k w = ([], (refl, refl))
 
-  -- the keeper went on by itself
-  pub served_waits : (k l : K) (w u : T) → waits k w l u → WasServed may learns keeps waits k w l u
+  -- the persister went on by itself
+  pub served_waits : (k l : K) (w u : T) → waits k w l u → WasServed may prefetches persists waits k w l u
   served_waits k l w u done = (Waits ∷ [], (l, u, done, (refl, refl)))
 
-  pub served_maybe : (k l : K) (w u : T) → ((l ≡ k) × (u ≡ w)) ⊎ waits k w l u → WasServed may learns keeps waits k w l u
+  pub served_maybe : (k l : K) (w u : T) → ((l ≡ k) × (u ≡ w)) ⊎ waits k w l u → WasServed may prefetches persists waits k w l u
   served_maybe k l w u (inl same) = ([], same)
   served_maybe k l w u (inr done) = served_waits k l w u done
 
   -- one thing was done after another
-  done_then : (xs ys : List Deed) (k mid l : K) (w then u : T) → AllDone may learns keeps waits k w xs mid then → AllDone may learns keeps waits mid then ys l u → AllDone may learns keeps waits k w (xs ++ ys) l u
-  done_then [] ys k mid l w then u one two = subst (λ (m : K). AllDone may learns keeps waits m w ys l u) one.0 (subst (λ (v : T). AllDone may learns keeps waits mid v ys l u) one.1 two)
+  done_then : (xs ys : List Deed) (k mid l : K) (w then u : T) → AllDone may prefetches persists waits k w xs mid then → AllDone may prefetches persists waits mid then ys l u → AllDone may prefetches persists waits k w (xs ++ ys) l u
+  done_then [] ys k mid l w then u one two = subst (λ (m : K). AllDone may prefetches persists waits m w ys l u) one.0 (subst (λ (v : T). AllDone may prefetches persists waits mid v ys l u) one.1 two)
   done_then (x ∷ xs) ys k mid l w then u one two = (one.0, one.1, one.2, done_then xs ys one.0 mid l one.1 then u one.3 two)
 
-  pub served_then : (k mid l : K) (w then u : T) → WasServed may learns keeps waits k w mid then → WasServed may learns keeps waits mid then l u → WasServed may learns keeps waits k w l u
+  pub served_then : (k mid l : K) (w then u : T) → WasServed may prefetches persists waits k w mid then → WasServed may prefetches persists waits mid then l u → WasServed may prefetches persists waits k w l u
   served_then k mid l w then u one two = (one.0 ++ two.0, done_then one.0 two.0 k mid l w then u one.1 two.1)
 
   module _ {C : Type 0} (on : Seating C) where
     -- a turn of the loop
-    pub served_turn : (k l : K) (w u : T) (seats seats' : List (Option C)) → LoopTurn on may keeps k w seats l u seats' → WasServed may learns keeps waits k w l u
-    served_turn k l w u seats seats' t = (Serves (all_turns t.log) ∷ [], (l, u, (t.told, t.taken.run, t.kept), (refl, refl)))
+    pub served_turn : (k l : K) (w u : T) (seats seats' : List (Option C)) → LoopIteration on may persists k w seats l u seats' → WasServed may prefetches persists waits k w l u
+    served_turn k l w u seats seats' t = (Serves (all_turns t.log) ∷ [], (l, u, (t.reported, t.taken.run, t.kept), (refl, refl)))
 
     -- and one whose answers were learnt before
-    pub served_ahead : (look : C → Option Look) (Due : C → Type 0) (kind : WorldKind) (k l : K) (w u : T) (lines : List ℕ) (seats seats' : List (Option C)) → TurnAhead on look Due may learns keeps kind k w seats lines l u seats' →
-        WasServed may learns keeps waits k w l u
-    served_ahead look Due kind k l w u lines seats seats' t =
-        let turn = served_turn t.learnt_by l t.ready u t.gathered_seats seats' t.turn in
-        elim t.learnt as (λ _. WasServed may learns keeps waits k w l u) [
-          | inl none ↦ subst (λ (j : K). WasServed may learns keeps waits j w l u) none.1 (subst (λ (v : T). WasServed may learns keeps waits t.learnt_by v l u) none.2 turn)
-          | inr learnt ↦ (Learns lines ∷ turn.0, (t.learnt_by, t.ready, learnt, turn.1))
+    pub served_prefetched : (peek : C → Option Peek) (Due : C → Type 0) (kind : WorldKind) (k l : K) (w u : T) (lines : List ℕ) (seats seats' : List (Option C)) → PrefetchedIteration on peek Due may prefetches persists kind k w seats lines l u seats' →
+        WasServed may prefetches persists waits k w l u
+    served_prefetched peek Due kind k l w u lines seats seats' t =
+        let turn = served_turn t.prefetched_by l t.ready u t.gathered_seats seats' t.turn in
+        elim t.prefetched as (λ _. WasServed may prefetches persists waits k w l u) [
+          | inl none ↦ subst (λ (j : K). WasServed may prefetches persists waits j w l u) none.1 (subst (λ (v : T). WasServed may prefetches persists waits t.prefetched_by v l u) none.2 turn)
+          | inr prefetched ↦ (Prefetches lines ∷ turn.0, (t.prefetched_by, t.ready, prefetched, turn.1))
         ]
 
     -- the same of a turn by its result, where it went well
     pub served_turned : {E : Type 0} (Due : C → Type 0) (r : Result ℕ E) (ready : List ℕ) (k l : K) (w u : T) (seats seats' : List (Option C)) → is_ok r ≡ true →
-        IfOk r (λ called. ServedTurn on may keeps Due (take called ready) k w seats l u seats') → WasServed may learns keeps waits k w l u
+        IfOk r (λ called. ServedIteration on may persists Due (take called ready) k w seats l u seats') → WasServed may prefetches persists waits k w l u
     served_turned Due (Ok n) ready k l w u seats seats' is served = served_turn k l w u seats seats' served.turn
     served_turned Due (Err fault) ready k l w u seats seats' is served = absurd (cc is)
 
-    pub served_called : {E : Type 0} (look : C → Option Look) (Due : C → Type 0) (kind : WorldKind) (r : Result Called E) (k l : K) (w u : T) (lines : List ℕ) (seats seats' : List (Option C)) → is_ok r ≡ true →
-        ((n : ℕ) → r ≡ Ok (called.Served n) → TurnAhead on look Due may learns keeps kind k w seats lines l u seats') → ((n : ℕ) → r ≡ Ok (called.Unserved n) → waits k w l u) → WasServed may learns keeps waits k w l u
-    served_called look Due kind (Ok (called.Served n)) k l w u lines seats seats' is served lost = served_ahead look Due kind k l w u lines seats seats' (served n refl)
-    served_called look Due kind (Ok (called.Unserved n)) k l w u lines seats seats' is served lost = served_waits k l w u (lost n refl)
-    served_called look Due kind (Err fault) k l w u lines seats seats' is served lost = absurd (cc is)
+    pub served_called : {E : Type 0} (peek : C → Option Peek) (Due : C → Type 0) (kind : WorldKind) (r : Result Called E) (k l : K) (w u : T) (lines : List ℕ) (seats seats' : List (Option C)) → is_ok r ≡ true →
+        ((n : ℕ) → r ≡ Ok (called.Served n) → PrefetchedIteration on peek Due may prefetches persists kind k w seats lines l u seats') → ((n : ℕ) → r ≡ Ok (called.Unserved n) → waits k w l u) → WasServed may prefetches persists waits k w l u
+    served_called peek Due kind (Ok (called.Served n)) k l w u lines seats seats' is served lost = served_prefetched peek Due kind k l w u lines seats seats' (served n refl)
+    served_called peek Due kind (Ok (called.Unserved n)) k l w u lines seats seats' is served lost = served_waits k l w u (lost n refl)
+    served_called peek Due kind (Err fault) k l w u lines seats seats' is served lost = absurd (cc is)

@@ -4,8 +4,8 @@ use Rattle.event_server.proofs.Common.{append-nil, get_or-set_same, get_or-set_o
 use Rattle.std.proofs.KnownBytes.{Consumes-nil, Appends-nil}
 use Rattle.player.specs.Shared.{TurnLog, turns_of, all_turns, tagged}
 use Rattle.event_server.specs.Seats.{Seating, SeatTakes, SeatSends, SeatTurn, SeatSent, TurnsTaken, RepliesSent}
-use Rattle.event_server.specs.Wires.{TakesOf, SendsTo}
-use Rattle.event_server.proofs.WireLemmas.{takes_idle}
+use Rattle.event_server.specs.ConnectionBuffers.{TakesOf, SendsTo}
+use Rattle.event_server.proofs.BuffersLemmas.{takes_idle}
 
 some_same : {C : Type 0} (c d : C) → Some c ≡ Some d → c ≡ d
 some_same c d e = cc
@@ -13,11 +13,11 @@ some_same c d e = cc
 module _ {C : Type 0} (on : Seating C) where
   pub seat_rests : (x : Option C) → SeatTakes on [] x x
   seat_rests None = refl
-  seat_rests (Some c) = (takes_idle (on.left c) (on.left c) (on.wire c) (Consumes-nil (on.left c)), refl)
+  seat_rests (Some c) = (takes_idle (on.left c) (on.left c) (on.buffers c) (Consumes-nil (on.left c)), refl)
 
   -- one connection has its turn where it sits
   abbrev pub seat_took : {T : Type 0} (may : T → Request → ShownReply → T → Type 0) (Due : C → Type 0) (key : ℕ) (w : T) (seats : List (Option C)) (u : T) (was is : C) → key < length seats → get_or seats key None ≡ Some was → Due was → (Due is → ⊥) →
-      (turns : List Turn) × Runs may w turns u × TakesOf turns (on.left was) (on.wire was) (on.left is) (on.wire is) → on.gone is ≡ on.gone was → SeatTurn on may Due key w seats u (set seats key (Some is))
+      (turns : List Turn) × Runs may w turns u × TakesOf turns (on.left was) (on.buffers was) (on.left is) (on.buffers is) → on.gone is ≡ on.gone was → SeatTurn on may Due key w seats u (set seats key (Some is))
   seat_took may Due key w seats u was is below there due done took unsent = record {
     turns = took.0;
     run = took.1;
@@ -33,7 +33,7 @@ module _ {C : Type 0} (on : Seating C) where
   }
 
   pub seat_sent : (Due : C → Type 0) (key : ℕ) (seats : List (Option C)) (was is : C) → key < length seats → get_or seats key None ≡ Some was → Due was → (Due is → ⊥) →
-      SendsTo (on.gone was) (on.wire was) (on.gone is) (on.wire is) → on.left is ≡ on.left was → SeatSent on Due key seats (set seats key (Some is))
+      SendsTo (on.gone was) (on.buffers was) (on.gone is) (on.buffers is) → on.left is ≡ on.left was → SeatSent on Due key seats (set seats key (Some is))
   seat_sent Due key seats was is below there due done sends unread = record {
     was = was;
     is = is;
@@ -81,7 +81,7 @@ module _ {C : Type 0} (on : Seating C) where
 
   pub seat_keeps : (x : Option C) → SeatSends on x x
   seat_keeps None = tt
-  seat_keeps (Some c) = (record { sent = []; gained = Appends-nil (on.gone c); parts = refl; talker_is = refl; inbox_is = refl; ended_is = refl; whole = λ h. h }, refl)
+  seat_keeps (Some c) = (record { sent = []; gained = Appends-nil (on.gone c); parts = refl; responder_is = refl; inbox_is = refl; ended_is = refl; whole = λ h. h }, refl)
 
   module _ (Due : C → Type 0) (seats : List (Option C)) where
     -- so far, where whoever has still to send has sent nothing

@@ -10,7 +10,7 @@ module _ {C : Type 0} (on : Seating C) (slots : SlotsState ℕ) where
   SeatAnswers None None = Unit {0}
   SeatAnswers None (Some c) = ⊥
   SeatAnswers (Some c) None = ⊥
-  SeatAnswers (Some c) (Some d) = MayAnswer slots (on.wire c) (on.wire d) × (on.left d ≡ on.left c) × (on.gone d ≡ on.gone c)
+  SeatAnswers (Some c) (Some d) = MayAnswer slots (on.buffers c) (on.buffers d) × (on.left d ≡ on.left c) × (on.gone d ≡ on.gone c)
 
   -- each is answered from these slots, or is as it was
   pub record QueriesAnswered (seats seats' : List (Option C)) : Type 0 where

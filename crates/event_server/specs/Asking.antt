@@ -5,7 +5,7 @@ use Rattle.slot_array.specs.SlotsState.{SlotsState}
 use Rattle.held_lines.specs.Held.{held_query, held_text}
 use Rattle.held_lines.specs.declared.query.HeldQuery.{HeldQuery}
 use Rattle.held_lines.specs.declared.query.TheConstants.{QUERY_MAX}
-use Rattle.event_server.specs.WireState.{WireState}
+use Rattle.event_server.specs.BuffersState.{BuffersState}
 
 -- the first so many of these bytes are a line that asks this, and its LF
 pub record IsQueryOf (bytes : List ℕ) (query : HeldQuery) (count : ℕ) : Type 0 where
@@ -16,24 +16,24 @@ pub record IsQueryOf (bytes : List ℕ) (query : HeldQuery) (count : ℕ) : Type
   pub asks : held_query (take end bytes) ≡ Some query
 
 -- so few bytes, none of them an LF, begin with the letter of that word
-abbrev pub IsBeginning : List ℕ → Type 0
-IsBeginning bytes = (get_or bytes 0 0 ≡ 104) × (length bytes ≤ QUERY_MAX) × (has_no_lf bytes ≡ true)
+abbrev pub IsPrefixOf : List ℕ → Type 0
+IsPrefixOf bytes = (get_or bytes 0 0 ≡ 104) × (length bytes ≤ QUERY_MAX) × (has_no_lf bytes ≡ true)
 
 -- they begin with a line that asks who holds numbers, or may come to ask it
 abbrev pub MayAsk : List ℕ → Type 0
-MayAsk bytes = ((query : HeldQuery) × (count : ℕ) × IsQueryOf bytes query count) ⊎ IsBeginning bytes
+MayAsk bytes = ((query : HeldQuery) × (count : ℕ) × IsQueryOf bytes query count) ⊎ IsPrefixOf bytes
 
--- The line that waits first asks who holds numbers: it is taken, and the answer waits behind what waited to be sent. The talk, and whatever else
+-- The line that waits first asks who holds numbers: it is taken, and the answer waits behind what waited to be sent. The transcript, and whatever else
 -- waits, is as it was, but where it is at fault
-pub record AnswersQuery (slots : SlotsState ℕ) (s s' : WireState) : Type 0 where
+pub record AnswersQuery (slots : SlotsState ℕ) (s s' : BuffersState) : Type 0 where
   pub query : HeldQuery
   pub count : ℕ
   pub asks : IsQueryOf s.inbox query count
-  pub talker_is : s'.talker ≡ s.talker
+  pub responder_is : s'.responder ≡ s.responder
   pub ended_is : s'.ended ≡ s.ended
   pub inbox_is : s'.inbox ≡ drop count s.inbox
   pub kept : s'.broken ≡ false → (s'.outbox ≡ s.outbox ++ held_text slots query) × (s.broken ≡ false)
 
 -- it is answered, or nothing changes
-abbrev pub MayAnswer : SlotsState ℕ → WireState → WireState → Type 0
+abbrev pub MayAnswer : SlotsState ℕ → BuffersState → BuffersState → Type 0
 MayAnswer slots s s' = (s' ≡ s) ⊎ AnswersQuery slots s s'

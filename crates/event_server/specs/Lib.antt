@@ -1,9 +1,9 @@
-pub mod WireState
-pub mod Wires
-pub mod Rooms
+pub mod BuffersState
+pub mod ConnectionBuffers
+pub mod SharedBuffers
 pub mod Seats
 pub mod Gathering
-pub mod Told
+pub mod Reported
 pub mod Rounds
 pub mod Asking
 pub mod Answering

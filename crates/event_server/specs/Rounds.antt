@@ -1,23 +1,23 @@
--- what a server does to its service and its keeper as long as it runs
+-- what a server does to its service and its persister as long as it runs
 use Rattle.std.specs.Prelude.{◌≡◌, ℕ, List, [], ◌∷◌}
 use Rattle.commands.specs.Replies.{ShownReply}
 use Rattle.commands.specs.Requests.{Request}
 use Rattle.player.specs.Runs.{Runs}
 use Rattle.player.specs.Turns.{Turn}
 
--- one thing that is done: the keeper goes on by itself; the answers to these lines are learnt; or these turns are taken, and what the service
+-- one thing that is done: the persister goes on by itself; the answers to these lines are learnt; or these turns are taken, and what the service
 -- tells of them is kept
 pub data Deed : Type 0 where
   Waits : Deed
-  Learns : List ℕ → Deed
+  Prefetches : List ℕ → Deed
   Serves : List Turn → Deed
 
-module _ {T K : Type 0} (may : T → Request → ShownReply → T → Type 0) (learns : K → T → List ℕ → K → T → Type 0) (keeps waits : K → T → K → T → Type 0) where
-  -- it leads a keeper and a service from there to here
+module _ {T K : Type 0} (may : T → Request → ShownReply → T → Type 0) (prefetches : K → T → List ℕ → K → T → Type 0) (persists waits : K → T → K → T → Type 0) where
+  -- it leads a persister and a service from there to here
   abbrev pub DoneBy : K → T → Deed → K → T → Type 0
   DoneBy k w Waits l u = waits k w l u
-  DoneBy k w (Learns lines) l u = learns k w lines l u
-  DoneBy k w (Serves turns) l u = (told : T) × Runs may w turns told × keeps k told l u
+  DoneBy k w (Prefetches lines) l u = prefetches k w lines l u
+  DoneBy k w (Serves turns) l u = (reported : T) × Runs may w turns reported × persists k reported l u
 
   -- all of these do, one after another
   abbrev pub AllDone : K → T → List Deed → K → T → Type 0

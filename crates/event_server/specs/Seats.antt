@@ -5,23 +5,23 @@ use Rattle.commands.specs.Requests.{Request}
 use Rattle.player.specs.Runs.{Runs}
 use Rattle.player.specs.Shared.{TurnLog, turns_of, all_turns}
 use Rattle.player.specs.Turns.{Turn}
-use Rattle.event_server.specs.Told.{IsAmong}
-use Rattle.event_server.specs.WireState.{WireState}
-use Rattle.event_server.specs.Wires.{HasTakenAll, TakesOf, SendsTo}
+use Rattle.event_server.specs.Reported.{IsAmong}
+use Rattle.event_server.specs.BuffersState.{BuffersState}
+use Rattle.event_server.specs.ConnectionBuffers.{HasTakenAll, TakesOf, SendsTo}
 use Rattle.event_server.specs.declared.connection.Connection.{Connection}
 
 -- what a contract sees of a connection: what its stream has left to give and has taken, and its wire
 pub record Seating (C : Type 0) : Type 0 where
   pub left : C → Option (List ℕ)
   pub gone : C → Option (List ℕ)
-  pub wire : C → WireState
+  pub buffers : C → BuffersState
 
-abbrev pub seating : {C : Type 0} → (C → Option (List ℕ)) → (C → Option (List ℕ)) → (C → WireState) → Seating C
-seating left gone wire = record { left = left; gone = gone; wire = wire }
+abbrev pub seating : {C : Type 0} → (C → Option (List ℕ)) → (C → Option (List ℕ)) → (C → BuffersState) → Seating C
+seating left gone buffers = record { left = left; gone = gone; buffers = buffers }
 
 -- of connections over streams that tell this of themselves
 abbrev pub seats_of : {S A : Type 0} → (S → Option (List ℕ)) → (S → Option (List ℕ)) → Seating (Connection S A)
-seats_of left gone = seating (λ c. left c.stream) (λ c. gone c.stream) (λ c. c.wire)
+seats_of left gone = seating (λ c. left c.stream) (λ c. gone c.stream) (λ c. c.buffers)
 
 -- a connection at a seat is so, if one sits there
 abbrev pub SeatIs : {C : Type 0} → (C → Type 0) → Option C → Type 0
@@ -46,14 +46,14 @@ module _ {C : Type 0} (on : Seating C) where
   SeatTakes turns None None = turns ≡ []
   SeatTakes turns None (Some c) = ⊥
   SeatTakes turns (Some c) None = ⊥
-  SeatTakes turns (Some c) (Some d) = TakesOf turns (on.left c) (on.wire c) (on.left d) (on.wire d) × (on.gone d ≡ on.gone c)
+  SeatTakes turns (Some c) (Some d) = TakesOf turns (on.left c) (on.buffers c) (on.left d) (on.buffers d) × (on.gone d ≡ on.gone c)
 
   -- a connection sends some of what waits, and nothing is read
   abbrev pub SeatSends : Option C → Option C → Type 0
   SeatSends None None = Unit {0}
   SeatSends None (Some c) = ⊥
   SeatSends (Some c) None = ⊥
-  SeatSends (Some c) (Some d) = SendsTo (on.gone c) (on.wire c) (on.gone d) (on.wire d) × (on.left d ≡ on.left c)
+  SeatSends (Some c) (Some d) = SendsTo (on.gone c) (on.buffers c) (on.gone d) (on.buffers d) × (on.left d ≡ on.left c)
 
   -- the turns of all connections, in the one order of this log, lead the service from w to u, and those of each seat are what its
   -- connection took
@@ -64,7 +64,7 @@ module _ {C : Type 0} (on : Seating C) where
 
   -- each connection that was due at one of these seats has taken all that came of it
   abbrev pub Served : (C → Type 0) → List ℕ → List (Option C) → List (Option C) → Type 0
-  Served Due keys seats seats' = (i : ℕ) (c : C) → IsAmong i keys → get_or seats i None ≡ Some c → Due c → SeatIs (λ d. HasTakenAll (on.wire d)) (get_or seats' i None)
+  Served Due keys seats seats' = (i : ℕ) (c : C) → IsAmong i keys → get_or seats i None ≡ Some c → Due c → SeatIs (λ d. HasTakenAll (on.buffers d)) (get_or seats' i None)
 
   -- each connection has sent some of what waits for it
   pub record RepliesSent (seats seats' : List (Option C)) : Type 0 where
@@ -103,15 +103,15 @@ module _ {C : Type 0} (on : Seating C) where
 
   -- a turn of the loop: all turns of all connections, in the one order of a log, lead the service from w to where it was when what it tells
   -- was kept; only then was anything sent
-  pub record LoopTurn {T K : Type 0} (may : T → Request → ShownReply → T → Type 0) (keeps : K → T → K → T → Type 0) (k : K) (w : T) (seats : List (Option C)) (k' : K) (u : T) (seats' : List (Option C)) : Type 0 where
+  pub record LoopIteration {T K : Type 0} (may : T → Request → ShownReply → T → Type 0) (persists : K → T → K → T → Type 0) (k : K) (w : T) (seats : List (Option C)) (k' : K) (u : T) (seats' : List (Option C)) : Type 0 where
     pub log : TurnLog
-    pub told : T
+    pub reported : T
     pub between : List (Option C)
-    pub taken : TurnsTaken may w seats log told between
-    pub kept : keeps k told k' u
+    pub taken : TurnsTaken may w seats log reported between
+    pub kept : persists k reported k' u
     pub sent : RepliesSent between seats'
 
   -- a turn of the loop in which these seats are called: before anything was sent, each that was due had taken all that came
-  pub record ServedTurn {T K : Type 0} (may : T → Request → ShownReply → T → Type 0) (keeps : K → T → K → T → Type 0) (Due : C → Type 0) (keys : List ℕ) (k : K) (w : T) (seats : List (Option C)) (k' : K) (u : T) (seats' : List (Option C)) : Type 0 where
-    pub turn : LoopTurn may keeps k w seats k' u seats'
+  pub record ServedIteration {T K : Type 0} (may : T → Request → ShownReply → T → Type 0) (persists : K → T → K → T → Type 0) (Due : C → Type 0) (keys : List ℕ) (k : K) (w : T) (seats : List (Option C)) (k' : K) (u : T) (seats' : List (Option C)) : Type 0 where
+    pub turn : LoopIteration may persists k w seats k' u seats'
     pub served : Served Due keys seats turn.between

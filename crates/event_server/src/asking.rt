@@ -3,7 +3,7 @@
 ghost use Rattle.std.specs.Prelude.{◌≡◌, ◌≤◌, ◌<◌, true, length, drop, get_or, IfSome};
 ghost use Rattle.command_lines.specs.Lines.{has_no_lf};
 ghost use Rattle.held_lines.specs.declared.query.TheConstants.{QUERY_MAX};
-ghost use Rattle.event_server.specs.Asking.{IsBeginning, IsQueryOf, MayAsk};
+ghost use Rattle.event_server.specs.Asking.{IsPrefixOf, IsQueryOf, MayAsk};
 
 use held_lines::{HeldQuery, QUERY_MAX, held_query};
 use memchr::memchr;
@@ -44,8 +44,8 @@ fn lacks_end(bytes: &[u8]) -> bool
 }
 
 /// Whether these bytes are the beginning of a line that may ask who holds numbers, with no LF.
-pub(crate) fn is_beginning(bytes: &[u8]) -> bool
-    ensures { result ≡ true → IsBeginning bytes.now }
+pub(crate) fn is_prefix_of(bytes: &[u8]) -> bool
+    ensures { result ≡ true → IsPrefixOf bytes.now }
 {
     begins(bytes) && bytes.len() <= QUERY_MAX && lacks_end(bytes)
 }
@@ -56,7 +56,7 @@ fn may_ask(bytes: &[u8]) -> bool
 {
     match first_query(bytes) {
         Some(_) => true,
-        None => is_beginning(bytes),
+        None => is_prefix_of(bytes),
     }
 }
 

@@ -8,20 +8,20 @@ ghost use Rattle.command_lines.specs.Lines.{with_ends};
 ghost use Rattle.player.specs.Runs.{Runs};
 ghost use Rattle.player.specs.Turns.{Turn};
 ghost use Rattle.player.specs.declared.form.TheConstants.{TURN_ROOM};
-ghost use Rattle.event_server.specs.Rooms.{IsRoom};
-ghost use Rattle.event_server.specs.Told.{asks_of, requests_seen, IsSameGrant};
+ghost use Rattle.event_server.specs.SharedBuffers.{AreShared};
+ghost use Rattle.event_server.specs.Reported.{asks_of, requests_seen, IsSameGrant};
 ghost use Rattle.held_lines.specs.declared.query.TheConstants.{QUERY_MAX};
 ghost use Rattle.event_server.specs.Asking.{MayAnswer, MayAsk};
-ghost use Rattle.event_server.specs.Wires.{HasTakenAll, SomeTaken, Takes, TakesEnd, TakesLooked, SendsTo};
+ghost use Rattle.event_server.specs.ConnectionBuffers.{HasTakenAll, SomeTaken, Takes, TakesEnd, TakesPeeked, SendsTo};
 ghost use Rattle.event_server.specs.Gathering.{GathersOf};
-ghost use Rattle.event_server.specs.declared.room.TheConstants.{READ_ROOM};
-ghost use Rattle.event_server.specs.declared.wire.TheConstants.{UNSENT_ROOM, MOST_LINES};
+ghost use Rattle.event_server.specs.declared.shared.TheConstants.{READ_ROOM};
+ghost use Rattle.event_server.specs.declared.buffers.TheConstants.{UNSENT_ROOM, MOST_LINES};
 
-use crate::keep::Keep;
-use crate::look::{Limits, Look};
-use crate::room::{READ_ROOM, Room};
+use crate::buffers::{Buffers, MOST_LINES, UNSENT_ROOM};
+use crate::peek::{Limits, Peek};
+use crate::persist::Persist;
+use crate::shared::{READ_ROOM, SharedBuffers};
 use crate::stream::Stream;
-use crate::wire::{MOST_LINES, UNSENT_ROOM, Wire};
 use commands::WorldKind;
 use held_lines::QUERY_MAX;
 use player::{Service, TURN_ROOM};
@@ -46,7 +46,7 @@ pub enum Stage {
 #[derive(Drop)]
 pub struct Connection<S, A: Allocator> {
     pub stream: S,
-    pub wire: Wire<A>,
+    pub buffers: Buffers<A>,
     pub stage: Stage,
     /// Whether a read may give something.
     pub readable: bool,
@@ -57,7 +57,7 @@ pub struct Connection<S, A: Allocator> {
     /// The tick at which something last came or went.
     pub since: u64,
     /// What its next turn takes, where the service learns the answers before; `None` where it takes what comes.
-    pub look: Option<Look>,
+    pub peek: Option<Peek>,
 }
 
 // Reads once into the first so many bytes of a chunk.
@@ -75,73 +75,73 @@ fn read_at_most<S: Stream>(stream: &mut S, chunk: &mut [u8], most: usize) -> io:
 // Reads once into the room, at most so many bytes.
 fn read_into<S: Stream, B: Allocator>(
     stream: &mut S,
-    room: &mut Room<B>,
+    shared: &mut SharedBuffers<B>,
     most: usize,
 ) -> io::Result<usize>
-    requires room { IsRoom room.old }
+    requires room { AreShared shared.old }
     requires most { (1 ≤ most) × (most ≤ READ_ROOM) }
-    ensures bound { ReadsAtMost result room.new.chunk.items }
-    ensures bytes { ReadConsumes (S.left stream.old) (S.left stream.new) result room.new.chunk.items }
+    ensures bound { ReadsAtMost result shared.new.chunk.items }
+    ensures bytes { ReadConsumes (S.left stream.old) (S.left stream.new) result shared.new.chunk.items }
     ensures same { S.gone stream.new ≡ S.gone stream.old }
     ensures few { IfOk result (λ count. count ≤ most) }
-    ensures room { IsRoom room.new }
+    ensures room { AreShared shared.new }
 {
-    read_at_most(stream, &mut room.chunk, most)
+    read_at_most(stream, &mut shared.chunk, most)
 }
 
 // A read or a write did nothing: it may do something once the stream is told able again, or at once, or else the wire is at fault.
-fn note_fault<A: Allocator>(fault: &io::Error, able: &mut bool, wire: &mut Wire<A>)
-    ensures wire { wire.new ≡ record wire.old { broken = wire.new.broken } }
-    ensures whole { wire.new.broken ≡ false → wire.old.broken ≡ false }
+fn note_fault<A: Allocator>(fault: &io::Error, able: &mut bool, buffers: &mut Buffers<A>)
+    ensures buffers { buffers.new ≡ record buffers.old { broken = buffers.new.broken } }
+    ensures whole { buffers.new.broken ≡ false → buffers.old.broken ≡ false }
 {
     match fault.kind() {
         ErrorKind::WouldBlock => *able = false,
         ErrorKind::Interrupted => {}
-        _ => wire.fail(),
+        _ => buffers.fail(),
     }
 }
 
 impl<S: Stream, A: Allocator> Connection<S, A> {
     /// A connection of which nothing was read.
-    pub fn new(stream: S, wire: Wire<A>, since: u64) -> Connection<S, A>
-        ensures { (result.stream ≡ stream) × (result.wire ≡ wire) × (result.stage ≡ Stage.Idle) }
+    pub fn new(stream: S, buffers: Buffers<A>, since: u64) -> Connection<S, A>
+        ensures { (result.stream ≡ stream) × (result.buffers ≡ buffers) × (result.stage ≡ Stage.Idle) }
     {
         Connection {
             stream,
-            wire,
+            buffers,
             stage: Stage::Idle,
             readable: false,
             writable: true,
             hung: false,
             since,
-            look: None,
+            peek: None,
         }
     }
 
     /// Whether it is at its end: at fault, or all that came is taken and all replies are sent.
     pub fn is_done(&self) -> bool {
-        self.wire.is_broken() || (self.wire.is_ended() && self.wire.unsent().is_empty())
+        self.buffers.is_broken() || (self.buffers.is_ended() && self.buffers.unsent().is_empty())
     }
 
     /// Whether a turn more would have something to do, with nothing new told of its stream.
     pub fn goes_on(&self) -> bool {
-        let sends = self.writable && !self.wire.unsent().is_empty();
-        let waits = match self.look {
-            Some(look) => look.more,
-            None => !self.wire.waits_for_more(),
+        let sends = self.writable && !self.buffers.unsent().is_empty();
+        let waits = match self.peek {
+            Some(peek) => peek.more,
+            None => !self.buffers.waits_for_more(),
         };
         let takes = self.may_take() && (waits || self.readable);
-        !self.wire.is_broken() && (sends || takes)
+        !self.buffers.is_broken() && (sends || takes)
     }
 
     // Whether more may come and be taken: there is room for a reply.
     fn may_take(&self) -> bool
-        ensures none { result ≡ false → HasTakenAll self.now.wire }
-        ensures whole { IsTrue result → self.now.wire.broken ≡ false }
-        ensures reply { IsTrue result → length self.now.wire.outbox + TURN_ROOM ≤ UNSENT_ROOM }
-        ensures count { IsTrue result → self.now.wire.talker.summary.lines ≤ MOST_LINES }
+        ensures none { result ≡ false → HasTakenAll self.now.buffers }
+        ensures whole { IsTrue result → self.now.buffers.broken ≡ false }
+        ensures reply { IsTrue result → length self.now.buffers.outbox + TURN_ROOM ≤ UNSENT_ROOM }
+        ensures count { IsTrue result → self.now.buffers.responder.summary.lines ≤ MOST_LINES }
     {
-        !self.wire.is_broken() && !self.wire.is_ended() && self.wire.has_room()
+        !self.buffers.is_broken() && !self.buffers.is_ended() && self.buffers.has_room()
     }
 
     /// Takes its turn, which is due: what waited of its lines, or else what one read gives.
@@ -149,55 +149,66 @@ impl<S: Stream, A: Allocator> Connection<S, A> {
         &mut self,
         rt: &R,
         service: &mut D,
-        room: &mut Room<B>,
+        shared: &mut SharedBuffers<B>,
     )
         requires knows { (q : Request) → D.knows q ≡ true }
-        requires room { IsRoom room.old }
-        ensures takes { SomeTaken D.may service.old service.new (S.left self.old.stream) self.old.wire (S.left self.new.stream) self.new.wire }
-        ensures all { HasTakenAll self.new.wire }
+        requires room { AreShared shared.old }
+        ensures takes { SomeTaken D.may service.old service.new (S.left self.old.stream) self.old.buffers (S.left self.new.stream) self.new.buffers }
+        ensures all { HasTakenAll self.new.buffers }
         ensures unsent { S.gone self.new.stream ≡ S.gone self.old.stream }
         ensures stage { self.new.stage ≡ Stage.Taken }
-        ensures room { IsRoom room.new }
+        ensures room { AreShared shared.new }
     {
         self.stage = Stage::Taken;
         if !self.may_take() {
             return;
         }
-        if !self.wire.waits_for_more() {
-            self.wire
-                .take(rt, service, &mut room.view, &[], false, &mut room.replies);
+        if !self.buffers.waits_for_more() {
+            self.buffers.take(
+                rt,
+                service,
+                &mut shared.view,
+                &[],
+                false,
+                &mut shared.replies,
+            );
         } else if self.readable {
-            self.read(rt, service, room);
+            self.read(rt, service, shared);
         }
     }
 
     /// Takes its turn over a service that learnt its answers before: what was looked at (`gather`), and nothing else.
-    pub fn take_looked<R, D: Service<R>, B: Allocator>(
+    pub fn take_peeked<R, D: Service<R>, B: Allocator>(
         &mut self,
         rt: &R,
         service: &mut D,
-        room: &mut Room<B>,
+        shared: &mut SharedBuffers<B>,
     )
         requires knows { (q : Request) → D.knows q ≡ true }
-        requires room { IsRoom room.old }
+        requires room { AreShared shared.old }
         ensures takes { (turns : List Turn) × Runs D.may service.old turns service.new ×
-            TakesLooked turns self.old.look (S.left self.old.stream) self.old.wire (S.left self.new.stream) self.new.wire }
+            TakesPeeked turns self.old.peek (S.left self.old.stream) self.old.buffers (S.left self.new.stream) self.new.buffers }
         ensures unsent { S.gone self.new.stream ≡ S.gone self.old.stream }
         ensures stage { self.new.stage ≡ Stage.Taken }
-        ensures room { IsRoom room.new }
+        ensures room { AreShared shared.new }
     {
         self.stage = Stage::Taken;
-        let Some(look) = self.look else {
+        let Some(peek) = self.peek else {
             return;
         };
         if !self.may_take() {
             return;
         }
-        self.look = Some(look.taken());
-        self.wire
-            .take_first(rt, service, &mut room.view, look.bytes, &mut room.replies);
-        if look.ends && self.may_read() {
-            self.take_end(rt, service, room);
+        self.peek = Some(peek.taken());
+        self.buffers.take_first(
+            rt,
+            service,
+            &mut shared.view,
+            peek.bytes,
+            &mut shared.replies,
+        );
+        if peek.ends && self.may_read() {
+            self.take_end(rt, service, shared);
         }
     }
 
@@ -206,37 +217,37 @@ impl<S: Stream, A: Allocator> Connection<S, A> {
         &mut self,
         rt: &R,
         service: &mut D,
-        room: &mut Room<B>,
+        shared: &mut SharedBuffers<B>,
     )
         requires knows { (q : Request) → D.knows q ≡ true }
-        requires whole { self.old.wire.broken ≡ false }
-        requires none { self.old.wire.inbox ≡ [] }
-        requires reply { length self.old.wire.outbox + TURN_ROOM ≤ UNSENT_ROOM }
-        requires count { self.old.wire.talker.summary.lines ≤ MOST_LINES }
-        requires room { IsRoom room.old }
+        requires whole { self.old.buffers.broken ≡ false }
+        requires none { self.old.buffers.inbox ≡ [] }
+        requires reply { length self.old.buffers.outbox + TURN_ROOM ≤ UNSENT_ROOM }
+        requires count { self.old.buffers.responder.summary.lines ≤ MOST_LINES }
+        requires room { AreShared shared.old }
         ensures takes { (turns : List Turn) × Runs D.may service.old turns service.new ×
-            TakesEnd turns (S.left self.old.stream) self.old.wire (S.left self.new.stream) self.new.wire }
+            TakesEnd turns (S.left self.old.stream) self.old.buffers (S.left self.new.stream) self.new.buffers }
         ensures unsent { S.gone self.new.stream ≡ S.gone self.old.stream }
         ensures stage { self.new.stage ≡ self.old.stage }
-        ensures room { IsRoom room.new }
+        ensures room { AreShared shared.new }
     {
-        match read_into(&mut self.stream, room, READ_ROOM) {
+        match read_into(&mut self.stream, shared, READ_ROOM) {
             Ok(0) => self
-                .wire
-                .finish(rt, service, &mut room.view, &mut room.replies),
-            Ok(_) => self.wire.fail(),
-            Err(fault) => note_fault(&fault, &mut self.readable, &mut self.wire),
+                .buffers
+                .finish(rt, service, &mut shared.view, &mut shared.replies),
+            Ok(_) => self.buffers.fail(),
+            Err(fault) => note_fault(&fault, &mut self.readable, &mut self.buffers),
         }
     }
 
     // Whether all that came is taken, and there is room for a reply to the end.
     fn may_read(&self) -> bool
-        ensures whole { IsTrue result → self.now.wire.broken ≡ false }
-        ensures none { IsTrue result → self.now.wire.inbox ≡ [] }
-        ensures reply { IsTrue result → length self.now.wire.outbox + TURN_ROOM ≤ UNSENT_ROOM }
-        ensures count { IsTrue result → self.now.wire.talker.summary.lines ≤ MOST_LINES }
+        ensures whole { IsTrue result → self.now.buffers.broken ≡ false }
+        ensures none { IsTrue result → self.now.buffers.inbox ≡ [] }
+        ensures reply { IsTrue result → length self.now.buffers.outbox + TURN_ROOM ≤ UNSENT_ROOM }
+        ensures count { IsTrue result → self.now.buffers.responder.summary.lines ≤ MOST_LINES }
     {
-        self.may_take() && !self.wire.has_input()
+        self.may_take() && !self.buffers.has_input()
     }
 
     /// Reads once what came, if there is room, and looks at its lines before they are taken: its requests are added to the batch, as far
@@ -245,109 +256,109 @@ impl<S: Stream, A: Allocator> Connection<S, A> {
         &mut self,
         kind: WorldKind,
         most: usize,
-        room: &mut Room<B>,
+        shared: &mut SharedBuffers<B>,
         batch: &mut Vec<u8, B>,
     )
-        requires { IsRoom room.old }
-        ensures gathers { GathersOf (S.left self.old.stream) self.old.wire (S.left self.new.stream) self.new.wire }
+        requires { AreShared shared.old }
+        ensures gathers { GathersOf (S.left self.old.stream) self.old.buffers (S.left self.new.stream) self.new.buffers }
         ensures unsent { S.gone self.new.stream ≡ S.gone self.old.stream }
         ensures stage { self.new.stage ≡ self.old.stage }
-        ensures told { batch.new.items ≡ batch.old.items ++ with_ends (requests_seen kind self.new.wire self.new.look) }
-        ensures asks { asks_of self.new.look ≡ false → (asks_of self.old.look ≡ false) × (requests_seen kind self.new.wire self.new.look ≡ []) }
-        ensures room { IsRoom room.new }
+        ensures reported { batch.new.items ≡ batch.old.items ++ with_ends (requests_seen kind self.new.buffers self.new.peek) }
+        ensures asks { asks_of self.new.peek ≡ false → (asks_of self.old.peek ≡ false) × (requests_seen kind self.new.buffers self.new.peek ≡ []) }
+        ensures room { AreShared shared.new }
     {
-        let look = match self.look {
-            Some(look) => look.nothing(),
-            None => Look::new(),
+        let peek = match self.peek {
+            Some(peek) => peek.nothing(),
+            None => Peek::new(),
         };
-        self.look = Some(look);
+        self.peek = Some(peek);
         if !self.may_take() {
             return;
         }
-        self.gather_bytes(&mut room.chunk);
-        if !self.wire.is_broken() {
-            self.look_over(kind, most, batch);
+        self.gather_bytes(&mut shared.chunk);
+        if !self.buffers.is_broken() {
+            self.peek_over(kind, most, batch);
         }
     }
 
     /// Whether a line that was looked at asks who holds numbers.
     pub fn asks_holders(&self) -> bool {
-        match self.look {
-            Some(look) => look.holds,
+        match self.peek {
+            Some(peek) => peek.holds,
             None => false,
         }
     }
 
     // The end of what comes was read.
     fn note_end(&mut self)
-        ensures same { self.new ≡ record self.old { readable = false; look = self.new.look } }
-        ensures look { IsSameGrant self.old.look self.new.look }
+        ensures same { self.new ≡ record self.old { readable = false; peek = self.new.peek } }
+        ensures peek { IsSameGrant self.old.peek self.new.peek }
     {
         self.readable = false;
-        if let Some(look) = &mut self.look {
-            look.at_end = true;
+        if let Some(peek) = &mut self.peek {
+            peek.at_end = true;
         }
     }
 
     // Looks at what waits.
-    fn look_over<B: Allocator>(&mut self, kind: WorldKind, most: usize, batch: &mut Vec<u8, B>)
-        ensures told { batch.new.items ≡ batch.old.items ++ with_ends (requests_seen kind self.new.wire self.new.look) }
-        ensures asks { asks_of self.new.look ≡ false → (asks_of self.old.look ≡ false) × (requests_seen kind self.new.wire self.new.look ≡ []) }
-        ensures wire { self.new.wire ≡ record self.old.wire { broken = self.new.wire.broken } }
-        ensures whole { self.new.wire.broken ≡ false → self.old.wire.broken ≡ false }
+    fn peek_over<B: Allocator>(&mut self, kind: WorldKind, most: usize, batch: &mut Vec<u8, B>)
+        ensures reported { batch.new.items ≡ batch.old.items ++ with_ends (requests_seen kind self.new.buffers self.new.peek) }
+        ensures asks { asks_of self.new.peek ≡ false → (asks_of self.old.peek ≡ false) × (requests_seen kind self.new.buffers self.new.peek ≡ []) }
+        ensures buffers { self.new.buffers ≡ record self.old.buffers { broken = self.new.buffers.broken } }
+        ensures whole { self.new.buffers.broken ≡ false → self.old.buffers.broken ≡ false }
         ensures stream { self.new.stream ≡ self.old.stream }
         ensures stage { self.new.stage ≡ self.old.stage }
     {
-        let Some(seen) = self.look else {
+        let Some(seen) = self.peek else {
             return;
         };
-        let mut look = seen;
+        let mut peek = seen;
         let before = batch.len();
         let mut limits = Limits {
             kind,
             most,
-            said: self.wire.unsent().len(),
+            said: self.buffers.unsent().len(),
         };
-        if self.wire.is_over() {
-            look.take_all(self.wire.inbox());
-        } else if look
-            .look_over(self.wire.inbox(), &mut limits, batch)
+        if self.buffers.is_over() {
+            peek.take_all(self.buffers.inbox());
+        } else if peek
+            .peek_over(self.buffers.inbox(), &mut limits, batch)
             .is_err()
         {
             batch.truncate(before);
-            look = seen.nothing();
-            self.wire.fail();
+            peek = seen.nothing();
+            self.buffers.fail();
         }
-        self.look = Some(look);
+        self.peek = Some(peek);
     }
 
     /// Its lines were told, if any were, and what they are answered is not known: then it is at fault. It waits for its next turn.
     pub fn give_up(&mut self)
-        ensures wire { self.new.wire ≡ record self.old.wire { broken = self.new.wire.broken } }
-        ensures whole { self.new.wire.broken ≡ false → self.old.wire.broken ≡ false }
+        ensures buffers { self.new.buffers ≡ record self.old.buffers { broken = self.new.buffers.broken } }
+        ensures whole { self.new.buffers.broken ≡ false → self.old.buffers.broken ≡ false }
         ensures stream { self.new.stream ≡ self.old.stream }
-        ensures told { asks_of self.old.look ≡ true → self.new.wire.broken ≡ true }
+        ensures reported { asks_of self.old.peek ≡ true → self.new.buffers.broken ≡ true }
         ensures stage { self.new.stage ≡ Stage.Idle }
     {
-        if let Some(look) = self.look {
-            if look.asks || look.holds {
-                self.wire.fail();
+        if let Some(peek) = self.peek {
+            if peek.asks || peek.holds {
+                self.buffers.fail();
             }
-            self.look = Some(look.untaken());
+            self.peek = Some(peek.untaken());
         }
         self.stage = Stage::Idle;
     }
 
     // Reads once what came, if there is room.
     fn gather_bytes(&mut self, chunk: &mut [u8])
-        requires whole { self.old.wire.broken ≡ false }
+        requires whole { self.old.buffers.broken ≡ false }
         requires room { length chunk.old ≡ READ_ROOM }
-        ensures gathers { GathersOf (S.left self.old.stream) self.old.wire (S.left self.new.stream) self.new.wire }
+        ensures gathers { GathersOf (S.left self.old.stream) self.old.buffers (S.left self.new.stream) self.new.buffers }
         ensures unsent { S.gone self.new.stream ≡ S.gone self.old.stream }
         ensures stage { self.new.stage ≡ self.old.stage }
-        ensures look { IsSameGrant self.old.look self.new.look }
+        ensures peek { IsSameGrant self.old.peek self.new.peek }
     {
-        let free = READ_ROOM - self.wire.inbox().len();
+        let free = READ_ROOM - self.buffers.inbox().len();
         if !self.readable || free == 0 {
             return;
         }
@@ -355,42 +366,47 @@ impl<S: Stream, A: Allocator> Connection<S, A> {
             Ok(0) => self.note_end(),
             Ok(count) => {
                 self.readable = self.hung || count == free;
-                self.wire.add(&chunk[..count]);
+                self.buffers.add(&chunk[..count]);
             }
-            Err(fault) => note_fault(&fault, &mut self.readable, &mut self.wire),
+            Err(fault) => note_fault(&fault, &mut self.readable, &mut self.buffers),
         }
     }
 
     // Reads once, and takes what that gives. At the end what waits is taken first, and the end is read again in the next turn.
-    fn read<R, D: Service<R>, B: Allocator>(&mut self, rt: &R, service: &mut D, room: &mut Room<B>)
+    fn read<R, D: Service<R>, B: Allocator>(
+        &mut self,
+        rt: &R,
+        service: &mut D,
+        shared: &mut SharedBuffers<B>,
+    )
         requires knows { (q : Request) → D.knows q ≡ true }
-        requires whole { self.old.wire.broken ≡ false }
-        requires none { 0 < length self.old.wire.inbox → MayAsk self.old.wire.inbox }
-        requires few { length self.old.wire.inbox ≤ QUERY_MAX }
-        requires reply { length self.old.wire.outbox + TURN_ROOM ≤ UNSENT_ROOM }
-        requires count { self.old.wire.talker.summary.lines ≤ MOST_LINES }
-        requires room { IsRoom room.old }
-        ensures takes { SomeTaken D.may service.old service.new (S.left self.old.stream) self.old.wire (S.left self.new.stream) self.new.wire }
-        ensures all { HasTakenAll self.new.wire }
+        requires whole { self.old.buffers.broken ≡ false }
+        requires none { 0 < length self.old.buffers.inbox → MayAsk self.old.buffers.inbox }
+        requires few { length self.old.buffers.inbox ≤ QUERY_MAX }
+        requires reply { length self.old.buffers.outbox + TURN_ROOM ≤ UNSENT_ROOM }
+        requires count { self.old.buffers.responder.summary.lines ≤ MOST_LINES }
+        requires room { AreShared shared.old }
+        ensures takes { SomeTaken D.may service.old service.new (S.left self.old.stream) self.old.buffers (S.left self.new.stream) self.new.buffers }
+        ensures all { HasTakenAll self.new.buffers }
         ensures unsent { S.gone self.new.stream ≡ S.gone self.old.stream }
         ensures stage { self.new.stage ≡ self.old.stage }
-        ensures room { IsRoom room.new }
+        ensures room { AreShared shared.new }
     {
-        let most = room.most().min(MOST_READ);
-        match read_into(&mut self.stream, room, most) {
-            Ok(0) => self.take_last(rt, service, room),
+        let most = shared.most().min(MOST_READ);
+        match read_into(&mut self.stream, shared, most) {
+            Ok(0) => self.take_last(rt, service, shared),
             Ok(count) => {
                 self.readable = self.hung || count == most;
-                self.wire.take(
+                self.buffers.take(
                     rt,
                     service,
-                    &mut room.view,
-                    &room.chunk[..count],
+                    &mut shared.view,
+                    &shared.chunk[..count],
                     false,
-                    &mut room.replies,
+                    &mut shared.replies,
                 );
             }
-            Err(fault) => note_fault(&fault, &mut self.readable, &mut self.wire),
+            Err(fault) => note_fault(&fault, &mut self.readable, &mut self.buffers),
         }
     }
 
@@ -399,92 +415,103 @@ impl<S: Stream, A: Allocator> Connection<S, A> {
         &mut self,
         rt: &R,
         service: &mut D,
-        room: &mut Room<B>,
+        shared: &mut SharedBuffers<B>,
     )
         requires knows { (q : Request) → D.knows q ≡ true }
-        requires whole { self.old.wire.broken ≡ false }
-        requires reply { length self.old.wire.outbox + TURN_ROOM ≤ UNSENT_ROOM }
-        requires count { self.old.wire.talker.summary.lines ≤ MOST_LINES }
-        requires room { IsRoom room.old }
+        requires whole { self.old.buffers.broken ≡ false }
+        requires reply { length self.old.buffers.outbox + TURN_ROOM ≤ UNSENT_ROOM }
+        requires count { self.old.buffers.responder.summary.lines ≤ MOST_LINES }
+        requires room { AreShared shared.old }
         ensures takes { (turns : List Turn) × Runs D.may service.old turns service.new ×
-            (Takes turns [] true self.old.wire self.new.wire ⊎ Takes turns [] false self.old.wire self.new.wire) }
-        ensures all { HasTakenAll self.new.wire }
+            (Takes turns [] true self.old.buffers self.new.buffers ⊎ Takes turns [] false self.old.buffers self.new.buffers) }
+        ensures all { HasTakenAll self.new.buffers }
         ensures stream { self.new.stream ≡ self.old.stream }
         ensures stage { self.new.stage ≡ self.old.stage }
-        ensures room { IsRoom room.new }
+        ensures room { AreShared shared.new }
     {
-        if self.wire.has_input() {
-            self.wire
-                .take(rt, service, &mut room.view, &[], true, &mut room.replies);
+        if self.buffers.has_input() {
+            self.buffers.take(
+                rt,
+                service,
+                &mut shared.view,
+                &[],
+                true,
+                &mut shared.replies,
+            );
         } else {
-            self.wire
-                .finish(rt, service, &mut room.view, &mut room.replies);
+            self.buffers
+                .finish(rt, service, &mut shared.view, &mut shared.replies);
         }
     }
 
     /// Answers the line that waits first, where that asks who holds numbers and there is room: where the service learns its answers ahead, only
-    /// if the line was looked at. The keeper tells who holds them.
-    pub fn answer<D, K: Keep<D>, B: Allocator>(&mut self, service: &D, keep: &K, room: &mut Room<B>)
-        requires room { IsRoom room.old }
-        ensures answers { MayAnswer (K.holds keep.now service.now) self.old.wire self.new.wire }
+    /// if the line was looked at. The persister tells who holds them.
+    pub fn answer<D, K: Persist<D>, B: Allocator>(
+        &mut self,
+        service: &D,
+        persister: &K,
+        shared: &mut SharedBuffers<B>,
+    )
+        requires room { AreShared shared.old }
+        ensures answers { MayAnswer (K.holds persister.now service.now) self.old.buffers self.new.buffers }
         ensures stream { self.new.stream ≡ self.old.stream }
         ensures stage { self.new.stage ≡ Stage.Taken }
-        ensures room { IsRoom room.new }
+        ensures room { AreShared shared.new }
     {
         self.stage = Stage::Taken;
         if !self.may_take() || !self.may_ask() {
             return;
         }
-        if let Some((query, count)) = self.wire.query() {
-            keep.put_held(service, query, &mut room.replies);
-            self.wire.answer(count, &mut room.replies);
+        if let Some((query, count)) = self.buffers.query() {
+            persister.put_held(service, query, &mut shared.replies);
+            self.buffers.answer(count, &mut shared.replies);
         }
     }
 
     // Whether a line that asks who holds numbers may be answered in this turn.
     fn may_ask(&self) -> bool {
-        match self.look {
-            Some(look) => look.holds,
+        match self.peek {
+            Some(peek) => peek.holds,
             None => true,
         }
     }
 
     /// Sends what waits, where it has taken its turn, as far as its stream takes it now.
     pub fn send(&mut self)
-        ensures sends { SendsTo (S.gone self.old.stream) self.old.wire (S.gone self.new.stream) self.new.wire }
+        ensures sends { SendsTo (S.gone self.old.stream) self.old.buffers (S.gone self.new.stream) self.new.buffers }
         ensures unread { S.left self.new.stream ≡ S.left self.old.stream }
         ensures stage { self.new.stage ≡ Stage.Idle }
     {
         self.stage = Stage::Idle;
         let mut at = 0;
-        while self.writable && !self.wire.is_broken() && at < self.wire.unsent().len() {
+        while self.writable && !self.buffers.is_broken() && at < self.buffers.unsent().len() {
             let count = self.write(at);
             if count == 0 {
                 break;
             }
             at += count;
         }
-        self.wire.was_sent(at);
+        self.buffers.was_sent(at);
     }
 
     // Writes once, what waits from there on, and says how many bytes of it were taken; none where it takes no more now.
     fn write(&mut self, from: usize) -> usize
-        requires { from ≤ length self.old.wire.outbox }
-        ensures taken { from + result ≤ length self.old.wire.outbox }
-        ensures gained { Appends (S.gone self.old.stream) (S.gone self.new.stream) (take result (drop from self.old.wire.outbox)) }
+        requires { from ≤ length self.old.buffers.outbox }
+        ensures taken { from + result ≤ length self.old.buffers.outbox }
+        ensures gained { Appends (S.gone self.old.stream) (S.gone self.new.stream) (take result (drop from self.old.buffers.outbox)) }
         ensures unread { S.left self.new.stream ≡ S.left self.old.stream }
-        ensures wire { self.new.wire ≡ record self.old.wire { broken = self.new.wire.broken } }
-        ensures whole { self.new.wire.broken ≡ false → self.old.wire.broken ≡ false }
+        ensures buffers { self.new.buffers ≡ record self.old.buffers { broken = self.new.buffers.broken } }
+        ensures whole { self.new.buffers.broken ≡ false → self.old.buffers.broken ≡ false }
         ensures stage { self.new.stage ≡ self.old.stage }
     {
-        match self.stream.write_some(&self.wire.unsent()[from..]) {
+        match self.stream.write_some(&self.buffers.unsent()[from..]) {
             Ok(0) => {
-                self.wire.fail();
+                self.buffers.fail();
                 0
             }
             Ok(count) => count,
             Err(fault) => {
-                note_fault(&fault, &mut self.writable, &mut self.wire);
+                note_fault(&fault, &mut self.writable, &mut self.buffers);
                 0
             }
         }

@@ -4,22 +4,22 @@ ghost use Rattle.std.specs.Prelude.{◌≡◌, ◌⊎◌, ℕ, List, ◌++◌, �
 ghost use Rattle.commands.specs.Requests.{Request};
 ghost use Rattle.command_lines.specs.Lines.{with_ends};
 ghost use Rattle.player.specs.Shared.{TurnLog};
-ghost use Rattle.event_server.specs.Rooms.{IsRoom};
+ghost use Rattle.event_server.specs.SharedBuffers.{AreShared};
 ghost use Rattle.event_server.specs.Seats.{seats_of, CallsSome, EachIs, NoneSent, SeatIdle, SeatIs, TurnsTaken};
-ghost use Rattle.event_server.specs.Gathering.{Gathered, SeatLooked, SeatAsks, SeatBroken, SeatTurnLooked, TakenLooked, Told, TurnAhead, Unlearnt, count_of};
-ghost use Rattle.event_server.specs.Told.{SeatLines, all_lines, IsAmong};
+ghost use Rattle.event_server.specs.Gathering.{Gathered, SeatPeeked, SeatAsks, SeatBroken, SeatTurnPeeked, TakenPeeked, Reported, PrefetchedIteration, NotPrefetched, count_of};
+ghost use Rattle.event_server.specs.Reported.{SeatLines, all_lines, IsAmong};
 
 use crate::connection::{Connection, Stage};
-use crate::keep::{Ahead, Keep};
-use crate::look::has_room;
-use crate::room::Room;
+use crate::peek::has_room;
+use crate::persist::{Persist, Prefetch};
+use crate::shared::SharedBuffers;
 use crate::stream::Stream;
 use crate::turns::send_replies;
 use commands::WorldKind;
 use player::Service;
 use std::alloc::Allocator;
 
-/// What is told to a keeper before a turn takes it.
+/// What is told to a persister before a turn takes it.
 #[derive(Drop)]
 pub struct Batch<A: Allocator> {
     /// The world whose commands are spoken.
@@ -70,22 +70,22 @@ impl Called {
 // The connection of a seat is read, and its lines are looked at, where there is one and its turn is due.
 fn gather_at<S: Stream, A: Allocator, B: Allocator>(
     batch: &mut Batch<B>,
-    room: &mut Room<B>,
+    shared: &mut SharedBuffers<B>,
     seats: &mut [Option<Connection<S, A>>],
     key: usize,
 )
-    requires { IsRoom room.old }
+    requires { AreShared shared.old }
     ensures gathered { Gathered (seats_of S.left S.gone) seats.old seats.new }
-    ensures looked { ((batch.new ≡ batch.old) × (seats.new ≡ seats.old) × SeatIdle (λ c. c.stage ≡ Stage.Queued) (get_or seats.old key None)) ⊎
+    ensures peeked { ((batch.new ≡ batch.old) × (seats.new ≡ seats.old) × SeatIdle (λ c. c.stage ≡ Stage.Queued) (get_or seats.old key None)) ⊎
         ((more : List (List ℕ)) × (batch.new.lines.items ≡ batch.old.lines.items ++ with_ends more) ×
-        SeatLooked (seats_of S.left S.gone) (λ c. c.look) (λ c. c.stage ≡ Stage.Queued) batch.old.kind key seats.old seats.new more) }
+        SeatPeeked (seats_of S.left S.gone) (λ c. c.peek) (λ c. c.stage ≡ Stage.Queued) batch.old.kind key seats.old seats.new more) }
     ensures kind { batch.new.kind ≡ batch.old.kind }
-    ensures room { IsRoom room.new }
+    ensures room { AreShared shared.new }
 {
     if key < seats.len() {
         if let Some(connection) = &mut seats[key] {
             if let Stage::Queued = connection.stage {
-                connection.gather(batch.kind, batch.most, room, &mut batch.lines);
+                connection.gather(batch.kind, batch.most, shared, &mut batch.lines);
             }
         }
     }
@@ -95,31 +95,31 @@ fn gather_at<S: Stream, A: Allocator, B: Allocator>(
 /// in the batch; the first is in any case. Says how many of the seats had their look. Nothing is taken and nothing sent.
 pub fn gather<S: Stream, A: Allocator, B: Allocator>(
     batch: &mut Batch<B>,
-    room: &mut Room<B>,
+    shared: &mut SharedBuffers<B>,
     seats: &mut [Option<Connection<S, A>>],
     ready: &[usize],
 ) -> usize
-    requires { IsRoom room.old }
+    requires { AreShared shared.old }
     ensures gathered { Gathered (seats_of S.left S.gone) seats.old seats.new }
-    ensures told { (told : SeatLines) × (batch.new.lines.items ≡ with_ends (all_lines told)) ×
-        Told (seats_of S.left S.gone) (λ c. c.look) (λ c. c.stage ≡ Stage.Queued) batch.old.kind (take result ready.now) told seats.new }
+    ensures reported { (reported : SeatLines) × (batch.new.lines.items ≡ with_ends (all_lines reported)) ×
+        Reported (seats_of S.left S.gone) (λ c. c.peek) (λ c. c.stage ≡ Stage.Queued) batch.old.kind (take result ready.now) reported seats.new }
     ensures kind { batch.new.kind ≡ batch.old.kind }
-    ensures looked { CallsSome ready.now result }
-    ensures room { IsRoom room.new }
+    ensures peeked { CallsSome ready.now result }
+    ensures room { AreShared shared.new }
 {
     batch.lines.clear();
-    let mut looked = 0;
-    while looked < ready.len() && has_room(batch.most, &batch.lines) {
-        gather_at(batch, room, seats, ready[looked]);
-        looked += 1;
+    let mut peeked = 0;
+    while peeked < ready.len() && has_room(batch.most, &batch.lines) {
+        gather_at(batch, shared, seats, ready[peeked]);
+        peeked += 1;
     }
-    looked
+    peeked
 }
 
 // The connection of a seat is at fault, where there is one whose lines were told; each other waits for its next turn.
 fn give_up_at<S: Stream, A: Allocator>(seats: &mut [Option<Connection<S, A>>], key: usize)
     ensures gathered { Gathered (seats_of S.left S.gone) seats.old seats.new }
-    ensures told { SeatAsks (λ c. c.look) (get_or seats.old key None) → SeatBroken (seats_of S.left S.gone) (get_or seats.new key None) }
+    ensures reported { SeatAsks (λ c. c.peek) (get_or seats.old key None) → SeatBroken (seats_of S.left S.gone) (get_or seats.new key None) }
     ensures rests { SeatIs (λ c. c.stage ≡ Stage.Idle) (get_or seats.new key None) }
     ensures others { (i : ℕ) → (i ≡ key → ⊥) → get_or seats.new i None ≡ get_or seats.old i None }
 {
@@ -133,7 +133,7 @@ fn give_up_at<S: Stream, A: Allocator>(seats: &mut [Option<Connection<S, A>>], k
 // The connections of these seats whose lines were told are at fault; nothing is taken of any, and nothing sent.
 fn give_up<S: Stream, A: Allocator>(seats: &mut [Option<Connection<S, A>>], called: &[usize])
     ensures gathered { Gathered (seats_of S.left S.gone) seats.old seats.new }
-    ensures told { (i : ℕ) → IsAmong i called.now → SeatAsks (λ c. c.look) (get_or seats.old i None) →
+    ensures reported { (i : ℕ) → IsAmong i called.now → SeatAsks (λ c. c.peek) (get_or seats.old i None) →
         SeatBroken (seats_of S.left S.gone) (get_or seats.new i None) }
     ensures rest { EachIs (λ c. c.stage ≡ Stage.Idle) called.now seats.new }
 {
@@ -143,47 +143,47 @@ fn give_up<S: Stream, A: Allocator>(seats: &mut [Option<Connection<S, A>>], call
 }
 
 // The connection of a seat has its turn over what was looked at, where there is one and its turn is due.
-fn take_looked_at<R, D: Service<R>, S: Stream, A: Allocator, B: Allocator>(
+fn take_peeked_at<R, D: Service<R>, S: Stream, A: Allocator, B: Allocator>(
     rt: &R,
     service: &mut D,
-    room: &mut Room<B>,
+    shared: &mut SharedBuffers<B>,
     seats: &mut [Option<Connection<S, A>>],
     key: usize,
 )
     requires knows { (q : Request) → D.knows q ≡ true }
-    requires room { IsRoom room.old }
+    requires room { AreShared shared.old }
     ensures took { ((service.new ≡ service.old) × (seats.new ≡ seats.old)) ⊎
-        SeatTurnLooked (seats_of S.left S.gone) (λ c. c.look) (λ c. c.stage ≡ Stage.Queued) D.may key service.old seats.old service.new seats.new }
+        SeatTurnPeeked (seats_of S.left S.gone) (λ c. c.peek) (λ c. c.stage ≡ Stage.Queued) D.may key service.old seats.old service.new seats.new }
     ensures done { SeatIs (λ c. c.stage ≡ Stage.Queued → ⊥) (get_or seats.new key None) }
     ensures others { (i : ℕ) → (i ≡ key → ⊥) → get_or seats.new i None ≡ get_or seats.old i None }
-    ensures room { IsRoom room.new }
+    ensures room { AreShared shared.new }
 {
     if key < seats.len() {
         if let Some(connection) = &mut seats[key] {
             if let Stage::Queued = connection.stage {
-                connection.take_looked(rt, service, room);
+                connection.take_peeked(rt, service, shared);
             }
         }
     }
 }
 
 // The connections of these seats have their turns over what was looked at, one after another. Nothing is sent.
-fn take_looked<R, D: Service<R>, S: Stream, A: Allocator, B: Allocator>(
+fn take_peeked<R, D: Service<R>, S: Stream, A: Allocator, B: Allocator>(
     rt: &R,
     service: &mut D,
-    room: &mut Room<B>,
+    shared: &mut SharedBuffers<B>,
     seats: &mut [Option<Connection<S, A>>],
     called: &[usize],
 )
     requires knows { (q : Request) → D.knows q ≡ true }
-    requires room { IsRoom room.old }
+    requires room { AreShared shared.old }
     ensures taken { (log : TurnLog) × TurnsTaken (seats_of S.left S.gone) D.may service.old seats.old log service.new seats.new ×
-        TakenLooked (seats_of S.left S.gone) (λ c. c.look) (λ c. c.stage ≡ Stage.Queued) called.now log seats.old seats.new }
+        TakenPeeked (seats_of S.left S.gone) (λ c. c.peek) (λ c. c.stage ≡ Stage.Queued) called.now log seats.old seats.new }
     ensures done { EachIs (λ c. c.stage ≡ Stage.Queued → ⊥) called.now seats.new }
-    ensures room { IsRoom room.new }
+    ensures room { AreShared shared.new }
 {
     for key in called {
-        take_looked_at(rt, service, room, seats, *key);
+        take_peeked_at(rt, service, shared, seats, *key);
     }
 }
 
@@ -204,62 +204,62 @@ fn any_asks_holders<S: Stream, A: Allocator>(
     false
 }
 
-// Has the keeper learn a batch, where there is something in it.
-fn learn<D, K: Keep<D>, B: Allocator>(
+// Has the persister learn a batch, where there is something in it.
+fn prefetch<D, K: Persist<D>, B: Allocator>(
     service: &mut D,
-    keep: &mut K,
+    persister: &mut K,
     batch: &Batch<B>,
-) -> Result<Ahead, K::Fault>
-    ensures known { result ≡ Ok Ahead.Known → ((batch.now.lines.items ≡ []) × (keep.new ≡ keep.old) × (service.new ≡ service.old)) ⊎
-        K.learns keep.old service.old batch.now.lines.items keep.new service.new }
-    ensures lost { result ≡ Ok Ahead.Lost → K.waits keep.old service.old keep.new service.new }
+) -> Result<Prefetch, K::Fault>
+    ensures known { result ≡ Ok Prefetch.Known → ((batch.now.lines.items ≡ []) × (persister.new ≡ persister.old) × (service.new ≡ service.old)) ⊎
+        K.prefetches persister.old service.old batch.now.lines.items persister.new service.new }
+    ensures lost { result ≡ Ok Prefetch.Lost → K.waits persister.old service.old persister.new service.new }
 {
     if batch.lines.is_empty() && !batch.holds {
-        return Ok(Ahead::Known);
+        return Ok(Prefetch::Known);
     }
-    keep.learn(service, &batch.lines)
+    persister.prefetch(service, &batch.lines)
 }
 
 /// One turn of the loop over a service that learns its answers before: the connections of these seats are read, the requests among their
-/// lines are told to the keeper, which has the service learn the answers, and then they take their turns (as in `turn`). Where the answers are not
+/// lines are told to the persister, which has the service learn the answers, and then they take their turns (as in `turn`). Where the answers are not
 /// learnt in time, those whose lines were told are at fault, and nothing is sent. No connection takes more than was looked at. One seat at
 /// least is called, where any is given, and of each that is called the connection rests then.
 ///
 /// The fault of what keeps, with no byte sent.
-pub fn turn_ahead<R, D: Service<R>, K: Keep<D>, S: Stream, A: Allocator, B: Allocator>(
+pub fn iterate_prefetched<R, D: Service<R>, K: Persist<D>, S: Stream, A: Allocator, B: Allocator>(
     rt: &R,
     service: &mut D,
-    keep: &mut K,
+    persister: &mut K,
     batch: &mut Batch<B>,
-    room: &mut Room<B>,
+    shared: &mut SharedBuffers<B>,
     seats: &mut [Option<Connection<S, A>>],
     ready: &[usize],
 ) -> Result<Called, K::Fault>
     requires knows { (q : Request) → D.knows q ≡ true }
-    requires room { IsRoom room.old }
+    requires room { AreShared shared.old }
     ensures served { (called : ℕ) → result ≡ Ok (Called.Served called) →
-        TurnAhead (seats_of S.left S.gone) (λ c. c.look) (λ c. c.stage ≡ Stage.Queued) D.may K.learns K.keeps batch.old.kind
-        keep.old service.old seats.old batch.new.lines.items keep.new service.new seats.new }
-    ensures unserved { (called : ℕ) → result ≡ Ok (Called.Unserved called) → Unlearnt (seats_of S.left S.gone) seats.old batch.new.lines.items seats.new }
-    ensures lost { (called : ℕ) → result ≡ Ok (Called.Unserved called) → K.waits keep.old service.old keep.new service.new }
+        PrefetchedIteration (seats_of S.left S.gone) (λ c. c.peek) (λ c. c.stage ≡ Stage.Queued) D.may K.prefetches K.persists batch.old.kind
+        persister.old service.old seats.old batch.new.lines.items persister.new service.new seats.new }
+    ensures unserved { (called : ℕ) → result ≡ Ok (Called.Unserved called) → NotPrefetched (seats_of S.left S.gone) seats.old batch.new.lines.items seats.new }
+    ensures lost { (called : ℕ) → result ≡ Ok (Called.Unserved called) → K.waits persister.old service.old persister.new service.new }
     ensures unsent { OnErr result (NoneSent (seats_of S.left S.gone) seats.old seats.new) }
     ensures called { IfOk result (λ called. CallsSome ready.now (count_of called)) }
     ensures rest { IfOk result (λ called. EachIs (λ c. c.stage ≡ Stage.Idle) (take (count_of called) ready.now) seats.new) }
-    ensures room { IsRoom room.new }
+    ensures room { AreShared shared.new }
 {
-    let looked = gather(batch, room, seats, ready);
-    let called = &ready[..looked];
+    let peeked = gather(batch, shared, seats, ready);
+    let called = &ready[..peeked];
     batch.holds = any_asks_holders(seats, called);
-    match learn(service, keep, batch)? {
-        Ahead::Known => {
-            take_looked(rt, service, room, seats, called);
-            keep.keep(service)?;
+    match prefetch(service, persister, batch)? {
+        Prefetch::Known => {
+            take_peeked(rt, service, shared, seats, called);
+            persister.persist(service)?;
             send_replies(seats, called);
-            Ok(Called::Served(looked))
+            Ok(Called::Served(peeked))
         }
-        Ahead::Lost => {
+        Prefetch::Lost => {
             give_up(seats, called);
-            Ok(Called::Unserved(looked))
+            Ok(Called::Unserved(peeked))
         }
     }
 }

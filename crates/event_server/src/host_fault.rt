@@ -14,7 +14,7 @@ pub enum HostFault<F> {
     /// What it tells was not taken.
     Output,
     /// What the service told could not be kept; no reply of that turn was sent.
-    Keep(F),
+    Persist(F),
 }
 
 impl<F> From<AllocError> for HostFault<F> {

@@ -2,19 +2,19 @@
 
 ghost use Rattle.std.specs.Prelude.{◌≡◌, ◌⊎◌, true, OnOk};
 ghost use Rattle.commands.specs.Requests.{Request};
-ghost use Rattle.event_server.specs.Rooms.{IsRoom};
+ghost use Rattle.event_server.specs.SharedBuffers.{AreShared};
 ghost use Rattle.event_server.specs.Rounds.{WasServed};
 
 use crate::answering::answer_queries;
 use crate::connection::Connection;
-use crate::gathering::{Batch, Called, turn_ahead};
+use crate::connections::ConnectionTable;
+use crate::gathering::{Batch, Called, iterate_prefetched};
 use crate::host_fault::HostFault;
-use crate::house::House;
-use crate::keep::{Keep, Tally};
-use crate::room::Room;
+use crate::persist::{Persist, Tally};
+use crate::shared::SharedBuffers;
 use crate::socket::Socket;
 use crate::teller::Teller;
-use crate::turns::turn;
+use crate::turns::iterate;
 use commands::WorldKind;
 use mio::net::TcpListener;
 use mio::unix::SourceFd;
@@ -76,7 +76,7 @@ struct Hosting {
     /// What the system told last.
     events: Events<Global>,
     listener: TcpListener,
-    house: House,
+    connections: ConnectionTable,
     start: Instant,
     /// The second that is under way, and the one at which the next report is due.
     tick: u64,
@@ -93,14 +93,14 @@ struct Hosting {
     stop: bool,
     /// For how many rounds more what waits is sent, once it is to stop.
     last: u64,
-    /// What is told to the keeper before a turn, where the service learns its answers ahead.
+    /// What is told to the persister before a turn, where the service learns its answers ahead.
     batch: Option<Batch<Global>>,
-    /// Whether a second has passed since the keeper was last told.
+    /// Whether a second has passed since the persister was last told.
     ticked: bool,
     /// Whether a second has passed since who says nothing was last closed.
     sweeps: bool,
     teller: Teller,
-    /// Whether it was said that something is amiss with the keeper.
+    /// Whether it was said that something is amiss with the persister.
     said_trouble: bool,
 }
 
@@ -113,7 +113,7 @@ impl Drop for Hosting {
             poll: _,
             events: _,
             listener: _,
-            house: _,
+            connections: _,
             start: _,
             tick: _,
             report: _,
@@ -133,32 +133,32 @@ impl Drop for Hosting {
     }
 }
 
-/// Serves clients of one service, each its own talk, in one thread.
+/// Serves clients of one service, each its own transcript, in one thread.
 ///
 /// A line `listening ADDRESS:PORT` is written first. Each turn takes what clients have sent, keeps what the service tells of it, and only then
-/// sends replies (`turn`); where the service learns its answers ahead, what was read is told to the keeper before (`turn_ahead`), which is
+/// sends replies (`turn`); where the service learns its answers ahead, what was read is told to the persister before (`iterate_prefetched`), which is
 /// called once a second too. It ends at the end of standard input where that is a pipe, or else never: then replies are sent, as far as
 /// clients take them within a second, and a line `served N` is written.
-pub fn host<R, D: Service<R>, K: Keep<D>, W: Write, E: Write>(
+pub fn host<R, D: Service<R>, K: Persist<D>, W: Write, E: Write>(
     rt: &R,
     alloc: Global,
     options: HostOptions,
     service: &mut D,
-    keep: &mut K,
+    persister: &mut K,
     output: &mut W,
     errors: &mut E,
 ) -> Result<Hosted, HostFault<K::Fault>>
 where
     R: Net + Wait + Clock,
     requires { (q : Request) → D.knows q ≡ true }
-    ensures { OnOk result (WasServed D.may K.learns K.keeps K.waits keep.old service.old keep.new service.new) }
+    ensures { OnOk result (WasServed D.may K.prefetches K.persists K.waits persister.old service.old persister.new service.new) }
 {
-    let mut room = Room::new(alloc)?;
-    let mut hosting = Hosting::new(rt, alloc, options, keep.most_ahead())?;
+    let mut shared = SharedBuffers::new(alloc)?;
+    let mut hosting = Hosting::new(rt, alloc, options, persister.most_prefetched())?;
     hosting.tell_port(output)?;
-    hosting.tell_trouble(keep.trouble(), errors);
+    hosting.tell_trouble(persister.trouble(), errors);
     for _ in rt.forever() {
-        hosting.go_round(rt, service, keep, &mut room, errors)?;
+        hosting.go_round(rt, service, persister, &mut shared, errors)?;
         if hosting.is_over() {
             break;
         }
@@ -184,7 +184,7 @@ impl Hosting {
         rt: &R,
         alloc: Global,
         options: HostOptions,
-        most_ahead: Option<usize>,
+        most_prefetched: Option<usize>,
     ) -> Result<Hosting, HostFault<F>> {
         let start = Instant::now(rt)?;
         let Ok(events) = Events::with_capacity(alloc, EVENTS) else {
@@ -192,7 +192,7 @@ impl Hosting {
         };
         let poll = Poll::new(rt)?;
         let listener = listen(rt, &poll, options.address)?;
-        let batch = match most_ahead {
+        let batch = match most_prefetched {
             Some(most) => Some(Batch::new(alloc, options.kind, most)),
             None => None,
         };
@@ -202,7 +202,7 @@ impl Hosting {
             poll,
             events,
             listener,
-            house: House::new(alloc, options.clients)?,
+            connections: ConnectionTable::new(alloc, options.clients)?,
             start,
             tick: 0,
             report: 0,
@@ -221,29 +221,29 @@ impl Hosting {
         })
     }
 
-    // Once round: waits, accepts, has the keeper go on, serves, and tells how much there is where that is due.
-    fn go_round<R: Clock, D: Service<R>, K: Keep<D>, E: Write>(
+    // Once round: waits, accepts, has the persister go on, serves, and tells how much there is where that is due.
+    fn go_round<R: Clock, D: Service<R>, K: Persist<D>, E: Write>(
         &mut self,
         rt: &R,
         service: &mut D,
-        keep: &mut K,
-        room: &mut Room<Global>,
+        persister: &mut K,
+        shared: &mut SharedBuffers<Global>,
         errors: &mut E,
     ) -> Result<(), HostFault<K::Fault>>
         requires knows { (q : Request) → D.knows q ≡ true }
-        requires room { IsRoom room.old }
-        ensures room { IsRoom room.new }
-        ensures served { OnOk result (WasServed D.may K.learns K.keeps K.waits keep.old service.old keep.new service.new) }
+        requires room { AreShared shared.old }
+        ensures room { AreShared shared.new }
+        ensures served { OnOk result (WasServed D.may K.prefetches K.persists K.waits persister.old service.old persister.new service.new) }
     {
         self.wait(rt)?;
         self.accept_all()?;
         self.tell_full(errors);
-        self.tell_tick(service, keep)?;
-        self.serve(rt, service, keep, room)?;
-        self.tell_trouble(keep.trouble(), errors);
+        self.tell_tick(service, persister)?;
+        self.serve(rt, service, persister, shared)?;
+        self.tell_trouble(persister.trouble(), errors);
         self.tell_lost(errors);
         if self.is_report_due() {
-            self.tell_tally(keep.tally(service), errors);
+            self.tell_tally(persister.tally(service), errors);
         }
         Ok(())
     }
@@ -254,12 +254,12 @@ impl Hosting {
             return false;
         }
         self.last = self.last.saturating_sub(1);
-        self.last == 0 || !self.house.has_unsent()
+        self.last == 0 || !self.connections.has_unsent()
     }
 
     // Whether a connection that waits can be accepted: the system tells only once that some wait.
     fn can_accept(&self) -> bool {
-        self.waiting && !self.full && self.house.open < self.options.clients && !self.stop
+        self.waiting && !self.full && self.connections.open < self.options.clients && !self.stop
     }
 
     // For how long nothing need be done: a tenth of a second at the end, no time where connections are due or wait to be accepted, a second
@@ -267,9 +267,13 @@ impl Hosting {
     fn next_wait(&self) -> Duration {
         if self.stop {
             Duration::from_millis(100)
-        } else if self.can_accept() || !self.house.ready.is_empty() {
+        } else if self.can_accept() || !self.connections.ready.is_empty() {
             Duration::from_millis(0)
-        } else if 0 < self.house.open || self.full || self.options.reports || self.batch.is_some() {
+        } else if 0 < self.connections.open
+            || self.full
+            || self.options.reports
+            || self.batch.is_some()
+        {
             Duration::from_millis(1000)
         } else {
             Duration::from_secs(60)
@@ -283,7 +287,7 @@ impl Hosting {
         self.note_tick(rt)?;
         if self.sweeps && !self.note_events(Duration::from_millis(0))? {
             self.sweeps = false;
-            self.house.sweep(self.tick, self.options.idle);
+            self.connections.sweep(self.tick, self.options.idle);
         }
         Ok(())
     }
@@ -291,16 +295,16 @@ impl Hosting {
     // Waits for so long at most, and notes what the system tells. Says whether it tells anything.
     fn note_events<F>(&mut self, most: Duration) -> Result<bool, HostFault<F>> {
         self.poll.poll(&mut self.events, Some(most))?;
-        let mut told = false;
+        let mut reported = false;
         for event in &self.events {
-            told = true;
+            reported = true;
             match event.token() {
                 LISTENER => self.waiting = true,
                 STOPPER => self.stop = self.stop || event.is_read_closed(),
-                _ => self.house.note(event)?,
+                _ => self.connections.note(event)?,
             }
         }
-        Ok(told)
+        Ok(reported)
     }
 
     // Notes that a second has passed. After a stall of many seconds the ticks catch up by one a round, so that what clients sent meanwhile is
@@ -327,77 +331,77 @@ impl Hosting {
     }
 
     // Gives each connection that is due its turn.
-    fn serve<R, D: Service<R>, K: Keep<D>>(
+    fn serve<R, D: Service<R>, K: Persist<D>>(
         &mut self,
         rt: &R,
         service: &mut D,
-        keep: &mut K,
-        room: &mut Room<Global>,
+        persister: &mut K,
+        shared: &mut SharedBuffers<Global>,
     ) -> Result<(), HostFault<K::Fault>>
         requires knows { (q : Request) → D.knows q ≡ true }
-        requires room { IsRoom room.old }
-        ensures room { IsRoom room.new }
-        ensures served { OnOk result (WasServed D.may K.learns K.keeps K.waits keep.old service.old keep.new service.new) }
+        requires room { AreShared shared.old }
+        ensures room { AreShared shared.new }
+        ensures served { OnOk result (WasServed D.may K.prefetches K.persists K.waits persister.old service.old persister.new service.new) }
     {
-        let House { seats, ready, .. } = &mut self.house;
-        room.share_among(ready.len());
+        let ConnectionTable { seats, ready, .. } = &mut self.connections;
+        shared.share_among(ready.len());
         let called = match &mut self.batch {
-            None => turn(rt, service, keep, room, seats, ready).map(Called::Served),
-            Some(batch) => turn_ahead(rt, service, keep, batch, room, seats, ready),
+            None => iterate(rt, service, persister, shared, seats, ready).map(Called::Served),
+            Some(batch) => iterate_prefetched(rt, service, persister, batch, shared, seats, ready),
         };
         match called {
             Ok(called) => {
                 self.note_lost(called);
-                self.answer(service, keep, room, called);
+                self.answer(service, persister, shared, called);
                 self.settle(called.count())
             }
-            Err(fault) => Err(HostFault::Keep(fault)),
+            Err(fault) => Err(HostFault::Persist(fault)),
         }
     }
 
     // Answers who asks who holds numbers, where any may.
-    fn answer<D, K: Keep<D>>(
+    fn answer<D, K: Persist<D>>(
         &mut self,
         service: &D,
-        keep: &K,
-        room: &mut Room<Global>,
+        persister: &K,
+        shared: &mut SharedBuffers<Global>,
         called: Called,
     )
-        requires { IsRoom room.old }
-        ensures { IsRoom room.new }
+        requires { AreShared shared.old }
+        ensures { AreShared shared.new }
     {
         if let Called::Served(count) = called {
-            let House { seats, ready, .. } = &mut self.house;
+            let ConnectionTable { seats, ready, .. } = &mut self.connections;
             let few = count.min(ready.len());
             if any_asks(seats, &ready[..few]) {
-                answer_queries(service, keep, room, seats, &ready[..few]);
+                answer_queries(service, persister, shared, seats, &ready[..few]);
             }
         }
     }
 
     // After the turn of so many: where one has left, another may be accepted again.
     fn settle<F>(&mut self, called: usize) -> Result<(), HostFault<F>> {
-        let before = self.house.open;
-        self.house.settle(called, self.tick)?;
-        self.full = self.full && before <= self.house.open;
+        let before = self.connections.open;
+        self.connections.settle(called, self.tick)?;
+        self.full = self.full && before <= self.connections.open;
         Ok(())
     }
 
-    // Has the keeper go on, where a second has passed.
-    fn tell_tick<D, K: Keep<D>>(
+    // Has the persister go on, where a second has passed.
+    fn tell_tick<D, K: Persist<D>>(
         &mut self,
         service: &mut D,
-        keep: &mut K,
+        persister: &mut K,
     ) -> Result<(), HostFault<K::Fault>>
-        ensures { OnOk result (((keep.new ≡ keep.old) × (service.new ≡ service.old)) ⊎ K.waits keep.old service.old keep.new service.new) }
+        ensures { OnOk result (((persister.new ≡ persister.old) × (service.new ≡ service.old)) ⊎ K.waits persister.old service.old persister.new service.new) }
     {
         if !self.ticked {
             return Ok(());
         }
         self.ticked = false;
-        match keep.tick(service) {
+        match persister.tick(service) {
             Ok(()) => Ok(()),
-            Err(fault) => Err(HostFault::Keep(fault)),
+            Err(fault) => Err(HostFault::Persist(fault)),
         }
     }
 
@@ -405,7 +409,13 @@ impl Hosting {
     fn accept(&mut self) -> Result<(), AllocError> {
         match self.listener.accept() {
             Ok((stream, _)) => {
-                self.house.admit(self.alloc, &self.poll, self.options.kind, stream, self.tick)?;
+                self.connections.admit(
+                    self.alloc,
+                    &self.poll,
+                    self.options.kind,
+                    stream,
+                    self.tick,
+                )?;
             }
             Err(e) => match e.kind() {
                 ErrorKind::WouldBlock => self.waiting = false,
@@ -446,7 +456,7 @@ impl Hosting {
         self.teller.tell(text.as_bytes(), errors);
     }
 
-    // What is said of answers that are not learnt, or are again. Why they are not was said before, where the keeper knows that.
+    // What is said of answers that are not learnt, or are again. Why they are not was said before, where the persister knows that.
     fn text_of_lost(&self) -> &'static str {
         if !self.lost {
             "slotctl: the log answers again\n"
@@ -457,7 +467,7 @@ impl Hosting {
         }
     }
 
-    // Says once what is amiss with the keeper, each time that something comes to be.
+    // Says once what is amiss with the persister, each time that something comes to be.
     fn tell_trouble<E: Write>(&mut self, trouble: Option<&'static str>, errors: &mut E) {
         let said = self.said_trouble;
         self.said_trouble = trouble.is_some();
@@ -480,7 +490,7 @@ impl Hosting {
     fn tell_tally<E: Write>(&mut self, tally: Tally, errors: &mut E) {
         self.report = self.tick.saturating_add(REPORT_TICKS);
         let Tally { events, bytes } = tally;
-        let clients = self.house.open;
+        let clients = self.connections.open;
         // Who looks on is told nothing where the text is not taken, and served all the same.
         if let Ok(line) = format!(in self.alloc;
             "{clients} clients, {events} events, {bytes} bytes of journal\n"
@@ -497,7 +507,10 @@ impl Hosting {
 
     // Says how many were served: those that have left, and those that are there.
     fn tell_end<W: Write, F>(&self, output: &mut W) -> Result<Hosted, HostFault<F>> {
-        let served = self.house.served.saturating_add(self.house.open as u64);
+        let served = self
+            .connections
+            .served
+            .saturating_add(self.connections.open as u64);
         put_line(format!(in self.alloc; "served {served}\n"), output)?;
         Ok(Hosted { served })
     }
@@ -508,7 +521,7 @@ fn any_asks(seats: &[Option<Connection<Socket, Global>>], called: &[usize]) -> b
     for key in called {
         if *key < seats.len() {
             if let Some(connection) = &seats[*key] {
-                if connection.wire.has_input() {
+                if connection.buffers.has_input() {
                     return true;
                 }
             }

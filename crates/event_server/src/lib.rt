@@ -1,18 +1,18 @@
 //! Connections that share one service, in one thread.
 //!
-//! A `Wire` is a connection without its stream: one side of a talk (`Talker`), what came and is not taken yet, and what was said and is not
+//! A `Buffers` is a connection without its stream: one side of a transcript (`Responder`), what came and is not taken yet, and what was said and is not
 //! sent yet, at most 64 KiB of each. A `Connection` is a wire with its `Stream`, which does not wait. `turn` is one turn of the loop:
-//! connections that are due take what came (`take_turns`), what the service tells of it is kept (`Keep`), and only then are replies sent
-//! (`send_replies`). Its theorem (`LoopTurn`): there is one order of all turns of all connections (`TurnLog`) in which they are a run of
+//! connections that are due take what came (`take_turns`), what the service tells of it is kept (`Persist`), and only then are replies sent
+//! (`send_replies`). Its theorem (`LoopIteration`): there is one order of all turns of all connections (`TurnLog`) in which they are a run of
 //! the service; the turns of each connection are those to the lines that it sent, in order, however the bytes were cut, and it waits for
-//! the replies to them and to no others; of each at most 64 KiB were read; and of what waits for it a beginning is sent. Where what was
+//! the replies to them and to no others; of each at most 64 KiB were read; and of what waits for it a prefix is sent. Where what was
 //! told cannot be kept, nothing is sent at all.
 //!
-//! Where a service cannot answer a line as it comes, but learns answers many at once (`Keep::most_ahead`), `turn_ahead` first has connections
-//! read, and looks at the lines that they will take (`Look`): their requests are told to the keeper in one batch, and then the turn is as
-//! ever. Its theorem (`TurnAhead`): before the turn nothing was taken, said or sent, and the answers to the batch were learnt; the batch is
-//! just the requests among what was looked at, and each connection takes a beginning of what was looked at of it, and nothing else; where
-//! the answers were not learnt in time, nothing is sent to any, and whoever has a line in the batch is at fault (`Unlearnt`). That nothing
+//! Where a service cannot answer a line as it comes, but learns answers many at once (`Persist::most_prefetched`), `iterate_prefetched` first has connections
+//! read, and looks at the lines that they will take (`Peek`): their requests are told to the persister in one batch, and then the turn is as
+//! ever. Its theorem (`PrefetchedIteration`): before the turn nothing was taken, said or sent, and the answers to the batch were learnt; the batch is
+//! just the requests among what was looked at, and each connection takes a prefix of what was looked at of it, and nothing else; where
+//! the answers were not learnt in time, nothing is sent to any, and whoever has a line in the batch is at fault (`NotPrefetched`). That nothing
 //! of what was looked at is left over is not promised but shown by running it (`tests_log`).
 //!
 //! `law_of_sharing` in `player` makes such turns, one after another, one log.
@@ -24,29 +24,29 @@
 
 pub mod answering;
 mod asking;
+pub mod buffers;
 pub mod connection;
+pub mod connections;
 pub mod gathering;
 pub mod host_fault;
 pub mod hosting;
-pub mod house;
-pub mod keep;
-pub mod look;
-pub mod room;
+pub mod peek;
+pub mod persist;
+pub mod shared;
 pub mod socket;
 pub mod stream;
 pub mod teller;
 pub mod turns;
-pub mod wire;
 
 pub use answering::answer_queries;
+pub use buffers::{Buffers, MOST_LINES, UNSENT_ROOM};
 pub use connection::{Connection, Stage};
-pub use gathering::{Batch, Called, gather, turn_ahead};
+pub use gathering::{Batch, Called, gather, iterate_prefetched};
 pub use host_fault::HostFault;
 pub use hosting::{HostOptions, Hosted, host};
-pub use keep::{Ahead, Keep, Tally};
-pub use look::Look;
-pub use room::{READ_ROOM, Room};
+pub use peek::Peek;
+pub use persist::{Persist, Prefetch, Tally};
+pub use shared::{READ_ROOM, SharedBuffers};
 pub use stream::Stream;
 pub use teller::Teller;
-pub use turns::{send_replies, take_turns, turn};
-pub use wire::{MOST_LINES, UNSENT_ROOM, Wire};
+pub use turns::{iterate, send_replies, take_turns};

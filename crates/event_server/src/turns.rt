@@ -3,13 +3,13 @@
 ghost use Rattle.std.specs.Prelude.{◌≡◌, ◌⊎◌, ℕ, true, get_or, take, None, IfOk, OnErr};
 ghost use Rattle.commands.specs.Requests.{Request};
 ghost use Rattle.player.specs.Shared.{TurnLog};
-ghost use Rattle.event_server.specs.Rooms.{IsRoom};
-ghost use Rattle.event_server.specs.Wires.{HasTakenAll};
-ghost use Rattle.event_server.specs.Seats.{seats_of, CallsSome, EachIs, SeatIs, Served, TurnsTaken, RepliesSent, NoneSent, SeatTurn, SeatSent, ServedTurn};
+ghost use Rattle.event_server.specs.SharedBuffers.{AreShared};
+ghost use Rattle.event_server.specs.ConnectionBuffers.{HasTakenAll};
+ghost use Rattle.event_server.specs.Seats.{seats_of, CallsSome, EachIs, SeatIs, Served, TurnsTaken, RepliesSent, NoneSent, SeatTurn, SeatSent, ServedIteration};
 
 use crate::connection::{Connection, Stage};
-use crate::keep::Keep;
-use crate::room::Room;
+use crate::persist::Persist;
+use crate::shared::SharedBuffers;
 use crate::stream::Stream;
 use player::Service;
 use std::alloc::Allocator;
@@ -18,23 +18,23 @@ use std::alloc::Allocator;
 fn take_at<R, D: Service<R>, S: Stream, A: Allocator, B: Allocator>(
     rt: &R,
     service: &mut D,
-    room: &mut Room<B>,
+    shared: &mut SharedBuffers<B>,
     seats: &mut [Option<Connection<S, A>>],
     key: usize,
 )
     requires knows { (q : Request) → D.knows q ≡ true }
-    requires room { IsRoom room.old }
+    requires room { AreShared shared.old }
     ensures took { ((service.new ≡ service.old) × (seats.new ≡ seats.old)) ⊎
         SeatTurn (seats_of S.left S.gone) D.may (λ c. c.stage ≡ Stage.Queued) key service.old seats.old service.new seats.new }
     ensures done { SeatIs (λ c. c.stage ≡ Stage.Queued → ⊥) (get_or seats.new key None) }
-    ensures all { (seats.new ≡ seats.old) ⊎ SeatIs (λ c. HasTakenAll c.wire) (get_or seats.new key None) }
+    ensures all { (seats.new ≡ seats.old) ⊎ SeatIs (λ c. HasTakenAll c.buffers) (get_or seats.new key None) }
     ensures others { (i : ℕ) → (i ≡ key → ⊥) → get_or seats.new i None ≡ get_or seats.old i None }
-    ensures room { IsRoom room.new }
+    ensures room { AreShared shared.new }
 {
     if key < seats.len() {
         if let Some(connection) = &mut seats[key] {
             if let Stage::Queued = connection.stage {
-                connection.take(rt, service, room);
+                connection.take(rt, service, shared);
             }
         }
     }
@@ -42,25 +42,25 @@ fn take_at<R, D: Service<R>, S: Stream, A: Allocator, B: Allocator>(
 
 /// The connections of these seats have their turns, one after another, until so much is told that it is to be kept; the first has it in any
 /// case. Says how many of the seats were called. Nothing is sent.
-pub fn take_turns<R, D: Service<R>, K: Keep<D>, S: Stream, A: Allocator, B: Allocator>(
+pub fn take_turns<R, D: Service<R>, K: Persist<D>, S: Stream, A: Allocator, B: Allocator>(
     rt: &R,
     service: &mut D,
-    keep: &K,
-    room: &mut Room<B>,
+    persister: &K,
+    shared: &mut SharedBuffers<B>,
     seats: &mut [Option<Connection<S, A>>],
     ready: &[usize],
 ) -> usize
     requires knows { (q : Request) → D.knows q ≡ true }
-    requires room { IsRoom room.old }
+    requires room { AreShared shared.old }
     ensures taken { (log : TurnLog) × TurnsTaken (seats_of S.left S.gone) D.may service.old seats.old log service.new seats.new }
     ensures called { CallsSome ready.now result }
     ensures done { EachIs (λ c. c.stage ≡ Stage.Queued → ⊥) (take result ready.now) seats.new }
     ensures served { Served (seats_of S.left S.gone) (λ c. c.stage ≡ Stage.Queued) (take result ready.now) seats.old seats.new }
-    ensures room { IsRoom room.new }
+    ensures room { AreShared shared.new }
 {
     let mut called = 0;
-    while called < ready.len() && (called == 0 || !keep.is_full(service)) {
-        take_at(rt, service, room, seats, ready[called]);
+    while called < ready.len() && (called == 0 || !persister.is_full(service)) {
+        take_at(rt, service, shared, seats, ready[called]);
         called += 1;
     }
     called
@@ -100,25 +100,25 @@ pub fn send_replies<S: Stream, A: Allocator>(
 /// others are to be called in the next turn.
 ///
 /// The fault of what keeps, with no byte sent.
-pub fn turn<R, D: Service<R>, K: Keep<D>, S: Stream, A: Allocator, B: Allocator>(
+pub fn iterate<R, D: Service<R>, K: Persist<D>, S: Stream, A: Allocator, B: Allocator>(
     rt: &R,
     service: &mut D,
-    keep: &mut K,
-    room: &mut Room<B>,
+    persister: &mut K,
+    shared: &mut SharedBuffers<B>,
     seats: &mut [Option<Connection<S, A>>],
     ready: &[usize],
 ) -> Result<usize, K::Fault>
     requires knows { (q : Request) → D.knows q ≡ true }
-    requires room { IsRoom room.old }
-    ensures turned { IfOk result (λ called. ServedTurn (seats_of S.left S.gone) D.may K.keeps (λ c. c.stage ≡ Stage.Queued) (take called ready.now)
-        keep.old service.old seats.old keep.new service.new seats.new) }
+    requires room { AreShared shared.old }
+    ensures turned { IfOk result (λ called. ServedIteration (seats_of S.left S.gone) D.may K.persists (λ c. c.stage ≡ Stage.Queued) (take called ready.now)
+        persister.old service.old seats.old persister.new service.new seats.new) }
     ensures unsent { OnErr result (NoneSent (seats_of S.left S.gone) seats.old seats.new) }
     ensures called { IfOk result (λ called. CallsSome ready.now called) }
     ensures rest { IfOk result (λ called. EachIs (λ c. c.stage ≡ Stage.Idle) (take called ready.now) seats.new) }
-    ensures room { IsRoom room.new }
+    ensures room { AreShared shared.new }
 {
-    let called = take_turns(rt, service, keep, room, seats, ready);
-    keep.keep(service)?;
+    let called = take_turns(rt, service, persister, shared, seats, ready);
+    persister.persist(service)?;
     send_replies(seats, &ready[..called]);
     Ok(called)
 }

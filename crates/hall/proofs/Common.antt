@@ -12,7 +12,7 @@ pub use Rattle.commands.specs.declared.reply.Reply.TheVariants.{Ok, Refused}
 pub use Rattle.commands.specs.Replies.{ShownReply, is_refusal, with_view}
 pub use Rattle.player.specs.Runs.{Runs}
 pub use Rattle.player.specs.Turns.{Turn, exchanges}
-pub use Rattle.player.specs.Turns.Turn.{Answered, Told, Ended, Misread}
+pub use Rattle.player.specs.Turns.Turn.{Answered, Reported, Ended, Misread}
 pub use Rattle.desk.specs.Desk.{desk_rules, desk_reply, desk_after, desk_refusal, owner_reply}
 pub use Rattle.desk.specs.DeskCalls.{exchange}
 pub use Rattle.desk.specs.DeskValue.{DeskValue}

@@ -117,12 +117,12 @@ module _ (h : HallState) (e : Event) (r : ShownReply) (w : DeskValue) (lawful : 
         let one_more = length-append h.history (exchange e (desk_reply (desk_of h) e) ∷ []) in
         let room = room_left h e due in
         let after : hall_after h e ≡ longer h e = ap (λ o. after_unless o h e) due in
-        let told : hall_reply h e ≡ desk_reply (desk_of h) e = ap (λ o. reply_unless o h e) due in
+        let reported : hall_reply h e ≡ desk_reply (desk_of h) e = ap (λ o. reply_unless o h e) due in
         record {
           reply = m.0;
           desk = m.1 ∙ sym push;
           lawful = record { named = lawful.named; accepted = run; few = (rw one_more (omega arith)) };
-          may = inl (m.0 ∙ sym told, sym after);
+          may = inl (m.0 ∙ sym reported, sym after);
         }
     | inr m ↦ absurd (let no : true ≡ false = ap is_refusal (sym m.0) ∙ accepted in cc)
   ]
@@ -136,11 +136,11 @@ lacks_so h e due = inr (refl, refl, due)
 
 -- a refused event leaves a hall as it was
 refused_stays : (h u : HallState) (e : Event) (r : ShownReply) (o : Option Refusal) → SatisfiesSpec h → hall_refusal h e ≡ o → r ≡ reply_unless o h e → u ≡ after_unless o h e → is_refusal r ≡ true → u ≡ h
-refused_stays h u e r (Some why) lawful due told after refused = after
-refused_stays h u e r None lawful due told after refused =
+refused_stays h u e r (Some why) lawful due reported after refused = after
+refused_stays h u e r None lawful due reported after refused =
     let free : desk_refusal (desk_of h) e ≡ None = none_of_full (desk_refusal (desk_of h) e) _ due in
     let why = refused_by r refused in
-    absurd (not_refused h lawful e why.0 free (sym told ∙ why.1))
+    absurd (not_refused h lawful e why.0 free (sym reported ∙ why.1))
 
 pub kept_refused : (h u : HallState) (e : Event) (r : ShownReply) → SatisfiesSpec h → HallMay h e r u → is_refusal r ≡ true → u ≡ h
 kept_refused h u e r lawful (inl m) refused = refused_stays h u e r (hall_refusal h e) lawful refl m.0 m.1 refused

@@ -1,6 +1,6 @@
 -- what a hall answers in turn
 use Rattle.std.proofs.Common.{◌≡◌, ℕ, ◌⊎◌, ◌++◌, nat_le, arith, Bool, true, false, cond, inl, inr, List, [], ◌∷◌, length, Option, Some, None, refl, sym, ap, subst, ◌∙◌, append_assoc}
-use Rattle.hall.proofs.Common.{append-nil, Refusal, Config, Event, Exchange, exchange, DeskValue, ShownReply, is_refusal, Runs, Turn, exchanges, Answered, Told, Ended, Misread, hall_of, desk_of, SatisfiesSpec, full_unless, hall_refusal, longer, reply_unless, after_unless, HallMay, HallState}
+use Rattle.hall.proofs.Common.{append-nil, Refusal, Config, Event, Exchange, exchange, DeskValue, ShownReply, is_refusal, Runs, Turn, exchanges, Answered, Reported, Ended, Misread, hall_of, desk_of, SatisfiesSpec, full_unless, hall_refusal, longer, reply_unless, after_unless, HallMay, HallState}
 use Rattle.std.proofs.lemmas.Option.{same_Some}
 use Rattle.step_memory.specs.declared.refusal.Refusal.TheVariants as refusal
 use Rattle.commands.specs.declared.kind.WorldKind.{WorldKind}
@@ -9,9 +9,9 @@ use Rattle.commands.specs.Config.{gives_names}
 use Rattle.commands.specs.KindProofs.{where_named}
 use Rattle.desk.specs.Desk.{fresh_desk, desk_reply, desk_after, desk_refusal, IsFreshDesk}
 use Rattle.desk.proofs.DeskLaws as desk
-use Rattle.schedule_player.specs.DeskWorld.{DeskWorldMay, IsDeskTalk}
+use Rattle.schedule_player.specs.DeskWorld.{DeskWorldMay, IsDeskTranscript}
 use Rattle.schedule_player.specs.DeskWorldProofs.{desk_lawful, desk_tells}
-use Rattle.schedule_player.specs.IsTalk.{IsTalk, IsTalkByKind}
+use Rattle.schedule_player.specs.IsTranscript.{IsTranscript, IsTranscriptByKind}
 use Rattle.commands.specs.Requests.Request.{Take}
 use Rattle.hall.specs.Serving.{HallServes, is_of_room, wants_room, with_room, accepted}
 use Rattle.hall.proofs.Histories.{grows, not_refused, refused_so, none_of_full, accepted_by}
@@ -54,13 +54,13 @@ module _ (h : HallState) (e : Event) (lawful : SatisfiesSpec h) where
   -- the desk refused it
   moves_refused : (why : Refusal) → desk_refusal (desk_of h) e ≡ Some why → Moves h e (reply.Refused why) h
   moves_refused why due =
-      let told : desk_reply (desk_of h) e ≡ reply.Refused why = refused_so h lawful e why due in
+      let reported : desk_reply (desk_of h) e ≡ reply.Refused why = refused_so h lawful e why due in
       let same : desk_after (desk_of h) e ≡ desk_of h = stays (desk_of h) e why due in
       record {
         lawful = lawful;
         desk = elim (is_of_room why) as (λ b. is_of_room why ≡ b → ((b ≡ true) × (desk_of h ≡ desk_of h)) ⊎ ((b ≡ false) × DeskWorldMay (desk_of h) (Take e) (reply.Refused why) (desk_of h))) [
           | true ↦ λ is. inl (refl, refl)
-          | false ↦ λ is. inr (refl, inl (sym told, sym same))
+          | false ↦ λ is. inr (refl, inl (sym reported, sym same))
         ] refl;
         history = same_history (reply.Refused why) refl;
       }
@@ -89,21 +89,21 @@ desk_runs h u (Answered x ∷ ts) lawful run =
       | inl m ↦ rw m.0 (subst (λ (w : DeskValue). Runs DeskWorldMay w (with_room ts) (desk_of u)) m.1 rest)
       | inr m ↦ rw m.0 (desk_of run.0, m.1, rest)
     ]
-desk_runs h u (Told n r ∷ ts) lawful run =
+desk_runs h u (Reported n r ∷ ts) lawful run =
     let rest = desk_runs run.0 u ts (subst SatisfiesSpec (sym run.1.1) lawful) run.2 in
     (desk_of run.0, (run.1.0, ap desk_of run.1.1), rest)
 desk_runs h u (Ended ∷ ts) lawful run = desk_runs h u ts lawful run
 desk_runs h u (Misread bad ∷ ts) lawful run = desk_runs h u ts lawful run
 
-talk_by : (c : Config) (k : WorldKind) → gives_names k ≡ true → (w u : DeskValue) (ts : List Turn) → IsFreshDesk c w → Runs DeskWorldMay w ts u → IsTalkByKind k c ts
-talk_by c k named w u ts fresh run =
-    let talk : IsDeskTalk c ts = record { run = desk_lawful c w u ts fresh run; owners = desk_tells c w u ts fresh run; could = record { start = w; last = u; is_fresh = fresh; run = run } } in
-    where_named (λ (x : WorldKind). IsTalkByKind x c ts) k named talk talk
+transcript_by : (c : Config) (k : WorldKind) → gives_names k ≡ true → (w u : DeskValue) (ts : List Turn) → IsFreshDesk c w → Runs DeskWorldMay w ts u → IsTranscriptByKind k c ts
+transcript_by c k named w u ts fresh run =
+    let transcript : IsDeskTranscript c ts = record { run = desk_lawful c w u ts fresh run; owners = desk_tells c w u ts fresh run; could = record { start = w; last = u; is_fresh = fresh; run = run } } in
+    where_named (λ (x : WorldKind). IsTranscriptByKind x c ts) k named transcript transcript
 
-pub talk : (c : Config) → gives_names c.world ≡ true → (u : HallState) (ts : List Turn) → Runs HallServes (hall_of c []) ts u → IsTalk c (with_room ts)
-talk c named u ts run =
+pub transcript : (c : Config) → gives_names c.world ≡ true → (u : HallState) (ts : List Turn) → Runs HallServes (hall_of c []) ts u → IsTranscript c (with_room ts)
+transcript c named u ts run =
     let fresh = (desk.fresh_is c (fresh_desk c)).1 (record { named = named; is = refl }) in
-    talk_by c c.world named (fresh_desk c) (desk_of u) (with_room ts) fresh (desk_runs (hall_of c []) u ts (record { named = named; accepted = tt; few = (omega arith) }) run)
+    transcript_by c c.world named (fresh_desk c) (desk_of u) (with_room ts) fresh (desk_runs (hall_of c []) u ts (record { named = named; accepted = tt; few = (omega arith) }) run)
 
 pub accepted-one : (x : Exchange) (xs : List Exchange) → accepted (x ∷ xs) ≡ accepted (x ∷ []) ++ accepted xs
 accepted-one x xs = elim (is_refusal x.reply) as (λ b. cond b (accepted xs) (x ∷ accepted xs) ≡ cond b [] (x ∷ []) ++ accepted xs) [
@@ -119,7 +119,7 @@ history h u (Answered x ∷ ts) lawful run =
     let rest = history run.0 u ts one.lawful run.2 in
     rest ∙ ap (λ (l : List Exchange). l ++ accepted (exchanges ts)) one.history ∙ append_assoc h.history (accepted (x ∷ [])) (accepted (exchanges ts))
     ∙ ap (λ (l : List Exchange). h.history ++ l) (sym (accepted-one x (exchanges ts)))
-history h u (Told n r ∷ ts) lawful run =
+history h u (Reported n r ∷ ts) lawful run =
     let rest = history run.0 u ts (subst SatisfiesSpec (sym run.1.1) lawful) run.2 in
     rest ∙ ap (λ (v : HallState). v.history ++ accepted (exchanges ts)) run.1.1
 history h u (Ended ∷ ts) lawful run = history h u ts lawful run

@@ -1,4 +1,4 @@
--- a desk that refuses an event, want of memory aside, stays as it is
+-- a desk that refuses an event, failed allocations aside, stays as it is
 use Rattle.std.proofs.Common.{◌≡◌, ℕ, List, Bool, true, false, cond, Option, Some, None, Result, Ok, Err, refl, ap}
 use Rattle.hall.proofs.Common.{Refusal, Event, desk_refusal, desk_after, DeskValue, OverGrid, OverTree}
 use Rattle.step_memory.specs.Calls.{lacked_memory}

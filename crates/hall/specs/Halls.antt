@@ -32,7 +32,7 @@ abbrev pub full_unless : Option Refusal → ℕ → Option Refusal
 full_unless (Some why) count = Some why
 full_unless None count = if nat_le 1000000 count then Some refusal.HistoryFull else None
 
--- why an event would be refused, want of memory aside
+-- why an event would be refused, failed allocations aside
 abbrev pub hall_refusal : HallState → Event → Option Refusal
 hall_refusal h e = full_unless (desk_refusal (desk_of h) e) (length h.history)
 

@@ -11,7 +11,7 @@ use Rattle.commands.specs.Requests.{Request}
 use Rattle.commands.specs.Requests.Request.{Take, OwnerOf}
 use Rattle.player.specs.Runs.{Runs}
 use Rattle.player.specs.Turns.{Turn}
-use Rattle.player.specs.Turns.Turn.{Answered, Told, Ended, Misread}
+use Rattle.player.specs.Turns.Turn.{Answered, Reported, Ended, Misread}
 use Rattle.hall.specs.Halls.{hall_of, desk_of, HallMay}
 use Rattle.hall.specs.HallState.{HallState}
 
@@ -34,7 +34,7 @@ wants_room _ = false
 abbrev pub with_room : List Turn → List Turn
 with_room [] = []
 with_room (Answered x ∷ ts) = if wants_room x.reply then with_room ts else Answered x ∷ with_room ts
-with_room (Told n r ∷ ts) = Told n r ∷ with_room ts
+with_room (Reported n r ∷ ts) = Reported n r ∷ with_room ts
 with_room (Ended ∷ ts) = Ended ∷ with_room ts
 with_room (Misread bad ∷ ts) = Misread bad ∷ with_room ts
 

@@ -101,7 +101,7 @@ impl Hall {
         self.history.get(place)
     }
 
-    /// Why an event would be refused, want of memory aside: `HistoryFull` where nothing else is due and 1,000,000 events are
+    /// Why an event would be refused, failed allocations aside: `HistoryFull` where nothing else is due and 1,000,000 events are
     /// held. It changes nothing.
     pub fn refusal(&self, event: Event) -> Option<Refusal>
         ensures { result ≡ hall_refusal self.now event }
@@ -155,7 +155,7 @@ impl Hall {
         ensures value { result ≡ owner_reply (desk_of self.now) number }
 
         // It is who was given the name in the history.
-        ensures told { IsOwnerReply self.now.config.m self.now.history number result }
+        ensures reported { IsOwnerReply self.now.config.m self.now.history number result }
     {
         self.held.desk.owner(number)
     }

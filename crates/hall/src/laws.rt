@@ -6,7 +6,7 @@ ghost use Rattle.commands.specs.Replies.{ShownReply, is_refusal};
 ghost use Rattle.commands.specs.declared.config.Config.{Config};
 ghost use Rattle.commands.specs.declared.event.Event.{Event};
 ghost use Rattle.desk.specs.DeskRun.{IsDeskRunOf};
-ghost use Rattle.schedule_player.specs.IsTalk.{IsTalk};
+ghost use Rattle.schedule_player.specs.IsTranscript.{IsTranscript};
 ghost use Rattle.player.specs.Runs.{Runs};
 ghost use Rattle.player.specs.Turns.{Turn, exchanges};
 ghost use Rattle.hall.specs.GoesOn.{GoesOn};
@@ -35,9 +35,9 @@ pub fn law_of_events()
 {}
 
 /// A law, which runs nothing, of what a hall answers in turn as a service: without the turns that were refused a growth or
-/// found the history full, turns from a hall with no event are a talk of its config; and its history gains the accepted
+/// found the history full, turns from a hall with no event are a transcript of its config; and its history gains the accepted
 /// events with their replies.
 pub fn law_of_serving()
-    ensures talk { (c : Config) → gives_names c.world ≡ true → (u : HallState) (ts : List Turn) → HasServed c ts u → IsTalk c (with_room ts) }
+    ensures transcript { (c : Config) → gives_names c.world ≡ true → (u : HallState) (ts : List Turn) → HasServed c ts u → IsTranscript c (with_room ts) }
     ensures history { (h u : HallState) (ts : List Turn) → SatisfiesSpec h → Runs HallServes h ts u → u.history ≡ h.history ++ accepted (exchanges ts) }
 {}

@@ -13,7 +13,7 @@ read_of : (h : HallState) (items : List ℕ) (remaining : Option (List ℕ)) →
 read_of h items None read is = tt
 read_of h items (Some xs) read is = subst (IsOfHall h) read is
 
-pub told_of : {T E : Type 0} (h : HallState) (items : List ℕ) (remaining before now : Option (List ℕ)) (r : Result T E) → IfSome remaining (λ xs. items ≡ xs) → IsOfHall h items
+pub reported_of : {T E : Type 0} (h : HallState) (items : List ℕ) (remaining before now : Option (List ℕ)) (r : Result T E) → IfSome remaining (λ xs. items ≡ xs) → IsOfHall h items
     → OnOk r (Appends before now (held_text (slots_of (desk_of h)) All)) → OnOk r (TellsHolders remaining before now)
-told_of h items remaining before now (Ok done) read is told = record { hall = h; recorded = read_of h items remaining read is; told = told }
-told_of h items remaining before now (Err why) read is told = tt
+reported_of h items remaining before now (Ok done) read is reported = record { hall = h; recorded = read_of h items remaining read is; reported = reported }
+reported_of h items remaining before now (Err why) read is reported = tt

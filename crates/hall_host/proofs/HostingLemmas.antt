@@ -12,22 +12,22 @@ use Rattle.journal.specs.DiskState.{DiskState}
 use Rattle.player.specs.Runs.{Runs}
 use Rattle.player.specs.Says.{Spoke}
 use Rattle.player.specs.Shared.{all_turns, turns_of}
-use Rattle.player.specs.TalkerState.{TalkerState}
+use Rattle.player.specs.ResponderState.{ResponderState}
 use Rattle.player.specs.Turns.{Turn, exchanges}
-use Rattle.player.specs.Turns.Turn.{Answered, Told, Ended, Misread}
+use Rattle.player.specs.Turns.Turn.{Answered, Reported, Ended, Misread}
 use Rattle.hall.specs.Halls.{HallMay, SatisfiesSpec, after_unless, hall_refusal}
 use Rattle.hall.specs.HallState.{HallState}
 use Rattle.hall.specs.Serving.{HallServes, accepted}
 use Rattle.journal.specs.declared.journal.Journal.{Journal}
-use Rattle.journal.specs.ChronicleState.{ChronicleState}
-use Rattle.journal.specs.Chronicles.{ChronicleServes, chronicle_of, told_record}
+use Rattle.journal.specs.WriteAheadState.{WriteAheadState}
+use Rattle.journal.specs.WriteAheads.{WriteAheadServes, write_ahead_of, reported_record}
 use Rattle.journal.specs.Compactings.{MayCompact}
 use Rattle.journal.specs.Journals.{HasSynced, KeepsAtAnyMoment, KeepsHandedOn, Stands}
-use Rattle.event_server.specs.Seats.{Seating, SeatSends, SeatTakes, LoopTurn}
-use Rattle.event_server.specs.Wires.{after_taken}
-use Rattle.hall_host.specs.declared.keepers.Recorded.{Recorded}
-use Rattle.hall_host.specs.Kept.{IsKept, KeptBy, MayCompactHall, all_told}
-use Rattle.hall_host.specs.Hosting.{IsHosted, IsTold}
+use Rattle.event_server.specs.Seats.{Seating, SeatSends, SeatTakes, LoopIteration}
+use Rattle.event_server.specs.ConnectionBuffers.{after_taken}
+use Rattle.hall_host.specs.declared.persisters.Recorded.{Recorded}
+use Rattle.hall_host.specs.Kept.{IsKept, KeptBy, MayCompactHall, all_reported}
+use Rattle.hall_host.specs.Hosting.{IsHosted, IsReported}
 
 -- an event leaves a hall its config
 config_after : (o : Option Refusal) (h : HallState) (e : Event) → (after_unless o h e).config ≡ h.config
@@ -38,45 +38,45 @@ config_may : (h u : HallState) (e : Event) (r : ShownReply) → HallMay h e r u 
 config_may h u e r (inl done) = ap (λ (x : HallState). x.config) done.1 ∙ config_after (hall_refusal h e) h e
 config_may h u e r (inr refused) = ap (λ (x : HallState). x.config) refused.1
 
--- a chronicle answers as its hall does, with its config, and hands nothing on
-pub record Follows (c u : ChronicleState) (ts : List Turn) : Type 0 where
+-- a write-ahead hall answers as its hall does, with its config, and hands nothing on
+pub record Follows (c u : WriteAheadState) (ts : List Turn) : Type 0 where
   pub run : Runs HallServes c.hall ts u.hall
   pub config : u.hall.config ≡ c.hall.config
-  pub told : u.told ≡ c.told
+  pub reported : u.reported ≡ c.reported
 
-pub follows : (c u : ChronicleState) (ts : List Turn) → Runs ChronicleServes c ts u → Follows c u ts
-follows c u [] run = record { run = ap (λ (x : ChronicleState). x.hall) run; config = ap (λ (x : ChronicleState). x.hall.config) (sym run); told = ap (λ (x : ChronicleState). x.told) (sym run) }
+pub follows : (c u : WriteAheadState) (ts : List Turn) → Runs WriteAheadServes c ts u → Follows c u ts
+follows c u [] run = record { run = ap (λ (x : WriteAheadState). x.hall) run; config = ap (λ (x : WriteAheadState). x.hall.config) (sym run); reported = ap (λ (x : WriteAheadState). x.reported) (sym run) }
 follows c u (Answered x ∷ ts) run =
     let later = follows run.0 u ts run.2 in
-    record { run = (run.0.hall, run.1.0, later.run); config = later.config ∙ config_may c.hall run.0.hall x.event x.reply run.1.0; told = later.told ∙ run.1.1 }
-follows c u (Told n r ∷ ts) run =
+    record { run = (run.0.hall, run.1.0, later.run); config = later.config ∙ config_may c.hall run.0.hall x.event x.reply run.1.0; reported = later.reported ∙ run.1.1 }
+follows c u (Reported n r ∷ ts) run =
     let later = follows run.0 u ts run.2 in
-    record { run = (run.0.hall, run.1.0, later.run); config = later.config ∙ ap (λ (x : HallState). x.config) run.1.0.1; told = later.told ∙ run.1.1 }
-follows c u (Ended ∷ ts) run = let later = follows c u ts run in record { run = later.run; config = later.config; told = later.told }
-follows c u (Misread bad ∷ ts) run = let later = follows c u ts run in record { run = later.run; config = later.config; told = later.told }
+    record { run = (run.0.hall, run.1.0, later.run); config = later.config ∙ ap (λ (x : HallState). x.config) run.1.0.1; reported = later.reported ∙ run.1.1 }
+follows c u (Ended ∷ ts) run = let later = follows c u ts run in record { run = later.run; config = later.config; reported = later.reported }
+follows c u (Misread bad ∷ ts) run = let later = follows c u ts run in record { run = later.run; config = later.config; reported = later.reported }
 
--- what was handed on stays the same record where the history goes on
-pub same_told : (c u : ChronicleState) (more : List Exchange) → c.told ≤ length c.hall.history → u.hall.config ≡ c.hall.config → u.told ≡ c.told → u.hall.history ≡ c.hall.history ++ more → told_record u ≡ told_record c
-same_told c u more few config told history =
-    ap (λ (g : Config). record_text g (take u.told u.hall.history)) config ∙ ap (λ (n : ℕ). record_text c.hall.config (take n u.hall.history)) told
-    ∙ ap (λ (l : List Exchange). record_text c.hall.config (take c.told l)) history ∙ ap (record_text c.hall.config) (take-append-le c.told c.hall.history more few)
+-- what was committed stays the same record where the history goes on
+pub same_reported : (c u : WriteAheadState) (more : List Exchange) → c.reported ≤ length c.hall.history → u.hall.config ≡ c.hall.config → u.reported ≡ c.reported → u.hall.history ≡ c.hall.history ++ more → reported_record u ≡ reported_record c
+same_reported c u more few config reported history =
+    ap (λ (g : Config). record_text g (take u.reported u.hall.history)) config ∙ ap (λ (n : ℕ). record_text c.hall.config (take n u.hall.history)) reported
+    ∙ ap (λ (l : List Exchange). record_text c.hall.config (take c.reported l)) history ∙ ap (record_text c.hall.config) (take-append-le c.reported c.hall.history more few)
 
--- so a journal that stands for a chronicle stands for it later, before anything is handed on
-pub still_stands : {D : Type 0} (state : D → Option DiskState) (j : Journal D) (c u : ChronicleState) → told_record u ≡ told_record c → Stands state j c → Stands state j u
+-- so a journal that stands for a write-ahead hall stands for it later, before anything is committed
+pub still_stands : {D : Type 0} (state : D → Option DiskState) (j : Journal D) (c u : WriteAheadState) → reported_record u ≡ reported_record c → Stands state j c → Stands state j u
 still_stands state j c u same stands = record {
   well = stands.well;
   known = λ s is. let synced = stands.known s is in record { contents = synced.contents ∙ sym same; synced = synced.synced };
 }
 
--- all of a chronicle that may be compacted is handed on
-pub after_compacting : (c u : ChronicleState) → MayCompact (all_told c) u → MayCompactHall c.hall u.hall × (u.told ≡ length u.hall.history)
-after_compacting c u (inl same) = (inl (ap (λ (x : ChronicleState). x.hall) same), ap (λ (x : ChronicleState). x.told) same ∙ ap (λ (x : ChronicleState). length x.hall.history) (sym same))
-after_compacting c u (inr done) = (inr done.compacted, done.told)
+-- all of a write-ahead hall that may be compacted is committed
+pub after_compacting : (c u : WriteAheadState) → MayCompact (all_reported c) u → MayCompactHall c.hall u.hall × (u.reported ≡ length u.hall.history)
+after_compacting c u (inl same) = (inl (ap (λ (x : WriteAheadState). x.hall) same), ap (λ (x : WriteAheadState). x.reported) same ∙ ap (λ (x : WriteAheadState). length x.hall.history) (sym same))
+after_compacting c u (inr done) = (inr done.compacted, done.reported)
 
 module _ {C : Type 0} (on : Seating C) where
   -- one connection takes its turns, and some of what waits is sent
-  told_its_own : (turns : List Turn) (a b d : C) → SeatTakes on turns (Some a) (Some b) → SeatSends on (Some b) (Some d) → IsTold on turns a d
-  told_its_own turns a b d took sends =
+  reported_its_own : (turns : List Turn) (a b d : C) → SeatTakes on turns (Some a) (Some b) → SeatSends on (Some b) (Some d) → IsReported on turns a d
+  reported_its_own turns a b d took sends =
       let takes = took.0.takes in
       let sent = sends.0 in
       record {
@@ -87,45 +87,45 @@ module _ {C : Type 0} (on : Seating C) where
         sent = sent.sent;
         gave = subst (λ (l : Option (List ℕ)). Consumes (on.left a) l took.0.came) (sym sends.1) took.0.gave;
         parts = takes.parts;
-        goes_on = λ before p spoke. subst (λ (s : TalkerState). Spoke (before ++ turns) s (after_taken (on.wire a).talker.kind takes.taken took.0.ends p)) (sym sent.talker_is) (takes.goes_on before p spoke);
+        goes_on = λ before p spoke. subst (λ (s : ResponderState). Spoke (before ++ turns) s (after_taken (on.buffers a).responder.kind takes.taken took.0.ends p)) (sym sent.responder_is) (takes.goes_on before p spoke);
         gained = subst (λ (l : Option (List ℕ)). Appends l (on.gone d) sent.sent) took.1 sent.gained;
         text = λ whole. sym sent.parts ∙ (takes.kept (sent.whole whole)).1;
       }
 
   -- where a connection was before and is after, it was there in between
-  told_at : (turns : List Turn) (x y z : Option C) (a d : C) → SeatTakes on turns x y → SeatSends on y z → x ≡ Some a → z ≡ Some d → IsTold on turns a d
-  told_at turns (Some x) (Some y) (Some z) a d took sends was is =
-      subst (λ (o : Option C). SeatSends on (Some y) o → IsTold on turns a d) (sym is) (subst (λ (o : Option C). SeatTakes on turns o (Some y) → SeatSends on (Some y) (Some d) → IsTold on turns a d) (sym was) (told_its_own turns a y d) took) sends
-  told_at turns None y z a d took sends was is = absurd (let bad : None ≡ Some a = was in cc)
-  told_at turns (Some x) y None a d took sends was is = absurd (let bad : None ≡ Some d = is in cc)
-  told_at turns (Some x) None (Some z) a d took sends was is = elim took [ ]
+  reported_at : (turns : List Turn) (x y z : Option C) (a d : C) → SeatTakes on turns x y → SeatSends on y z → x ≡ Some a → z ≡ Some d → IsReported on turns a d
+  reported_at turns (Some x) (Some y) (Some z) a d took sends was is =
+      subst (λ (o : Option C). SeatSends on (Some y) o → IsReported on turns a d) (sym is) (subst (λ (o : Option C). SeatTakes on turns o (Some y) → SeatSends on (Some y) (Some d) → IsReported on turns a d) (sym was) (reported_its_own turns a y d) took) sends
+  reported_at turns None y z a d took sends was is = absurd (let bad : None ≡ Some a = was in cc)
+  reported_at turns (Some x) y None a d took sends was is = absurd (let bad : None ≡ Some d = is in cc)
+  reported_at turns (Some x) None (Some z) a d took sends was is = elim took [ ]
 
   module _ {D : Type 0} (state : D → Option DiskState)
       (history : (h u : HallState) (ts : List Turn) → SatisfiesSpec h → Runs HallServes h ts u → u.history ≡ h.history ++ accepted (exchanges ts))
-      (between : (c : ChronicleState) (s : DiskState) → HasSynced c s → c.told ≤ length c.hall.history → KeepsHandedOn c s s) where
-    pub hosted : (k l : Recorded D) (c u : ChronicleState) (seats seats' : List (Option C)) → SatisfiesSpec c.hall → c.told ≤ length c.hall.history → Stands state k.journal c →
-        (t : LoopTurn on ChronicleServes (KeptBy state) k c seats l u seats') →
+      (between : (c : WriteAheadState) (s : DiskState) → HasSynced c s → c.reported ≤ length c.hall.history → KeepsHandedOn c s s) where
+    pub hosted : (k l : Recorded D) (c u : WriteAheadState) (seats seats' : List (Option C)) → SatisfiesSpec c.hall → c.reported ≤ length c.hall.history → Stands state k.journal c →
+        (t : LoopIteration on WriteAheadServes (KeptBy state) k c seats l u seats') →
         IsHosted on state t.log k.journal c seats l.journal u seats'
     hosted k l c u seats seats' lawful few stands t =
-        let told = t.told in
-        let kept : IsKept state k.journal t.told l.journal u = t.kept in
-        let way = follows c told (all_turns t.log) t.taken.run in
-        let gained = history c.hall told.hall (all_turns t.log) lawful way.run in
-        let stood = still_stands state k.journal c told (same_told c told (accepted (exchanges (all_turns t.log))) few way.config way.told gained) stands in
+        let reported = t.reported in
+        let kept : IsKept state k.journal t.reported l.journal u = t.kept in
+        let way = follows c reported (all_turns t.log) t.taken.run in
+        let gained = history c.hall reported.hall (all_turns t.log) lawful way.run in
+        let stood = still_stands state k.journal c reported (same_reported c reported (accepted (exchanges (all_turns t.log))) few way.config way.reported gained) stands in
         let stood_then = kept.stands stood in
         let stands_after = kept.stands_then stood_then in
-        let ended = after_compacting told u kept.compacted in
-        let was_told : told ≡ chronicle_of told.hall c.told = ap (chronicle_of told.hall) way.told in
+        let ended = after_compacting reported u kept.compacted in
+        let was_reported : reported ≡ write_ahead_of reported.hall c.reported = ap (write_ahead_of reported.hall) way.reported in
         record {
-          full = told.hall;
+          full = reported.hall;
           committed = kept.committed;
           config = way.config;
           history = gained;
-          before = subst (KeepsAtAnyMoment state k.journal kept.committed) was_told (kept.any_moment stood);
+          before = subst (KeepsAtAnyMoment state k.journal kept.committed) was_reported (kept.any_moment stood);
           between = kept.any_moment_then stood_then;
           compacted = ended.0;
-          told = ended.1;
+          reported = ended.1;
           stands = stands_after;
           after = λ s is. between u s (stands_after.known s is) (omega (arith, ended.1));
-          each = λ i a d was is. told_at (turns_of i t.log) (get_or seats i None) (get_or t.between i None) (get_or seats' i None) a d (t.taken.each i) (t.sent.each i) was is;
+          each = λ i a d was is. reported_at (turns_of i t.log) (get_or seats i None) (get_or t.between i None) (get_or seats' i None) a d (t.taken.each i) (t.sent.each i) was is;
         }

@@ -9,7 +9,7 @@ use Rattle.held_lines.specs.declared.query.HeldQuery.TheVariants.{All}
 use Rattle.commands.specs.declared.config.Config.{Config}
 use Rattle.journal.specs.Openings.{IsRecovered}
 
--- these bytes are the record of this hall, once a torn last line is cut, or a beginning of its header
+-- these bytes are the record of this hall, once a torn last line is cut, or a prefix of its header
 abbrev pub IsOfHall : HallState → List ℕ → Type 0
 IsOfHall hall bytes = (config : Config) × (whole : ℕ) × IsRecovered config bytes hall whole
 
@@ -17,4 +17,4 @@ IsOfHall hall bytes = (config : Config) × (whole : ℕ) × IsRecovered config b
 pub record TellsHolders (record_bytes before now : Option (List ℕ)) : Type 0 where
   pub hall : HallState
   pub recorded : IfSome record_bytes (IsOfHall hall)
-  pub told : Appends before now (held_text (slots_of (desk_of hall)) All)
+  pub reported : Appends before now (held_text (slots_of (desk_of hall)) All)

@@ -1,4 +1,4 @@
--- a turn of the loop over a chronicle and its journal
+-- a turn of the loop over a write-ahead hall and its journal
 use Rattle.std.specs.Prelude.{◌≡◌, ◌≤◌, ℕ, List, ◌++◌, length, get_or, Bool, false, Option, Some, None}
 use Rattle.std.specs.Io.KnownBytes.{Appends, Consumes}
 use Rattle.journal.specs.DiskState.{DiskState}
@@ -11,49 +11,49 @@ use Rattle.hall.specs.Halls.{SatisfiesSpec}
 use Rattle.hall.specs.HallState.{HallState}
 use Rattle.hall.specs.Serving.{accepted}
 use Rattle.journal.specs.declared.journal.Journal.{Journal}
-use Rattle.journal.specs.ChronicleState.{ChronicleState}
-use Rattle.journal.specs.Chronicles.{chronicle_of}
+use Rattle.journal.specs.WriteAheadState.{WriteAheadState}
+use Rattle.journal.specs.WriteAheads.{write_ahead_of}
 use Rattle.journal.specs.Compactings.{KeepsWhenCompacted}
 use Rattle.journal.specs.Journals.{KeepsAtAnyMoment, KeepsHandedOn, Stands}
 use Rattle.event_server.specs.Seats.{Seating}
-use Rattle.event_server.specs.Wires.{after_taken}
+use Rattle.event_server.specs.ConnectionBuffers.{after_taken}
 use Rattle.hall_host.specs.Kept.{MayCompactHall}
 
--- these turns are those to the lines of one connection: behind what waited of its bytes others came, and a beginning of all was taken by
+-- these turns are those to the lines of one connection: behind what waited of its bytes others came, and a prefix of all was taken by
 -- them. What was sent to it, and what waits to be, is what waited and the replies to them, where it is at no fault
-pub record IsTold {C : Type 0} (on : Seating C) (turns : List Turn) (a d : C) : Type 0 where
+pub record IsReported {C : Type 0} (on : Seating C) (turns : List Turn) (a d : C) : Type 0 where
   pub came : List ℕ
   pub taken : List ℕ
   pub rest : List ℕ
   pub ends : Bool
   pub sent : List ℕ
   pub gave : Consumes (on.left a) (on.left d) came
-  pub parts : (on.wire a).inbox ++ came ≡ taken ++ rest
-  pub goes_on : (before : List Turn) (p : Progress) → Spoke before (on.wire a).talker p → Spoke (before ++ turns) (on.wire d).talker (after_taken (on.wire a).talker.kind taken ends p)
+  pub parts : (on.buffers a).inbox ++ came ≡ taken ++ rest
+  pub goes_on : (before : List Turn) (p : Progress) → Spoke before (on.buffers a).responder p → Spoke (before ++ turns) (on.buffers d).responder (after_taken (on.buffers a).responder.kind taken ends p)
   pub gained : Appends (on.gone a) (on.gone d) sent
-  pub text : (on.wire d).broken ≡ false → sent ++ (on.wire d).outbox ≡ (on.wire a).outbox ++ replies_of turns
+  pub text : (on.buffers d).broken ≡ false → sent ++ (on.buffers d).outbox ≡ (on.buffers a).outbox ++ replies_of turns
 
--- A chronicle that was served for a while, turn after turn: its hall is lawful and of the same config, and header and journal are the record
--- of what was handed on of it, and synced
-pub record WasHosted {D : Type 0} (state : D → Option DiskState) (c : ChronicleState) (j' : Journal D) (u : ChronicleState) : Type 0 where
+-- A write-ahead hall that was served for a while, turn after turn: its hall is lawful and of the same config, and header and journal are the record
+-- of what was committed of it, and synced
+pub record WasHosted {D : Type 0} (state : D → Option DiskState) (c : WriteAheadState) (j' : Journal D) (u : WriteAheadState) : Type 0 where
   pub lawful : SatisfiesSpec u.hall
   pub config : u.hall.config ≡ c.hall.config
-  pub few : u.told ≤ length u.hall.history
+  pub few : u.reported ≤ length u.hall.history
   pub stands : Stands state j' u
 
 -- The history gains the accepted events of all turns, in the one order of this log, and nothing else: that is the hall `full`. Header and
--- journal are its record and are synced, at `committed`, and a crash before that leaves all that was handed on before. Then the hall may be
+-- journal are its record and are synced, at `committed`, and a crash before that leaves all that was committed before. Then the hall may be
 -- compacted, with header and journal its record, before replies are sent; a crash meanwhile leaves the one record or the other, and one
 -- after it the whole history. Each connection that stays is told the replies to its own turns
-pub record IsHosted {C D : Type 0} (on : Seating C) (state : D → Option DiskState) (log : TurnLog) (j : Journal D) (c : ChronicleState) (seats : List (Option C)) (j' : Journal D) (u : ChronicleState) (seats' : List (Option C)) : Type 0 where
+pub record IsHosted {C D : Type 0} (on : Seating C) (state : D → Option DiskState) (log : TurnLog) (j : Journal D) (c : WriteAheadState) (seats : List (Option C)) (j' : Journal D) (u : WriteAheadState) (seats' : List (Option C)) : Type 0 where
   pub full : HallState
   pub committed : Journal D
   pub config : full.config ≡ c.hall.config
   pub history : full.history ≡ c.hall.history ++ accepted (exchanges (all_turns log))
-  pub before : KeepsAtAnyMoment state j committed (chronicle_of full c.told)
-  pub between : KeepsWhenCompacted state committed j' (chronicle_of full (length full.history))
+  pub before : KeepsAtAnyMoment state j committed (write_ahead_of full c.reported)
+  pub between : KeepsWhenCompacted state committed j' (write_ahead_of full (length full.history))
   pub compacted : MayCompactHall full u.hall
-  pub told : u.told ≡ length u.hall.history
+  pub reported : u.reported ≡ length u.hall.history
   pub stands : Stands state j' u
   pub after : (s : DiskState) → state j'.disk ≡ Some s → KeepsHandedOn u s s
-  pub each : (i : ℕ) (a d : C) → get_or seats i None ≡ Some a → get_or seats' i None ≡ Some d → IsTold on (turns_of i log) a d
+  pub each : (i : ℕ) (a d : C) → get_or seats i None ≡ Some a → get_or seats' i None ≡ Some d → IsReported on (turns_of i log) a d

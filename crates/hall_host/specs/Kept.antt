@@ -4,35 +4,35 @@ use Rattle.journal.specs.DiskState.{DiskState}
 use Rattle.hall.specs.HallState.{HallState}
 use Rattle.hall.specs.Compactions.{IsCompacted}
 use Rattle.journal.specs.declared.journal.Journal.{Journal}
-use Rattle.journal.specs.ChronicleState.{ChronicleState}
-use Rattle.journal.specs.Chronicles.{chronicle_of}
+use Rattle.journal.specs.WriteAheadState.{WriteAheadState}
+use Rattle.journal.specs.WriteAheads.{write_ahead_of}
 use Rattle.journal.specs.Compactings.{KeepsWhenCompacted, MayCompact}
 use Rattle.journal.specs.Journals.{Stands, KeepsAtAnyMoment}
-use Rattle.hall_host.specs.declared.keepers.Recorded.{Recorded}
+use Rattle.hall_host.specs.declared.persisters.Recorded.{Recorded}
 
 -- a hall is as it was, or compacted
 abbrev pub MayCompactHall : HallState → HallState → Type 0
 MayCompactHall h u = (u ≡ h) ⊎ IsCompacted h u
 
--- a keeper that learns no answers leaves itself and what it keeps as they were
+-- a persister that learns no answers leaves itself and what it keeps as they were
 abbrev pub Rests : {K T : Type 0} → K → T → K → T → Type 0
 Rests k w l u = (l ≡ k) × (u ≡ w)
 
--- a chronicle of which all events were handed on
-abbrev pub all_told : ChronicleState → ChronicleState
-all_told c = chronicle_of c.hall (length c.hall.history)
+-- a write-ahead hall of which all events were committed
+abbrev pub all_reported : WriteAheadState → WriteAheadState
+all_reported c = write_ahead_of c.hall (length c.hall.history)
 
--- All events of the chronicle are handed on: where header and journal stood as the record of what was handed on, and were synced, they do
--- so then with these events, and a crash at any moment in between leaves all that was handed on before. Then its hall may be compacted, and
+-- All events of the write-ahead hall are committed: where header and journal stood as the record of what was committed, and were synced, they do
+-- so then with these events, and a crash at any moment in between leaves all that was committed before. Then its hall may be compacted, and
 -- the journal is the record of that
-pub record IsKept {D : Type 0} (state : D → Option DiskState) (j : Journal D) (c : ChronicleState) (j' : Journal D) (u : ChronicleState) : Type 0 where
+pub record IsKept {D : Type 0} (state : D → Option DiskState) (j : Journal D) (c : WriteAheadState) (j' : Journal D) (u : WriteAheadState) : Type 0 where
   pub committed : Journal D
-  pub stands : Stands state j c → Stands state committed (all_told c)
+  pub stands : Stands state j c → Stands state committed (all_reported c)
   pub any_moment : Stands state j c → KeepsAtAnyMoment state j committed c
-  pub compacted : MayCompact (all_told c) u
-  pub stands_then : Stands state committed (all_told c) → Stands state j' u
-  pub any_moment_then : Stands state committed (all_told c) → KeepsWhenCompacted state committed j' (all_told c)
+  pub compacted : MayCompact (all_reported c) u
+  pub stands_then : Stands state committed (all_reported c) → Stands state j' u
+  pub any_moment_then : Stands state committed (all_reported c) → KeepsWhenCompacted state committed j' (all_reported c)
 
--- so a keeper with a journal keeps it
-abbrev pub KeptBy : {D : Type 0} → (D → Option DiskState) → Recorded D → ChronicleState → Recorded D → ChronicleState → Type 0
+-- so a persister with a journal keeps it
+abbrev pub KeptBy : {D : Type 0} → (D → Option DiskState) → Recorded D → WriteAheadState → Recorded D → WriteAheadState → Type 0
 KeptBy state k c l u = IsKept state k.journal c l.journal u

@@ -137,7 +137,7 @@ impl From<HostFault<JournalFault>> for HostFailure {
             HostFault::Memory => HostFailure::Memory,
             HostFault::Network(kind) => HostFailure::Network(kind),
             HostFault::Output => HostFailure::Output,
-            HostFault::Keep(fault) => HostFailure::from(fault),
+            HostFault::Persist(fault) => HostFailure::from(fault),
         }
     }
 }
@@ -160,7 +160,7 @@ impl From<HostFault<LogFault>> for HostFailure {
             HostFault::Memory => HostFailure::Memory,
             HostFault::Network(kind) => HostFailure::Network(kind),
             HostFault::Output => HostFailure::Output,
-            HostFault::Keep(fault) => HostFailure::from(fault),
+            HostFault::Persist(fault) => HostFailure::from(fault),
         }
     }
 }

@@ -2,13 +2,13 @@
 
 use crate::export::write_events;
 use crate::failure::HostFailure;
-use crate::keepers::{Recorded, Unrecorded};
 use crate::log_plan::{LogPlan, MEMBER_SECONDS, Patience, fresh_token, members_of};
+use crate::persisters::{Recorded, Unrecorded};
 use commands::Config;
 use etcd_log::{EtcdStore, TcpDial};
 use event_server::{HostFault, HostOptions, host};
 use hall::{Compactor, Hall};
-use hall_log::{LogKeeper, Pause, Tape};
+use hall_log::{LogPersister, Pause, ReplyQueue};
 use journal::{Disk, FileDisk, Journal, Opened};
 use replicated_log::Store;
 use std::alloc::{AllocGlobal, Global};
@@ -102,24 +102,24 @@ fn host_recorded<R: Net + Wait + Clock, D: Disk, W: Write, E: Write>(
 ) -> Result<(), HostFailure> {
     let Opened {
         journal,
-        mut chronicle,
+        mut write_ahead,
     } = opened;
-    let mut keeper = Recorded {
+    let mut persister = Recorded {
         journal,
         alloc,
         compactor: Compactor::new(),
     };
-    let hosted = match keeper.compact_when_due(&mut chronicle) {
+    let hosted = match persister.compact_when_due(&mut write_ahead) {
         Ok(()) => host(
             rt,
             alloc,
             plan.options(),
-            &mut chronicle,
-            &mut keeper,
+            &mut write_ahead,
+            &mut persister,
             output,
             errors,
         ),
-        Err(fault) => Err(HostFault::Keep(fault)),
+        Err(fault) => Err(HostFault::Persist(fault)),
     };
     match hosted {
         Ok(_) => Ok(()),
@@ -136,7 +136,7 @@ fn host_unrecorded<R: Net + Wait + Clock, W: Write, E: Write>(
     errors: &mut E,
 ) -> Result<(), HostFailure> {
     let mut hall = Hall::new(alloc, plan.config)?;
-    let mut keeper = Unrecorded {
+    let mut persister = Unrecorded {
         alloc,
         compactor: Compactor::new(),
     };
@@ -145,7 +145,7 @@ fn host_unrecorded<R: Net + Wait + Clock, W: Write, E: Write>(
         alloc,
         plan.options(),
         &mut hall,
-        &mut keeper,
+        &mut persister,
         output,
         errors,
     ) {
@@ -175,9 +175,9 @@ fn followed<R: Files<File = File>, S: Store + Drop, P: Pause + Drop>(
     config: Config,
     store: S,
     pause: P,
-) -> Result<LogKeeper<S, P>, HostFailure> {
+) -> Result<LogPersister<S, P>, HostFailure> {
     match fresh_token(rt) {
-        Ok(token) => Ok(LogKeeper::open(alloc, store, pause, config, token)?),
+        Ok(token) => Ok(LogPersister::open(alloc, store, pause, config, token)?),
         Err(failure) => Err(failure),
     }
 }
@@ -214,17 +214,17 @@ fn host_followed<R, S: Store + Drop, P: Pause + Drop, W: Write, E: Write>(
 where
     R: Net + Wait + Clock + Files<File = File>,
 {
-    let mut keeper = match followed(rt, alloc, plan.config, store, pause) {
-        Ok(keeper) => keeper,
+    let mut persister = match followed(rt, alloc, plan.config, store, pause) {
+        Ok(persister) => persister,
         Err(failure) => return Err(failure),
     };
-    let mut tape = Tape::new(alloc);
+    let mut reply_queue = ReplyQueue::new(alloc);
     match host(
         rt,
         alloc,
         plan.options(),
-        &mut tape,
-        &mut keeper,
+        &mut reply_queue,
+        &mut persister,
         output,
         errors,
     ) {
@@ -258,7 +258,7 @@ fn export_followed<R: Files<File = File>, S: Store + Drop, P: Pause + Drop, W: W
     output: &mut W,
 ) -> Result<(), HostFailure> {
     match followed(rt, alloc, config, store, pause) {
-        Ok(keeper) => write_events(alloc, keeper.hall(), output),
+        Ok(persister) => write_events(alloc, persister.hall(), output),
         Err(failure) => Err(failure),
     }
 }

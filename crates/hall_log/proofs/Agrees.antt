@@ -1,6 +1,6 @@
 -- what a hall says to an entry is determined
 use Rattle.std.proofs.Common.{◌≡◌, ◌≢◌, List, [], ◌∷◌, map, inl, inr, refl, sym, ap, subst, ◌∙◌}
-use Rattle.hall_log.proofs.Common.{ShownReply, NoneRefusedGrowth, Runs, Answered, Told, Ended, Misread, HallState, HallServes, HallApplies, said, tape_of}
+use Rattle.hall_log.proofs.Common.{ShownReply, NoneRefusedGrowth, Runs, Answered, Reported, Ended, Misread, HallState, HallServes, HallApplies, said, reply_queue_of}
 use Rattle.step_memory.specs.declared.refusal.Refusal.TheVariants as refusal
 use Rattle.commands.specs.declared.event.Event.{Event}
 use Rattle.commands.specs.declared.reply.Reply.TheVariants as reply
@@ -28,7 +28,7 @@ agree h n k (Answered x ∷ ts) (Answered y ∷ us) same a b g g' =
     let one = one_answer h y.event x.reply y.reply a.0 b.0 (subst (λ (e : Event). HallMay h e x.reply a.0) event a.1) b.1 g.0 g'.0 in
     let rest = agree b.0 n k ts us (cc same) (subst (λ (m : HallState). Runs HallServes m ts n) one.1 a.2) b.2 g.1 g'.1 in
     record { said_is = (let e = one.0 in let s = rest.said_is in cc (event, e, s)); last_is = rest.last_is }
-agree h n k (Told p r ∷ ts) (Told q s ∷ us) same a b g g' =
+agree h n k (Reported p r ∷ ts) (Reported q s ∷ us) same a b g g' =
     let name : p ≡ q = cc same in
     let one : r ≡ s = (let x = a.1.0 in let y = b.1.0 in cc (x, y, name)) in
     let mid : a.0 ≡ b.0 = a.1.1 ∙ sym b.1.1 in
@@ -38,20 +38,20 @@ agree h n k (Ended ∷ ts) (Ended ∷ us) same a b g g' =
     let rest = agree h n k ts us (cc same) a b g g' in record { said_is = rest.said_is; last_is = rest.last_is }
 agree h n k (Misread bad ∷ ts) (Misread worse ∷ us) same a b g g' =
     let rest = agree h n k ts us (cc same) a b g g' in record { said_is = rest.said_is; last_is = rest.last_is }
-agree h n k (Answered x ∷ ts) (Told q s ∷ us) same a b g g' = absurd (cc same)
+agree h n k (Answered x ∷ ts) (Reported q s ∷ us) same a b g g' = absurd (cc same)
 agree h n k (Answered x ∷ ts) (Ended ∷ us) same a b g g' = absurd (cc same)
 agree h n k (Answered x ∷ ts) (Misread bad ∷ us) same a b g g' = absurd (cc same)
-agree h n k (Told p r ∷ ts) (Answered y ∷ us) same a b g g' = absurd (cc same)
-agree h n k (Told p r ∷ ts) (Ended ∷ us) same a b g g' = absurd (cc same)
-agree h n k (Told p r ∷ ts) (Misread bad ∷ us) same a b g g' = absurd (cc same)
+agree h n k (Reported p r ∷ ts) (Answered y ∷ us) same a b g g' = absurd (cc same)
+agree h n k (Reported p r ∷ ts) (Ended ∷ us) same a b g g' = absurd (cc same)
+agree h n k (Reported p r ∷ ts) (Misread bad ∷ us) same a b g g' = absurd (cc same)
 agree h n k (Ended ∷ ts) (Answered y ∷ us) same a b g g' = absurd (cc same)
-agree h n k (Ended ∷ ts) (Told q s ∷ us) same a b g g' = absurd (cc same)
+agree h n k (Ended ∷ ts) (Reported q s ∷ us) same a b g g' = absurd (cc same)
 agree h n k (Ended ∷ ts) (Misread bad ∷ us) same a b g g' = absurd (cc same)
 agree h n k (Misread bad ∷ ts) (Answered y ∷ us) same a b g g' = absurd (cc same)
-agree h n k (Misread bad ∷ ts) (Told q s ∷ us) same a b g g' = absurd (cc same)
+agree h n k (Misread bad ∷ ts) (Reported q s ∷ us) same a b g g' = absurd (cc same)
 agree h n k (Misread bad ∷ ts) (Ended ∷ us) same a b g g' = absurd (cc same)
 
 pub determined : IsDetermined HallApplies
-determined m entry tape other n k a b =
+determined m entry reply_queue other n k a b =
     let one = agree m n k a.turns b.turns (a.asked_is ∙ sym b.asked_is) a.run b.run a.granted b.granted in
-    (a.tape_is ∙ (ap tape_of one.said_is ∙ sym b.tape_is), one.last_is)
+    (a.reply_queue_is ∙ (ap reply_queue_of one.said_is ∙ sym b.reply_queue_is), one.last_is)

@@ -7,10 +7,10 @@ pub use Rattle.commands.specs.Requests.Request.{Take, OwnerOf}
 pub use Rattle.commands.specs.declared.config.Config.{Config}
 pub use Rattle.player.specs.Runs.{NoneRefusedGrowth, Runs}
 pub use Rattle.player.specs.Turns.{Turn}
-pub use Rattle.player.specs.Turns.Turn.{Answered, Told, Ended, Misread}
+pub use Rattle.player.specs.Turns.Turn.{Answered, Reported, Ended, Misread}
 pub use Rattle.hall.specs.HallState.{HallState}
 pub use Rattle.hall.specs.Serving.{HallServes}
 pub use Rattle.hall_log.specs.Entries.{HallApplies, behind_first_line, TakesBytes}
-pub use Rattle.hall_log.specs.Said.{said, tape_of, TapeSays, NotingSays}
-pub use Rattle.hall_log.specs.TapeState.{TapeState}
+pub use Rattle.hall_log.specs.Said.{said, reply_queue_of, ReplyQueueReplies, NotingSays}
+pub use Rattle.hall_log.specs.ReplyQueueState.{ReplyQueueState}
 pub use Rattle.hall_log.specs.NotingState.{NotingState}

@@ -1,6 +1,6 @@
 mod Common
 mod Plays
 mod Heads
-mod Tapes
+mod ReplyQueues
 mod Agrees
 mod Notes

@@ -1,8 +1,8 @@
--- what the next note of a tape says
+-- what the next note of a queue of replies says
 use Rattle.std.proofs.Common.{◌≡◌, ℕ, zero, suc, ◌+◌, Bool, true, false, List, [], ◌∷◌, drop, map, Some, None, slice_get, inl, inr, refl, ap, sym, ◌∙◌, ◌≤◌, length, arith, add-one}
-use Rattle.hall_log.proofs.Common.{ShownReply, Request, TapeState}
+use Rattle.hall_log.proofs.Common.{ShownReply, Request, ReplyQueueState}
 use Rattle.hall_log.specs.declared.note.Note.{Note}
-use Rattle.hall_log.specs.Said.{TapeSays, request_of, said_by, tape_of}
+use Rattle.hall_log.specs.Said.{ReplyQueueReplies, request_of, said_by, reply_queue_of}
 
 -- it stands before all that are left
 next_said : (notes : List Note) (next : ℕ) (note : Note) → slice_get notes next ≡ Some note → drop next (map said_by notes) ≡ said_by note ∷ drop (suc next) (map said_by notes)
@@ -11,24 +11,24 @@ next_said (x ∷ notes) zero note h = let same : x ≡ note = cc h in ap (λ n. 
 next_said (x ∷ notes) (suc next) note h = next_said notes next note h
 
 said_is : (note : Note) (q : Request) (r : ShownReply) → request_of note.asked ≡ q → r ≡ (said_by note).1 → said_by note ≡ (q, r)
-said_is note q r asked told = ap (λ p. (p, (said_by note).1)) asked ∙ ap (λ s. (q, s)) (sym told)
+said_is note q r asked reported = ap (λ p. (p, (said_by note).1)) asked ∙ ap (λ s. (q, s)) (sym reported)
 
-pub says_next : (spoiled : Bool) (notes : List Note) (next : ℕ) (note : Note) (w : TapeState) (q : Request) (r : ShownReply) → record { left = drop next (map said_by notes); spoiled = spoiled } ≡ w →
-    slice_get notes next ≡ Some note → request_of note.asked ≡ q → r ≡ (said_by note).1 → TapeSays w q r (record { left = drop (next + 1) (map said_by notes); spoiled = spoiled })
-says_next true notes next note w q r is there asked told = inr refl
-says_next false notes next note w q r is there asked told =
+pub says_next : (poisoned : Bool) (notes : List Note) (next : ℕ) (note : Note) (w : ReplyQueueState) (q : Request) (r : ShownReply) → record { left = drop next (map said_by notes); poisoned = poisoned } ≡ w →
+    slice_get notes next ≡ Some note → request_of note.asked ≡ q → r ≡ (said_by note).1 → ReplyQueueReplies w q r (record { left = drop (next + 1) (map said_by notes); poisoned = poisoned })
+says_next true notes next note w q r is there asked reported = inr refl
+says_next false notes next note w q r is there asked reported =
     let left : drop next (map said_by notes) ≡ (q, r) ∷ drop (next + 1) (map said_by notes) =
-    next_said notes next note there ∙ (ap (λ p. p ∷ drop (suc next) (map said_by notes)) (said_is note q r asked told) ∙ ap (λ k. (q, r) ∷ drop k (map said_by notes)) (sym (add-one next))) in
-    inl (ap (λ (t : TapeState). t.spoiled) (sym is), refl, ap (λ (t : TapeState). t.left) (sym is) ∙ left)
+    next_said notes next note there ∙ (ap (λ p. p ∷ drop (suc next) (map said_by notes)) (said_is note q r asked reported) ∙ ap (λ k. (q, r) ∷ drop k (map said_by notes)) (sym (add-one next))) in
+    inl (ap (λ (t : ReplyQueueState). t.poisoned) (sym is), refl, ap (λ (t : ReplyQueueState). t.left) (sym is) ∙ left)
 
--- a tape on which nothing is left has said all its notes
+-- a queue of replies on which nothing is left has said all its notes
 none_left : (notes : List Note) (next : ℕ) → drop next (map said_by notes) ≡ [] → length notes ≤ next
 none_left [] next h = omega arith
 none_left (x ∷ notes) zero h = absurd (cc h)
 none_left (x ∷ notes) (suc next) h = let rest = none_left notes next h in omega (arith, rest)
 
-pub all_said : (spoiled : Bool) (notes : List Note) (next : ℕ) → record { left = drop next (map said_by notes); spoiled = spoiled } ≡ tape_of [] → (spoiled ≡ false) × (length notes ≤ next)
-all_said spoiled notes next is = (ap (λ (t : TapeState). t.spoiled) is, none_left notes next (ap (λ (t : TapeState). t.left) is))
+pub all_said : (poisoned : Bool) (notes : List Note) (next : ℕ) → record { left = drop next (map said_by notes); poisoned = poisoned } ≡ reply_queue_of [] → (poisoned ≡ false) × (length notes ≤ next)
+all_said poisoned notes next is = (ap (λ (t : ReplyQueueState). t.poisoned) is, none_left notes next (ap (λ (t : ReplyQueueState). t.left) is))
 
 -- and one that has said all its notes has nothing left
 none_behind : (notes : List Note) (next : ℕ) → length notes ≤ next → drop next (map said_by notes) ≡ []
@@ -37,6 +37,6 @@ none_behind [] (suc next) h = refl
 none_behind (x ∷ notes) zero h = absurd (omega (arith, h))
 none_behind (x ∷ notes) (suc next) h = none_behind notes next (omega (arith, h))
 
-pub used_up : (spoiled : Bool) (notes : List Note) (next : ℕ) → spoiled ≡ false → length notes ≤ next → record { left = drop next (map said_by notes); spoiled = spoiled } ≡ tape_of []
-used_up spoiled notes next well all =
-    ap (λ (s : Bool). let t : TapeState = record { left = drop next (map said_by notes); spoiled = s } in t) well ∙ ap tape_of (none_behind notes next all)
+pub used_up : (poisoned : Bool) (notes : List Note) (next : ℕ) → poisoned ≡ false → length notes ≤ next → record { left = drop next (map said_by notes); poisoned = poisoned } ≡ reply_queue_of []
+used_up poisoned notes next well all =
+    ap (λ (s : Bool). let t : ReplyQueueState = record { left = drop next (map said_by notes); poisoned = s } in t) well ∙ ap reply_queue_of (none_behind notes next all)

@@ -1,12 +1,12 @@
 -- lines that are taken one after another, over a hall of which each answer is noted
 use Rattle.std.proofs.Common.{◌≡◌, ℕ, ◌+◌, ◌-◌, false, List, [], ◌∷◌, ◌++◌, length, take, drop, refl, sym, ap, subst, ◌∙◌, append_assoc, arith, length-drop}
-use Rattle.hall_log.proofs.Common.{append-nil, take_all, WorldKind, ShownReply, Request, Take, OwnerOf, NoneRefusedGrowth, Runs, Turn, Answered, Told, Ended, Misread, HallState, HallServes, HallApplies, TakesBytes, behind_first_line, NotingState}
+use Rattle.hall_log.proofs.Common.{append-nil, take_all, WorldKind, ShownReply, Request, Take, OwnerOf, NoneRefusedGrowth, Runs, Turn, Answered, Reported, Ended, Misread, HallState, HallServes, HallApplies, TakesBytes, behind_first_line, NotingState}
 use Rattle.std.proofs.Math.Seq.{take-add}
 use Rattle.player.specs.Progress.{Progress, after_byte, after_bytes, at_start}
 use Rattle.player.specs.RunProofs.{runs-append}
 use Rattle.player.specs.Says.{IsSilent, Says, Spoke}
-use Rattle.player.specs.TalkerState.{TalkerState}
-use Rattle.hall_log.specs.Said.{IsNoted, NotingSays, said, tape_of}
+use Rattle.player.specs.ResponderState.{ResponderState}
+use Rattle.hall_log.specs.Said.{IsNoted, NotingSays, said, reply_queue_of}
 
 -- bytes after bytes
 after_bytes-append : (kind : WorldKind) (p : Progress) (xs ys : List ℕ) → after_bytes kind p (xs ++ ys) ≡ after_bytes kind (after_bytes kind p xs) ys
@@ -15,7 +15,7 @@ after_bytes-append kind p (x ∷ xs) ys = after_bytes-append kind (after_byte ki
 
 module _ {T : Type 0} (may : T → Request → ShownReply → T → Type 0) where
   -- no byte was taken
-  pub takes_none : (w : T) (s : TalkerState) → TakesBytes may w s [] w s
+  pub takes_none : (w : T) (s : ResponderState) → TakesBytes may w s [] w s
   takes_none w s = record {
     more = [];
     run = refl;
@@ -23,7 +23,7 @@ module _ {T : Type 0} (may : T → Request → ShownReply → T → Type 0) wher
   }
 
   -- more bytes are taken
-  pub takes_then : (text : Turn → List ℕ) (w v u : T) (s t s' : TalkerState) (out out' : List ℕ) (xs ys : List ℕ) → t.kind ≡ s.kind → TakesBytes may w s xs v t →
+  pub takes_then : (text : Turn → List ℕ) (w v u : T) (s t s' : ResponderState) (out out' : List ℕ) (xs ys : List ℕ) → t.kind ≡ s.kind → TakesBytes may w s xs v t →
       Says may text v t out u s' out' (λ p. after_bytes t.kind p ys) → TakesBytes may w s (xs ++ ys) u s'
   takes_then text w v u s t s' out out' xs ys kind one two = record {
     more = one.more ++ two.0;
@@ -68,7 +68,7 @@ ran w u (Answered x ∷ ts) run well =
       granted = (one.granted, rest.granted);
       said_is = ran_behind w run.0 u (Take x.event) x.reply ts one rest;
     }
-ran w u (Told n r ∷ ts) run well =
+ran w u (Reported n r ∷ ts) run well =
     let rest = ran run.0 u ts run.2 well in
     let one = run.1 rest.was_well in
     record {
@@ -83,8 +83,8 @@ ran w u (Misread bad ∷ ts) run well = let rest = ran w u ts run well in
     record { was_well = rest.was_well; run = rest.run; granted = rest.granted; said_is = rest.said_is }
 
 -- so the lines of an entry are applied
-pub applied : (h : HallState) (entry : List ℕ) (s s' : TalkerState) (w u : NotingState) → w ≡ record { hall = h; said = []; lost = false } → IsSilent h.config.world s →
-    TakesBytes NotingSays w s (behind_first_line entry) u s' → u.lost ≡ false → HallApplies h entry (tape_of u.said) u.hall
+pub applied : (h : HallState) (entry : List ℕ) (s s' : ResponderState) (w u : NotingState) → w ≡ record { hall = h; said = []; lost = false } → IsSilent h.config.world s →
+    TakesBytes NotingSays w s (behind_first_line entry) u s' → u.lost ≡ false → HallApplies h entry (reply_queue_of u.said) u.hall
 applied h entry s s' w u is silent takes well =
     let all = ran w u takes.more takes.run well in
     let spoke = takes.goes_on [] at_start silent.1 in
@@ -93,5 +93,5 @@ applied h entry s s' w u is silent takes well =
       asked_is = spoke.asked_is ∙ ap (λ (k : WorldKind). (after_bytes k at_start (behind_first_line entry)).asked) silent.0;
       run = subst (λ (n : NotingState). Runs HallServes n.hall takes.more u.hall) is all.run;
       granted = all.granted;
-      tape_is = ap tape_of (all.said_is ∙ ap (λ (n : NotingState). n.said ++ said takes.more) is);
+      reply_queue_is = ap reply_queue_of (all.said_is ∙ ap (λ (n : NotingState). n.said ++ said takes.more) is);
     }

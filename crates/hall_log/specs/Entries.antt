@@ -10,12 +10,12 @@ use Rattle.commands.specs.Requests.{Request}
 use Rattle.player.specs.Progress.{Progress, after_bytes, at_start}
 use Rattle.player.specs.Runs.{NoneRefusedGrowth, Runs}
 use Rattle.player.specs.Says.{Spoke}
-use Rattle.player.specs.TalkerState.{TalkerState}
+use Rattle.player.specs.ResponderState.{ResponderState}
 use Rattle.player.specs.Turns.{Turn, asked}
 use Rattle.hall.specs.HallState.{HallState}
 use Rattle.hall.specs.Serving.{HallServes}
-use Rattle.hall_log.specs.Said.{said, tape_of}
-use Rattle.hall_log.specs.TapeState.{TapeState}
+use Rattle.hall_log.specs.Said.{said, reply_queue_of}
+use Rattle.hall_log.specs.ReplyQueueState.{ReplyQueueState}
 
 -- the first entry of a log of halls of a config: the version of the texts, and the config
 abbrev pub first_line_of : Config → List ℕ
@@ -32,16 +32,16 @@ behind_first_line (b ∷ bs) = if b == 10 then bs else behind_first_line bs
 abbrev pub asked_in : WorldKind → List ℕ → List (Result Command Bad)
 asked_in kind entry = (after_bytes kind at_start (behind_first_line entry)).asked
 
--- the hall was so, and answered what the lines of the entry ask for, in order, with no growth refused: that is on the tape, and it is so
-pub record HallApplies (h : HallState) (entry : List ℕ) (tape : TapeState) (u : HallState) : Type 0 where
+-- the hall was so, and answered what the lines of the entry ask for, in order, with no growth refused: that is on the queue of replies, and it is so
+pub record HallApplies (h : HallState) (entry : List ℕ) (reply_queue : ReplyQueueState) (u : HallState) : Type 0 where
   pub turns : List Turn
   pub asked_is : map asked turns ≡ asked_in h.config.world entry
   pub run : Runs HallServes h turns u
   pub granted : NoneRefusedGrowth turns
-  pub tape_is : tape ≡ tape_of (said turns)
+  pub reply_queue_is : reply_queue ≡ reply_queue_of (said turns)
 
--- by these turns, which the rules allow, a service goes from w to u, and a talk takes these bytes
-pub record TakesBytes {T : Type 0} (may : T → Request → ShownReply → T → Type 0) (w : T) (s : TalkerState) (bytes : List ℕ) (u : T) (s' : TalkerState) : Type 0 where
+-- by these turns, which the rules allow, a service goes from w to u, and a transcript takes these bytes
+pub record TakesBytes {T : Type 0} (may : T → Request → ShownReply → T → Type 0) (w : T) (s : ResponderState) (bytes : List ℕ) (u : T) (s' : ResponderState) : Type 0 where
   pub more : List Turn
   pub run : Runs may w more u
   pub goes_on : (turns : List Turn) (p : Progress) → Spoke turns s p → Spoke (turns ++ more) s' (after_bytes s.kind p bytes)

@@ -1,4 +1,4 @@
--- a turn of the loop over a tape that was learnt of a log
+-- a turn of the loop over a queue of replies that was learnt of a log
 use Rattle.std.specs.Prelude.{◌≡◌, ◌≤◌, ◌<◌, ◌⊎◌, ℕ, List, [], ◌∷◌, ◌++◌, length, false, Option}
 use Rattle.commands.specs.declared.config.Config.{Config}
 use Rattle.replicated_log.specs.Places.{Keeps}
@@ -11,39 +11,39 @@ use Rattle.hall.specs.Halls.{hall_of}
 use Rattle.hall.specs.Serving.{HallServes}
 use Rattle.event_server.specs.Seats.{RepliesSent, Seating, TurnsTaken}
 use Rattle.hall_log.specs.Entries.{HallApplies, behind_first_line}
-use Rattle.hall_log.specs.Said.{tape_of}
-use Rattle.hall_log.specs.TapeState.{TapeState}
+use Rattle.hall_log.specs.Said.{reply_queue_of}
+use Rattle.hall_log.specs.ReplyQueueState.{ReplyQueueState}
 
 -- nothing stands at the place behind all that was applied, as a store tells, or there is none
 abbrev pub IsAtEnd : (ℕ → Type 0) → ℕ → Type 0
 IsAtEnd lacks place = (MOST_PLACES ≤ place) ⊎ lacks place
 
--- Where entries stand so in a log: the answers to these lines are on the tape, as they are due at the place of an entry of just them, to a
+-- Where entries stand so in a log: the answers to these lines are on the queue of replies, as they are due at the place of an entry of just them, to a
 -- hall to which all entries before it were applied and nothing else. It stands behind all that had been applied before, up to this place
-pub record IsLearnt (stands : ℕ → List ℕ → Type 0) (config : Config) (place : ℕ) (lines : List ℕ) (tape : TapeState) (r : ReplicaState HallState) : Type 0 where
+pub record IsPrefetched (stands : ℕ → List ℕ → Type 0) (config : Config) (place : ℕ) (lines : List ℕ) (reply_queue : ReplyQueueState) (r : ReplicaState HallState) : Type 0 where
   pub batch : List ℕ
   pub lines_are : behind_first_line batch ≡ lines
-  pub due : IsDueAt HallApplies stands (hall_of config []) batch tape r
+  pub due : IsDueAt HallApplies stands (hall_of config []) batch reply_queue r
   pub later : place < r.place
 
 -- the same, of the lines of a batch
-abbrev pub IsServed : (ℕ → List ℕ → Type 0) → Config → ℕ → List ℕ → TapeState → ReplicaState HallState → Type 0
-IsServed stands config place batch tape r = IsLearnt stands config place (behind_first_line batch) tape r
+abbrev pub IsServed : (ℕ → List ℕ → Type 0) → Config → ℕ → List ℕ → ReplyQueueState → ReplicaState HallState → Type 0
+IsServed stands config place batch reply_queue r = IsPrefetched stands config place (behind_first_line batch) reply_queue r
 
 -- A front end went on by itself, or waited in vain: all that stood in the log stands, its hall is of the same config and no earlier, and its
--- tape tells nothing
-pub record HasGoneOn (stood stands : ℕ → List ℕ → Type 0) (config config' : Config) (r r' : ReplicaState HallState) (tape : TapeState) : Type 0 where
+-- queue of replies tells nothing
+pub record HasGoneOn (stood stands : ℕ → List ℕ → Type 0) (config config' : Config) (r r' : ReplicaState HallState) (reply_queue : ReplyQueueState) : Type 0 where
   pub keeps : Keeps stood stands
   pub config_is : config' ≡ config
-  pub later : r'.spoiled ≡ false → (r.spoiled ≡ false) × (r.place ≤ r'.place)
-  pub untold : tape ≡ tape_of []
+  pub later : r'.poisoned ≡ false → (r.poisoned ≡ false) × (r.place ≤ r'.place)
+  pub unreported : reply_queue ≡ reply_queue_of []
 
--- all that was on the tape was said again, to just those who asked for it, and keeper and tape are as they were
-pub record IsUsedUp {K : Type 0} (k : K) (w : TapeState) (l : K) (u : TapeState) : Type 0 where
+-- all that was on the queue of replies was said again, to just those who asked for it, and persister and queue of replies are as they were
+pub record IsUsedUp {K : Type 0} (k : K) (w : ReplyQueueState) (l : K) (u : ReplyQueueState) : Type 0 where
   pub all : w.left ≡ []
-  pub well : w.spoiled ≡ false
-  pub keeper_is : l ≡ k
-  pub tape_is : u ≡ w
+  pub well : w.poisoned ≡ false
+  pub persister_is : l ≡ k
+  pub reply_queue_is : u ≡ w
 
 -- A turn of the loop is over the hall of a log: behind entries that all stand in the log an entry of just these lines stands, at a later
 -- place than had been applied before the turn. From the hall to which just those entries were applied, in order, all turns of all

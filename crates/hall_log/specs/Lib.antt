@@ -1,5 +1,5 @@
 pub mod NotingState
-pub mod TapeState
+pub mod ReplyQueueState
 pub mod Said
 pub mod SaidProofs
 pub mod Entries

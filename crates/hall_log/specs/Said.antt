@@ -1,4 +1,4 @@
--- requests with what was said to them, and who says it: a hall of which it is noted, and a tape that says it again
+-- requests with what was said to them, and who says it: a hall of which it is noted, and a queue of replies that says it again
 use Rattle.std.specs.Prelude.{◌≡◌, ◌≢◌, ◌⊎◌, ℕ, List, [], ◌∷◌, ◌++◌, false, true, Option, Some, None, Box}
 use Rattle.step_memory.specs.declared.refusal.Refusal.TheVariants as refusal
 use Rattle.commands.specs.declared.reply.Reply.TheVariants as reply
@@ -6,13 +6,13 @@ use Rattle.commands.specs.Replies.{ShownReply, with_view}
 use Rattle.commands.specs.Requests.{Request}
 use Rattle.commands.specs.Requests.Request.{Take, OwnerOf}
 use Rattle.player.specs.Turns.{Turn}
-use Rattle.player.specs.Turns.Turn.{Answered, Told, Ended, Misread}
+use Rattle.player.specs.Turns.Turn.{Answered, Reported, Ended, Misread}
 use Rattle.hall.specs.Serving.{HallServes}
 use Rattle.hall_log.specs.declared.note.Asked.{Asked}
 use Rattle.hall_log.specs.declared.note.Asked.TheVariants.{ToTake, ToTell}
 use Rattle.hall_log.specs.declared.note.Note.{Note}
 use Rattle.hall_log.specs.NotingState.{NotingState}
-use Rattle.hall_log.specs.TapeState.{TapeState}
+use Rattle.hall_log.specs.ReplyQueueState.{ReplyQueueState}
 
 -- the request that was asked
 abbrev pub request_of : Asked → Request
@@ -32,17 +32,17 @@ said_by n = (request_of n.asked, with_view n.reply (seen n.view))
 abbrev pub said : List Turn → List (Request × ShownReply)
 said [] = []
 said (Answered x ∷ ts) = (Take x.event, x.reply) ∷ said ts
-said (Told n r ∷ ts) = (OwnerOf n, r) ∷ said ts
+said (Reported n r ∷ ts) = (OwnerOf n, r) ∷ said ts
 said (Ended ∷ ts) = said ts
 said (Misread bad ∷ ts) = said ts
 
--- a tape of which nothing was said again so far
-abbrev pub tape_of : List (Request × ShownReply) → TapeState
-tape_of left = record { left = left; spoiled = false }
+-- a queue of replies of which nothing was said again so far
+abbrev pub reply_queue_of : List (Request × ShownReply) → ReplyQueueState
+reply_queue_of left = record { left = left; poisoned = false }
 
--- a tape says what was said to the request that is next, to whoever asks for just that. Where another is asked it is spoiled
-abbrev pub TapeSays : TapeState → Request → ShownReply → TapeState → Type 0
-TapeSays w q r u = ((w.spoiled ≡ false) × (u.spoiled ≡ false) × (w.left ≡ (q, r) ∷ u.left)) ⊎ (u.spoiled ≡ true)
+-- a queue of replies says what was said to the request that is next, to whoever asks for just that. Where another is asked it is poisoned
+abbrev pub ReplyQueueReplies : ReplyQueueState → Request → ShownReply → ReplyQueueState → Type 0
+ReplyQueueReplies w q r u = ((w.poisoned ≡ false) × (u.poisoned ≡ false) × (w.left ≡ (q, r) ∷ u.left)) ⊎ (u.poisoned ≡ true)
 
 -- the hall answers, and it is noted; no memory was refused
 pub record IsNoted (w : NotingState) (q : Request) (r : ShownReply) (u : NotingState) : Type 0 where

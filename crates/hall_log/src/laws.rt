@@ -1,4 +1,4 @@
-//! What a turn of the loop is over a tape that was learnt of a log.
+//! What a turn of the loop is over a queue of replies that was learnt of a log.
 
 ghost use Rattle.std.specs.Prelude.{◌≡◌, ℕ, List, [], Option, false};
 ghost use Rattle.commands.specs.declared.config.Config.{Config};
@@ -8,11 +8,11 @@ ghost use Rattle.replicated_log.specs.Replicas.{IsReplica};
 ghost use Rattle.replicated_log.specs.ReplicaState.{ReplicaState};
 ghost use Rattle.hall.specs.HallState.{HallState};
 ghost use Rattle.hall.specs.Halls.{hall_of};
-ghost use Rattle.event_server.specs.Seats.{LoopTurn, Seating};
+ghost use Rattle.event_server.specs.Seats.{LoopIteration, Seating};
 ghost use Rattle.hall_log.specs.Entries.{HallApplies};
-ghost use Rattle.hall_log.specs.Hosted.{IsHostedOverLog, IsLearnt, IsUsedUp};
-ghost use Rattle.hall_log.specs.Said.{TapeSays};
-ghost use Rattle.hall_log.specs.TapeState.{TapeState};
+ghost use Rattle.hall_log.specs.Hosted.{IsHostedOverLog, IsPrefetched, IsUsedUp};
+ghost use Rattle.hall_log.specs.Said.{ReplyQueueReplies};
+ghost use Rattle.hall_log.specs.ReplyQueueState.{ReplyQueueState};
 
 use crate::machine::HallMachine;
 use replicated_log::{Store, law_of_agreement};
@@ -23,17 +23,17 @@ pub fn law_of_halls()
     ensures determined { IsDetermined HallApplies }
     ensures states { (config : Config) (log : List (List ℕ)) (a b : ReplicaState HallState) →
         IsReplica HallApplies (stands_in log) (hall_of config []) a → IsReplica HallApplies (stands_in log) (hall_of config []) b →
-        a.spoiled ≡ false → b.spoiled ≡ false → a.place ≡ b.place → a.machine ≡ b.machine }
+        a.poisoned ≡ false → b.poisoned ≡ false → a.place ≡ b.place → a.machine ≡ b.machine }
 {
     law_of_agreement::<HallMachine>();
 }
 
-/// A law, which runs nothing, of what a turn of the loop (`event_server::turn`) is over a tape that was learnt of a log and was used up: it is a
+/// A law, which runs nothing, of what a turn of the loop (`event_server::turn`) is over a queue of replies that was learnt of a log and was used up: it is a
 /// turn over the hall of the log, at the place of an entry of just its lines.
 pub fn law_of_log_hosting<C, K, S: Store>()
-    ensures { (on : Seating C) (s : S) (config : Config) (place : ℕ) (lines : List ℕ) (tape u : TapeState) (r : ReplicaState HallState)
+    ensures { (on : Seating C) (s : S) (config : Config) (place : ℕ) (lines : List ℕ) (reply_queue u : ReplyQueueState) (r : ReplicaState HallState)
         (k l : K) (seats after : List (Option C)) →
-        IsLearnt (S.stands s) config place lines tape r →
-        (t : LoopTurn on TapeSays IsUsedUp k tape seats l u after) →
+        IsPrefetched (S.stands s) config place lines reply_queue r →
+        (t : LoopIteration on ReplyQueueReplies IsUsedUp k reply_queue seats l u after) →
         IsHostedOverLog on (S.stands s) config t.log place lines r seats after }
 {}

@@ -1,14 +1,14 @@
 //! A hall whose history is a log that several machines share.
 //!
 //! `HallMachine` is a hall as the machine of a `replicated_log::Replica`: an entry of the log is a first line, a token of its own, and then lines
-//! of commands, which are played over the hall in order (`HallApplies`). What the hall says is put on a `Tape`, which as a service says it
-//! again, to whoever asks for the same in the same order (`TapeSays`).
+//! of commands, which are played over the hall in order (`HallApplies`). What the hall says is put on a `ReplyQueue`, which as a service says it
+//! again, to whoever asks for the same in the same order (`ReplyQueueReplies`).
 //!
-//! `LogKeeper` serves the clients of one front end: before a turn of the loop (`event_server`) takes the lines that came, they come to stand
-//! in the log as one entry (`learn`), and the answers are those due at its place. The turn takes them from the tape, and sends nothing
-//! unless all of the tape was said again (`keep`). The first entry of a log is a line of its config: a front end of another refuses to start.
+//! `LogPersister` serves the clients of one front end: before a turn of the loop (`event_server`) takes the lines that came, they come to stand
+//! in the log as one entry (`prefetch`), and the answers are those due at its place. The turn takes them from the queue of replies, and sends nothing
+//! unless all of the queue of replies was said again (`persister`). The first entry of a log is a line of its config: a front end of another refuses to start.
 //!
-//! The theorem (`law_of_log_hosting`): a turn of the loop over a tape that was learnt and used up is a turn over the hall of the log: all
+//! The theorem (`law_of_log_hosting`): a turn of the loop over a queue of replies that was learnt and used up is a turn over the hall of the log: all
 //! turns of all connections, in one order, are a run of the hall to which just the entries before this turn's were applied. Halls of one
 //! config that have applied one log up to one place are the same (`law_of_halls`).
 //!
@@ -20,18 +20,18 @@
 pub mod laws;
 pub mod log_fault;
 pub mod log_hall;
-pub mod log_keeper;
+pub mod log_persister;
 pub mod machine;
 pub mod note;
 mod noting;
 pub mod pause;
-pub mod tape;
+pub mod reply_queue;
 
 pub use laws::{law_of_halls, law_of_log_hosting};
 pub use log_fault::LogFault;
 pub use log_hall::LogHall;
-pub use log_keeper::LogKeeper;
+pub use log_persister::LogPersister;
 pub use machine::HallMachine;
 pub use note::{Asked, Note};
 pub use pause::Pause;
-pub use tape::Tape;
+pub use reply_queue::ReplyQueue;

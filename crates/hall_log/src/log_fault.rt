@@ -48,7 +48,7 @@ impl LogFault {
     {
         match cause {
             Cause::Memory => Some(LogFault::Memory),
-            Cause::Spoiled => Some(LogFault::Memory),
+            Cause::Poisoned => Some(LogFault::Memory),
             Cause::Full => Some(LogFault::Full),
             Cause::Store(fault) => LogFault::of_store(fault),
             Cause::Busy => None,

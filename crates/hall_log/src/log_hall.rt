@@ -8,10 +8,10 @@ ghost use Rattle.replicated_log.specs.declared.serve_fault.ServeFault.TheVariant
 ghost use Rattle.hall.specs.Halls.{hall_of};
 ghost use Rattle.hall_log.specs.Entries.{HallApplies};
 ghost use Rattle.hall_log.specs.Hosted.{IsAtEnd};
-ghost use Rattle.hall_log.specs.Said.{tape_of};
+ghost use Rattle.hall_log.specs.Said.{reply_queue_of};
 
 use crate::machine::HallMachine;
-use crate::tape::Tape;
+use crate::reply_queue::ReplyQueue;
 use commands::Config;
 use hall::Hall;
 use replicated_log::{Cause, Replica, ServeFault, Store, StoreFault, law_of_following};
@@ -97,31 +97,31 @@ impl<S: Store> LogHall<S> {
         begins_with(&mut self.store, line, entry)
     }
 
-    /// Has a batch come to stand in the log, applies all that stands before it and then it, and puts the answers on the tape
+    /// Has a batch come to stand in the log, applies all that stands before it and then it, and puts the answers on the queue of replies
     /// (`Replica::serve`).
-    pub fn serve(&mut self, batch: &[u8], tape: &mut Tape) -> Result<(), ServeFault>
-        ensures due { OnOk result (IsDueAt HallApplies (S.stands self.new.store) (hall_of self.new.config []) batch.now tape.new self.new.replica) }
-        ensures later { self.new.replica.spoiled ≡ false → (self.old.replica.spoiled ≡ false) × (self.old.replica.place ≤ self.new.replica.place) }
-        ensures at_last { OnOk result ((self.old.replica.spoiled ≡ false) × (self.old.replica.place < self.new.replica.place)) }
-        ensures unanswered { OnErr result (tape.new ≡ tape_of []) }
+    pub fn serve(&mut self, batch: &[u8], reply_queue: &mut ReplyQueue) -> Result<(), ServeFault>
+        ensures due { OnOk result (IsDueAt HallApplies (S.stands self.new.store) (hall_of self.new.config []) batch.now reply_queue.new self.new.replica) }
+        ensures later { self.new.replica.poisoned ≡ false → (self.old.replica.poisoned ≡ false) × (self.old.replica.place ≤ self.new.replica.place) }
+        ensures at_last { OnOk result ((self.old.replica.poisoned ≡ false) × (self.old.replica.place < self.new.replica.place)) }
+        ensures unanswered { OnErr result (reply_queue.new ≡ reply_queue_of []) }
         ensures busy { result ≡ Err (Unknown Busy) → (self.old.replica.place + 333333 ≤ self.new.replica.place) ⊎ Contradicts S.stands S.lacks }
         ensures keeps { Keeps (S.stands self.old.store) (S.stands self.new.store) }
         ensures config { self.new.config ≡ self.old.config }
     {
         law_of_following::<HallMachine, S>();
-        self.replica.serve(&mut self.store, batch, tape)
+        self.replica.serve(&mut self.store, batch, reply_queue)
     }
 
     /// Applies what stands in the log, up to so many entries; tells how many they were (`Replica::catch_up`).
-    pub fn catch_up(&mut self, most: u64, tape: &mut Tape) -> Result<u64, Cause>
-        ensures unanswered { tape.new ≡ tape_of [] }
+    pub fn catch_up(&mut self, most: u64, reply_queue: &mut ReplyQueue) -> Result<u64, Cause>
+        ensures unanswered { reply_queue.new ≡ reply_queue_of [] }
         ensures keeps { Keeps (S.stands self.old.store) (S.stands self.new.store) }
         ensures config { self.new.config ≡ self.old.config }
-        ensures later { self.new.replica.spoiled ≡ false → (self.old.replica.spoiled ≡ false) × (self.old.replica.place ≤ self.new.replica.place) }
+        ensures later { self.new.replica.poisoned ≡ false → (self.old.replica.poisoned ≡ false) × (self.old.replica.place ≤ self.new.replica.place) }
         ensures count { IfOk result (λ n. self.new.replica.place ≡ self.old.replica.place + n) }
         ensures stopped { IfOk result (λ n. n < most → IsAtEnd (S.lacks self.new.store) self.new.replica.place) }
     {
         law_of_following::<HallMachine, S>();
-        self.replica.catch_up(&mut self.store, most, tape)
+        self.replica.catch_up(&mut self.store, most, reply_queue)
     }
 }

@@ -3,13 +3,13 @@
 ghost use Rattle.std.specs.Prelude.{◌≡◌, ◌+◌, ◌<◌, [], IfOk, OnOk, Err};
 ghost use Rattle.hall.specs.Halls.{hall_of};
 ghost use Rattle.hall_log.specs.Entries.{HallApplies, TakesBytes, behind_first_line};
-ghost use Rattle.hall_log.specs.Said.{NotingSays, tape_of};
+ghost use Rattle.hall_log.specs.Said.{NotingSays, reply_queue_of};
 
 use crate::noting::Noting;
-use crate::tape::Tape;
+use crate::reply_queue::ReplyQueue;
 use commands::Config;
 use hall::Hall;
-use player::{AsReplies, Replies, Talker};
+use player::{AsReplies, Replies, Responder};
 use replicated_log::Machine;
 use std::alloc::{AllocError, Global};
 use std::marker::Model;
@@ -19,7 +19,7 @@ use step_memory::{Refusal, View};
 const LF: u8 = 10;
 
 /// A hall to which the entries of a log are applied. An entry is a first line, which is passed over, and then lines of commands, each with
-/// its LF: they are played over the hall in order, and what it says to them is put on a tape. `quit` ends an entry.
+/// its LF: they are played over the hall in order, and what it says to them is put on a queue of replies. `quit` ends an entry.
 #[derive(Drop)]
 pub struct HallMachine {
     alloc: Global,
@@ -53,18 +53,18 @@ fn behind_first_line(entry: &[u8]) -> &[u8]
 /// Plays lines over a hall. The text of the replies is let go: what was said is noted.
 fn play(
     noting: &mut Noting,
-    talker: &mut Talker<Global, AsReplies>,
+    responder: &mut Responder<Global, AsReplies>,
     view: &mut View,
     replies: &mut Replies<Global>,
     lines: &[u8],
 )
-    requires { talker.old.summary.lines ≡ 0 }
-    ensures { TakesBytes NotingSays noting.old talker.old lines.now noting.new talker.new }
+    requires { responder.old.summary.lines ≡ 0 }
+    ensures { TakesBytes NotingSays noting.old responder.old lines.now noting.new responder.new }
 {
     let mut at = 0;
     while at < lines.len() {
         replies.clear();
-        at += talker.take(&(), noting, view, &lines[at..], replies);
+        at += responder.take(&(), noting, view, &lines[at..], replies);
     }
 }
 
@@ -93,42 +93,42 @@ impl HallMachine {
         self.noting.hall()
     }
 
-    // Plays the lines of an entry, and has the tape say what was said to them.
-    fn play_entry(&mut self, entry: &[u8], tape: &mut Tape) -> Result<(), AllocError>
-        ensures { OnOk result (HallApplies self.old entry.now tape.new self.new) }
+    // Plays the lines of an entry, and has the queue of replies say what was said to them.
+    fn play_entry(&mut self, entry: &[u8], reply_queue: &mut ReplyQueue) -> Result<(), AllocError>
+        ensures { OnOk result (HallApplies self.old entry.now reply_queue.new self.new) }
     {
         let kind = self.noting.hall().config().world;
-        let Ok(mut talker) = Talker::new(self.alloc, kind) else {
+        let Ok(mut responder) = Responder::new(self.alloc, kind) else {
             return Err(AllocError);
         };
         self.noting.begin();
         play(
             &mut self.noting,
-            &mut talker,
+            &mut responder,
             &mut self.view,
             &mut self.replies,
             behind_first_line(entry),
         );
-        self.noting.put_on(tape)
+        self.noting.put_on(reply_queue)
     }
 }
 
 impl Machine for HallMachine {
     ghost use Rattle.std.specs.Prelude.{◌≡◌, []};
     ghost use Rattle.hall_log.specs.Entries.{HallApplies};
-    ghost use Rattle.hall_log.specs.Said.{tape_of};
+    ghost use Rattle.hall_log.specs.Said.{reply_queue_of};
 
-    type Replies = Tape;
+    type Replies = ReplyQueue;
 
     ghost applies = { HallApplies };
 
-    ghost silent = { λ tape. tape ≡ tape_of [] };
+    ghost silent = { λ reply_queue. reply_queue ≡ reply_queue_of [] };
 
-    fn apply(&mut self, entry: &[u8], tape: &mut Tape) -> Result<(), AllocError> {
-        self.play_entry(entry, tape)
+    fn apply(&mut self, entry: &[u8], reply_queue: &mut ReplyQueue) -> Result<(), AllocError> {
+        self.play_entry(entry, reply_queue)
     }
 
-    fn forget(tape: &mut Tape) {
-        tape.clear();
+    fn forget(reply_queue: &mut ReplyQueue) {
+        reply_queue.clear();
     }
 }

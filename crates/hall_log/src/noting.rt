@@ -5,11 +5,11 @@ ghost use Rattle.step_memory.specs.declared.refusal.Refusal.TheVariants as refus
 ghost use Rattle.commands.specs.declared.reply.Reply.TheVariants as replies;
 ghost use Rattle.commands.specs.Replies.{with_view};
 ghost use Rattle.hall.specs.Halls.{hall_of};
-ghost use Rattle.hall_log.specs.Said.{NotingSays, request_of, said_by, tape_of};
+ghost use Rattle.hall_log.specs.Said.{NotingSays, request_of, said_by, reply_queue_of};
 ghost use Rattle.hall_log.specs.SaidProofs.{noting_answers};
 
 use crate::note::{Asked, Note, lacks_memory};
-use crate::tape::Tape;
+use crate::reply_queue::ReplyQueue;
 use commands::{Config, Event, Reply};
 use hall::Hall;
 use player::Service;
@@ -66,15 +66,15 @@ impl Noting {
         self.lost = false;
     }
 
-    /// Has a tape say what was noted; an error where memory was refused.
-    pub(crate) fn put_on(&mut self, tape: &mut Tape) -> Result<(), AllocError>
-        ensures told { OnOk result ((tape.new ≡ tape_of self.old.said) × (self.old.lost ≡ false)) }
+    /// Has a queue of replies say what was noted; an error where memory was refused.
+    pub(crate) fn put_on(&mut self, reply_queue: &mut ReplyQueue) -> Result<(), AllocError>
+        ensures reported { OnOk result ((reply_queue.new ≡ reply_queue_of self.old.said) × (self.old.lost ≡ false)) }
         ensures hall { self.new.hall ≡ self.old.hall }
     {
         if self.lost {
             return Err(AllocError);
         }
-        tape.take_notes(&mut self.notes);
+        reply_queue.take_notes(&mut self.notes);
         Ok(())
     }
 

@@ -16,7 +16,7 @@ pub use Rattle.hall.specs.HallState.{HallState}
 pub use Rattle.hall.specs.Compactions.{IsCompacted}
 pub use Rattle.journal.specs.DiskState.{DiskState}
 pub use Rattle.journal.specs.Disks.{longer_by, synced_all, replaced_by}
-pub use Rattle.journal.specs.ChronicleState.{ChronicleState}
-pub use Rattle.journal.specs.Chronicles.{record_of_hall, waiting_of, chronicle_of, hall_after_first}
+pub use Rattle.journal.specs.WriteAheadState.{WriteAheadState}
+pub use Rattle.journal.specs.WriteAheads.{record_of_hall, waiting_of, write_ahead_of, hall_after_first}
 pub use Rattle.journal.specs.Journals.{HasSynced, KeepsHandedOn, LeavesHall, IsHallOf, IsMended, missing_in}
 pub use Rattle.journal.specs.Openings.{IsRecovered}

@@ -1,9 +1,9 @@
 -- the record of another hall in place of all that was written
 use Rattle.std.proofs.Common.{◌≡◌, Bool, true, false, ℕ, zero, suc, ◌+◌, ◌≤◌, List, [], ◌∷◌, ◌++◌, Some, inl, inr, length, take, flat_map, refl, ap, sym, ◌∙◌, subst, append_assoc, arith, add-one, slice_get}
-use Rattle.journal.proofs.Common.{append-nil, flat_map-append, same_Some, Exchange, IsCutOnce, exchange_line, header_line, HallState, DiskState, ChronicleState, record_of_hall, hall_after_first, chronicle_of, IsCompacted, HasSynced, LeavesHall}
+use Rattle.journal.proofs.Common.{append-nil, flat_map-append, same_Some, Exchange, IsCutOnce, exchange_line, header_line, HallState, DiskState, WriteAheadState, record_of_hall, hall_after_first, write_ahead_of, IsCompacted, HasSynced, LeavesHall}
 use Rattle.journal.specs.Disks.{MayLeaveEither, replaced_by}
 use Rattle.journal.specs.Compactings.{LeavesEither, TakesHall, HasCompacted, MayCompact}
-use Rattle.journal.proofs.Commits.{told_all}
+use Rattle.journal.proofs.Commits.{reported_all}
 use Rattle.journal.proofs.Crashes.{cut_record}
 use Rattle.journal.proofs.Restarts.{stays}
 
@@ -22,7 +22,7 @@ one_line h n x at =
     ∙ ap (λ (xs : List Exchange). header_line h.config ++ flat_map exchange_line xs) (sym (ap (λ (k : ℕ). take k h.history) (add-one n) ∙ take_suc h.history n x at))
 
 pub all_lines : (h : HallState) → record_of_hall (hall_after_first (length h.history) h) ≡ record_of_hall h
-all_lines h = told_all h
+all_lines h = reported_all h
 
 module _ (once : (bytes : List ℕ) → IsCutOnce bytes) where
   whole_record : (h : HallState) → LeavesHall h (length h.history) (record_of_hall h)
@@ -34,16 +34,16 @@ module _ (once : (bytes : List ℕ) → IsCutOnce bytes) where
   }
 
   -- what a crash leaves in the midst of it
-  pub leaves_either : (c : ChronicleState) (new : HallState) (s : DiskState) → HasSynced c s → c.told ≤ length c.hall.history →
+  pub leaves_either : (c : WriteAheadState) (new : HallState) (s : DiskState) → HasSynced c s → c.reported ≤ length c.hall.history →
       (left : List ℕ) → MayLeaveEither s (record_of_hall new) left → LeavesEither c new left
   leaves_either c new s stands few left (inl m) = inl ((stays once c s stands few).leaves left m)
   leaves_either c new s stands few left (inr is) = inr (subst (λ (l : List ℕ). LeavesHall new (length new.history) l) (sym is) (whole_record new))
 
--- it is written, and surely there
-pub replaced_synced : (new : HallState) (s t : DiskState) → t ≡ replaced_by s (record_of_hall new) → HasSynced (chronicle_of new (length new.history)) t
-replaced_synced new s t is = subst (λ (x : DiskState). HasSynced (chronicle_of new (length new.history)) x) (sym is) (record { contents = sym (told_all new); synced = refl })
+-- it is written, and durable
+pub replaced_synced : (new : HallState) (s t : DiskState) → t ≡ replaced_by s (record_of_hall new) → HasSynced (write_ahead_of new (length new.history)) t
+replaced_synced new s t is = subst (λ (x : DiskState). HasSynced (write_ahead_of new (length new.history)) x) (sym is) (record { contents = sym (reported_all new); synced = refl })
 
--- what became of the chronicle
-pub may_compact : (done : Bool) (new : HallState) (c u : ChronicleState) → IsCompacted c.hall new → TakesHall done new c u → MayCompact c u
-may_compact true new c u k is = inr (subst (λ (x : ChronicleState). HasCompacted c x) (sym is) (record { compacted = k; told = refl }))
+-- what became of the write-ahead hall
+pub may_compact : (done : Bool) (new : HallState) (c u : WriteAheadState) → IsCompacted c.hall new → TakesHall done new c u → MayCompact c u
+may_compact true new c u k is = inr (subst (λ (x : WriteAheadState). HasCompacted c x) (sym is) (record { compacted = k; reported = refl }))
 may_compact false new c u k is = inl is

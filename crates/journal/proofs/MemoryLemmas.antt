@@ -10,7 +10,7 @@ use Rattle.journal.specs.Disks.{state_of, longer_by, IsShortened, MayLeave}
 prefix_self : (xs : List ℕ) → IsPrefix xs xs
 prefix_self xs = ([], append-nil xs)
 
--- a write that fails leaves a beginning of its bytes
+-- a write that fails leaves a prefix of its bytes
 pub part_appended : (bytes : List ℕ) (n : ℕ) (old new : DiskState) → new ≡ longer_by old (take n bytes) →
     (s : DiskState) → Some old ≡ Some s → (t : DiskState) × (Some new ≡ Some t) × ((part : List ℕ) × IsPrefix part bytes × (t ≡ longer_by s part))
 part_appended bytes n old new is s known =
@@ -37,7 +37,7 @@ shortened len contents left synced cuts is s known =
       ),
     )
 
--- a beginning with all that was surely there is what a crash may leave
+-- a prefix with all that was durable is what a crash may leave
 pub crash_leaves : (s : DiskState) (kept : ℕ) (left : List ℕ) → left ≡ take kept s.contents → s.synced ≤ kept → MayLeave s s left
 crash_leaves s kept left is enough =
     let more = kept - s.synced in

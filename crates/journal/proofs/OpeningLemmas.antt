@@ -1,9 +1,9 @@
 -- what stands on a disk whose journal was opened
 use Rattle.std.proofs.Common.{◌≡◌, ℕ, List, [], ◌++◌, length, take, drop, inl, inr, ap, sym, ◌∙◌, subst}
-use Rattle.journal.proofs.Common.{append-nil, take-append-drop, Config, IsCutOnce, header_line, HallState, DiskState, record_of_hall, chronicle_of, HasSynced, IsHallOf, IsMended, missing_in, IsRecovered}
+use Rattle.journal.proofs.Common.{append-nil, take-append-drop, Config, IsCutOnce, header_line, HallState, DiskState, record_of_hall, write_ahead_of, HasSynced, IsHallOf, IsMended, missing_in, IsRecovered}
 use Rattle.std.proofs.lemmas.Bool.Decides.{eqb_tells}
 use mathlib.Core.List.{IsPrefix}
-use Rattle.journal.proofs.Commits.{told_all}
+use Rattle.journal.proofs.Commits.{reported_all}
 use Rattle.journal.proofs.Crashes.{cut_record}
 
 no_record : (h : HallState) → [] ≡ record_of_hall h → ⊥
@@ -27,12 +27,12 @@ hall_of_bytes once c bytes h whole (inr f) = inr (
   ap (λ (u : HallState). u.history) f.none,
 )
 
--- after that was put right all of it is surely there
+-- after that was put right all of it is durable
 pub synced_record : (c : Config) (bytes header : List ℕ) (h : HallState) (whole total : ℕ) (s t : DiskState) → IsRecovered c bytes h whole → header ≡ header_line c → bytes ≡ s.contents → length bytes ≡ total →
-    IsMended total whole (missing_in whole header) s t → HasSynced (chronicle_of h (length h.history)) t
+    IsMended total whole (missing_in whole header) s t → HasSynced (write_ahead_of h (length h.history)) t
 synced_record c bytes header h whole total s t r head same many m =
     let done = m (ap length (sym same) ∙ many) in
     record {
-      contents = done.0 ∙ ap (λ (l : List ℕ). take whole l ++ missing_in whole header) (sym same) ∙ ap (λ (l : List ℕ). take whole bytes ++ missing_in whole l) head ∙ mended c bytes h whole r ∙ sym (told_all h);
+      contents = done.0 ∙ ap (λ (l : List ℕ). take whole l ++ missing_in whole header) (sym same) ∙ ap (λ (l : List ℕ). take whole bytes ++ missing_in whole l) head ∙ mended c bytes h whole r ∙ sym (reported_all h);
       synced = done.1;
     }

@@ -1,19 +1,19 @@
 -- the hall that is opened of what a crash left
 use Rattle.std.proofs.Common.{◌≡◌, ℕ, ◌≤◌, List, [], ◌∷◌, ◌++◌, length, take, flat_map, inl, inr, refl, ap, sym, ◌∙◌, arith, length-append}
-use Rattle.journal.proofs.Common.{append-nil, exchange_line, header_line, HallState, DiskState, ChronicleState}
+use Rattle.journal.proofs.Common.{append-nil, exchange_line, header_line, HallState, DiskState, WriteAheadState}
 use Rattle.command_lines.specs.Lines.{IsCutInto, IsCutOnce, rest_of, whole_lines}
 use Rattle.journal.specs.Journals.{HasSynced, IsHallOf, KeepsHandedOn, LeavesHall, RecordsHallAfter}
 use Rattle.journal.proofs.Commits.{keeps}
 
 -- between two calls nothing more is written
-pub stays : ((bytes : List ℕ) → IsCutOnce bytes) → (c : ChronicleState) (s : DiskState) → HasSynced c s → c.told ≤ length c.hall.history → KeepsHandedOn c s s
+pub stays : ((bytes : List ℕ) → IsCutOnce bytes) → (c : WriteAheadState) (s : DiskState) → HasSynced c s → c.reported ≤ length c.hall.history → KeepsHandedOn c s s
 stays once c s stands few = keeps once c s stands few [] s (_, refl) (sym (append-nil s.contents)) refl
 
 none_of_length : (xs : List ℕ) → length xs ≤ 0 → xs ≡ []
 none_of_length [] h = refl
 none_of_length (x ∷ xs) h = absurd (omega arith)
 
--- what is in front of a beginning, and no shorter than the whole, is the whole
+-- what is in front of a prefix, and no shorter than the whole, is the whole
 nothing_more : (header rows rest left more : List ℕ) → (header ++ rows) ++ rest ≡ left → left ++ more ≡ header → rows ≡ []
 nothing_more header rows rest left more cut front =
     let a = sym (ap length cut) ∙ length-append (header ++ rows) rest in

@@ -12,7 +12,7 @@ pub record IsTornFrom (ls : List (List ℕ)) (least : ℕ) (left : List ℕ) : T
   pub is : left ≡ with_ends (take count ls) ++ rest
   pub torn : has_no_lf rest ≡ true
 
--- a beginning of a line with its LF and more is one of the line, or has all of it
+-- a prefix of a line with its LF and more is one of the line, or has all of it
 Splits : List ℕ → List ℕ → List ℕ → Type 0
 Splits l more left = IsPrefix left l ⊎ ((after : List ℕ) × (left ≡ l ++ 10 ∷ after) × IsPrefix after more)
 

@@ -1,6 +1,6 @@
 -- an event that is accepted waits behind the others
 use Rattle.std.proofs.Common.{◌≡◌, ℕ, ◌≤◌, true, false, List, [], ◌∷◌, ◌++◌, length, drop, flat_map, Option, Some, None, inl, inr, refl, ap, sym, ◌∙◌, arith, length-append}
-use Rattle.journal.proofs.Common.{flat_map-append, Event, Exchange, exchange_line, HallState, waiting_of, chronicle_of}
+use Rattle.journal.proofs.Common.{flat_map-append, Event, Exchange, exchange_line, HallState, waiting_of, write_ahead_of}
 use Rattle.std.proofs.lemmas.List.{append-nil, drop-append-le}
 use Rattle.step_memory.specs.declared.refusal.Refusal.{Refusal}
 use Rattle.commands.specs.Replies.{ShownReply, is_refusal}
@@ -8,24 +8,24 @@ use Rattle.hall.specs.Halls.{HallMay, hall_refusal, after_unless}
 use Rattle.hall.specs.Serving.{accepted}
 
 -- the line of an event that was accepted waits behind those that waited
-pub more_waits : (h u : HallState) (told : ℕ) (x : Exchange) (lines : List ℕ) → lines ≡ waiting_of (chronicle_of h told) → told ≤ length h.history → u.history ≡ h.history ++ x ∷ [] →
-    (lines ++ exchange_line x ≡ waiting_of (chronicle_of u told)) × (told ≤ length u.history)
-more_waits h u told x lines wait few is =
-    let left = drop told h.history in
+pub more_waits : (h u : HallState) (reported : ℕ) (x : Exchange) (lines : List ℕ) → lines ≡ waiting_of (write_ahead_of h reported) → reported ≤ length h.history → u.history ≡ h.history ++ x ∷ [] →
+    (lines ++ exchange_line x ≡ waiting_of (write_ahead_of u reported)) × (reported ≤ length u.history)
+more_waits h u reported x lines wait few is =
+    let left = drop reported h.history in
     let one : flat_map exchange_line (x ∷ []) ≡ exchange_line x = append-nil (exchange_line x) in
     let all : flat_map exchange_line (left ++ x ∷ []) ≡ flat_map exchange_line left ++ exchange_line x =
     flat_map-append exchange_line left (x ∷ []) ∙ ap (λ (l : List ℕ). flat_map exchange_line left ++ l) one in
-    let same : drop told u.history ≡ left ++ x ∷ [] = ap (λ xs. drop told xs) is ∙ drop-append-le told h.history (x ∷ []) few in
+    let same : drop reported u.history ≡ left ++ x ∷ [] = ap (λ xs. drop reported xs) is ∙ drop-append-le reported h.history (x ∷ []) few in
     let many = ap length is in
     let more = length-append h.history (x ∷ []) in
     (ap (λ (l : List ℕ). l ++ exchange_line x) wait ∙ sym all ∙ ap (flat_map exchange_line) (sym same), omega arith)
 
 -- and where it was refused nothing more does
-pub same_waits : (h u : HallState) (told : ℕ) (lines : List ℕ) → lines ≡ waiting_of (chronicle_of h told) → told ≤ length h.history → u.history ≡ h.history →
-    (lines ≡ waiting_of (chronicle_of u told)) × (told ≤ length u.history)
-same_waits h u told lines wait few is =
+pub same_waits : (h u : HallState) (reported : ℕ) (lines : List ℕ) → lines ≡ waiting_of (write_ahead_of h reported) → reported ≤ length h.history → u.history ≡ h.history →
+    (lines ≡ waiting_of (write_ahead_of u reported)) × (reported ≤ length u.history)
+same_waits h u reported lines wait few is =
     let many = ap length is in
-    (wait ∙ ap (λ xs. flat_map exchange_line (drop told xs)) (sym is), omega arith)
+    (wait ∙ ap (λ xs. flat_map exchange_line (drop reported xs)) (sym is), omega arith)
 
 -- the config of a hall stays
 config_unless : (o : Option Refusal) (h : HallState) (e : Event) → (after_unless o h e).config ≡ h.config

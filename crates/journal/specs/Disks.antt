@@ -12,7 +12,7 @@ state_of contents synced cuts = record { contents = contents; synced = synced; c
 abbrev pub longer_by : DiskState → List ℕ → DiskState
 longer_by s bytes = record s { contents = s.contents ++ bytes }
 
--- with all of it surely there
+-- with all of it durable
 abbrev pub synced_all : DiskState → DiskState
 synced_all s = record s { synced = length s.contents }
 
@@ -20,12 +20,12 @@ synced_all s = record s { synced = length s.contents }
 abbrev pub Changes : (DiskState → DiskState → Type 0) → Option DiskState → Option DiskState → Type 0
 Changes Step old new = ((s : DiskState) → old ≡ Some s → (t : DiskState) × (new ≡ Some t) × Step s t) × (old ≡ None → new ≡ None)
 
--- the bytes stand behind the others; where the call failed, a beginning of them does
+-- the bytes stand behind the others; where the call failed, a prefix of them does
 abbrev pub IsAppended : {E : Type 0} → List ℕ → Result (Unit {0}) E → DiskState → DiskState → Type 0
 IsAppended bytes (Ok done) s t = t ≡ longer_by s bytes
 IsAppended bytes (Err why) s t = (part : List ℕ) × IsPrefix part bytes × (t ≡ longer_by s part)
 
--- all that was written is surely there; where the call failed, nothing is known to be that was not
+-- all that was written is durable; where the call failed, nothing is known to be that was not
 abbrev pub IsSynced : {E : Type 0} → Result (Unit {0}) E → DiskState → DiskState → Type 0
 IsSynced (Ok done) s t = t ≡ synced_all s
 IsSynced (Err why) s t = t ≡ s
@@ -42,7 +42,7 @@ abbrev pub IsCut : {E : Type 0} → ℕ → Result (Unit {0}) E → DiskState �
 IsCut len (Ok done) s t = IsShortened len s t × (t.contents ≡ take len s.contents)
 IsCut len (Err why) s t = IsShortened len s t ⊎ (t ≡ s)
 
--- these bytes stand in place of all others, and are surely there
+-- these bytes stand in place of all others, and are durable
 abbrev pub replaced_by : DiskState → List ℕ → DiskState
 replaced_by s bytes = state_of bytes (length bytes) (s.cuts + 1)
 
@@ -60,8 +60,8 @@ pub record OnlyGrows (s t : DiskState) : Type 0 where
   pub front : IsPrefix s.contents t.contents
   pub none_cut : t.cuts ≡ s.cuts
 
--- what a crash may leave at any moment from one state to another, between which nothing was cut off: a beginning of what was written
--- by then, and all that was surely there at first
+-- what a crash may leave at any moment from one state to another, between which nothing was cut off: a prefix of what was written
+-- by then, and all that was durable at first
 pub record MayLeave (s t : DiskState) (left : List ℕ) : Type 0 where
   pub front : IsPrefix left t.contents
   pub kept : IsPrefix (take s.synced s.contents) left

@@ -7,16 +7,16 @@ use Rattle.journal.specs.DiskState.{DiskState}
 use Rattle.journal.specs.Disks.{Changes, OnlyGrows, MayLeave, longer_by, synced_all}
 use mathlib.Core.List.{IsPrefix}
 use Rattle.journal.specs.declared.journal.Journal.{Journal}
-use Rattle.journal.specs.ChronicleState.{ChronicleState}
-use Rattle.journal.specs.Chronicles.{record_of_hall, hall_after_first, told_record}
+use Rattle.journal.specs.WriteAheadState.{WriteAheadState}
+use Rattle.journal.specs.WriteAheads.{record_of_hall, hall_after_first, reported_record}
 
--- all that was handed on is written, as a record, and is surely there
-pub record HasSynced (c : ChronicleState) (s : DiskState) : Type 0 where
-  pub contents : s.contents ≡ told_record c
+-- all that was committed is written, as a record, and is durable
+pub record HasSynced (c : WriteAheadState) (s : DiskState) : Type 0 where
+  pub contents : s.contents ≡ reported_record c
   pub synced : s.synced ≡ length s.contents
 
 -- what is known of the disk says that; and no call of it has failed
-pub record Stands {D : Type 0} (state : D → Option DiskState) (j : Journal D) (c : ChronicleState) : Type 0 where
+pub record Stands {D : Type 0} (state : D → Option DiskState) (j : Journal D) (c : WriteAheadState) : Type 0 where
   pub well : j.ended ≡ false
   pub known : (s : DiskState) → state j.disk ≡ Some s → HasSynced c s
 
@@ -31,25 +31,25 @@ pub record LeavesHall (h : HallState) (least : ℕ) (left : List ℕ) : Type 0 w
   pub few : count ≤ length h.history
   pub is : without_torn left ≡ record_of_hall (hall_after_first count h)
 
--- from one state of the disk to another nothing was cut off, and a crash at any moment leaves the chronicle's hall as it was after some of
--- its events, none skipped, with all that were handed on before
-pub record KeepsHandedOn (c : ChronicleState) (s t : DiskState) : Type 0 where
+-- from one state of the disk to another nothing was cut off, and a crash at any moment leaves the write-ahead hall's hall as it was after some of
+-- its events, none skipped, with all that were committed before
+pub record KeepsHandedOn (c : WriteAheadState) (s t : DiskState) : Type 0 where
   pub grows : OnlyGrows s t
-  pub leaves : (left : List ℕ) → MayLeave s t left → LeavesHall c.hall c.told left
+  pub leaves : (left : List ℕ) → MayLeave s t left → LeavesHall c.hall c.reported left
 
-abbrev pub KeepsAtAnyMoment : {D : Type 0} → (D → Option DiskState) → Journal D → Journal D → ChronicleState → Type 0
+abbrev pub KeepsAtAnyMoment : {D : Type 0} → (D → Option DiskState) → Journal D → Journal D → WriteAheadState → Type 0
 KeepsAtAnyMoment state old new c = Changes (KeepsHandedOn c) (state old.disk) (state new.disk)
 
--- these bytes stand behind the others and are surely there; where a call failed, a beginning of them stands there
+-- these bytes stand behind the others and are durable; where a call failed, a prefix of them stands there
 abbrev pub IsWritten : {E : Type 0} → List ℕ → Result (Unit {0}) E → DiskState → DiskState → Type 0
 IsWritten bytes (Ok done) s t = t ≡ synced_all (longer_by s bytes)
 IsWritten bytes (Err why) s t = (part : List ℕ) × IsPrefix part bytes × (t ≡ longer_by s part)
 
--- the first bytes are left with what was missing behind them, all of it surely there, of a disk that had so many
+-- the first bytes are left with what was missing behind them, all of it durable, of a disk that had so many
 abbrev pub IsMended : ℕ → ℕ → List ℕ → DiskState → DiskState → Type 0
 IsMended total whole missing s t = length s.contents ≡ total → (t.contents ≡ take whole s.contents ++ missing) × (t.synced ≡ length t.contents)
 
--- the bytes, once their torn line is cut, are the record of this hall; or they are a beginning of its header, and it has no event
+-- the bytes, once their torn line is cut, are the record of this hall; or they are a prefix of its header, and it has no event
 abbrev pub IsHallOf : HallState → List ℕ → Type 0
 IsHallOf h bytes = (without_torn bytes ≡ record_of_hall h) ⊎ (IsPrefix bytes (header_line h.config) × (h.history ≡ []))
 

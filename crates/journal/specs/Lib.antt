@@ -1,9 +1,9 @@
 pub mod DiskState
 pub mod Disks
 pub mod Memories
-pub mod ChronicleState
-pub mod Chronicles
-pub mod ChronicleProofs
+pub mod WriteAheadState
+pub mod WriteAheads
+pub mod WriteAheadProofs
 pub mod Journals
 pub mod Compactings
 pub mod Openings

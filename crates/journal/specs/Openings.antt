@@ -7,7 +7,7 @@ use Rattle.command_lines.specs.Lines.{has_no_lf}
 use Rattle.player.specs.Records.{exchange_line, header_line}
 use Rattle.hall.specs.HallState.{HallState}
 use Rattle.hall.specs.Halls.{hall_of}
-use Rattle.journal.specs.Chronicles.{record_of_hall}
+use Rattle.journal.specs.WriteAheads.{record_of_hall}
 
 -- the hall has accepted one more event, and its line stood before the rest
 pub record GoesOnBy (h u : HallState) (lines rest : List ℕ) : Type 0 where
@@ -20,7 +20,7 @@ pub record HasFollowed (c : Config) (h : HallState) (lines : List ℕ) : Type 0 
   pub config : h.config ≡ c
   pub all : lines ≡ flat_map exchange_line h.history
 
--- the bytes are the record of a hall of this config, so many bytes, and a rest with no LF; or a beginning of its header, of one with
+-- the bytes are the record of a hall of this config, so many bytes, and a rest with no LF; or a prefix of its header, of one with
 -- no event
 pub record IsRecord (c : Config) (bytes : List ℕ) (h : HallState) (whole : ℕ) : Type 0 where
   pub config : h.config ≡ c

@@ -33,11 +33,11 @@ impl From<io::Error> for DiskFault {
     }
 }
 
-/// Bytes that outlast a crash: written behind one another, and surely there once they are synced.
+/// Bytes that outlast a crash: written behind one another, and durable once they are synced.
 ///
 /// After a call that failed it is known only what a crash may leave, and whoever writes on may be told that all is well where it is not.
 pub trait Disk: Drop {
-    /// What was written, how much of that is surely there, and how often bytes were cut off or replaced; `None` where nothing is known,
+    /// What was written, how much of that is durable, and how often bytes were cut off or replaced; `None` where nothing is known,
     /// as of a file of the system.
     ghost state: { Self → Option DiskState };
 
@@ -49,7 +49,7 @@ pub trait Disk: Drop {
     fn append(&mut self, bytes: &[u8]) -> Result<(), DiskFault>
         ensures { Changes (IsAppended bytes.now result) (state self.old) (state self.new) };
 
-    /// Waits until all that was written is surely there.
+    /// Waits until all that was written is durable.
     fn sync(&mut self) -> Result<(), DiskFault>
         ensures { Changes (IsSynced result) (state self.old) (state self.new) };
 
@@ -61,7 +61,7 @@ pub trait Disk: Drop {
     /// opened. Where not, nothing is left beside.
     fn can_replace(&self, alloc: Global, bytes: &[u8]) -> bool;
 
-    /// Puts bytes in place of all others, in one step, and waits until they are surely there. A crash at any moment of the call leaves
+    /// Puts bytes in place of all others, in one step, and waits until they are durable. A crash at any moment of the call leaves
     /// what it may leave of those before, or all of these (`MayLeaveEither`); and so it does after a call that failed.
     fn replace(&mut self, alloc: Global, bytes: &[u8]) -> Result<(), DiskFault>
         ensures { Changes (IsReplaced bytes.now result) (state self.old) (state self.new) };

@@ -62,7 +62,7 @@ fn opened<R: Files<File = File>>(rt: &R, path: &str) -> io::Result<File> {
         .open(rt, path)
 }
 
-/// Waits until what stands in the folder of a path is surely there.
+/// Waits until what stands in the folder of a path is durable.
 fn sync_folder<R: Files<File = File>>(rt: &R, path: &str) -> io::Result<()> {
     File::sync_all(&File::open(rt, folder_of(path))?)
 }
@@ -101,7 +101,7 @@ fn locked<R: Files<File = File>>(rt: &R, path: &str) -> Result<File, FileFault> 
     Ok(file)
 }
 
-/// Locks a file and puts these bytes in place of all that was in it, so that they are surely there.
+/// Locks a file and puts these bytes in place of all that was in it, so that they are durable.
 fn fill(file: &mut File, bytes: &[u8]) -> io::Result<()> {
     File::try_lock(file)?;
     File::set_len(file, 0)?;
@@ -109,7 +109,7 @@ fn fill(file: &mut File, bytes: &[u8]) -> io::Result<()> {
     File::sync_all(file)
 }
 
-/// A file at this path with these bytes, all of them surely there, and locked. Where it could not be written nothing is left there.
+/// A file at this path with these bytes, all of them durable, and locked. Where it could not be written nothing is left there.
 fn written<R: Files<File = File>>(rt: &R, path: &str, bytes: &[u8]) -> io::Result<File> {
     let mut file = opened(rt, path)?;
     match fill(&mut file, bytes) {

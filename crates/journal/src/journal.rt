@@ -1,18 +1,18 @@
-//! The journal of a chronicle, on a disk.
+//! The journal of a write-ahead hall, on a disk.
 
 ghost use Rattle.std.specs.Prelude.{◌≡◌, ◌≢◌, true, false, length, Err, Some, OnOk, OnErr, IfOk, IfErr};
 ghost use Rattle.journal.specs.Disks.{Changes};
 ghost use Rattle.journal.specs.DiskState.{DiskState};
 ghost use Rattle.hall.specs.Compactions.{IsCompacted};
 ghost use Rattle.hall.specs.Dues.{due_again};
-ghost use Rattle.journal.specs.Chronicles.{chronicle_of};
+ghost use Rattle.journal.specs.WriteAheads.{write_ahead_of};
 ghost use Rattle.journal.specs.Compactings.{IsPaced, KeepsEither, KeepsWhenCompacted, MayCompact, TakesHall};
 ghost use Rattle.journal.specs.OpenFaults.{IsOpenFault};
 ghost use Rattle.journal.specs.Journals.{Stands, KeepsAtAnyMoment, IsHallOf, IsMended, IsWritten, missing_in};
 
-use crate::chronicle::Chronicle;
 use crate::opening::{OpenFault, recovered};
 use crate::record::record_of;
+use crate::write_ahead::WriteAhead;
 use crate::{Disk, DiskFault};
 use commands::Config;
 use hall::{Compactor, Hall};
@@ -28,7 +28,7 @@ pub enum JournalFault {
     Ended,
 }
 
-/// A disk with the record of what a chronicle has handed on.
+/// A disk with the record of what a write-ahead hall has committed.
 #[derive(Drop)]
 pub struct Journal<D: Disk> {
     pub(crate) disk: D,
@@ -45,7 +45,7 @@ fn end(ended: &mut bool, fault: DiskFault) -> JournalFault
 }
 
 impl<D: Disk> Journal<D> {
-    /// Writes bytes behind the others, and waits until they are surely there.
+    /// Writes bytes behind the others, and waits until they are durable.
     fn write(&mut self, bytes: &[u8]) -> Result<(), DiskFault>
         ensures written { Changes (IsWritten bytes.now result) (D.state self.old.disk) (D.state self.new.disk) }
         ensures same { self.new.ended ≡ self.old.ended }
@@ -55,15 +55,15 @@ impl<D: Disk> Journal<D> {
         Ok(())
     }
 
-    /// Writes the lines that wait and waits until they are surely there; then they are handed on. After a fault nothing is ever written
-    /// again, and the chronicle's lines wait for ever: no reply to an event of theirs may be let out.
-    pub fn commit(&mut self, chronicle: &mut Chronicle) -> Result<(), JournalFault>
-        ensures told { OnOk result (chronicle.new ≡ chronicle_of chronicle.old.hall (length chronicle.old.hall.history)) }
-        ensures stands { OnOk result (Stands D.state self.old chronicle.old → Stands D.state self.new chronicle.new) }
+    /// Writes the lines that wait and waits until they are durable; then they are committed. After a fault nothing is ever written
+    /// again, and the write-ahead hall's lines wait for ever: no reply to an event of theirs may be let out.
+    pub fn commit(&mut self, write_ahead: &mut WriteAhead) -> Result<(), JournalFault>
+        ensures reported { OnOk result (write_ahead.new ≡ write_ahead_of write_ahead.old.hall (length write_ahead.old.hall.history)) }
+        ensures stands { OnOk result (Stands D.state self.old write_ahead.old → Stands D.state self.new write_ahead.new) }
 
-        // A crash at any moment of the call leaves all that was handed on before it.
-        ensures any_moment { Stands D.state self.old chronicle.old → KeepsAtAnyMoment D.state self.old self.new chronicle.old }
-        ensures same { OnErr result (chronicle.new ≡ chronicle.old) }
+        // A crash at any moment of the call leaves all that was committed before it.
+        ensures any_moment { Stands D.state self.old write_ahead.old → KeepsAtAnyMoment D.state self.old self.new write_ahead.old }
+        ensures same { OnErr result (write_ahead.new ≡ write_ahead.old) }
         ensures ends { OnErr result (self.new.ended ≡ true) }
         ensures over { self.old.ended ≡ true → (result ≡ Err JournalFault.Ended) × (self.new ≡ self.old) }
         ensures goes_on { self.old.ended ≡ false → result ≢ Err JournalFault.Ended }
@@ -72,9 +72,9 @@ impl<D: Disk> Journal<D> {
         if self.ended {
             return Err(JournalFault::Ended);
         }
-        match self.write(chronicle.waiting()) {
+        match self.write(write_ahead.waiting()) {
             Ok(()) => {
-                chronicle.hand_on();
+                write_ahead.mark_committed();
                 Ok(())
             }
             Err(fault) => Err(end(&mut self.ended, fault)),
@@ -94,28 +94,28 @@ fn put_off_unless(kept: bool, compactor: &mut Compactor, hall: &Hall)
 }
 
 impl<D: Disk> Journal<D> {
-    /// A hall that was compacted of the chronicle's takes its place, and its record that of all that was written, in one step; so also what
-    /// waited is handed on. `false` where an allocation failed or the record could not be written beside what there is, with nothing
-    /// changed. After any other fault of the disk nothing is ever written again, and the chronicle is as it was.
+    /// A hall that was compacted of the write-ahead hall's takes its place, and its record that of all that was written, in one step; so also what
+    /// waited is committed. `false` where an allocation failed or the record could not be written beside what there is, with nothing
+    /// changed. After any other fault of the disk nothing is ever written again, and the write-ahead hall is as it was.
     pub fn compact(
         &mut self,
         alloc: Global,
-        chronicle: &mut Chronicle,
+        write_ahead: &mut WriteAhead,
         hall: Hall,
     ) -> Result<bool, JournalFault>
-        requires { IsCompacted chronicle.old.hall hall }
-        ensures taken { IfOk result (λ done. TakesHall done hall chronicle.old chronicle.new) }
-        ensures stands { OnOk result (Stands D.state self.old chronicle.old → Stands D.state self.new chronicle.new) }
+        requires { IsCompacted write_ahead.old.hall hall }
+        ensures taken { IfOk result (λ done. TakesHall done hall write_ahead.old write_ahead.new) }
+        ensures stands { OnOk result (Stands D.state self.old write_ahead.old → Stands D.state self.new write_ahead.new) }
 
-        // A crash at any moment of the call leaves all that was handed on before it, or the record of the new hall.
-        ensures any_moment { Stands D.state self.old chronicle.old → Changes (KeepsEither chronicle.old hall) (D.state self.old.disk) (D.state self.new.disk) }
-        ensures same { OnErr result (chronicle.new ≡ chronicle.old) }
+        // A crash at any moment of the call leaves all that was committed before it, or the record of the new hall.
+        ensures any_moment { Stands D.state self.old write_ahead.old → Changes (KeepsEither write_ahead.old hall) (D.state self.old.disk) (D.state self.new.disk) }
+        ensures same { OnErr result (write_ahead.new ≡ write_ahead.old) }
         ensures ends { OnErr result (self.new.ended ≡ true) }
         ensures over { self.old.ended ≡ true → (result ≡ Err JournalFault.Ended) × (self.new ≡ self.old) }
         ensures goes_on { self.old.ended ≡ false → result ≢ Err JournalFault.Ended }
     {
         law_of_lines();
-        let _ = chronicle.waiting();
+        let _ = write_ahead.waiting();
         if self.ended {
             return Err(JournalFault::Ended);
         }
@@ -127,40 +127,40 @@ impl<D: Disk> Journal<D> {
         }
         match self.disk.replace(alloc, &record) {
             Ok(()) => {
-                chronicle.replace_hall(hall);
+                write_ahead.replace_hall(hall);
                 Ok(true)
             }
             Err(fault) => Err(end(&mut self.ended, fault)),
         }
     }
 
-    /// Compacts the chronicle's hall where that is due and gives a shorter history. Where the new record could not be written beside the
+    /// Compacts the write-ahead hall's hall where that is due and gives a shorter history. Where the new record could not be written beside the
     /// old one, the history goes on as it is, and the compaction is put off.
     pub fn compact_when_due(
         &mut self,
         alloc: Global,
         compactor: &mut Compactor,
-        chronicle: &mut Chronicle,
+        write_ahead: &mut WriteAhead,
     ) -> Result<(), JournalFault>
-        ensures compacted { OnOk result (MayCompact chronicle.old chronicle.new) }
-        ensures stands { OnOk result (Stands D.state self.old chronicle.old → Stands D.state self.new chronicle.new) }
+        ensures compacted { OnOk result (MayCompact write_ahead.old write_ahead.new) }
+        ensures stands { OnOk result (Stands D.state self.old write_ahead.old → Stands D.state self.new write_ahead.new) }
 
-        // A crash at any moment of the call leaves all that was handed on before it, or the record of the new hall.
-        ensures any_moment { Stands D.state self.old chronicle.old → KeepsWhenCompacted D.state self.old self.new chronicle.old }
-        ensures same { OnErr result (chronicle.new ≡ chronicle.old) }
+        // A crash at any moment of the call leaves all that was committed before it, or the record of the new hall.
+        ensures any_moment { Stands D.state self.old write_ahead.old → KeepsWhenCompacted D.state self.old self.new write_ahead.old }
+        ensures same { OnErr result (write_ahead.new ≡ write_ahead.old) }
         ensures ends { OnErr result (self.new.ended ≡ true) }
 
         // Where it could not be written, nothing changed, and it is due again a tenth of the room further on.
-        ensures paced { OnOk result (IsPaced compactor.old chronicle.old compactor.new chronicle.new) }
+        ensures paced { OnOk result (IsPaced compactor.old write_ahead.old compactor.new write_ahead.new) }
     {
-        if !compactor.is_due(chronicle.hall()) {
+        if !compactor.is_due(write_ahead.hall()) {
             return Ok(());
         }
-        let Some(hall) = compactor.compacted(alloc, chronicle.hall()) else {
+        let Some(hall) = compactor.compacted(alloc, write_ahead.hall()) else {
             return Ok(());
         };
-        let done = self.compact(alloc, chronicle, hall)?;
-        put_off_unless(done, compactor, chronicle.hall());
+        let done = self.compact(alloc, write_ahead, hall)?;
+        put_off_unless(done, compactor, write_ahead.hall());
         Ok(())
     }
 }
@@ -171,7 +171,7 @@ pub struct Opened<D: Disk> {
     /// The journal.
     pub journal: Journal<D>,
     /// The hall.
-    pub chronicle: Chronicle,
+    pub write_ahead: WriteAhead,
 }
 
 /// What is missing of a record of which so many bytes are whole: its header, where not even that is.
@@ -184,7 +184,7 @@ fn missing(header: &[u8], whole: usize) -> &[u8]
     &header[..0]
 }
 
-/// Cuts a disk of so many bytes behind the first ones, puts what is missing behind those, and waits until that is surely there.
+/// Cuts a disk of so many bytes behind the first ones, puts what is missing behind those, and waits until that is durable.
 fn mend<D: Disk>(disk: &mut D, total: usize, whole: usize, missing: &[u8]) -> Result<(), DiskFault>
     ensures { OnOk result (Changes (IsMended total whole missing.now) (D.state disk.old) (D.state disk.new)) }
 {
@@ -201,15 +201,15 @@ impl<D: Disk> Journal<D> {
     /// event. A last line with no LF, which a crash has torn, is cut off; the rest has to be one that `check` says `Yes` of, of this
     /// config, with the lines that a hall writes. Nothing is changed before all of it was read so.
     pub fn open(alloc: Global, disk: D, config: Config) -> Result<Opened<D>, OpenFault>
-        ensures config { IfOk result (λ o. o.chronicle.hall.config ≡ config) }
-        ensures told { IfOk result (λ o. o.chronicle.told ≡ length o.chronicle.hall.history) }
-        ensures stands { IfOk result (λ o. Stands D.state o.journal o.chronicle) }
+        ensures config { IfOk result (λ o. o.write_ahead.hall.config ≡ config) }
+        ensures reported { IfOk result (λ o. o.write_ahead.reported ≡ length o.write_ahead.hall.history) }
+        ensures stands { IfOk result (λ o. Stands D.state o.journal o.write_ahead) }
 
         // The hall is that of the record that was there, once its torn line is cut.
-        ensures hall { IfOk result (λ o. (s : DiskState) → D.state disk ≡ Some s → IsHallOf o.chronicle.hall s.contents) }
+        ensures hall { IfOk result (λ o. (s : DiskState) → D.state disk ≡ Some s → IsHallOf o.write_ahead.hall s.contents) }
 
         // Each fault is told of bytes alone that have it.
-        ensures refused { IfErr result (λ why. (s : DiskState) → D.state disk ≡ Some s → IsOpenFault config s.contents why) }
+        ensures errors { IfErr result (λ why. (s : DiskState) → D.state disk ≡ Some s → IsOpenFault config s.contents why) }
     {
         law_of_lines();
         let mut disk = disk;
@@ -217,7 +217,7 @@ impl<D: Disk> Journal<D> {
         let mut header = Replies::new(alloc)?;
         print_header(config, &mut header);
         let (hall, whole) = recovered(alloc, config, header.as_slice(), &bytes)?;
-        let chronicle = Chronicle::new(alloc, hall)?;
+        let write_ahead = WriteAhead::new(alloc, hall)?;
         mend(
             &mut disk,
             bytes.len(),
@@ -226,7 +226,7 @@ impl<D: Disk> Journal<D> {
         )?;
         Ok(Opened {
             journal: Journal { disk, ended: false },
-            chronicle,
+            write_ahead,
         })
     }
 

@@ -3,20 +3,20 @@
 ghost use Rattle.std.specs.Prelude.{◌≡◌, ◌≤◌, ℕ, List, length};
 ghost use Rattle.hall.specs.HallState.{HallState};
 ghost use Rattle.journal.specs.DiskState.{DiskState};
-ghost use Rattle.journal.specs.ChronicleState.{ChronicleState};
+ghost use Rattle.journal.specs.WriteAheadState.{WriteAheadState};
 ghost use Rattle.journal.specs.Disks.{MayLeaveEither};
-ghost use Rattle.journal.specs.Chronicles.{record_of_hall};
+ghost use Rattle.journal.specs.WriteAheads.{record_of_hall};
 ghost use Rattle.journal.specs.Compactings.{LeavesEither};
 ghost use Rattle.journal.specs.Journals.{HasSynced, IsHallOf, KeepsHandedOn, LeavesHall, RecordsHallAfter};
 
 use player::law_of_lines;
 
-/// A law, which runs nothing. Where all that was handed on is on the disk, a crash leaves the record of the chronicle's hall as it was
-/// after some of its events, none skipped, with all that were handed on. Where a record of another hall is taking the place of all, as
+/// A law, which runs nothing. Where all that was committed is on the disk, a crash leaves the record of the write-ahead hall's hall as it was
+/// after some of its events, none skipped, with all that were committed. Where a record of another hall is taking the place of all, as
 /// that of one compacted of it does, the crash leaves this or that record, whole. And the hall that is opened of what is left has that record.
 pub fn law_of_crashes()
-    ensures between { (c : ChronicleState) (s : DiskState) → HasSynced c s → c.told ≤ length c.hall.history → KeepsHandedOn c s s }
-    ensures replaced { (c : ChronicleState) (new : HallState) (s : DiskState) → HasSynced c s → c.told ≤ length c.hall.history →
+    ensures between { (c : WriteAheadState) (s : DiskState) → HasSynced c s → c.reported ≤ length c.hall.history → KeepsHandedOn c s s }
+    ensures replaced { (c : WriteAheadState) (new : HallState) (s : DiskState) → HasSynced c s → c.reported ≤ length c.hall.history →
         (left : List ℕ) → MayLeaveEither s (record_of_hall new) left → LeavesEither c new left }
     ensures opened { (h u : HallState) (least : ℕ) (left : List ℕ) →
         LeavesHall h least left → IsHallOf u left → u.config ≡ h.config → RecordsHallAfter h least u }

@@ -9,7 +9,7 @@ use std::alloc::Global;
 use std::io::ErrorKind;
 use std::mem;
 
-/// Bytes that stood there before others took their place, and how many of them were surely there.
+/// Bytes that stood there before others took their place, and how many of them were durable.
 #[derive(Drop)]
 struct Before {
     bytes: Vec<u8>,
@@ -29,7 +29,7 @@ pub struct MemoryDisk {
 }
 
 impl MemoryDisk {
-    /// A disk with these bytes, all of them surely there, of which the call after so many fails.
+    /// A disk with these bytes, all of them durable, of which the call after so many fails.
     pub fn new(bytes: Vec<u8>, calls_left: usize) -> MemoryDisk
         ensures { memory_state result ≡ state_of bytes.items (vec_len bytes) 0 }
     {
@@ -57,7 +57,7 @@ impl MemoryDisk {
         self.synced
     }
 
-    /// The disk after a crash that keeps so many of its bytes, and all that were surely there; of which the call after so many fails.
+    /// The disk after a crash that keeps so many of its bytes, and all that were durable; of which the call after so many fails.
     pub fn crashed(self, keep: usize, calls_left: usize) -> MemoryDisk
         ensures left { MayLeave (memory_state self) (memory_state self) result.bytes.items }
         ensures whole { keep ≡ vec_len self.bytes → result.bytes.items ≡ self.bytes.items }

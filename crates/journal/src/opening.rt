@@ -5,7 +5,7 @@ ghost use Rattle.commands.specs.Config.{gives_names};
 ghost use Rattle.command_lines.specs.Lines.{has_no_lf};
 ghost use Rattle.player.specs.Records.{header_line};
 ghost use Rattle.hall.specs.Halls.{hall_of};
-ghost use Rattle.journal.specs.Chronicles.{record_of_hall};
+ghost use Rattle.journal.specs.WriteAheads.{record_of_hall};
 ghost use Rattle.journal.specs.declared.opening.OpenFault.TheVariants as fault;
 ghost use Rattle.journal.specs.Journals.{without_torn};
 ghost use Rattle.journal.specs.Openings.{GoesOnBy, HasFollowed, IsRecovered};
@@ -13,7 +13,7 @@ ghost use Rattle.journal.specs.OpenFaults.{IsFaultOf, IsOpenFault};
 ghost use Rattle.run_checker.specs.Verdict.{IsVerdict};
 
 use crate::DiskFault;
-use crate::chronicle::applied;
+use crate::write_ahead::applied;
 use commands::{Config, Event, Reply, WorldKind};
 use hall::Hall;
 use memchr::memchr;
@@ -99,7 +99,7 @@ fn follow<'a>(
     lines: &'a [u8],
 ) -> Result<&'a [u8], OpenFault>
     ensures on { IfOk result (λ rest. GoesOnBy hall.old hall.new lines.entry.now rest.now) }
-    ensures refused { IfErr result (λ why. (why ≡ OpenFault.NoMemory) ⊎ (why ≡ OpenFault.OtherLine (length hall.old.history + 2))) }
+    ensures errors { IfErr result (λ why. (why ≡ OpenFault.NoMemory) ⊎ (why ≡ OpenFault.OtherLine (length hall.old.history + 2))) }
 {
     let number = (hall.len() as u64).saturating_add(2);
     let kind = hall.config().world;
@@ -125,7 +125,7 @@ fn follow<'a>(
 fn replay(alloc: Global, hall: &mut Hall, lines: &[u8]) -> Result<(), OpenFault>
     requires { hall.old.history ≡ [] }
     ensures all { OnOk result (HasFollowed hall.old.config hall.new lines.now) }
-    ensures refused { IfErr result (λ why. (why ≡ OpenFault.NoMemory) ⊎ ((number : ℕ) × (why ≡ OpenFault.OtherLine number))) }
+    ensures errors { IfErr result (λ why. (why ≡ OpenFault.NoMemory) ⊎ ((number : ℕ) × (why ≡ OpenFault.OtherLine number))) }
 {
     let mut view = View::new();
     let mut line = Replies::new(alloc)?;
@@ -139,7 +139,7 @@ fn replay(alloc: Global, hall: &mut Hall, lines: &[u8]) -> Result<(), OpenFault>
 /// The hall with no event.
 fn fresh(alloc: Global, config: Config) -> Result<Hall, OpenFault>
     ensures none { IfOk result (λ h. h ≡ hall_of config []) }
-    ensures refused { IfErr result (λ why. (why ≡ OpenFault.NoMemory) ⊎ ((why ≡ OpenFault.NoNames) × (gives_names config.world ≡ false))) }
+    ensures errors { IfErr result (λ why. (why ≡ OpenFault.NoMemory) ⊎ ((why ≡ OpenFault.NoNames) × (gives_names config.world ≡ false))) }
 {
     match Hall::new(alloc, config) {
         Ok(hall) => Ok(hall),
@@ -153,7 +153,7 @@ fn replayed(alloc: Global, config: Config, header: &[u8], whole: &[u8]) -> Resul
     requires { header.now ≡ header_line config }
     ensures hall { IfOk result (λ h. (h.config ≡ config) × (whole.now ≡ record_of_hall h)) }
     ensures yes { OnOk result (IsVerdict whole.now Verdict.Yes) }
-    ensures refused { IfErr result (IsFaultOf config whole.now) }
+    ensures errors { IfErr result (IsFaultOf config whole.now) }
 {
     match check(alloc, whole) {
         Verdict::Yes => {}
@@ -178,7 +178,7 @@ pub fn recovered(
 ) -> Result<(Hall, usize), OpenFault>
     requires { header.now ≡ header_line config }
     ensures hall { IfOk result (λ r. IsRecovered config bytes.now r.0 r.1) }
-    ensures refused { IfErr result (IsOpenFault config bytes.now) }
+    ensures errors { IfErr result (IsOpenFault config bytes.now) }
 {
     let end = whole_length(bytes);
     if end == 0 && after_front(header, bytes).is_some() {

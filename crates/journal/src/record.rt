@@ -1,9 +1,9 @@
 //! The whole record of a hall.
 
 ghost use Rattle.std.specs.Prelude.{◌≡◌, ◌+◌, IfOk, OnOk};
-ghost use Rattle.journal.specs.Chronicles.{record_of_hall, hall_after_first};
+ghost use Rattle.journal.specs.WriteAheads.{record_of_hall, hall_after_first};
 
-use crate::chronicle::put_line;
+use crate::write_ahead::put_line;
 use hall::Hall;
 use player::{Replies, TURN_ROOM, print_header};
 use std::alloc::{AllocError, Global};

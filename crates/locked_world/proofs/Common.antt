@@ -7,7 +7,7 @@ pub use Rattle.commands.specs.declared.exchange.Exchange.{Exchange}
 pub use Rattle.commands.specs.Replies.{ShownReply, is_refusal, with_view}
 pub use Rattle.player.specs.Runs.{Runs}
 pub use Rattle.player.specs.Turns.{Turn, exchanges}
-pub use Rattle.player.specs.Turns.Turn.{Answered, Told, Ended, Misread}
+pub use Rattle.player.specs.Turns.Turn.{Answered, Reported, Ended, Misread}
 pub use Rattle.desk.specs.DeskCalls.{exchange}
 pub use Rattle.locked_world.specs.declared.kept.Kept.{Kept}
 pub use Rattle.locked_world.specs.CallerState.{CallerState}

@@ -1,7 +1,7 @@
 -- what a clerk comes to keep while it serves
 use Rattle.std.proofs.Common.{◌≡◌, ◌++◌, List, [], ◌∷◌, map, true, false, cond, sym, ap, ◌∙◌, append_assoc}
-use Rattle.locked_world.proofs.Common.{append-nil, map-append, is_refusal, kept_of, Config, Exchange, Runs, Turn, exchanges, Answered, Told, Ended, Misread, Kept, CallerState}
-use Rattle.locked_world.specs.Kepts.{IsTaken, IsTold, IsSound, Keeps, KeepsUnless}
+use Rattle.locked_world.proofs.Common.{append-nil, map-append, is_refusal, kept_of, Config, Exchange, Runs, Turn, exchanges, Answered, Reported, Ended, Misread, Kept, CallerState}
+use Rattle.locked_world.specs.Kepts.{IsTaken, IsReported, IsSound, Keeps, KeepsUnless}
 use Rattle.locked_world.specs.Serving.{ClerkServes, exchange_kept}
 use Rattle.hall.specs.Serving.{accepted}
 use Rattle.hall.proofs.Serves.{accepted-one}
@@ -22,8 +22,8 @@ kept c s t (Answered x ∷ ts) sound run =
     let one : IsTaken c s x.event x.reply run.0 = run.1 sound in
     kept c run.0 t ts (sound_after c s run.0 x.event x.reply one) run.2 ∙ ap (λ (l : List Exchange). l ++ accepted (exchanges ts)) (kept_one s.kept run.0.kept x one.kept)
     ∙ append_assoc (map exchange_kept s.kept) (accepted (x ∷ [])) (accepted (exchanges ts)) ∙ ap (λ (l : List Exchange). map exchange_kept s.kept ++ l) (sym (accepted-one x (exchanges ts)))
-kept c s t (Told n r ∷ ts) sound run =
-    let one : IsTold c s n r run.0 = run.1 sound in
+kept c s t (Reported n r ∷ ts) sound run =
+    let one : IsReported c s n r run.0 = run.1 sound in
     kept c run.0 t ts (record { lawful = one.lawful; stands = one.stands }) run.2 ∙ ap (λ (l : List Kept). map exchange_kept l ++ accepted (exchanges ts)) one.same
 kept c s t (Ended ∷ ts) sound run = kept c s t ts sound run
 kept c s t (Misread bad ∷ ts) sound run = kept c s t ts sound run

@@ -71,7 +71,7 @@ pub record IsTaken (c : Config) (s : CallerState) (e : Event) (r : ShownReply) (
   pub stands : Fits t.seen t.kept
 
 -- who has a name was told to a caller as the lock's hall tells it, whose history the caller has now seen
-pub record IsTold (c : Config) (s : CallerState) (number : ℕ) (r : ShownReply) (t : CallerState) : Type 0 where
+pub record IsReported (c : Config) (s : CallerState) (number : ℕ) (r : ShownReply) (t : CallerState) : Type 0 where
   pub lawful : SatisfiesSpec (hall_of c t.seen)
   pub longer : IsPrefix s.seen t.seen
   pub answer : r ≡ owner_reply (desk_of (hall_of c t.seen)) number

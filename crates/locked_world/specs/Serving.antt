@@ -10,12 +10,12 @@ use Rattle.player.specs.Turns.{Turn}
 use Rattle.hall.specs.Serving.{accepted}
 use Rattle.locked_world.specs.declared.kept.Kept.{Kept}
 use Rattle.locked_world.specs.CallerState.{CallerState}
-use Rattle.locked_world.specs.Kepts.{IsTaken, IsTold, IsSound}
+use Rattle.locked_world.specs.Kepts.{IsTaken, IsReported, IsSound}
 
 -- a clerk at its lock, which has seen a lawful history: an event is taken as any caller's is, and who has a name is told as to any caller
 abbrev pub ClerkServes : Config → CallerState → Request → ShownReply → CallerState → Type 0
 ClerkServes c s (Take e) r t = IsSound c s → IsTaken c s e r t
-ClerkServes c s (OwnerOf n) r t = IsSound c s → IsTold c s n r t
+ClerkServes c s (OwnerOf n) r t = IsSound c s → IsReported c s n r t
 
 -- a clerk of which this held has come to hold that by turns that it answered
 abbrev pub ClerkGoesOn : Config → CallerState → CallerState → Type 0

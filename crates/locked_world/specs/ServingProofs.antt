@@ -18,7 +18,7 @@ pub prefix_self : {A : Type 0} (xs : List A) → IsPrefix xs xs
 prefix_self [] = ([], refl)
 prefix_self (x ∷ xs) = (let r = prefix_self xs in r.0, ap (λ ys. x ∷ ys) (prefix_self xs).1)
 
--- the hall of what a caller has seen refuses each event, by its rules or for want of memory
+-- the hall of what a caller has seen refuses each event, by its rules or because an allocation failed
 pub clerk_answers : (c : Config) (s : CallerState) (q : Request) → (r : ShownReply) × (t : CallerState) × ClerkServes c s q r t
 clerk_answers c s (Take e) = by (hall_refusal (hall_of c s.seen) e) refl where
   by : (o : Option Refusal) → hall_refusal (hall_of c s.seen) e ≡ o → (r : ShownReply) × (t : CallerState) × ClerkServes c s (Take e) r t

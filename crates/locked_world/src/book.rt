@@ -66,7 +66,7 @@ pub struct Book<N: Naming, E> {
     ghost head_is: { head ≡ head_of N.book },
 }
 
-/// A beginning of the history that was seen. Contracts see it as its entries.
+/// A prefix of the history that was seen. Contracts see it as its entries.
 #[derive(Drop)]
 pub struct Front<N: Naming, E> {
     count: u64,
@@ -103,7 +103,7 @@ impl<N: Naming, E> Front<N, E> {
         }
     }
 
-    /// Whether another front, which is no longer, is a beginning of this one: it always is.
+    /// Whether another front, which is no longer, is a prefix of this one: it always is.
     pub fn begins_with(&self, other: &Front<N, E>) -> bool
         ensures is { result ≡ true → IsPrefix other.now self.now }
         ensures due { length other.now ≤ length self.now → result ≡ true }

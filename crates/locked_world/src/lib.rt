@@ -15,9 +15,9 @@
 //! Under the lock lies a `Locked`: a hall with the book of its history and a ledger that counts what its callers keep. `Locked::agrees` compares
 //! the history with what its callers kept: where it is true, each place was kept by just one of them, with its event and reply.
 //!
-//! The book (`Book`) is one history that threads share, of which each knows a beginning for good. The history exists in proofs alone: what threads
-//! share is a word, its length. A *front* is a beginning of the history that was seen. A call adds an entry behind all that its front has seen, or
-//! finds that the history is longer. Of two fronts the shorter is a beginning of the longer, whoever has them. So the value under the lock, which a
+//! The book (`Book`) is one history that threads share, of which each knows a prefix for good. The history exists in proofs alone: what threads
+//! share is a word, its length. A *front* is a prefix of the history that was seen. A call adds an entry behind all that its front has seen, or
+//! finds that the history is longer. Of two fronts the shorter is a prefix of the longer, whoever has them. So the value under the lock, which a
 //! thread finds as some other left it, can say that it is what this very history makes of it, and a thread that was told an entry keeps a
 //! front in which that entry stands. Which book it is stands in the type: a call picks it, by `Brand`.
 //!

@@ -6,7 +6,7 @@ ghost use Rattle.locked_world.specs.Acts.{event_of};
 ghost use Rattle.commands.specs.Replies.{with_view};
 ghost use Rattle.locked_world.specs.Answers.{IsRefusedBegin, IsSomeOwner};
 ghost use Rattle.hall.specs.Halls.{hall_of, SatisfiesSpec};
-ghost use Rattle.locked_world.specs.Kepts.{IsOpened, IsTaken, IsTold};
+ghost use Rattle.locked_world.specs.Kepts.{IsOpened, IsTaken, IsReported};
 
 use crate::{Act, Clerk, LockName, Locked, Opened, Session};
 use commands::{Config, Event, Exchange, Reply};
@@ -46,7 +46,7 @@ impl<L: LockName> HallLock<L> {
     /// Opens a clerk, who has kept nothing. `Full` where 1,000,000 callers were opened.
     pub fn clerk<R: Wait>(&self, rt: &R, alloc: Global) -> Result<Clerk<L>, Refusal>
         ensures new { IfOk result (λ c. (c.kept ≡ []) × SatisfiesSpec (hall_of L.config c.seen)) }
-        ensures refused { IfErr result (λ why. (why ≡ Refusal.Full) ⊎ (why ≡ Refusal.NoMemory)) }
+        ensures errors { IfErr result (λ why. (why ≡ Refusal.Full) ⊎ (why ≡ Refusal.NoMemory)) }
     {
         self.locked.lock(rt).open(alloc)
     }
@@ -55,7 +55,7 @@ impl<L: LockName> HallLock<L> {
     /// then no session is opened.
     pub fn session<R: Wait>(&self, rt: &R, alloc: Global, id: u64) -> Result<Session<L>, Refusal>
         ensures opened { IfOk result (λ s. (s.id ≡ id) × IsOpened L.config id s.clerk) }
-        ensures refused { IfErr result (λ why. (why ≡ Refusal.Full) ⊎ (why ≡ Refusal.NoMemory) ⊎ IsRefusedBegin L.config id why) }
+        ensures errors { IfErr result (λ why. (why ≡ Refusal.Full) ⊎ (why ≡ Refusal.NoMemory) ⊎ IsRefusedBegin L.config id why) }
     {
         self.locked.lock(rt).begin(rt, alloc, id)
     }
@@ -116,7 +116,7 @@ impl<L: LockName> HallLock<L> {
 
     /// Who has a name, or that nobody has it, as the lock's hall tells a clerk, who has then seen its history.
     pub fn tell_owner<R: Wait>(&self, rt: &R, clerk: &mut Clerk<L>, number: u64) -> Reply<View>
-        ensures { IsTold L.config clerk.old number result clerk.new }
+        ensures { IsReported L.config clerk.old number result clerk.new }
     {
         self.locked.lock(rt).tell_owner(rt, clerk, number)
     }

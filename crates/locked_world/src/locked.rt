@@ -7,12 +7,12 @@ ghost use Rattle.commands.specs.Replies.{is_refusal, with_view};
 ghost use Rattle.locked_world.specs.Answers.{IsRefusedBegin, IsSomeOwner};
 ghost use Rattle.locked_world.specs.CallerState.{caller_of};
 ghost use Rattle.hall.specs.Halls.{hall_of, hall_refusal, HallMay, SatisfiesSpec};
-ghost use Rattle.locked_world.specs.Kepts.{IsNew, IsOpened, IsTaken, IsTold};
+ghost use Rattle.locked_world.specs.Kepts.{IsNew, IsOpened, IsTaken, IsReported};
 
 use crate::act::Act;
 use crate::kept_log::KeptLog;
 use crate::parts::{Clerk, LockName, Locked, MOST_CALLERS, Session};
-use crate::telling::{Told, show, tell};
+use crate::telling::{Reported, show, tell};
 use crate::{Front, Opened};
 use commands::{Config, Event, Exchange, Reply};
 use hall::Hall;
@@ -134,7 +134,7 @@ impl<L: LockName> Locked<L> {
         if reply.is_refusal() {
             return reply;
         }
-        tell(rt, book, front, seen, &Told { event, reply, view });
+        tell(rt, book, front, seen, &Reported { event, reply, view });
         count.add(share, 1);
         kept.push_reserved(place, event, reply, view);
         marks.push_reserved(false);
@@ -160,7 +160,7 @@ impl<L: LockName> Locked<L> {
     pub fn open(&mut self, alloc: Global) -> Result<Clerk<L>, Refusal>
         ensures new { IfOk result (IsNew L.config self.old.hall.history) }
         ensures more { IfOk result (λ c. self.new.opened ≡ self.old.opened + 1) }
-        ensures refused { IfErr result (λ why. (why ≡ Refusal.Full) ⊎ (why ≡ Refusal.NoMemory)) }
+        ensures errors { IfErr result (λ why. (why ≡ Refusal.Full) ⊎ (why ≡ Refusal.NoMemory)) }
         ensures full { result ≡ Err Refusal.Full ↔ (1000000 ≤ self.old.opened) }
         ensures same { IfErr result (λ why. self.new.opened ≡ self.old.opened) }
         ensures hall { self.new.hall ≡ self.old.hall }
@@ -198,7 +198,7 @@ impl<L: LockName> Locked<L> {
         ensures opened { IfOk result (λ s. (s.id ≡ id) × IsOpened L.config id s.clerk) }
         ensures hall { IfOk result (λ s. HallMay self.old.hall (Event.Begin id) Reply.Ok self.new.hall) }
         ensures same { IfErr result (λ why. (self.new.hall ≡ self.old.hall) × (self.new.opened ≡ self.old.opened)) }
-        ensures refused { IfErr result (λ why. (why ≡ Refusal.Full) ⊎ (why ≡ Refusal.NoMemory) ⊎ IsRefusedBegin L.config id why) }
+        ensures errors { IfErr result (λ why. (why ≡ Refusal.Full) ⊎ (why ≡ Refusal.NoMemory) ⊎ IsRefusedBegin L.config id why) }
         ensures more { IfOk result (λ s. self.new.opened ≡ self.old.opened + 1) }
         ensures full { 1000000 ≤ self.old.opened → result ≡ Err Refusal.Full }
         ensures due { IfErr result (λ why. self.old.opened < 1000000 → (why ≡ Refusal.NoMemory) ⊎
@@ -216,7 +216,7 @@ impl<L: LockName> Locked<L> {
 
     /// Who has a name, for a caller, who has then seen the history.
     pub fn tell_owner<R: Wait>(&self, rt: &R, clerk: &mut Clerk<L>, number: u64) -> Reply<View>
-        ensures { IsTold L.config clerk.old number result clerk.new }
+        ensures { IsReported L.config clerk.old number result clerk.new }
     {
         show(rt, &self.front, &mut clerk.seen);
         // Asked for what it tells of the history: that it is lawful.

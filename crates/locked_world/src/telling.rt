@@ -18,7 +18,7 @@ use step_memory::View;
 
 /// An event with its reply, and the view beside that.
 #[derive(Drop)]
-pub(crate) struct Told<'a> {
+pub(crate) struct Reported<'a> {
     pub(crate) event: Event,
     pub(crate) reply: Reply<()>,
     pub(crate) view: &'a View,
@@ -27,7 +27,7 @@ pub(crate) struct Told<'a> {
 /// The entry of what was told: the event with its whole reply.
 pub(crate) struct Telling;
 
-impl<'a> Plain<Told<'a>, Exchange, u64> for Telling {
+impl<'a> Plain<Reported<'a>, Exchange, u64> for Telling {
     ghost use Rattle.std.specs.Prelude.{None};
     ghost use Rattle.desk.specs.DeskCalls.{exchange};
     ghost use Rattle.commands.specs.Replies.{with_view};
@@ -51,13 +51,13 @@ pub(crate) fn tell<L: LockName, R: Wait>(
     book: &Book<L, Exchange>,
     front: &mut Front<L, Exchange>,
     seen: &mut Front<L, Exchange>,
-    told: &Told<'_>,
+    reported: &Reported<'_>,
 )
     requires { length front.old < 2 ^ 62 }
-    ensures told { front.new ≡ front.old ++ exchange told.now.event (with_view told.now.reply told.now.view.now) ∷ [] }
+    ensures reported { front.new ≡ front.old ++ exchange reported.now.event (with_view reported.now.reply reported.now.view.now) ∷ [] }
     ensures seen { seen.new ≡ front.new }
 {
-    if front.add::<Told<'_>, Telling>(book, told) {
+    if front.add::<Reported<'_>, Telling>(book, reported) {
         *seen = front.again();
         return;
     }

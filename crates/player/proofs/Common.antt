@@ -18,14 +18,14 @@ pub use Rattle.command_lines.specs.HeldLine.{HeldLine, held}
 pub use Rattle.command_lines.specs.Written.{HasPartOf}
 pub use Rattle.player.specs.Progress.{Progress, with_line, after_meaning, after_line, after_bytes, ends, at_start, after_end, after_rest}
 pub use Rattle.player.specs.Turns.{Turn, answers_of, asked}
-pub use Rattle.player.specs.Turns.Turn.{Answered, Told, Ended, Misread}
+pub use Rattle.player.specs.Turns.Turn.{Answered, Reported, Ended, Misread}
 pub use Rattle.player.specs.Runs.{Runs, CanRun}
 pub use Rattle.player.specs.RunProofs.{runs-append}
 pub use Rattle.player.specs.PlayerState.{PlayerState}
 pub use Rattle.player.specs.Stands.{Stands, StandsPart}
 pub use Rattle.player.specs.declared.summary.Summary.{Summary}
 pub use Rattle.player.specs.Counts.{CountsAnswers}
-pub use Rattle.player.specs.TalkerState.{TalkerState}
+pub use Rattle.player.specs.ResponderState.{ResponderState}
 pub use Rattle.player.specs.Says.{SaysFrom, Says, Afresh, GoingOn, Anywhere}
 pub use Rattle.player.specs.declared.form.TheConstants.{TURN_ROOM}
 pub use Rattle.command_lines.specs.declared.fault.Fault.{Fault}

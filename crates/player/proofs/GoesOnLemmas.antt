@@ -1,6 +1,6 @@
 -- turns that were taken go on to all that was asked
 use Rattle.std.proofs.Common.{◌≡◌, ℕ, Bool, true, false, cond, List, [], ◌∷◌, ◌++◌, map, Result, Ok, Err, refl, sym, ap, subst, ◌∙◌}
-use Rattle.player.proofs.Common.{map-append, Bad, Command, WorldKind, ShownReply, Turn, asked, Answered, Told, Ended, Misread, asked_by, meaning, ends, Request, Runs, CanRun, runs-append}
+use Rattle.player.proofs.Common.{map-append, Bad, Command, WorldKind, ShownReply, Turn, asked, Answered, Reported, Ended, Misread, asked_by, meaning, ends, Request, Runs, CanRun, runs-append}
 use Rattle.commands.specs.declared.command.Command.TheVariants as command
 use Rattle.commands.specs.declared.exchange.Exchange.{Exchange}
 use Rattle.player.specs.Knows.{Knows, KnowsMeant}
@@ -34,7 +34,7 @@ module _ {T : Type 0} (may : T → Request → ShownReply → T → Type 0) (kin
   rest w (Ok (command.Owner n) ∷ ms) all =
       let one = answers w (OwnerOf n) (all.0 (OwnerOf n) refl) in
       let on = rest one.1 ms all.1 in
-      (Told n one.0 ∷ on.0, on.1, ap (λ (l : List (Result Command Bad)). Ok (command.Owner n) ∷ l) on.2, (one.1, one.2, on.3))
+      (Reported n one.0 ∷ on.0, on.1, ap (λ (l : List (Result Command Bad)). Ok (command.Owner n) ∷ l) on.2, (one.1, one.2, on.3))
   rest w (Ok command.Quit ∷ ms) all = let on = rest w ms all.1 in (Ended ∷ on.0, on.1, ap (λ (l : List (Result Command Bad)). Ok command.Quit ∷ l) on.2, on.3)
 
   pub goes_on : (start w : T) (ls : List (List ℕ)) (ts : List Turn) (others : List (Result Command Bad)) → asked_by kind ls ≡ map asked ts ++ others → Runs may start ts w →

@@ -6,7 +6,7 @@ use Rattle.command_lines.specs.declared.fault.Fault.TheVariants.{Read, Write}
 use Rattle.player.specs.declared.playing.TheConstants.{MOST_READS, READ_BYTES}
 use Rattle.player.specs.Runs.{IsRunTo, CanRun}
 use Rattle.player.specs.Knows.{Knows}
-use Rattle.player.specs.Played.{Reading, Writing, IsInput, IsTold, HasRead, IsPlayed}
+use Rattle.player.specs.Played.{Reading, Writing, IsInput, IsReported, HasRead, IsPlayed}
 use Rattle.player.specs.PlayedProofs.{as_played}
 use Rattle.player.proofs.GoesOnLemmas.{goes_on}
 use Rattle.player.proofs.ProgressLemmas.{asked-whole, asked-all, asked-over, over-whole}
@@ -34,12 +34,12 @@ read_on kind reading mid earlier last came on gave once few = record {
 
 module _ {T : Type 0} (may : T → Request → ShownReply → T → Type 0) (text : Turn → List ℕ) (kind : WorldKind) (start world : T) {R W : Type 0} (reading : Reading R) (writing : Writing W) (got : List ℕ) where
   -- where nothing is held, the writer has gained the text
-  abbrev told : (s : PlayerState) (p : Progress) (all : List (Result Command Bad)) → Stands may text start world s p (writing.contents writing.old) (writing.contents writing.new) → s.replies ≡ [] → all ≡ p.asked →
-      IsTold (flat_map text) (IsRunTo may start world) all (writing.contents writing.old) (writing.contents writing.new)
-  told s p all t none e = record {
+  abbrev reported : (s : PlayerState) (p : Progress) (all : List (Result Command Bad)) → Stands may text start world s p (writing.contents writing.old) (writing.contents writing.new) → s.replies ≡ [] → all ≡ p.asked →
+      IsReported (flat_map text) (IsRunTo may start world) all (writing.contents writing.old) (writing.contents writing.new)
+  reported s p all t none e = record {
     turns = t.turns;
     asked_is = t.asked_is ∙ sym e;
-    talk = t.run;
+    transcript = t.run;
     gained = subst (λ (x : List ℕ). Appends (writing.contents writing.old) (writing.contents writing.new) x) (sym (append-nil t.written) ∙ ap (λ l. t.written ++ l) (sym none) ∙ sym t.text_is) t.gained;
   }
 
@@ -60,7 +60,7 @@ module _ {T : Type 0} (may : T → Request → ShownReply → T → Type 0) (tex
       as_played (flat_map text) (IsRunTo may start world) (CanRun may start) kind reading writing (Ok s.summary) (record {
         input = input.0;
         input_is = input.2;
-        told = told s (after_end kind (after_bytes kind at_start got)) (asked_by kind (lines input.0)) t none (elim ended [
+        reported = reported s (after_end kind (after_bytes kind at_start got)) (asked_by kind (lines input.0)) t none (elim ended [
           | inl end ↦ ap (λ (l : List ℕ). asked_by kind (lines l)) (input.4 end) ∙ sym (asked-all kind got)
           | inr over ↦ asked-over kind input.0 got input.1 input.3 over
         ]);
@@ -82,7 +82,7 @@ module _ {T : Type 0} (may : T → Request → ShownReply → T → Type 0) (tex
     got = got;
     read = read;
     going = sym (over-whole kind got) ∙ sym t.over_is ∙ on;
-    told = told s (after_bytes kind at_start got) (asked_by kind (whole_lines got)) t none (sym (asked-whole kind got));
+    reported = reported s (after_bytes kind at_start got) (asked_by kind (whole_lines got)) t none (sym (asked-whole kind got));
     no_write_failed = writes;
   })
 
@@ -99,7 +99,7 @@ module _ {T : Type 0} (may : T → Request → ShownReply → T → Type 0) (tex
         why = why;
         input = input.0;
         input_is = input.2;
-        told = record { turns = t.turns; others = on.0; asked_is = on.1; talk = t.run; whole = on.2; part = t.part };
+        reported = record { turns = t.turns; others = on.0; asked_is = on.1; transcript = t.run; whole = on.2; part = t.part };
         got = got;
         left = input.1;
         of_input = input.3;

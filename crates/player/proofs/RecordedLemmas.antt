@@ -7,18 +7,18 @@ use Rattle.player.specs.PlayedProofs.{played_after, unplayed}
 use Rattle.player.specs.Recorded.{IsRecordedOn, end_of}
 use Rattle.player.specs.Records.{header_line, record_of, turn_record}
 
-module _ (c : Config) (IsTalk MayTalk : List Turn → Type 0) {R W : Type 0} (reading : Reading R) (writing : Writing W) where
+module _ (c : Config) (IsTranscript MayTranscript : List Turn → Type 0) {R W : Type 0} (reading : Reading R) (writing : Writing W) where
   -- where memory was refused nothing is recorded
-  pub unrecorded : reading.new ≡ reading.old → writing.new ≡ writing.old → (result : Result (Unit {0}) Fault) → result ≡ Err Memory → IsRecordedOn c IsTalk MayTalk reading writing result
-  unrecorded unread unwritten result is = inl (Err Memory, is, unplayed (record_of c) IsTalk MayTalk c.world reading writing unread unwritten)
+  pub unrecorded : reading.new ≡ reading.old → writing.new ≡ writing.old → (result : Result (Unit {0}) Fault) → result ≡ Err Memory → IsRecordedOn c IsTranscript MayTranscript reading writing result
+  unrecorded unread unwritten result is = inl (Err Memory, is, unplayed (record_of c) IsTranscript MayTranscript c.world reading writing unread unwritten)
 
   -- after the header a run was played
   pub recorded : (mid : W) → Appends (writing.contents writing.old) (writing.contents mid) (header_line c) → writing.failed mid ≡ writing.failed writing.old →
-      (played : Result Summary Fault) → (played ≡ Err Memory → ⊥) → IsPlayed (flat_map turn_record) IsTalk MayTalk c.world reading (writing_from writing mid) played →
-      (result : Result (Unit {0}) Fault) → result ≡ end_of played → IsRecordedOn c IsTalk MayTalk reading writing result
+      (played : Result Summary Fault) → (played ≡ Err Memory → ⊥) → IsPlayed (flat_map turn_record) IsTranscript MayTranscript c.world reading (writing_from writing mid) played →
+      (result : Result (Unit {0}) Fault) → result ≡ end_of played → IsRecordedOn c IsTranscript MayTranscript reading writing result
   recorded mid begun unfailed played never t result is = inl (
     played,
     is,
-    played_after (header_line c) (flat_map turn_record) IsTalk MayTalk IsTalk MayTalk (λ ts talk. talk) (λ ts talk. talk) c.world reading writing mid begun unfailed played
+    played_after (header_line c) (flat_map turn_record) IsTranscript MayTranscript IsTranscript MayTranscript (λ ts transcript. transcript) (λ ts transcript. transcript) c.world reading writing mid begun unfailed played
         (λ e. absurd (never e)) t,
   )

@@ -1,6 +1,6 @@
--- what is said to one side of a talk, one turn after another
+-- what is said to one side of a transcript, one turn after another
 use Rattle.std.proofs.Common.{◌≡◌, ℕ, ◌+◌, true, false, cond, List, [], ◌∷◌, ◌++◌, flat_map, Ok, Err, Result, refl, sym, ap, subst, ◌∙◌, append_assoc, arith, length-append}
-use Rattle.player.proofs.Common.{append-nil, map-append, flat_map-append, Bad, WorldKind, Summary, Answered, Told, Ended, Misread, CountsAnswers, held, TalkerState, Progress, ends, after_meaning, after_line, after_rest, after_end, with_line, Request, Runs, runs-append}
+use Rattle.player.proofs.Common.{append-nil, map-append, flat_map-append, Bad, WorldKind, Summary, Answered, Reported, Ended, Misread, CountsAnswers, held, ResponderState, Progress, ends, after_meaning, after_line, after_rest, after_end, with_line, Request, Runs, runs-append}
 use Rattle.commands.specs.Replies.{ShownReply, is_refusal}
 use Rattle.player.specs.Turns.{Turn, asked, answer_of, answers_of}
 use Rattle.player.specs.Says.{Spoke, IsTurnOf, IsHeld, SaysFrom, Says, Afresh}
@@ -27,26 +27,26 @@ counts_more given a s s' c l x r b = record {
 }
 
 -- the line so far is another
-pub spoke_with_line : (turns : List Turn) (s s' : TalkerState) (p : Progress) (new : List ℕ) → Spoke turns s p → s' ≡ record s { line = held new } → Spoke turns s' (with_line p new)
+pub spoke_with_line : (turns : List Turn) (s s' : ResponderState) (p : Progress) (new : List ℕ) → Spoke turns s p → s' ≡ record s { line = held new } → Spoke turns s' (with_line p new)
 spoke_with_line turns s s' p new t e = record {
   asked_is = t.asked_is;
-  line_is = ap (λ (q : TalkerState). q.line) e;
-  over_is = ap (λ (q : TalkerState). q.over) e ∙ t.over_is;
-  counts = subst (λ (q : Summary). CountsAnswers (answers_of turns) q) (sym (ap (λ (q : TalkerState). q.summary) e)) t.counts;
+  line_is = ap (λ (q : ResponderState). q.line) e;
+  over_is = ap (λ (q : ResponderState). q.over) e ∙ t.over_is;
+  counts = subst (λ (q : Summary). CountsAnswers (answers_of turns) q) (sym (ap (λ (q : ResponderState). q.summary) e)) t.counts;
 }
 
 module _ {T : Type 0} (may : T → Request → ShownReply → T → Type 0) where
   -- one turn is a run, and leaves the counts and the line
-  turn_taken : (w u : T) (s s' : TalkerState) (turn : Turn) → IsTurnOf may w s turn u s' → Runs may w (turn ∷ []) u × (s'.summary ≡ s.summary) × (s'.line ≡ s.line) × (s.over ≡ false → s'.over ≡ ends (asked turn))
-  turn_taken w u s s' (Answered x) t = ((u, t.0, refl), ap (λ (q : TalkerState). q.summary) t.1, ap (λ (q : TalkerState). q.line) t.1, λ o. ap (λ (q : TalkerState). q.over) t.1 ∙ o)
-  turn_taken w u s s' (Told n r) t = ((u, t.0, refl), ap (λ (q : TalkerState). q.summary) t.1, ap (λ (q : TalkerState). q.line) t.1, λ o. ap (λ (q : TalkerState). q.over) t.1 ∙ o)
-  turn_taken w u s s' Ended t = (sym t.0, ap (λ (q : TalkerState). q.summary) t.1, ap (λ (q : TalkerState). q.line) t.1, λ o. ap (λ (q : TalkerState). q.over) t.1)
-  turn_taken w u s s' (Misread bad) t = (sym t.0, ap (λ (q : TalkerState). q.summary) t.1, ap (λ (q : TalkerState). q.line) t.1, λ o. ap (λ (q : TalkerState). q.over) t.1 ∙ o)
+  turn_taken : (w u : T) (s s' : ResponderState) (turn : Turn) → IsTurnOf may w s turn u s' → Runs may w (turn ∷ []) u × (s'.summary ≡ s.summary) × (s'.line ≡ s.line) × (s.over ≡ false → s'.over ≡ ends (asked turn))
+  turn_taken w u s s' (Answered x) t = ((u, t.0, refl), ap (λ (q : ResponderState). q.summary) t.1, ap (λ (q : ResponderState). q.line) t.1, λ o. ap (λ (q : ResponderState). q.over) t.1 ∙ o)
+  turn_taken w u s s' (Reported n r) t = ((u, t.0, refl), ap (λ (q : ResponderState). q.summary) t.1, ap (λ (q : ResponderState). q.line) t.1, λ o. ap (λ (q : ResponderState). q.over) t.1 ∙ o)
+  turn_taken w u s s' Ended t = (sym t.0, ap (λ (q : ResponderState). q.summary) t.1, ap (λ (q : ResponderState). q.line) t.1, λ o. ap (λ (q : ResponderState). q.over) t.1)
+  turn_taken w u s s' (Misread bad) t = (sym t.0, ap (λ (q : ResponderState). q.summary) t.1, ap (λ (q : ResponderState). q.line) t.1, λ o. ap (λ (q : ResponderState). q.over) t.1 ∙ o)
 
   -- where this is written of each turn
   module _ (text : Turn → List ℕ) where
     -- one more turn is taken, and its text is added
-    pub says_one : (w u : T) (s s' s'' : TalkerState) (out out'' : List ℕ) (turn : Turn) → IsTurnOf may w s turn u s' → IsHeld text s' out turn s'' out'' →
+    pub says_one : (w u : T) (s s' s'' : ResponderState) (out out'' : List ℕ) (turn : Turn) → IsTurnOf may w s turn u s' → IsHeld text s' out turn s'' out'' →
         SaysFrom may text Afresh w s out u s'' out'' (λ p. after_meaning p (asked turn))
     says_one w u s s' s'' out out'' turn took hold =
         let taken = turn_taken w u s s' turn took in
@@ -59,8 +59,8 @@ module _ {T : Type 0} (may : T → Request → ShownReply → T → Type 0) wher
                 let counted : CountsAnswers (answers_of turns) s'.summary = subst (λ (q : Summary). CountsAnswers (answers_of turns) q) (sym taken.1) t.counts in
                 record {
                   asked_is = map-append asked turns (turn ∷ []) ∙ ap (λ l. l ++ asked turn ∷ []) t.asked_is;
-                  line_is = ap (λ (q : TalkerState). q.line) kept ∙ taken.2 ∙ t.line_is ∙ ap held was.1;
-                  over_is = ap (λ (q : TalkerState). q.over) kept ∙ taken.3 (t.over_is ∙ was.0);
+                  line_is = ap (λ (q : ResponderState). q.line) kept ∙ taken.2 ∙ t.line_is ∙ ap held was.1;
+                  over_is = ap (λ (q : ResponderState). q.over) kept ∙ taken.3 (t.over_is ∙ was.0);
                   counts = subst (λ (l : List (Result ShownReply Bad)). CountsAnswers l s''.summary) (sym (map-append answer_of turns (turn ∷ [])))
                       (counts_more (answers_of turns) (answer_of turn) s'.summary s''.summary counted hold.lines hold.accepted hold.refused hold.bad);
                 };
@@ -68,7 +68,7 @@ module _ {T : Type 0} (may : T → Request → ShownReply → T → Type 0) wher
         )
 
     -- nothing is said
-    pub says_nothing : (w : T) (s s' : TalkerState) (out : List ℕ) (Was : Progress → Type 0) (next : Progress → Progress) →
+    pub says_nothing : (w : T) (s s' : ResponderState) (out : List ℕ) (Was : Progress → Type 0) (next : Progress → Progress) →
         ((turns : List Turn) (p : Progress) → Spoke turns s p → Was p → Spoke turns s' (next p)) → SaysFrom may text Was w s out w s' out next
     says_nothing w s s' out Was next on = (
       [],
@@ -80,7 +80,7 @@ module _ {T : Type 0} (may : T → Request → ShownReply → T → Type 0) wher
     )
 
     -- what is said after a silent change
-    pub says_after : (w u : T) (s s1 s' : TalkerState) (out out' : List ℕ) (Was Was1 : Progress → Type 0) (next1 next q : Progress → Progress) →
+    pub says_after : (w u : T) (s s1 s' : ResponderState) (out out' : List ℕ) (Was Was1 : Progress → Type 0) (next1 next q : Progress → Progress) →
         SaysFrom may text Was1 w s1 out u s' out' next1 →
         ((turns : List Turn) (p : Progress) → Spoke turns s p → Was p → Spoke turns s1 (q p) × Was1 (q p) × (next1 (q p) ≡ next p)) →
         SaysFrom may text Was w s out u s' out' next
@@ -96,7 +96,7 @@ module _ {T : Type 0} (may : T → Request → ShownReply → T → Type 0) wher
     )
 
     -- what is said, and then more
-    pub says_then : (w v u : T) (s s1 s' : TalkerState) (out out1 out' : List ℕ) (next1 next2 next : Progress → Progress) →
+    pub says_then : (w v u : T) (s s1 s' : ResponderState) (out out1 out' : List ℕ) (next1 next2 next : Progress → Progress) →
         Says may text w s out v s1 out1 next1 → Says may text v s1 out1 u s' out' next2 → ((p : Progress) → next2 (next1 p) ≡ next p) → Says may text w s out u s' out' next
     says_then w v u s s1 s' out out1 out' next1 next2 next a b same = (
       a.0 ++ b.0,

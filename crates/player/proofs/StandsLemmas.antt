@@ -1,7 +1,7 @@
 -- where a player stands, one call after another
 use Rattle.std.proofs.Common.{◌≡◌, ℕ, List, [], ◌++◌, flat_map, Result, Option, refl, sym, ap, subst, ◌∙◌, append_assoc}
 use Rattle.command_lines.specs.WrittenProofs.{appends_more, part_after}
-use Rattle.player.proofs.Common.{append-nil, flat_map-append, Appends, Bad, Command, WorldKind, ShownReply, Summary, Turn, answers_of, CountsAnswers, TalkerState, Progress, at_start, Request, runs-append, Says, HasPartOf}
+use Rattle.player.proofs.Common.{append-nil, flat_map-append, Appends, Bad, Command, WorldKind, ShownReply, Summary, Turn, answers_of, CountsAnswers, ResponderState, Progress, at_start, Request, runs-append, Says, HasPartOf}
 use Rattle.std.proofs.KnownBytes.{Appends-nil}
 use Rattle.player.specs.PlayerState.{PlayerState, player_of}
 use Rattle.player.specs.Stands.{IsFresh, IsSent, Stands, StandsPart}
@@ -10,7 +10,7 @@ module _ {T : Type 0} (may : T → Request → ShownReply → T → Type 0) wher
   -- where this is written of each turn
   module _ (text : Turn → List ℕ) where
     -- what is said to its talker is said to the player
-    pub stands_said : (start w u : T) (s s' : TalkerState) (out out' : List ℕ) (next : Progress → Progress) (p : Progress) (before now : Option (List ℕ)) →
+    pub stands_said : (start w u : T) (s s' : ResponderState) (out out' : List ℕ) (next : Progress → Progress) (p : Progress) (before now : Option (List ℕ)) →
         Says may text w s out u s' out' next → Stands may text start w (player_of s out) p before now → Stands may text start u (player_of s' out') (next p) before now
     stands_said start w u s s' out out' next p before now said t =
         let more = said.0 in

@@ -6,7 +6,7 @@ pub mod Records
 pub mod Summary
 pub mod Counts
 pub mod Progress
-pub mod TalkerState
+pub mod ResponderState
 pub mod PlayerState
 pub mod Runs
 pub mod RunProofs

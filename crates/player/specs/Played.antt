@@ -48,21 +48,21 @@ abbrev pub IsInput : Option (List ℕ) → List ℕ → Type 0
 IsInput None input = Unit {0}
 IsInput (Some bytes) input = bytes ≡ input
 
--- turns to all that was asked, which are a talk; the writer has gained their text
-pub record IsTold (text : List Turn → List ℕ) (IsTalk : List Turn → Type 0) (all : List (Result Command Bad)) (before now : Option (List ℕ)) : Type 0 where
+-- turns to all that was asked, which are a transcript; the writer has gained their text
+pub record IsReported (text : List Turn → List ℕ) (IsTranscript : List Turn → Type 0) (all : List (Result Command Bad)) (before now : Option (List ℕ)) : Type 0 where
   pub turns : List Turn
   pub asked_is : map asked turns ≡ all
-  pub talk : IsTalk turns
+  pub transcript : IsTranscript turns
   pub gained : Appends before now (text turns)
 
--- turns to the first of what was asked, which are done, and may go on to all of it; the writer has gained a beginning of
+-- turns to the first of what was asked, which are done, and may go on to all of it; the writer has gained a prefix of
 -- their text
-pub record IsPartlyTold (text : List Turn → List ℕ) (IsTalk MayTalk : List Turn → Type 0) (all : List (Result Command Bad)) (before now : Option (List ℕ)) : Type 0 where
+pub record IsPartlyReported (text : List Turn → List ℕ) (IsTranscript MayTranscript : List Turn → Type 0) (all : List (Result Command Bad)) (before now : Option (List ℕ)) : Type 0 where
   pub turns : List Turn
   pub others : List Turn
   pub asked_is : map asked (turns ++ others) ≡ all
-  pub talk : IsTalk turns
-  pub whole : MayTalk (turns ++ others)
+  pub transcript : IsTranscript turns
+  pub whole : MayTranscript (turns ++ others)
   pub part : HasPartOf before now (text turns)
 
 module _ (kind : WorldKind) {R : Type 0} (reading : Reading R) where
@@ -79,13 +79,13 @@ module _ (kind : WorldKind) {R : Type 0} (reading : Reading R) where
     pub few : length last ≤ READ_BYTES
 
   module _ {W : Type 0} (writing : Writing W) (text : List Turn → List ℕ) where
-    -- the end: of all the input, or by `quit`. There are turns to the lines of the input, which are a talk; the
+    -- the end: of all the input, or by `quit`. There are turns to the lines of the input, which are a transcript; the
     -- writer has gained their text, and the summary counts the answers to them. No read and no write failed
-    pub record PlayedToEnd (IsTalk : List Turn → Type 0) (s : Summary) : Type 0 where
+    pub record PlayedToEnd (IsTranscript : List Turn → Type 0) (s : Summary) : Type 0 where
       pub input : List ℕ
       pub input_is : IsInput (reading.remaining reading.old) input
-      pub told : IsTold text IsTalk (asked_by kind (lines input)) (writing.contents writing.old) (writing.contents writing.new)
-      pub counts : CountsAnswers (answers_of told.turns) s
+      pub reported : IsReported text IsTranscript (asked_by kind (lines input)) (writing.contents writing.old) (writing.contents writing.new)
+      pub counts : CountsAnswers (answers_of reported.turns) s
       pub got : List ℕ
       pub left : List ℕ
       pub of_input : input ≡ got ++ left
@@ -96,35 +96,35 @@ module _ (kind : WorldKind) {R : Type 0} (reading : Reading R) where
 
     -- a read fault: one read failed, or the limit of reads was reached. There are turns to the whole lines of what was
     -- read, and their text is written; `quit` was not among them
-    pub record PlayedToReadFault (IsTalk : List Turn → Type 0) : Type 0 where
+    pub record PlayedToReadFault (IsTranscript : List Turn → Type 0) : Type 0 where
       pub why : (reading.failed reading.new ≡ reading.failed reading.old + 1) ⊎ ((reading.calls reading.new ≡ reading.calls reading.old + MOST_READS) × (reading.failed reading.new ≡ reading.failed reading.old))
       pub got : List ℕ
       pub read : Consumes (reading.remaining reading.old) (reading.remaining reading.new) got
       pub going : asks_quit (asked_by kind (whole_lines got)) ≡ false
-      pub told : IsTold text IsTalk (asked_by kind (whole_lines got)) (writing.contents writing.old) (writing.contents writing.new)
+      pub reported : IsReported text IsTranscript (asked_by kind (whole_lines got)) (writing.contents writing.old) (writing.contents writing.new)
       pub no_write_failed : writing.failed writing.new ≡ writing.failed writing.old
 
-    -- a write fault: what went out is a beginning of the text of the input
-    pub record PlayedToWriteFault (IsTalk MayTalk : List Turn → Type 0) : Type 0 where
+    -- a write fault: what went out is a prefix of the text of the input
+    pub record PlayedToWriteFault (IsTranscript MayTranscript : List Turn → Type 0) : Type 0 where
       pub why : writing.failed writing.old < writing.failed writing.new
       pub input : List ℕ
       pub input_is : IsInput (reading.remaining reading.old) input
-      pub told : IsPartlyTold text IsTalk MayTalk (asked_by kind (lines input)) (writing.contents writing.old) (writing.contents writing.new)
+      pub reported : IsPartlyReported text IsTranscript MayTranscript (asked_by kind (lines input)) (writing.contents writing.old) (writing.contents writing.new)
       pub got : List ℕ
       pub left : List ℕ
       pub of_input : input ≡ got ++ left
       pub read : HasRead got
       pub no_read_failed : reading.failed reading.new ≡ reading.failed reading.old
 
--- the theorem of a run of which this text is written. The turns that were taken are a talk, and may go on to one of the whole
+-- the theorem of a run of which this text is written. The turns that were taken are a transcript, and may go on to one of the whole
 -- input
-pub record IsPlayed (text : List Turn → List ℕ) (IsTalk MayTalk : List Turn → Type 0) (kind : WorldKind) {R W : Type 0} (reading : Reading R) (writing : Writing W) (result : Result Summary Fault) : Type 0 where
-  pub ok : IfOk result (λ s. PlayedToEnd kind reading writing text IsTalk s)
-  pub read_fault : result ≡ Err Read → PlayedToReadFault kind reading writing text IsTalk
-  pub write_fault : result ≡ Err Write → PlayedToWriteFault kind reading writing text IsTalk MayTalk
+pub record IsPlayed (text : List Turn → List ℕ) (IsTranscript MayTranscript : List Turn → Type 0) (kind : WorldKind) {R W : Type 0} (reading : Reading R) (writing : Writing W) (result : Result Summary Fault) : Type 0 where
+  pub ok : IfOk result (λ s. PlayedToEnd kind reading writing text IsTranscript s)
+  pub read_fault : result ≡ Err Read → PlayedToReadFault kind reading writing text IsTranscript
+  pub write_fault : result ≡ Err Write → PlayedToWriteFault kind reading writing text IsTranscript MayTranscript
   pub memory : result ≡ Err Memory → (reading.new ≡ reading.old) × (writing.new ≡ writing.old)
   pub reads : reading.calls reading.new ≤ reading.calls reading.old + MOST_READS
 
--- the same, where the replies are written, and want of memory is in the turns where it was met
+-- the same, where the replies are written, and an allocation failure is in the turns where it was met
 abbrev pub IsPlayedIn : (List Turn → Type 0) → WorldKind → {R W : Type 0} → Reading R → Writing W → Result Summary Fault → Type 0
-IsPlayedIn IsTalk kind reading writing result = IsPlayed replies_of IsTalk IsTalk kind reading writing result
+IsPlayedIn IsTranscript kind reading writing result = IsPlayed replies_of IsTranscript IsTranscript kind reading writing result

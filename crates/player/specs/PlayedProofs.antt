@@ -1,4 +1,4 @@
--- runs that are played: none where memory was refused, one after a beginning, one by a weaker measure
+-- runs that are played: none where memory was refused, one after a prefix, one by a weaker measure
 use Rattle.std.proofs.Common.{◌≡◌, ℕ, ◌+◌, ◌≤◌, List, [], ◌++◌, Result, Ok, Err, IfOk, refl, ◌∙◌, arith}
 use Rattle.std.specs.Io.KnownBytes.{Appends}
 use Rattle.std.proofs.KnownBytes.{Appends-nil}
@@ -12,10 +12,10 @@ use Rattle.command_lines.specs.WrittenProofs.{appends_more, part_after}
 use Rattle.player.specs.declared.playing.TheConstants.{MOST_READS}
 use Rattle.player.specs.declared.summary.Summary.{Summary}
 use Rattle.player.specs.Asked.{asked_by}
-use Rattle.player.specs.Played.{Reading, Writing, writing_from, IsTold, PlayedToEnd, PlayedToReadFault, PlayedToWriteFault, IsPlayed}
+use Rattle.player.specs.Played.{Reading, Writing, writing_from, IsReported, PlayedToEnd, PlayedToReadFault, PlayedToWriteFault, IsPlayed}
 use Rattle.player.specs.Turns.{Turn}
 
--- a run of which this text is written after a beginning is one of which both are written; and what is a talk by one measure is
+-- a run of which this text is written after a prefix is one of which both are written; and what is a transcript by one measure is
 -- one by a weaker
 module _ (head : List ℕ) (text : List Turn → List ℕ) (P P' Q Q' : List Turn → Type 0)
     (weaker : (ts : List Turn) → P ts → Q ts) (weaker' : (ts : List Turn) → P' ts → Q' ts)
@@ -24,12 +24,12 @@ module _ (head : List ℕ) (text : List Turn → List ℕ) (P P' Q Q' : List Tur
   abbrev whole : List Turn → List ℕ
   whole ts = head ++ text ts
 
-  abbrev told_after : (all : List (Result Command Bad)) →
-      IsTold text P all (writing.contents mid) (writing.contents writing.new) → IsTold whole Q all (writing.contents writing.old) (writing.contents writing.new)
-  told_after all t = record {
+  abbrev reported_after : (all : List (Result Command Bad)) →
+      IsReported text P all (writing.contents mid) (writing.contents writing.new) → IsReported whole Q all (writing.contents writing.old) (writing.contents writing.new)
+  reported_after all t = record {
     turns = t.turns;
     asked_is = t.asked_is;
-    talk = weaker t.turns t.talk;
+    transcript = weaker t.turns t.transcript;
     gained = appends_more (writing.contents writing.old) (writing.contents mid) (writing.contents writing.new) head (text t.turns) (whole t.turns) begun t.gained refl;
   }
 
@@ -37,7 +37,7 @@ module _ (head : List ℕ) (text : List Turn → List ℕ) (P P' Q Q' : List Tur
   end_after s t = record {
     input = t.input;
     input_is = t.input_is;
-    told = told_after (asked_by kind (lines t.input)) t.told;
+    reported = reported_after (asked_by kind (lines t.input)) t.reported;
     counts = t.counts;
     got = t.got;
     left = t.left;
@@ -59,7 +59,7 @@ module _ (head : List ℕ) (text : List Turn → List ℕ) (P P' Q Q' : List Tur
     got = t.got;
     read = t.read;
     going = t.going;
-    told = told_after (asked_by kind (whole_lines t.got)) t.told;
+    reported = reported_after (asked_by kind (whole_lines t.got)) t.reported;
     no_write_failed = t.no_write_failed ∙ unfailed;
   }
 
@@ -68,13 +68,13 @@ module _ (head : List ℕ) (text : List Turn → List ℕ) (P P' Q Q' : List Tur
     why = omega (arith, t.why, unfailed);
     input = t.input;
     input_is = t.input_is;
-    told = record {
-      turns = t.told.turns;
-      others = t.told.others;
-      asked_is = t.told.asked_is;
-      talk = weaker t.told.turns t.told.talk;
-      whole = weaker' (t.told.turns ++ t.told.others) t.told.whole;
-      part = part_after (writing.contents writing.old) (writing.contents mid) (writing.contents writing.new) head (text t.told.turns) (whole t.told.turns) begun refl t.told.part;
+    reported = record {
+      turns = t.reported.turns;
+      others = t.reported.others;
+      asked_is = t.reported.asked_is;
+      transcript = weaker t.reported.turns t.reported.transcript;
+      whole = weaker' (t.reported.turns ++ t.reported.others) t.reported.whole;
+      part = part_after (writing.contents writing.old) (writing.contents mid) (writing.contents writing.new) head (text t.reported.turns) (whole t.reported.turns) begun refl t.reported.part;
     };
     got = t.got;
     left = t.left;
@@ -102,16 +102,16 @@ played_weaker text P P' Q Q' weaker weaker' kind reading writing result t =
 
 -- what holds of a run that ended so
 abbrev pub EndedBy : (List Turn → List ℕ) → (List Turn → Type 0) → (List Turn → Type 0) → WorldKind → {R W : Type 0} → Reading R → Writing W → Result Summary Fault → Type 0
-EndedBy text IsTalk MayTalk kind reading writing (Ok s) = PlayedToEnd kind reading writing text IsTalk s
-EndedBy text IsTalk MayTalk kind reading writing (Err Read) = PlayedToReadFault kind reading writing text IsTalk
-EndedBy text IsTalk MayTalk kind reading writing (Err Write) = PlayedToWriteFault kind reading writing text IsTalk MayTalk
-EndedBy text IsTalk MayTalk kind reading writing (Err Memory) = (reading.new ≡ reading.old) × (writing.new ≡ writing.old)
+EndedBy text IsTranscript MayTranscript kind reading writing (Ok s) = PlayedToEnd kind reading writing text IsTranscript s
+EndedBy text IsTranscript MayTranscript kind reading writing (Err Read) = PlayedToReadFault kind reading writing text IsTranscript
+EndedBy text IsTranscript MayTranscript kind reading writing (Err Write) = PlayedToWriteFault kind reading writing text IsTranscript MayTranscript
+EndedBy text IsTranscript MayTranscript kind reading writing (Err Memory) = (reading.new ≡ reading.old) × (writing.new ≡ writing.old)
 
 -- the theorem of a run, by how it ended
-pub as_played : (text : List Turn → List ℕ) (IsTalk MayTalk : List Turn → Type 0) (kind : WorldKind) {R W : Type 0} (reading : Reading R) (writing : Writing W) (result : Result Summary Fault) →
-    EndedBy text IsTalk MayTalk kind reading writing result → reading.calls reading.new ≤ reading.calls reading.old + MOST_READS → IsPlayed text IsTalk MayTalk kind reading writing result
-as_played text IsTalk MayTalk kind reading writing result ended reads = record {
-  ok = elim result as (λ r. EndedBy text IsTalk MayTalk kind reading writing r → IfOk r (λ s. PlayedToEnd kind reading writing text IsTalk s)) [ Ok s ↦ λ end. end | Err f ↦ λ fault. tt ] ended;
+pub as_played : (text : List Turn → List ℕ) (IsTranscript MayTranscript : List Turn → Type 0) (kind : WorldKind) {R W : Type 0} (reading : Reading R) (writing : Writing W) (result : Result Summary Fault) →
+    EndedBy text IsTranscript MayTranscript kind reading writing result → reading.calls reading.new ≤ reading.calls reading.old + MOST_READS → IsPlayed text IsTranscript MayTranscript kind reading writing result
+as_played text IsTranscript MayTranscript kind reading writing result ended reads = record {
+  ok = elim result as (λ r. EndedBy text IsTranscript MayTranscript kind reading writing r → IfOk r (λ s. PlayedToEnd kind reading writing text IsTranscript s)) [ Ok s ↦ λ end. end | Err f ↦ λ fault. tt ] ended;
   read_fault = λ e. rw e at ended;
   write_fault = λ e. rw e at ended;
   memory = λ e. rw e at ended;
@@ -119,7 +119,7 @@ as_played text IsTalk MayTalk kind reading writing result ended reads = record {
 }
 
 -- where memory was refused nothing is read and nothing written
-pub unplayed : (text : List Turn → List ℕ) (IsTalk MayTalk : List Turn → Type 0) (kind : WorldKind)
+pub unplayed : (text : List Turn → List ℕ) (IsTranscript MayTranscript : List Turn → Type 0) (kind : WorldKind)
     {R W : Type 0} (reading : Reading R) (writing : Writing W) → reading.new ≡ reading.old → writing.new ≡ writing.old →
-    IsPlayed text IsTalk MayTalk kind reading writing (Err Memory)
-unplayed text IsTalk MayTalk kind reading writing unread unwritten = as_played text IsTalk MayTalk kind reading writing (Err Memory) (unread, unwritten) (rw unread (omega arith))
+    IsPlayed text IsTranscript MayTranscript kind reading writing (Err Memory)
+unplayed text IsTranscript MayTranscript kind reading writing unread unwritten = as_played text IsTranscript MayTranscript kind reading writing (Err Memory) (unread, unwritten) (rw unread (omega arith))

@@ -3,7 +3,7 @@ use Rattle.std.specs.Prelude.{ℕ, List, Bool}
 use Rattle.commands.specs.declared.kind.WorldKind.{WorldKind}
 use Rattle.command_lines.specs.HeldLine.{HeldLine}
 use Rattle.player.specs.declared.summary.Summary.{Summary}
-use Rattle.player.specs.TalkerState.{TalkerState}
+use Rattle.player.specs.ResponderState.{ResponderState}
 
 -- the kind of what answers, the line so far, the replies that are not written yet, the counts, and whether `quit`
 -- was answered
@@ -14,6 +14,6 @@ pub record PlayerState : Type 0 where
   pub summary : Summary
   pub over : Bool
 
--- one side of a talk, and the replies to it that are not written yet
-abbrev pub player_of : TalkerState → List ℕ → PlayerState
+-- one side of a transcript, and the replies to it that are not written yet
+abbrev pub player_of : ResponderState → List ℕ → PlayerState
 player_of t replies = record { kind = t.kind; line = t.line; replies = replies; summary = t.summary; over = t.over }

@@ -6,13 +6,13 @@ use Rattle.commands.specs.declared.reply.Reply.TheVariants as reply
 use Rattle.commands.specs.Requests.{Request}
 use Rattle.commands.specs.Requests.Request.{Take, OwnerOf}
 use Rattle.player.specs.Turns.{Turn}
-use Rattle.player.specs.Turns.Turn.{Answered, Told, Ended, Misread}
+use Rattle.player.specs.Turns.Turn.{Answered, Reported, Ended, Misread}
 
 -- under these rules each request may be answered so, in order, from w to u; `quit` and bad lines ask for nothing
 abbrev pub Runs : {T : Type 0} → (T → Request → ShownReply → T → Type 0) → T → List Turn → T → Type 0
 Runs may w [] u = w ≡ u
 Runs {T = T} may w (Answered x ∷ ts) u = (mid : T) × may w (Take x.event) x.reply mid × Runs may mid ts u
-Runs {T = T} may w (Told n r ∷ ts) u = (mid : T) × may w (OwnerOf n) r mid × Runs may mid ts u
+Runs {T = T} may w (Reported n r ∷ ts) u = (mid : T) × may w (OwnerOf n) r mid × Runs may mid ts u
 Runs may w (Ended ∷ ts) u = Runs may w ts u
 Runs may w (Misread bad ∷ ts) u = Runs may w ts u
 
@@ -34,6 +34,6 @@ pub record CouldRun {T : Type 0} (fresh : T → Type 0) (may : T → Request →
 abbrev pub NoneRefusedGrowth : List Turn → Type 0
 NoneRefusedGrowth [] = Unit {0}
 NoneRefusedGrowth (Answered x ∷ ts) = (x.reply ≢ reply.Refused refusal.NoMemory) × NoneRefusedGrowth ts
-NoneRefusedGrowth (Told n r ∷ ts) = (r ≢ reply.Refused refusal.NoMemory) × NoneRefusedGrowth ts
+NoneRefusedGrowth (Reported n r ∷ ts) = (r ≢ reply.Refused refusal.NoMemory) × NoneRefusedGrowth ts
 NoneRefusedGrowth (Ended ∷ ts) = NoneRefusedGrowth ts
 NoneRefusedGrowth (Misread bad ∷ ts) = NoneRefusedGrowth ts

@@ -1,4 +1,4 @@
--- logs of turns of several talks
+-- logs of turns of several transcripts
 use Rattle.std.proofs.Common.{◌≡◌, ℕ, ◌==◌, true, false, cond, List, [], ◌∷◌, ◌++◌, flat_map, refl, sym, ap, subst, ◌∙◌}
 use Rattle.std.proofs.lemmas.List.{append-nil}
 use Rattle.std.proofs.lemmas.Bool.{eqb-true}
@@ -37,16 +37,16 @@ module _ {X : Type 0} where
 module _ {T : Type 0} (may : T → Request → ShownReply → T → Type 0) (text : Turn → List ℕ) where
   -- one of them goes on
   pub shared_on : SharedGoesOn may text
-  shared_on start w u log at far told i out out' s' next more shared said = record {
+  shared_on start w u log at far reported i out out' s' next more shared said = record {
     run = rw (all-append log (tagged i more), all-tagged i more) (runs-append may start w u (all_turns log) more shared.run said.run);
     each = λ j. rw (of-append j log (tagged i more))
         (elim (i == j) as (λ b. (i == j) ≡ b → Spoke (turns_of j log ++ turns_of j (tagged i more)) (cond b s' (at j)) (cond b (next (far i)) (far j))) [
           | true ↦ λ h. rw (of-same i j more h) (subst (λ (k : ℕ). Spoke (turns_of k log ++ more) s' (next (far i))) (eqb-true i j h) (said.goes_on (turns_of i log) (far i) (shared.each i) tt))
           | false ↦ λ h. rw (of-other i j more h, append-nil (turns_of j log)) (shared.each j)
         ] refl);
-    told_is = λ j. rw (of-append j log (tagged i more))
-        (elim (i == j) as (λ b. (i == j) ≡ b → cond b (told i ++ flat_map text more) (told j) ≡ flat_map text (turns_of j log ++ turns_of j (tagged i more))) [
-          | true ↦ λ h. rw (of-same i j more h) (ap (λ l. l ++ flat_map text more) (shared.told_is i) ∙ sym (flat_map-append text (turns_of i log) more) ∙ ap (λ (k : ℕ). flat_map text (turns_of k log ++ more)) (eqb-true i j h))
-          | false ↦ λ h. rw (of-other i j more h, append-nil (turns_of j log)) (shared.told_is j)
+    reported_is = λ j. rw (of-append j log (tagged i more))
+        (elim (i == j) as (λ b. (i == j) ≡ b → cond b (reported i ++ flat_map text more) (reported j) ≡ flat_map text (turns_of j log ++ turns_of j (tagged i more))) [
+          | true ↦ λ h. rw (of-same i j more h) (ap (λ l. l ++ flat_map text more) (shared.reported_is i) ∙ sym (flat_map-append text (turns_of i log) more) ∙ ap (λ (k : ℕ). flat_map text (turns_of k log ++ more)) (eqb-true i j h))
+          | false ↦ λ h. rw (of-other i j more h, append-nil (turns_of j log)) (shared.reported_is j)
         ] refl);
   }

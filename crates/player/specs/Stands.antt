@@ -45,7 +45,7 @@ module _ {T : Type 0} (may : T → Request → ShownReply → T → Type 0) wher
       pub gained : Appends before now written
       pub text_is : flat_map text turns ≡ written ++ player.replies
 
-    -- the world has come to turns to the first of what p asks for, and the writer has gained a beginning of what is written of them
+    -- the world has come to turns to the first of what p asks for, and the writer has gained a prefix of what is written of them
     pub record StandsPart (start world : T) (p : Progress) (before now : Option (List ℕ)) : Type 0 where
       pub turns : List Turn
       pub others : List (Result Command Bad)

@@ -53,7 +53,12 @@ impl Form for AsRecord {
         put_replied(reply, view, out);
     }
 
-    fn put_told<A: Allocator>(_n: u64, _reply: Reply<()>, _view: &View, _out: &mut Replies<A>) {}
+    fn put_reported<A: Allocator>(
+        _n: u64,
+        _reply: Reply<()>,
+        _view: &View,
+        _out: &mut Replies<A>,
+    ) {}
 
     fn put_ended<A: Allocator>(_out: &mut Replies<A>) {}
 

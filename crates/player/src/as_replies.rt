@@ -37,7 +37,7 @@ impl Form for AsReplies {
     }
 
     #[inline(always)]
-    fn put_told<A: Allocator>(_n: u64, reply: Reply<()>, view: &View, out: &mut Replies<A>) {
+    fn put_reported<A: Allocator>(_n: u64, reply: Reply<()>, view: &View, out: &mut Replies<A>) {
         print_reply(reply, view, out);
     }
 

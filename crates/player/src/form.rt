@@ -4,7 +4,7 @@ ghost use Rattle.std.specs.Prelude.{◌≡◌, ◌≤◌, ◌+◌, ◌++◌, ℕ
 ghost use Rattle.commands.specs.Replies.{with_view};
 ghost use Rattle.command_lines.specs.Events.{event_words};
 ghost use Rattle.player.specs.Turns.{Turn};
-ghost use Rattle.player.specs.Turns.Turn.{Answered, Told, Ended, Misread};
+ghost use Rattle.player.specs.Turns.Turn.{Answered, Reported, Ended, Misread};
 
 use command_lines::{EVENT_ROOM, HELD_REPLIES, Replies};
 use commands::{Bad, Event, Reply};
@@ -40,9 +40,9 @@ pub trait Form: Drop {
         ensures short { length out.new ≤ length out.old + TURN_ROOM };
 
     /// Appends the text of an owner that was told, by a reply that shows this view where it shows one.
-    fn put_told<A: Allocator>(n: u64, reply: Reply<()>, view: &View, out: &mut Replies<A>)
+    fn put_reported<A: Allocator>(n: u64, reply: Reply<()>, view: &View, out: &mut Replies<A>)
         requires { length out.old + TURN_ROOM ≤ HELD_REPLIES }
-        ensures text { out.new ≡ out.old ++ text (Told n (with_view reply view.now)) }
+        ensures text { out.new ≡ out.old ++ text (Reported n (with_view reply view.now)) }
         ensures short { length out.new ≤ length out.old + TURN_ROOM };
 
     /// Appends the text of `quit`.

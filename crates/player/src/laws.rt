@@ -1,4 +1,4 @@
-//! Laws of talks, which run nothing.
+//! Laws of transcripts, which run nothing.
 
 ghost use Rattle.std.specs.Prelude.{◌≡◌, ◌++◌, ◌∷◌, [], ℕ, List, Option, Result, true, if◌then◌else◌};
 ghost use Rattle.commands.specs.declared.bad.Bad.{Bad};
@@ -14,8 +14,8 @@ ghost use Rattle.player.specs.Stands.{IsFresh, Stands};
 use crate::form::Form;
 use crate::service::Service;
 
-/// A law, which runs nothing: where one of the talks that share a service goes on, there is one order of all that was said still, in which
-/// each talk has just its own turns.
+/// A law, which runs nothing: where one of the transcripts that share a service goes on, there is one order of all that was said still, in which
+/// each transcript has just its own turns.
 pub fn law_of_sharing<R, D: Service<R>, F: Form>()
     ensures { SharedGoesOn D.may F.text }
 {}

@@ -1,7 +1,7 @@
-//! One side of a talk in the command language, which is the crate `command_lines`: lines of text in, replies out, whatever service answers.
+//! One side of a transcript in the command language, which is the crate `command_lines`: lines of text in, replies out, whatever service answers.
 //!
-//! A service answers events and tells owners by rules (`Service`), and which one it is is not known here. One side of a talk stands
-//! by itself (`Talker`): it takes lines, has a service answer them, and adds the replies to room that is lent to it, so that many
+//! A service answers events and tells owners by rules (`Service`), and which one it is is not known here. One side of a transcript stands
+//! by itself (`Responder`): it takes lines, has a service answer them, and adds the replies to room that is lent to it, so that many
 //! can share one service (`law_of_sharing`). `Player` is a talker with its replies: it is fed with bytes and writes what was
 //! answered, however they were cut (`AdvancesWriting`). How a turn is written is a type parameter (`Form`): as a reply
 //! (`AsReplies`), or, in a record, as a line of JSON of the event with its reply (`AsRecord`, `record_of`).
@@ -9,7 +9,7 @@
 //! `play_on` plays a whole input: it reads the commands that a reader gives, a line each, has a service answer them, and writes the replies, a
 //! line each. Its theorem (`IsPlayed`): there are turns to the lines of the input in order, by which the service has come from what it was to
 //! what it is; the writer has gained the text of its answers, however the bytes were cut; and the summary counts them. `quit` ends the
-//! reading, and no call failed. What a read fault, a write fault and want of memory leave is said too. `record_on` plays so too and writes the
+//! reading, and no call failed. What a read fault, a write fault and an allocation failure leave is said too. `record_on` plays so too and writes the
 //! record of the run in place of the replies: a header, and each event with its reply as a line of JSON (`record_of`). It has the same
 //! theorem with that text (`IsRecordedOn`).
 //!
@@ -39,10 +39,10 @@ pub mod laws;
 pub mod player;
 pub mod playing;
 pub mod recording;
+pub mod responder;
 pub mod service;
 pub mod source;
 pub mod summary;
-pub mod talker;
 pub mod tried;
 
 pub use as_record::{AsRecord, HEADER_ROOM, print_header};
@@ -57,8 +57,8 @@ pub use form::{Form, TURN_ROOM};
 pub use laws::{law_of_fresh_players, law_of_progress, law_of_sharing};
 pub use playing::{MOST_READS, READ_BYTES, play_on};
 pub use recording::record_on;
+pub use responder::Responder;
 pub use service::Service;
 pub use source::Source;
 pub use summary::Summary;
-pub use talker::Talker;
 pub use tried::Tried;

@@ -13,18 +13,18 @@ ghost use Rattle.player.specs.declared.as_record.TheConstants.{HEADER_ROOM};
 
 use crate::as_record::{HEADER_ROOM, print_header};
 use crate::form::{Form, TURN_ROOM};
+use crate::responder::Responder;
 use crate::service::Service;
 use crate::summary::Summary;
-use crate::talker::Talker;
 use command_lines::{Fault, HELD_REPLIES, Replies, Sink};
 use commands::{Config, WorldKind};
 use std::alloc::Allocator;
 use std::marker::Model;
 use step_memory::{NoMemory, View};
 
-/// A run under way: one side of a talk, and the replies that are not written yet.
+/// A run under way: one side of a transcript, and the replies that are not written yet.
 pub struct Player<A: Allocator, F: Form> {
-    talker: Talker<A, F>,
+    responder: Responder<A, F>,
     replies: Replies<A>,
 }
 
@@ -32,7 +32,7 @@ pub struct Player<A: Allocator, F: Form> {
 impl<A: Allocator, F: Form> Drop for Player<A, F> {
     fn drop(self) {
         let Player {
-            talker: _,
+            responder: _,
             replies: _,
         } = self;
     }
@@ -43,7 +43,7 @@ impl<A: Allocator, F: Form> Model for Player<A, F> {
 
     ghost Value = { PlayerState };
 
-    ghost view = { λ p. player_of p.talker p.replies };
+    ghost view = { λ p. player_of p.responder p.replies };
 }
 
 impl<A: Allocator + Clone, F: Form> Player<A, F> {
@@ -54,9 +54,9 @@ impl<A: Allocator + Clone, F: Form> Player<A, F> {
         let Ok(other) = alloc.clone() else {
             return Err(NoMemory);
         };
-        let talker = Talker::new(other, kind)?;
+        let responder = Responder::new(other, kind)?;
         let replies = Replies::new(alloc)?;
-        Ok(Player { talker, replies })
+        Ok(Player { responder, replies })
     }
 }
 
@@ -65,14 +65,14 @@ impl<A: Allocator, F: Form> Player<A, F> {
     pub fn summary(&self) -> Summary
         ensures { result ≡ self.now.summary }
     {
-        self.talker.summary()
+        self.responder.summary()
     }
 
     /// Whether `quit` was answered.
     pub fn is_over(&self) -> bool
         ensures { result ≡ self.now.over }
     {
-        self.talker.is_over()
+        self.responder.is_over()
     }
 
     /// Takes the first line of these bytes with its LF, or all of them where none ends, and says how many bytes it took.
@@ -95,7 +95,8 @@ impl<A: Allocator, F: Form> Player<A, F> {
         ensures longer { length self.new.replies ≤ length self.old.replies + TURN_ROOM }
         ensures counted { self.new.summary.lines ≤ self.old.summary.lines + 1 }
     {
-        self.talker.take(rt, world, view, bytes, &mut self.replies)
+        self.responder
+            .take(rt, world, view, bytes, &mut self.replies)
     }
 
     /// Writes the replies that are held.
@@ -212,6 +213,6 @@ impl<A: Allocator, F: Form> Player<A, F> {
         ensures stands { Advances D.may F.text world.old self.old world.new self.new (after_end self.old.kind) }
         ensures longer { length self.new.replies ≤ length self.old.replies + TURN_ROOM }
     {
-        self.talker.finish(rt, world, view, &mut self.replies);
+        self.responder.finish(rt, world, view, &mut self.replies);
     }
 }

@@ -27,7 +27,7 @@ pub const MOST_READS: u64 = 1_099_511_627_776;
 ///
 /// `Fault::Memory` where it was refused, with nothing read and nothing written; `Fault::Read` where the reader failed or
 /// was read 2^40 times, with the answers to all whole lines written and a cut line not run; `Fault::Write` where the
-/// writer failed or took nothing, with a beginning of the text written.
+/// writer failed or took nothing, with a prefix of the text written.
 pub fn play_on<H, D: Service<H>, A: Allocator + Clone, R: Source, W: Sink>(
     alloc: A,
     rt: &H,

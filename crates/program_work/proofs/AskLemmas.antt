@@ -34,17 +34,17 @@ any_among test k [] among passes = elim among [ ]
 any_among test k (x ∷ xs) (inl same) passes = ap (λ b. b || list_any test xs) (ap test (sym same) ∙ passes)
 any_among test k (x ∷ xs) (inr among) passes = ap (λ b. test x || b) (any_among test k xs among passes) ∙ or_true (test x)
 
--- an error of a kind that clap may give, or for want of memory, is told as a misuse of the words
-pub told : (words : List (List ℕ)) (kinds : Kinds) (k : ErrorKind) (u : Misuse) → (k ≡ OutOfMemory) ⊎ IsAmong k kinds → IsMisuseOf k u → IsMisuse words kinds u
-told words kinds k Memory of is = tt
-told words kinds k (Help text) (inl none) is =
+-- an error of a kind that clap may give, or because an allocation failed, is told as a misuse of the words
+pub reported : (words : List (List ℕ)) (kinds : Kinds) (k : ErrorKind) (u : Misuse) → (k ≡ OutOfMemory) ⊎ IsAmong k kinds → IsMisuseOf k u → IsMisuse words kinds u
+reported words kinds k Memory of is = tt
+reported words kinds k (Help text) (inl none) is =
     let bad : false ≡ true = rw none at is in
     cc
-told words kinds k (Help text) (inr among) is = any_among is_help k kinds among is
-told words kinds k (Words text) (inl none) is =
+reported words kinds k (Help text) (inr among) is = any_among is_help k kinds among is
+reported words kinds k (Words text) (inl none) is =
     let bad : false ≡ true = rw none at is in
     cc
-told words kinds k (Words text) (inr among) is = inl (any_among is_refusal k kinds among is)
+reported words kinds k (Words text) (inr among) is = inl (any_among is_refusal k kinds among is)
 
 -- words that clap takes, and that ask for nothing, are refused
 pub refused : (words : List (List ℕ)) (kinds : Kinds) (u : Misuse) → IsRefusal u → kinds ≡ [] → ((a : Ask) → AsksFor words a → ⊥) → IsMisuse words kinds u

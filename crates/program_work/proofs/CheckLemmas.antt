@@ -1,7 +1,7 @@
 -- how the check of a record ends
 use Rattle.std.proofs.Common.{◌≡◌, ◌∙◌, ◌⊎◌, ◌+◌, ◌<◌, ◌≤◌, inl, inr, sym, subst, ℕ, List, Result, Ok, Err}
 use Rattle.program_work.proofs.Common.{Verdict, Reading, Writing, Appends, HasPartOf, Fault, Read, Write, Memory, MOST_READS}
-use Rattle.program_work.specs.Checked.{HasFailedRead, IsJudged, IsToldOf, verdict_status}
+use Rattle.program_work.specs.Checked.{HasFailedRead, IsJudged, IsReportedOf, verdict_status}
 
 not_of_write : (fault : Fault) → (fault ≡ Read) ⊎ (fault ≡ Memory) → (let o : Result ℕ Fault = Err fault in o ≡ Err Write) → ⊥
 not_of_write fault (inl is) at = cc
@@ -37,10 +37,10 @@ module _ {R W : Type 0} (Tells : List ℕ → Verdict → List ℕ → Type 0) (
   })
 
   -- the verdict is told whole
-  pub all_told : (status : ℕ) (v : Verdict) → status ≡ verdict_status v → IsToldOf Tells reading (Appends (writing.contents writing.old) (writing.contents writing.new)) v → writing.failed writing.new ≡ writing.failed writing.old
+  pub all_reported : (status : ℕ) (v : Verdict) → status ≡ verdict_status v → IsReportedOf Tells reading (Appends (writing.contents writing.old) (writing.contents writing.new)) v → writing.failed writing.new ≡ writing.failed writing.old
       → IsJudged Tells reading writing (Ok status)
-  all_told status v is told unfailed = record {
-    ok = (v, is, told);
+  all_reported status v is reported unfailed = record {
+    ok = (v, is, reported);
     no_write_failed = unfailed;
     write_fault = λ at. absurd (no_fault at);
     read_fault = λ at. absurd (no_fault at);
@@ -49,12 +49,12 @@ module _ {R W : Type 0} (Tells : List ℕ → Verdict → List ℕ → Type 0) (
   }
 
   -- the verdict is not written to its end
-  pub half_told : (result : Result ℕ Fault) (fault : Fault) → result ≡ Err fault → fault ≡ Write → writing.failed writing.old < writing.failed writing.new → (v : Verdict)
-      → IsToldOf Tells reading (HasPartOf (writing.contents writing.old) (writing.contents writing.new)) v → IsJudged Tells reading writing result
-  half_told result fault is write failed v told = subst (λ (o : Result ℕ Fault). IsJudged Tells reading writing o) (sym is) (record {
+  pub half_reported : (result : Result ℕ Fault) (fault : Fault) → result ≡ Err fault → fault ≡ Write → writing.failed writing.old < writing.failed writing.new → (v : Verdict)
+      → IsReportedOf Tells reading (HasPartOf (writing.contents writing.old) (writing.contents writing.new)) v → IsJudged Tells reading writing result
+  half_reported result fault is write failed v reported = subst (λ (o : Result ℕ Fault). IsJudged Tells reading writing o) (sym is) (record {
     ok = tt;
     no_write_failed = tt;
-    write_fault = λ at. (failed, (v, told));
+    write_fault = λ at. (failed, (v, reported));
     read_fault = λ at. absurd (not_of_others fault Read write (λ e. cc) at);
     memory = λ at. absurd (not_of_others fault Memory write (λ e. cc) at);
     reads = reads;

@@ -20,11 +20,11 @@ pub no_world : (rows : List Row) → None ≡ first_of (codes "world") rows → 
 no_world rows none w h = let bad : None ≡ Some (world_name w) = none ∙ h in cc
 
 -- what the matched name gives is the world, if there is one
-pub world_told : (rows : List Row) (word : List ℕ) (r : Option WorldKind) → Some word ≡ first_of (codes "world") rows
+pub world_reported : (rows : List Row) (word : List ℕ) (r : Option WorldKind) → Some word ≡ first_of (codes "world") rows
     → IfSome r (λ kind. world_name kind ≡ word) → IfNone r ((kind : WorldKind) → world_name kind ≢ word)
     → MatchOption r ((w : WorldKind) → HasWorld rows w → ⊥) (HasWorld rows)
-world_told rows word None matched some none = λ w h. none w (sym (same_Some word (world_name w) (matched ∙ h)))
-world_told rows word (Some w) matched some none = sym matched ∙ ap Some (sym some)
+world_reported rows word None matched some none = λ w h. none w (sym (same_Some word (world_name w) (matched ∙ h)))
+world_reported rows word (Some w) matched some none = sym matched ∙ ap Some (sym some)
 
 -- what `get_one` reads as a `u64`
 abbrev pub Reads : {E : Type 0} → (List ℕ → Result ℕ E → Type 0) → Type 0
@@ -55,11 +55,11 @@ number_read gives reads rows id n none value = go (one_of id rows) refl
         (t, e, (read.0.0, sym read.1))
 
 -- what was read is the number that is written there, if one is that fits
-pub number_told : {E : Type 0} (gives : List ℕ → Result ℕ E → Type 0) → Reads gives → (rows : List Row) (id : List ℕ) (r : Option ℕ)
+pub number_reported : {E : Type 0} (gives : List ℕ → Result ℕ E → Type 0) → Reads gives → (rows : List Row) (id : List ℕ) (r : Option ℕ)
     → (one_of id rows ≡ None → r ≡ None) → ((t : List ℕ) → one_of id rows ≡ Some t → ReadsOne gives t r)
     → MatchOption r ((n : ℕ) → n < 2 ^ 64 → HasNumber rows id n → ⊥) (HasNumber rows id)
-number_told gives reads rows id None none value = no_number gives reads rows id value
-number_told gives reads rows id (Some n) none value = number_read gives reads rows id n none value
+number_reported gives reads rows id None none value = no_number gives reads rows id value
+number_reported gives reads rows id (Some n) none value = number_read gives reads rows id n none value
 
 -- two numbers that are written there are one
 pub same_number : (rows : List Row) (id : List ℕ) (m n : ℕ) → HasNumber rows id m → HasNumber rows id n → m ≡ n

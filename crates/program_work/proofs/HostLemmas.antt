@@ -15,10 +15,10 @@ pub no_address : (rows : List Row) → None ≡ first_of (codes "address") rows 
 no_address rows none a h = let bad : None ≡ Some h.0 = none ∙ h.1 in cc
 
 -- what the matched text spells is the address, if it spells one
-pub address_told : {E : Type 0} (rows : List Row) (text : List ℕ) (r : Result IpAddr E) → Some text ≡ first_of (codes "address") rows → Parses IsIpText text r
+pub address_reported : {E : Type 0} (rows : List Row) (text : List ℕ) (r : Result IpAddr E) → Some text ≡ first_of (codes "address") rows → Parses IsIpText text r
     → MatchOption (result_ok r) ((a : IpAddr) → HasAddress rows a → ⊥) (HasAddress rows)
-address_told rows text (Ok a) matched parses = (text, sym matched, parses)
-address_told rows text (Err e) matched parses = λ a h. parses a (subst (λ (t : List ℕ). IsIpText t a) (sym (same_Some text h.0 (matched ∙ h.1))) h.2)
+address_reported rows text (Ok a) matched parses = (text, sym matched, parses)
+address_reported rows text (Err e) matched parses = λ a h. parses a (subst (λ (t : List ℕ). IsIpText t a) (sym (same_Some text h.0 (matched ∙ h.1))) h.2)
 
 -- what is made of the matched values is the hosting, where there is one
 pub hosted : (rows : List Row) (c : Config) (address : IpAddr) (port clients idle : ℕ) (keeping : Keeping) (verbose : Bool) (o : Option Hosting)

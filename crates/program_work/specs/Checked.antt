@@ -12,7 +12,7 @@ use Rattle.command_lines.specs.declared.fault.Fault.TheVariants.{Read, Write, Me
 use Rattle.player.specs.Played.{Reading, Writing, IsInput}
 use Rattle.player.specs.declared.playing.TheConstants.{MOST_READS}
 
--- the line of a verdict; want of memory has none
+-- the line of a verdict; an allocation failure has none
 abbrev pub verdict_text : Verdict → List ℕ
 verdict_text Yes = codes "yes" ++ 10 ∷ []
 verdict_text (No number why) = codes "no " ++ decimal number ++ codes " " ++ decimal (reason_number why) ++ 10 ∷ []
@@ -53,7 +53,7 @@ IsRecordText input Yes text = IsMigratedTo input text
 IsRecordText input v text = text ≡ verdict_text v
 
 -- of the whole input this is the verdict, and what is written of the text that tells of it meets this
-pub record IsToldOf {R : Type 0} (Tells : List ℕ → Verdict → List ℕ → Type 0) (reading : Reading R) (Wrote : List ℕ → Type 0) (v : Verdict) : Type 0 where
+pub record IsReportedOf {R : Type 0} (Tells : List ℕ → Verdict → List ℕ → Type 0) (reading : Reading R) (Wrote : List ℕ → Type 0) (v : Verdict) : Type 0 where
   pub input : List ℕ
   pub whole : IsWhole reading input
   pub verdict : IsVerdict input v
@@ -63,11 +63,11 @@ pub record IsToldOf {R : Type 0} (Tells : List ℕ → Verdict → List ℕ → 
   pub wrote : Wrote text
 
 -- a record is read to its end and judged, and the text that tells of it is written: with the status of its verdict; at a write
--- fault a beginning of it; and nothing where a read failed, or where none did and memory was refused
+-- fault a prefix of it; and nothing where a read failed, or where none did and memory was refused
 pub record IsJudged {R W : Type 0} (Tells : List ℕ → Verdict → List ℕ → Type 0) (reading : Reading R) (writing : Writing W) (result : Result ℕ Fault) : Type 0 where
-  pub ok : IfOk result (λ status. (v : Verdict) × (status ≡ verdict_status v) × IsToldOf Tells reading (Appends (writing.contents writing.old) (writing.contents writing.new)) v)
+  pub ok : IfOk result (λ status. (v : Verdict) × (status ≡ verdict_status v) × IsReportedOf Tells reading (Appends (writing.contents writing.old) (writing.contents writing.new)) v)
   pub no_write_failed : IfOk result (λ status. writing.failed writing.new ≡ writing.failed writing.old)
-  pub write_fault : result ≡ Err Write → (writing.failed writing.old < writing.failed writing.new) × ((v : Verdict) × IsToldOf Tells reading (HasPartOf (writing.contents writing.old) (writing.contents writing.new)) v)
+  pub write_fault : result ≡ Err Write → (writing.failed writing.old < writing.failed writing.new) × ((v : Verdict) × IsReportedOf Tells reading (HasPartOf (writing.contents writing.old) (writing.contents writing.new)) v)
   pub read_fault : result ≡ Err Read → HasFailedRead reading × (writing.new ≡ writing.old)
   pub memory : result ≡ Err Memory → (writing.new ≡ writing.old) × (reading.failed reading.new ≡ reading.failed reading.old)
   pub reads : reading.calls reading.new ≤ reading.calls reading.old + MOST_READS

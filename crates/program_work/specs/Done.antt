@@ -4,7 +4,7 @@ use Rattle.std.specs.Io.KnownBytes.{Appends}
 use Rattle.drawn_schedules.specs.Runs.{HasDrawn, HasDrawnPart}
 use Rattle.drawn_schedules.specs.Schedule.{schedule}
 use Rattle.command_lines.specs.Events.{event_lines}
-use Rattle.schedule_player.specs.IsTalk.{IsTalk}
+use Rattle.schedule_player.specs.IsTranscript.{IsTranscript}
 use Rattle.command_lines.specs.declared.fault.Fault.{Fault}
 use Rattle.command_lines.specs.declared.fault.Fault.TheVariants.{Write, Memory}
 use Rattle.command_lines.specs.Written.{HasPartOf}
@@ -34,15 +34,15 @@ outcome_of (Err fault) = Err (failure.Fault fault)
 
 -- what is drawn: the lines of a schedule, or those of runs
 abbrev pub IsDrawn : ℕ → Drawing → (List ℕ → Type 0) → Type 0
-IsDrawn zero d Told = Told (event_lines (schedule d.seed d.ids d.steps))
-IsDrawn (suc more) d Told = HasDrawn d.config d.seed d.ids d.steps d.runs Told
+IsDrawn zero d Reported = Reported (event_lines (schedule d.seed d.ids d.steps))
+IsDrawn (suc more) d Reported = HasDrawn d.config d.seed d.ids d.steps d.runs Reported
 
--- a beginning of it
+-- a prefix of it
 abbrev pub IsPartDrawn : ℕ → Drawing → Option (List ℕ) → Option (List ℕ) → Type 0
 IsPartDrawn zero d before now = HasPartOf before now (event_lines (schedule d.seed d.ids d.steps))
 IsPartDrawn (suc more) d before now = HasDrawnPart d.config d.seed d.ids d.steps d.runs before now
 
--- a drawing is written: where all of it, with status 0; at a fault, of the writer or for want of memory, a beginning of it
+-- a drawing is written: where all of it, with status 0; at a fault, of the writer or because an allocation failed, a prefix of it
 pub record IsDrawnBy {W : Type 0} (d : Drawing) (writing : Writing W) (result : Result ℕ Fault) : Type 0 where
   pub ok : IfOk result (λ status. (status ≡ 0) × IsDrawn d.runs d (Appends (writing.contents writing.old) (writing.contents writing.new)) × (writing.failed writing.new ≡ writing.failed writing.old))
   pub write_fault : result ≡ Err Write → IsPartDrawn d.runs d (writing.contents writing.old) (writing.contents writing.new) × (writing.failed writing.old < writing.failed writing.new)
@@ -52,7 +52,7 @@ pub record IsDrawnBy {W : Type 0} (d : Drawing) (writing : Writing W) (result : 
 -- a config is played, with the theorem of a run whose replies are written, or whose record is
 abbrev pub IsPlayedBy : {R W : Type 0} → Bool → Config → Reading R → Writing W → Result ℕ Fault → Type 0
 IsPlayedBy false config reading writing status =
-    (played : Result Summary Fault) × (status ≡ status_after played) × IsPlayed replies_of (IsTalk config) (IsTalk config) config.world reading writing played
+    (played : Result Summary Fault) × (status ≡ status_after played) × IsPlayed replies_of (IsTranscript config) (IsTranscript config) config.world reading writing played
 IsPlayedBy true config reading writing status =
     (recorded : Result (Unit {0}) Fault) × (status ≡ status_after recorded) × IsRecorded config reading writing recorded
 

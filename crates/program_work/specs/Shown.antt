@@ -20,7 +20,7 @@ abbrev pub stretch_asked : Showing → Stretch
 stretch_asked s = record { from = s.from; count = s.count }
 
 -- a record is read to its end and shown: its verdict, with its page written where that is yes and nothing elsewhere; at a write fault
--- a beginning of its page; and nothing where a read failed, or where none did and memory was refused
+-- a prefix of its page; and nothing where a read failed, or where none did and memory was refused
 pub record IsShownFor (s : Stretch) {R W : Type 0} (reading : Reading R) (writing : Writing W) (result : Result Verdict Fault) : Type 0 where
   pub ok : IfOk result (λ v. (input : List ℕ) × IsWhole reading input × IsShown writing input s (Ok v))
   pub write_fault : result ≡ Err Write → (input : List ℕ) × IsWhole reading input × IsShown writing input s (Err Write)

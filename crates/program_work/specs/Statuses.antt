@@ -5,7 +5,7 @@ use Rattle.program_work.specs.declared.failure.Failure.{Failure}
 use Rattle.program_work.specs.declared.failure.Failure.TheVariants as failure
 use Rattle.program_work.specs.declared.misuse.Misuse.TheVariants.{Help, Words, Memory}
 
--- 0 for help, 1 for a record that is not shown, 2 for words that are refused, and 3 for a fault or want of memory
+-- 0 for help, 1 for a record that is not shown, 2 for words that are refused, and 3 for a fault or an allocation failure
 abbrev pub status_of : Failure → ℕ
 status_of (failure.Misuse (Help text)) = 0
 status_of (failure.Misuse (Words text)) = 2

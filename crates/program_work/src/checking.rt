@@ -110,7 +110,7 @@ fn status_of(verdict: Verdict) -> u8
 /// yes, else 1.
 ///
 /// `Fault::Read` where the reader failed or was read 2^40 times, and `Fault::Memory` where memory was refused, with nothing
-/// written; `Fault::Write` where the writer failed or took nothing, with a beginning of the line written.
+/// written; `Fault::Write` where the writer failed or took nothing, with a prefix of the line written.
 pub fn check_for<R: Source, W: Sink>(
     alloc: Global,
     reader: &mut R,

@@ -26,7 +26,7 @@ pub enum Failure {
 
 impl Failure {
     /// The status of the program: 0 for help, 1 for a record that is not shown, 2 for words that are refused, and 3 for a fault or
-    /// want of memory.
+    /// an allocation failure.
     pub fn status(&self) -> u8
         ensures { result ≡ status_of self.now }
     {

@@ -14,7 +14,7 @@
 //! written. A run is played with the theorem of `play`, or recorded with that of `record` (`IsPlayedBy`); a record is read to its end,
 //! and its verdict written, or the record in version 2, with status 0 for `yes` and else 1 (`IsChecked`, `IsRewritten`); drawn lines are
 //! the generator's (`IsDrawnBy`); a record's page is written, or its verdict is a failure (`IsShownFor`). At each fault what was written
-//! is a beginning of that. A failure has the status 0 for help, 1 for a verdict, 2 for words that are refused, and else 3 (`status_of`).
+//! is a prefix of that. A failure has the status 0 for help, 1 for a verdict, 2 for words that are refused, and else 3 (`status_of`).
 //!
 //! `in_sight` does any work, and shows beside it that it goes on, in a thread of its own; `may_take_long` says which words ask for such
 //! work. Texts for people are shown by tests.

@@ -14,7 +14,7 @@ use std::alloc::Global;
 /// 0 for yes, else 1.
 ///
 /// `Fault::Read` where the reader failed or was read 2^40 times, and `Fault::Memory` where memory was refused, with nothing
-/// written; `Fault::Write` where the writer failed or took nothing, with a beginning of the text written.
+/// written; `Fault::Write` where the writer failed or took nothing, with a prefix of the text written.
 pub fn migrate_for<R: Source, W: Sink>(
     alloc: Global,
     reader: &mut R,

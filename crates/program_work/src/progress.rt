@@ -23,7 +23,7 @@ pub fn may_take_long<S: AsStr>(words: &[S]) -> bool {
 
 /// Writes a dot for each second until the work is done, and then an end of line where there are dots.
 pub fn tell_until<C: Clock, E: Write>(clock: &C, done: &AtomicBool, errors: &mut E) {
-    let mut told = false;
+    let mut reported = false;
     for look in 1..u64::MAX {
         if done.load(Ordering::SeqCst) {
             break;
@@ -32,11 +32,11 @@ pub fn tell_until<C: Clock, E: Write>(clock: &C, done: &AtomicBool, errors: &mut
         if look % LOOKS_A_SECOND == 0 {
             // A standard error that takes no dot is told none.
             if errors.write_all(b".").is_ok() {
-                told = true;
+                reported = true;
             }
         }
     }
-    if told {
+    if reported {
         let _ = errors.write_all(b"\n");
     }
 }

@@ -26,7 +26,7 @@ fn stretch_asked(showing: Showing) -> Stretch
 /// Reads a record to its end, and writes its page where its verdict is `Yes`, which is answered; with another nothing is written.
 ///
 /// `Fault::Read` where the reader failed or was read 2^40 times, and `Fault::Memory` where memory was refused, with nothing
-/// written; `Fault::Write` where the writer failed or took nothing, with a beginning of the page written.
+/// written; `Fault::Write` where the writer failed or took nothing, with a prefix of the page written.
 pub fn show_for<R: Source, W: Sink>(
     alloc: Global,
     showing: Showing,

@@ -30,9 +30,9 @@ pub use Rattle.record_lines.specs.Json.{count_members, SaysSizes, is_plain}
 pub use Rattle.record_lines.specs.declared.header.Version.{Version}
 pub use Rattle.record_lines.specs.declared.header.Version.TheVariants.{One, Two}
 pub use Rattle.record_lines.specs.declared.line.Line.{Line}
-pub use Rattle.record_lines.specs.declared.told.Told.{Told}
-pub use Rattle.record_lines.specs.ReplyText.{told_in, told_of_words, word_with, saw_of, told_with, told_by, pairs_after}
+pub use Rattle.record_lines.specs.declared.reported.Reported.{Reported}
+pub use Rattle.record_lines.specs.ReplyText.{reported_in, reported_of_words, word_with, saw_of, reported_with, reported_by, pairs_after}
 pub use Rattle.record_lines.specs.Pairs.{HasAt}
-pub use Rattle.record_lines.specs.PlainLine.{SpellsTold, SpellsLine, IsPlainView}
-pub use Rattle.record_lines.specs.Lines.{told_of}
-pub use Rattle.record_lines.specs.declared.told.Told.TheVariants.{Saw}
+pub use Rattle.record_lines.specs.PlainLine.{SpellsReported, SpellsLine, IsPlainView}
+pub use Rattle.record_lines.specs.Lines.{reported_of}
+pub use Rattle.record_lines.specs.declared.reported.Reported.TheVariants.{Saw}

@@ -1,7 +1,7 @@
 mod Common
 mod PairLemmas
 mod WordLemmas
-mod ToldWords
+mod ReportedWords
 mod JsonLemmas
 mod QuickReplies
 pub mod written

@@ -1,12 +1,12 @@
 -- what lines ask and tell fits a record
 use Rattle.std.proofs.Common.{ℕ, suc, ◌^◌, ◌<◌, ◌==◌, Bool, true, false, List, [], ◌∷◌, length, Option, Some, None, Err, inl, inr, subst, arith, codes, nat_lt, if◌then◌else◌, not, option_map, option_and_then}
-use Rattle.record_lines.proofs.Common.{list_all, leb_tells, WorldKind, Event, Begin, Step, Enter, Probe, Leave, Put, Get, Widen, gives_names, Version, One, Two, Line, Told, IsEventLine}
+use Rattle.record_lines.proofs.Common.{list_all, leb_tells, WorldKind, Event, Begin, Step, Enter, Probe, Leave, Put, Get, Widen, gives_names, Version, One, Two, Line, Reported, IsEventLine}
 use Rattle.commands.specs.declared.bad.Bad.TheVariants.{TooLong, NotPrintable, UnknownWord}
 use Rattle.commands.specs.declared.command.Command.TheVariants as command
 use Rattle.command_lines.specs.Meaning.{is_digit, is_printable, decimal_from, if_below, number_in, same_bytes, command_if, command_of_one, event_of_one, event_if_both, event_of_two, quit_of, desk_command_of, command_in, words, meaning, number_below}
-use Rattle.record_lines.specs.Narrow.{IsNarrowEvent, IsNarrow, FitsTold}
-use Rattle.record_lines.specs.declared.told.Told.TheVariants as told
-use Rattle.record_lines.specs.ReplyText.{told_in, told_of_words, plain_of, word_alone, word_with, owner_of, saw_of, pairs_in, told_with, told_by}
+use Rattle.record_lines.specs.Narrow.{IsNarrowEvent, IsNarrow, FitsReported}
+use Rattle.record_lines.specs.declared.reported.Reported.TheVariants as reported
+use Rattle.record_lines.specs.ReplyText.{reported_in, reported_of_words, plain_of, word_alone, word_with, owner_of, saw_of, pairs_in, reported_with, reported_by}
 
 -- ---- what lines ask
 
@@ -91,31 +91,31 @@ line_narrow kind line =
 
 -- ---- what lines tell
 
-abbrev IfFits : Option Told → Type 0
+abbrev IfFits : Option Reported → Type 0
 IfFits None = Unit {0}
-IfFits (Some t) = FitsTold t
+IfFits (Some t) = FitsReported t
 
 -- a reply of another kind, of what was read
-other_fits : {X : Type 0} (make : X → Told) → ((x : X) → FitsTold (make x)) → (o : Option X) → IfFits (option_map make o)
+other_fits : {X : Type 0} (make : X → Reported) → ((x : X) → FitsReported (make x)) → (o : Option X) → IfFits (option_map make o)
 other_fits make fits None = tt
 other_fits make fits (Some x) = fits x
 
-place_by : (o : Option ℕ) → IsBelow (2 ^ 128) o → IfFits (option_map told.Place o)
+place_by : (o : Option ℕ) → IsBelow (2 ^ 128) o → IfFits (option_map reported.Place o)
 place_by None h = tt
 place_by (Some n) h = h
 
 owner_fits : (other : List ℕ) → IfFits (owner_of other)
-owner_fits other = either IfFits (same_bytes other (codes "none")) _ _ tt (other_fits (λ id. told.Owner (Some id)) (λ id. tt) (number_in other))
+owner_fits other = either IfFits (same_bytes other (codes "none")) _ _ tt (other_fits (λ id. reported.Owner (Some id)) (λ id. tt) (number_in other))
 
 with_fits : (word other : List ℕ) → IfFits (word_with word other)
 with_fits word other =
     either IfFits (same_bytes word (codes "place")) _ _ (place_by (number_below (2 ^ 128) other) (word_below (2 ^ 128) other (omega arith)))
-    (either IfFits (same_bytes word (codes "proposed")) _ _ (other_fits told.Proposed (λ n. tt) (number_in other))
-    (either IfFits (same_bytes word (codes "named")) _ _ (other_fits (λ n. told.Named n None) (λ n. tt) (number_in other))
-    (either IfFits (same_bytes word (codes "got")) _ _ (other_fits told.Got (λ n. tt) (number_in other))
-    (either IfFits (same_bytes word (codes "left")) _ _ (other_fits told.Left (λ n. tt) (number_in other))
-    (either IfFits (same_bytes word (codes "value")) _ _ (other_fits told.Value (λ n. tt) (number_in other))
-    (either IfFits (same_bytes word (codes "refused")) _ _ (other_fits told.Refused (λ n. tt) (number_in other))
+    (either IfFits (same_bytes word (codes "proposed")) _ _ (other_fits reported.Proposed (λ n. tt) (number_in other))
+    (either IfFits (same_bytes word (codes "named")) _ _ (other_fits (λ n. reported.Named n None) (λ n. tt) (number_in other))
+    (either IfFits (same_bytes word (codes "got")) _ _ (other_fits reported.Got (λ n. tt) (number_in other))
+    (either IfFits (same_bytes word (codes "left")) _ _ (other_fits reported.Left (λ n. tt) (number_in other))
+    (either IfFits (same_bytes word (codes "value")) _ _ (other_fits reported.Value (λ n. tt) (number_in other))
+    (either IfFits (same_bytes word (codes "refused")) _ _ (other_fits reported.Refused (λ n. tt) (number_in other))
     (either IfFits (same_bytes word (codes "owner")) (owner_of other) None (owner_fits other) tt)))))))
 
 alone_fits : (word : List ℕ) → IfFits (word_alone word)
@@ -126,7 +126,7 @@ alone_fits word =
     (either IfFits (same_bytes word (codes "right")) _ _ tt
     (either IfFits (same_bytes word (codes "down")) _ _ tt
     (either IfFits (same_bytes word (codes "spent")) _ _ tt
-    (either IfFits (same_bytes word (codes "missed")) (Some told.Missed) None tt tt))))))
+    (either IfFits (same_bytes word (codes "missed")) (Some reported.Missed) None tt tt))))))
 
 plain_fits : (word : List ℕ) (others : List (List ℕ)) → IfFits (plain_of word others)
 plain_fits word [] = alone_fits word
@@ -135,27 +135,27 @@ plain_fits word (other ∷ third ∷ more) = tt
 
 saw_fits : (others : List (List ℕ)) → IfFits (saw_of others)
 saw_fits [] = tt
-saw_fits (word ∷ more) = other_fits told.Saw (λ view. tt) _
+saw_fits (word ∷ more) = other_fits reported.Saw (λ view. tt) _
 
-words_fit : (ws : List (List ℕ)) → IfFits (told_of_words ws)
+words_fit : (ws : List (List ℕ)) → IfFits (reported_of_words ws)
 words_fit [] = tt
 words_fit (word ∷ others) = either IfFits (same_bytes word (codes "saw")) _ _ (saw_fits others) (plain_fits word others)
 
-beside_fits : (v : Version) (t : Told) (shown : Option (List ℕ)) → FitsTold t → IfFits (told_with v t shown)
+beside_fits : (v : Version) (t : Reported) (shown : Option (List ℕ)) → FitsReported t → IfFits (reported_with v t shown)
 beside_fits One t None h = h
 beside_fits One t (Some text) h = tt
-beside_fits Two (told.Named name seen) None h = tt
-beside_fits Two (told.Named name seen) (Some text) h = other_fits (λ view. told.Named name (Some view)) (λ view. tt) (pairs_in text)
+beside_fits Two (reported.Named name seen) None h = tt
+beside_fits Two (reported.Named name seen) (Some text) h = other_fits (λ view. reported.Named name (Some view)) (λ view. tt) (pairs_in text)
 beside_fits Two t None h = h
 beside_fits Two t (Some text) h = tt
 
-told_fits : (v : Version) (text : List ℕ) (shown : Option (List ℕ)) → IfFits (told_by v text shown)
-told_fits v text shown = by (told_in text) (words_fit (words text))
+reported_fits : (v : Version) (text : List ℕ) (shown : Option (List ℕ)) → IfFits (reported_by v text shown)
+reported_fits v text shown = by (reported_in text) (words_fit (words text))
   where
-    by : (o : Option Told) → IfFits o → IfFits (option_and_then (λ t. told_with v t shown) o)
+    by : (o : Option Reported) → IfFits o → IfFits (option_and_then (λ t. reported_with v t shown) o)
     by None h = tt
     by (Some t) h = beside_fits v t shown h
 
 -- the numbers of an event's line
-pub line_fits : (kind : WorldKind) (v : Version) (row : List ℕ) (l : Line) → IsEventLine kind v row l → IsNarrowEvent l.event × FitsTold l.told
-line_fits kind v row l h = (subst IsNarrow h.says.event_is (line_narrow kind h.says.asked), subst IfFits h.says.told_is (told_fits v h.says.replied h.says.shown))
+pub line_fits : (kind : WorldKind) (v : Version) (row : List ℕ) (l : Line) → IsEventLine kind v row l → IsNarrowEvent l.event × FitsReported l.reported
+line_fits kind v row l h = (subst IsNarrow h.says.event_is (line_narrow kind h.says.asked), subst IfFits h.says.reported_is (reported_fits v h.says.replied h.says.shown))

@@ -1,6 +1,6 @@
 -- bytes say one thing
 use Rattle.std.proofs.Common.{◌≡◌, ℕ, List, Some, Ok, sym, ap, ◌∙◌, subst}
-use Rattle.record_lines.proofs.Common.{named_apart, WorldKind, Data, meaning, Header, Version, Line, SaysSizes, SaysLine, IsEventLine, IsHeaderLine, told_by}
+use Rattle.record_lines.proofs.Common.{named_apart, WorldKind, Data, meaning, Header, Version, Line, SaysSizes, SaysLine, IsEventLine, IsHeaderLine, reported_by}
 use Rattle.commands.specs.declared.command.Command.TheVariants as command
 use Rattle.record_lines.specs.Records.{AreSame}
 use Rattle.record_lines.proofs.written.PlainLines.{some_text, one_view}
@@ -19,10 +19,10 @@ module _ (kind : WorldKind) (version : Version) where
       let replied : x.replied ≡ y.replied = some_text _ _ (sym x.texts.reply_is ∙ y.texts.reply_is) in
       let events : Ok (command.Event l.event) ≡ Ok (command.Event k.event) = sym x.event_is ∙ ap (meaning kind) asked ∙ y.event_is in
       let shown : x.shown ≡ y.shown = one_view d x.shown y.shown (sym x.texts.keys ∙ y.texts.keys) x.texts.view_is y.texts.view_is in
-      let tolds : Some l.told ≡ Some k.told = sym x.told_is ∙ (λ i. told_by version (replied i) (shown i)) ∙ y.told_is in
+      let tolds : Some l.reported ≡ Some k.reported = sym x.reported_is ∙ (λ i. reported_by version (replied i) (shown i)) ∙ y.reported_is in
       let event : l.event ≡ k.event = cc in
-      let told : l.told ≡ k.told = cc in
-      λ i. record { event = event i; told = told i }
+      let reported : l.reported ≡ k.reported = cc in
+      λ i. record { event = event i; reported = reported i }
 
   -- bytes are one line alone
   pub line_once : (row : List ℕ) (l k : Line) → IsEventLine kind version row l → IsEventLine kind version row k → l ≡ k

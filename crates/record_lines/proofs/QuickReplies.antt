@@ -1,6 +1,6 @@
 -- lines that are read in one pass over their bytes
 use Rattle.std.proofs.Common.{◌≡◌, ℕ, ◌-◌, ◌≤◌, ◌==◌, true, false, not, List, [], ◌∷◌, ◌++◌, length, take, drop, Some, None, refl, ap, ◌∙◌, arith, codes, append_assoc}
-use Rattle.record_lines.proofs.Common.{list_all, nat_tests, words, is_digit, number_in, same_bytes, Version, One, Two, Told, is_plain, told_by, told_with, told_in, told_of_words, word_with, lacks, pieces-last, pieces-cut}
+use Rattle.record_lines.proofs.Common.{list_all, nat_tests, words, is_digit, number_in, same_bytes, Version, One, Two, Reported, is_plain, reported_by, reported_with, reported_in, reported_of_words, word_with, lacks, pieces-last, pieces-cut}
 use Rattle.std.proofs.lemmas.List.{take_all, length-drop}
 use Rattle.command_lines.specs.Quick.{is_of_words}
 use Rattle.record_lines.specs.PlainLine.{SpellsReply, SpellsNumberAfter}
@@ -13,30 +13,30 @@ of_words_plain b h = grind (arith, nat_tests)
 pub words_plain : (xs : List ℕ) → list_all is_of_words xs ≡ true → list_all is_plain xs ≡ true
 words_plain xs h = all_by is_of_words is_plain of_words_plain xs h
 
--- the bytes past a beginning, as a slice gives them
+-- the bytes past a prefix, as a slice gives them
 pub rest_of-slice : (bytes : List ℕ) (n : ℕ) → n ≤ length bytes → take (length bytes - n) (drop n bytes) ≡ drop n bytes
 rest_of-slice bytes n le = take_all (length bytes - n) (drop n bytes) (omega (arith, length-drop n bytes))
 
 -- what is told in each version
-in_both : (t : Told) → told_with One t None ≡ Some t → told_with Two t None ≡ Some t → (version : Version) → told_with version t None ≡ Some t
+in_both : (t : Reported) → reported_with One t None ≡ Some t → reported_with Two t None ≡ Some t → (version : Version) → reported_with version t None ≡ Some t
 in_both t one two One = one
 in_both t one two Two = two
 
-told_in_both : (replied : List ℕ) (t : Told) → told_in replied ≡ Some t → told_with One t None ≡ Some t → told_with Two t None ≡ Some t → (version : Version) → told_by version replied None ≡ Some t
-told_in_both replied t is one two version = rw is (in_both t one two version)
+reported_in_both : (replied : List ℕ) (t : Reported) → reported_in replied ≡ Some t → reported_with One t None ≡ Some t → reported_with Two t None ≡ Some t → (version : Version) → reported_by version replied None ≡ Some t
+reported_in_both replied t is one two version = rw is (in_both t one two version)
 
 -- a reply of one word
-pub word_spelled : (text replied : List ℕ) (t : Told) → text ≡ replied ++ close → list_all is_plain replied ≡ true → told_in replied ≡ Some t → told_with One t None ≡ Some t → told_with Two t None ≡ Some t → SpellsReply text t
-word_spelled text replied t written plain is one two = record { replied = replied; end = record { written = written; plain = plain; plain_view = tt }; tells = told_in_both replied t is one two }
+pub word_spelled : (text replied : List ℕ) (t : Reported) → text ≡ replied ++ close → list_all is_plain replied ≡ true → reported_in replied ≡ Some t → reported_with One t None ≡ Some t → reported_with Two t None ≡ Some t → SpellsReply text t
+word_spelled text replied t written plain is one two = record { replied = replied; end = record { written = written; plain = plain; plain_view = tt }; tells = reported_in_both replied t is one two }
 
 -- a reply of a word and a number
-pub number_spelled : (text word : List ℕ) (t : Told) (n : ℕ) → SpellsNumberAfter text (word ++ 32 ∷ []) n → list_all is_plain word ≡ true → lacks 32 word ≡ true → same_bytes word (codes "saw") ≡ false →
-    ((digits : List ℕ) → number_in digits ≡ Some n → word_with word digits ≡ Some t) → told_with One t None ≡ Some t → told_with Two t None ≡ Some t → SpellsReply text t
+pub number_spelled : (text word : List ℕ) (t : Reported) (n : ℕ) → SpellsNumberAfter text (word ++ 32 ∷ []) n → list_all is_plain word ≡ true → lacks 32 word ≡ true → same_bytes word (codes "saw") ≡ false →
+    ((digits : List ℕ) → number_in digits ≡ Some n → word_with word digits ≡ Some t) → reported_with One t None ≡ Some t → reported_with Two t None ≡ Some t → SpellsReply text t
 number_spelled text word t n after plain whole other tells one two =
     let s = after.number in
     let replied : List ℕ = word ++ 32 ∷ s.digits in
     let cut : words replied ≡ word ∷ s.digits ∷ [] =
     pieces-cut 32 [] word s.digits whole ∙ ap (λ (l : List (List ℕ)). word ∷ l) (pieces-last 32 [] s.digits (all_by is_digit (λ b. not (b == 32)) digit_no_space s.digits s.are_digits)) in
-    let means : told_of_words (word ∷ s.digits ∷ []) ≡ Some t = rw other (tells s.digits s.number) in
+    let means : reported_of_words (word ∷ s.digits ∷ []) ≡ Some t = rw other (tells s.digits s.number) in
     let written : text ≡ replied ++ close = after.split ∙ ap (λ (l : List ℕ). (word ++ 32 ∷ []) ++ l) s.written ∙ simp append_assoc in
-    word_spelled text replied t written (plain_both word (32 ∷ s.digits) plain (plain_both (32 ∷ []) s.digits refl (all_by is_digit is_plain digit_plain s.digits s.are_digits))) (ap told_of_words cut ∙ means) one two
+    word_spelled text replied t written (plain_both word (32 ∷ s.digits) plain (plain_both (32 ∷ []) s.digits refl (all_by is_digit is_plain digit_plain s.digits s.are_digits))) (ap reported_of_words cut ∙ means) one two

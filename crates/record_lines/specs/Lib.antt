@@ -1,5 +1,5 @@
-pub mod Told
-pub mod ToldWords
+pub mod Reported
+pub mod ReportedWords
 pub mod ReplyText
 pub mod Json
 pub mod RecordLine

@@ -6,8 +6,8 @@ use Rattle.commands.specs.declared.exchange.Exchange.{Exchange}
 use Rattle.commands.specs.Replies.{ShownReply}
 use Rattle.commands.specs.declared.reply.Reply.TheVariants as reply
 use Rattle.record_lines.specs.declared.line.Line.{Line}
-use Rattle.record_lines.specs.declared.told.Told.{Told}
-use Rattle.record_lines.specs.declared.told.Told.TheVariants as told
+use Rattle.record_lines.specs.declared.reported.Reported.{Reported}
+use Rattle.record_lines.specs.declared.reported.Reported.TheVariants as reported
 
 -- the view by which a name was given, where it is shown
 abbrev pub shown_where : Bool → List (ℕ × ℕ) → Option (List (ℕ × ℕ))
@@ -15,30 +15,30 @@ shown_where true view = Some view
 shown_where false view = None
 
 -- how a reply is told: the view by which a name was given is shown or left out
-abbrev pub told_of : Bool → ShownReply → Told
-told_of shows reply.Ok = told.Ok
-told_of shows reply.Quiet = told.Quiet
-told_of shows reply.Stop = told.Stop
-told_of shows reply.Right = told.Right
-told_of shows reply.Down = told.Down
-told_of shows (reply.Place place) = told.Place place
-told_of shows (reply.Proposed number) = told.Proposed number
-told_of shows (reply.Saw view) = told.Saw view
-told_of shows (reply.Named name view) = told.Named name (shown_where shows view)
-told_of shows reply.Spent = told.Spent
-told_of shows reply.Missed = told.Missed
-told_of shows (reply.Got number) = told.Got number
-told_of shows (reply.Left number) = told.Left number
-told_of shows (reply.Value value) = told.Value value
-told_of shows (reply.Owner owner) = told.Owner owner
-told_of shows (reply.Refused why) = told.Refused (refusal_number why)
+abbrev pub reported_of : Bool → ShownReply → Reported
+reported_of shows reply.Ok = reported.Ok
+reported_of shows reply.Quiet = reported.Quiet
+reported_of shows reply.Stop = reported.Stop
+reported_of shows reply.Right = reported.Right
+reported_of shows reply.Down = reported.Down
+reported_of shows (reply.Place place) = reported.Place place
+reported_of shows (reply.Proposed number) = reported.Proposed number
+reported_of shows (reply.Saw view) = reported.Saw view
+reported_of shows (reply.Named name view) = reported.Named name (shown_where shows view)
+reported_of shows reply.Spent = reported.Spent
+reported_of shows reply.Missed = reported.Missed
+reported_of shows (reply.Got number) = reported.Got number
+reported_of shows (reply.Left number) = reported.Left number
+reported_of shows (reply.Value value) = reported.Value value
+reported_of shows (reply.Owner owner) = reported.Owner owner
+reported_of shows (reply.Refused why) = reported.Refused (refusal_number why)
 
-abbrev pub line : Event → Told → Line
-line e t = record { event = e; told = t }
+abbrev pub line : Event → Reported → Line
+line e t = record { event = e; reported = t }
 
 -- the line of an exchange, with the view by which a name was given or without it
 abbrev pub line_of : Bool → Exchange → Line
-line_of shows x = line x.event (told_of shows x.reply)
+line_of shows x = line x.event (reported_of shows x.reply)
 
 -- a line is that of an exchange, told in full or without the view by which a name was given
 pub record IsLineOf (x : Exchange) (l : Line) : Type 0 where

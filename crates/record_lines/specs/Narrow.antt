@@ -9,8 +9,8 @@ use Rattle.commands.specs.declared.bad.Bad.{Bad}
 use Rattle.commands.specs.declared.command.Command.{Command}
 use Rattle.commands.specs.declared.command.Command.TheVariants as command
 use Rattle.commands.specs.declared.exchange.Exchange.{Exchange}
-use Rattle.record_lines.specs.declared.told.Told.{Told}
-use Rattle.record_lines.specs.declared.told.Told.TheVariants as told
+use Rattle.record_lines.specs.declared.reported.Reported.{Reported}
+use Rattle.record_lines.specs.declared.reported.Reported.TheVariants as reported
 
 -- the numbers of an event are below 2^64
 abbrev pub IsNarrowEvent : Event → Type 0
@@ -59,6 +59,6 @@ IsNarrow (Ok (command.Event e)) = IsNarrowEvent e
 IsNarrow r = Unit {0}
 
 -- a place has at most 128 bits
-abbrev pub FitsTold : Told → Type 0
-FitsTold (told.Place place) = place < 2 ^ 128
-FitsTold t = Unit {0}
+abbrev pub FitsReported : Reported → Type 0
+FitsReported (reported.Place place) = place < 2 ^ 128
+FitsReported t = Unit {0}

@@ -9,10 +9,10 @@ use Rattle.commands.specs.declared.command.Command.TheVariants as command
 use Rattle.command_lines.specs.Meaning.{is_digit, meaning, number_in}
 use Rattle.record_lines.specs.declared.header.Version.{Version}
 use Rattle.record_lines.specs.declared.line.Line.{Line}
-use Rattle.record_lines.specs.declared.told.Told.{Told}
+use Rattle.record_lines.specs.declared.reported.Reported.{Reported}
 use Rattle.record_lines.specs.Json.{is_plain}
 use Rattle.record_lines.specs.RecordLine.{IsJson, SaysLine}
-use Rattle.record_lines.specs.ReplyText.{told_by}
+use Rattle.record_lines.specs.ReplyText.{reported_by}
 
 -- the bytes are read as a value that says this line
 pub record SpellsLine (kind : WorldKind) (version : Version) (bytes : List ℕ) (l : Line) : Type 0 where
@@ -43,17 +43,17 @@ pub record SpellsEnd (text replied : List ℕ) (shown : Option (List ℕ)) : Typ
   pub plain_view : IsPlainView shown
 
 -- what it ends with tells this in this version
-pub record SpellsTold (version : Version) (text : List ℕ) (t : Told) : Type 0 where
+pub record SpellsReported (version : Version) (text : List ℕ) (t : Reported) : Type 0 where
   pub replied : List ℕ
   pub shown : Option (List ℕ)
   pub end : SpellsEnd text replied shown
-  pub tells : told_by version replied shown ≡ Some t
+  pub tells : reported_by version replied shown ≡ Some t
 
 -- with no view beside it, it tells this in each version
-pub record SpellsReply (text : List ℕ) (t : Told) : Type 0 where
+pub record SpellsReply (text : List ℕ) (t : Reported) : Type 0 where
   pub replied : List ℕ
   pub end : SpellsEnd text replied None
-  pub tells : (version : Version) → told_by version replied None ≡ Some t
+  pub tells : (version : Version) → reported_by version replied None ≡ Some t
 
 -- a line ends so, with digits that write this number
 pub record SpellsLastNumber (text : List ℕ) (n : ℕ) : Type 0 where

@@ -10,7 +10,7 @@ use Rattle.record_lines.specs.declared.header.Header.{Header}
 use Rattle.record_lines.specs.declared.header.Version.{Version}
 use Rattle.record_lines.specs.declared.line.Line.{Line}
 use Rattle.record_lines.specs.Json.{AreTexts, IsHeader}
-use Rattle.record_lines.specs.ReplyText.{told_by}
+use Rattle.record_lines.specs.ReplyText.{reported_by}
 
 -- the bytes are a text that is read as this value
 pub record IsJson (bytes : List ℕ) (d : Data) : Type 0 where
@@ -28,12 +28,12 @@ pub record SaysLine (kind : WorldKind) (version : Version) (d : Data) (l : Line)
   pub shown : Option (List ℕ)
   pub texts : AreTexts d asked replied shown
   pub event_is : meaning kind asked ≡ Ok (command.Event l.event)
-  pub told_is : told_by version replied shown ≡ Some l.told
+  pub reported_is : reported_by version replied shown ≡ Some l.reported
 
 -- these texts say it
 pub record SaysByTexts (kind : WorldKind) (version : Version) (asked replied : List ℕ) (shown : Option (List ℕ)) (l : Line) : Type 0 where
   pub event_is : meaning kind asked ≡ Ok (command.Event l.event)
-  pub told_is : told_by version replied shown ≡ Some l.told
+  pub reported_is : reported_by version replied shown ≡ Some l.reported
 
 -- the line that is found says this; where none is found, no line does
 abbrev pub FindsLine : (Line → Type 0) → Option Line → Type 0

@@ -5,8 +5,8 @@ use Rattle.command_lines.specs.Lines.{pieces_from}
 use Rattle.command_lines.specs.Meaning.{words, number_below, number_in, same_bytes}
 use Rattle.record_lines.specs.declared.header.Version.{Version}
 use Rattle.record_lines.specs.declared.header.Version.TheVariants.{One, Two}
-use Rattle.record_lines.specs.declared.told.Told.{Told}
-use Rattle.record_lines.specs.declared.told.Told.TheVariants.{Ok, Quiet, Stop, Right, Down, Place, Proposed, Saw, Named, Spent, Missed, Got, Left, Value, Owner, Refused}
+use Rattle.record_lines.specs.declared.reported.Reported.{Reported}
+use Rattle.record_lines.specs.declared.reported.Reported.TheVariants.{Ok, Quiet, Stop, Right, Down, Place, Proposed, Saw, Named, Spent, Missed, Got, Left, Value, Owner, Refused}
 
 abbrev pub pair_by : Option ℕ → Option ℕ → Option (ℕ × ℕ)
 pair_by None number = None
@@ -38,12 +38,12 @@ abbrev pub pairs_in : List ℕ → Option (List (ℕ × ℕ))
 pairs_in text = pairs_after 0 (words text)
 
 -- a view has one pair or more, and no identity is 0
-abbrev pub saw_of : List (List ℕ) → Option Told
+abbrev pub saw_of : List (List ℕ) → Option Reported
 saw_of [] = None
 saw_of (word ∷ more) = option_map Saw (pairs_after 0 (word ∷ more))
 
 -- the reply of one word
-abbrev pub word_alone : List ℕ → Option Told
+abbrev pub word_alone : List ℕ → Option Reported
 word_alone word =
     if same_bytes word (codes "ok") then Some Ok
     else if same_bytes word (codes "quiet") then Some Quiet
@@ -54,11 +54,11 @@ word_alone word =
     else if same_bytes word (codes "missed") then Some Missed
     else None
 
-abbrev pub owner_of : List ℕ → Option Told
+abbrev pub owner_of : List ℕ → Option Reported
 owner_of other = if same_bytes other (codes "none") then Some (Owner None) else option_map (λ id. Owner (Some id)) (number_in other)
 
 -- the reply of a word and another
-abbrev pub word_with : List ℕ → List ℕ → Option Told
+abbrev pub word_with : List ℕ → List ℕ → Option Reported
 word_with word other =
     if same_bytes word (codes "place") then option_map Place (number_below (2 ^ 128) other)
     else if same_bytes word (codes "proposed") then option_map Proposed (number_in other)
@@ -70,31 +70,31 @@ word_with word other =
     else if same_bytes word (codes "owner") then owner_of other
     else None
 
-abbrev pub plain_of : List ℕ → List (List ℕ) → Option Told
+abbrev pub plain_of : List ℕ → List (List ℕ) → Option Reported
 plain_of word [] = word_alone word
 plain_of word (other ∷ []) = word_with word other
 plain_of word (other ∷ third ∷ more) = None
 
-abbrev pub told_of_words : List (List ℕ) → Option Told
-told_of_words [] = None
-told_of_words (word ∷ others) = if same_bytes word (codes "saw") then saw_of others else plain_of word others
+abbrev pub reported_of_words : List (List ℕ) → Option Reported
+reported_of_words [] = None
+reported_of_words (word ∷ others) = if same_bytes word (codes "saw") then saw_of others else plain_of word others
 
 -- the reply that a text tells, without its LF
-abbrev pub told_in : List ℕ → Option Told
-told_in text = told_of_words (words text)
+abbrev pub reported_in : List ℕ → Option Reported
+reported_in text = reported_of_words (words text)
 
 -- what is told of a reply, with the view that is written beside it: in version 2 of each name, and of nothing else
-abbrev pub told_with : Version → Told → Option (List ℕ) → Option Told
-told_with One t None = Some t
-told_with One t (Some text) = None
-told_with Two (Named name shown) None = None
-told_with Two (Named name shown) (Some text) = option_map (λ view. Named name (Some view)) (pairs_in text)
-told_with Two t None = Some t
-told_with Two t (Some text) = None
+abbrev pub reported_with : Version → Reported → Option (List ℕ) → Option Reported
+reported_with One t None = Some t
+reported_with One t (Some text) = None
+reported_with Two (Named name shown) None = None
+reported_with Two (Named name shown) (Some text) = option_map (λ view. Named name (Some view)) (pairs_in text)
+reported_with Two t None = Some t
+reported_with Two t (Some text) = None
 
 -- what these texts tell of a reply
-abbrev pub told_by : Version → List ℕ → Option (List ℕ) → Option Told
-told_by version text shown = option_and_then (λ t. told_with version t shown) (told_in text)
+abbrev pub reported_by : Version → List ℕ → Option (List ℕ) → Option Reported
+reported_by version text shown = option_and_then (λ t. reported_with version t shown) (reported_in text)
 
 -- what was read so far, with what is read of the rest
 abbrev pub after_pairs : List (ℕ × ℕ) → Option (List (ℕ × ℕ)) → Option (List (ℕ × ℕ))

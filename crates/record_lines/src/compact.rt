@@ -7,12 +7,12 @@ ghost use Rattle.command_lines.specs.Events.{event_words};
 ghost use Rattle.commands.specs.Config.{world_name};
 ghost use Rattle.command_lines.specs.Replies.{owner_words, pair_words, reply_words, view_words};
 ghost use Rattle.player.specs.Records.{exchange_line, header_line, name_view};
-ghost use Rattle.record_lines.specs.Lines.{IsLineOf, IsShown, told_of};
-ghost use Rattle.record_lines.specs.ToldWords.{told_words};
+ghost use Rattle.record_lines.specs.Lines.{IsLineOf, IsShown, reported_of};
+ghost use Rattle.record_lines.specs.ReportedWords.{reported_words};
 
 use crate::line::Line;
+use crate::reported::Reported;
 use crate::text::Text;
-use crate::told::Told;
 use commands::{Config, Event, WorldKind};
 use itoa::Buffer;
 use std::alloc::AllocError;
@@ -75,36 +75,36 @@ pub fn put_owner(owner: Option<u64>, out: &mut Text) -> Result<(), AllocError>
 }
 
 /// Appends the words of what is told.
-fn put_words(told: &Told, out: &mut Text) -> Result<(), AllocError>
-    ensures { OnOk result (out.new ≡ out.old ++ told_words told.now) }
+fn put_words(reported: &Reported, out: &mut Text) -> Result<(), AllocError>
+    ensures { OnOk result (out.new ≡ out.old ++ reported_words reported.now) }
 {
-    match told {
-        Told::Ok => out.put(b"ok"),
-        Told::Quiet => out.put(b"quiet"),
-        Told::Stop => out.put(b"stop"),
-        Told::Right => out.put(b"right"),
-        Told::Down => out.put(b"down"),
-        Told::Place(place) => put_place(*place, out),
-        Told::Proposed(number) => out.put_word(b"proposed ", *number),
-        Told::Saw(view) => put_view(view.as_slice(), out),
-        Told::Named(name, _) => out.put_word(b"named ", *name),
-        Told::Spent => out.put(b"spent"),
-        Told::Missed => out.put(b"missed"),
-        Told::Got(number) => out.put_word(b"got ", *number),
-        Told::Left(number) => out.put_word(b"left ", *number),
-        Told::Value(value) => out.put_word(b"value ", *value),
-        Told::Owner(owner) => put_owner(*owner, out),
-        Told::Refused(number) => out.put_word(b"refused ", *number),
+    match reported {
+        Reported::Ok => out.put(b"ok"),
+        Reported::Quiet => out.put(b"quiet"),
+        Reported::Stop => out.put(b"stop"),
+        Reported::Right => out.put(b"right"),
+        Reported::Down => out.put(b"down"),
+        Reported::Place(place) => put_place(*place, out),
+        Reported::Proposed(number) => out.put_word(b"proposed ", *number),
+        Reported::Saw(view) => put_view(view.as_slice(), out),
+        Reported::Named(name, _) => out.put_word(b"named ", *name),
+        Reported::Spent => out.put(b"spent"),
+        Reported::Missed => out.put(b"missed"),
+        Reported::Got(number) => out.put_word(b"got ", *number),
+        Reported::Left(number) => out.put_word(b"left ", *number),
+        Reported::Value(value) => out.put_word(b"value ", *value),
+        Reported::Owner(owner) => put_owner(*owner, out),
+        Reported::Refused(number) => out.put_word(b"refused ", *number),
     }
 }
 
 /// Appends the words of what is told: those of each reply of which it is told. An error where a growth was refused.
-#[tactic(auto, using(crate::proofs::ToldWords::spelled))]
-pub fn put_told(told: &Told, out: &mut Text) -> Result<(), AllocError>
-    ensures words { OnOk result (out.new ≡ out.old ++ told_words told.now) }
-    ensures spelled { OnOk result ((shows : Bool) (r : ShownReply) → told_of shows r ≡ told.now → out.new ≡ out.old ++ reply_words r) }
+#[tactic(auto, using(crate::proofs::ReportedWords::spelled))]
+pub fn put_reported(reported: &Reported, out: &mut Text) -> Result<(), AllocError>
+    ensures words { OnOk result (out.new ≡ out.old ++ reported_words reported.now) }
+    ensures spelled { OnOk result ((shows : Bool) (r : ShownReply) → reported_of shows r ≡ reported.now → out.new ≡ out.old ++ reply_words r) }
 {
-    put_words(told, out)
+    put_words(reported, out)
 }
 
 /// Appends the pairs of a view, with a space between them.
@@ -121,10 +121,10 @@ fn put_shown(pairs: &[(u64, u64)], out: &mut Text) -> Result<(), AllocError>
 }
 
 /// Appends the view by which a name was given, and nothing where none was.
-fn put_named_by(told: &Told, view: &[(u64, u64)], out: &mut Text) -> Result<(), AllocError>
-    ensures { OnOk result ((shows : Bool) (r : ShownReply) → told_of shows r ≡ told.now → IsShown r view.now → out.new ≡ out.old ++ name_view r) }
+fn put_named_by(reported: &Reported, view: &[(u64, u64)], out: &mut Text) -> Result<(), AllocError>
+    ensures { OnOk result ((shows : Bool) (r : ShownReply) → reported_of shows r ≡ reported.now → IsShown r view.now → out.new ≡ out.old ++ name_view r) }
 {
-    if !told.is_name() {
+    if !reported.is_name() {
         return Ok(());
     }
     out.put(b",\"view\":\"")?;
@@ -139,9 +139,9 @@ pub fn put_line(line: &Line, view: &[(u64, u64)], out: &mut Text) -> Result<(), 
     out.put(b"{\"command\":\"")?;
     put_event(line.event, out)?;
     out.put(b"\",\"reply\":\"")?;
-    put_told(&line.told, out)?;
+    put_reported(&line.reported, out)?;
     out.put(b"\"")?;
-    put_named_by(&line.told, view, out)?;
+    put_named_by(&line.reported, view, out)?;
     out.put(b"}\n")
 }
 

@@ -10,7 +10,7 @@ ghost use Rattle.player.specs.Turns.{Turn, exchanges};
 ghost use Rattle.record_lines.specs.declared.header.Header.{Header};
 ghost use Rattle.record_lines.specs.declared.header.Version.{Version};
 ghost use Rattle.record_lines.specs.declared.line.Line.{Line};
-ghost use Rattle.record_lines.specs.Narrow.{IsNarrowEvent, AreNarrowExchanges, IsNarrow, FitsTold};
+ghost use Rattle.record_lines.specs.Narrow.{IsNarrowEvent, AreNarrowExchanges, IsNarrow, FitsReported};
 ghost use Rattle.record_lines.specs.RecordLine.{IsEventLine, IsHeaderLine};
 ghost use Rattle.record_lines.specs.Records.{IsRecordOf, AreSame};
 
@@ -23,7 +23,7 @@ pub fn law_of_lines()
     ensures names { (head : List ℕ) (h : Header) → IsHeaderLine head h → gives_names h.config.world ≡ true }
     ensures asked { (kind : WorldKind) (line : List ℕ) → IsNarrow (meaning kind line) }
     ensures narrow { (kind : WorldKind) (version : Version) (row : List ℕ) (l : Line) →
-        IsEventLine kind version row l → IsNarrowEvent l.event × FitsTold l.told }
+        IsEventLine kind version row l → IsNarrowEvent l.event × FitsReported l.reported }
 {}
 
 /// A law, which runs nothing, of the worlds with names: what `record` of `schedule_player` writes of turns whose numbers fit is a

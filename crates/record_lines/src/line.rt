@@ -1,6 +1,6 @@
 //! A line of a record.
 
-use crate::told::Told;
+use crate::reported::Reported;
 use commands::Event;
 
 /// An event and what the record tells of its reply.
@@ -9,12 +9,15 @@ pub struct Line {
     /// What a participant did.
     pub event: Event,
     /// What it was answered, as the record tells.
-    pub told: Told,
+    pub reported: Reported,
 }
 
 // By hand, so that a line is taken apart here alone, and not wherever one is dropped.
 impl Drop for Line {
     fn drop(self) {
-        let Line { event: _, told: _ } = self;
+        let Line {
+            event: _,
+            reported: _,
+        } = self;
     }
 }

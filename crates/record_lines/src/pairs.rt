@@ -57,7 +57,7 @@ impl Pairs {
     /// One more pair at the end; an error where a growth was refused, with the pairs as before.
     pub fn push(&mut self, id: u64, number: u64) -> Result<(), AllocError>
         ensures pushed { OnOk result (self.new ≡ self.old ++ (id, number) ∷ []) }
-        ensures refused { OnErr result (self.new ≡ self.old) }
+        ensures unchanged_on_error { OnErr result (self.new ≡ self.old) }
     {
         self.items.push((id, number)).map_err(AllocError::from)
     }
@@ -66,7 +66,7 @@ impl Pairs {
     /// growth was refused, with the pairs as before.
     pub fn put(&mut self, id: u64, number: u64) -> Result<(), AllocError>
         ensures put { OnOk result (self.new ≡ inserted self.old (id, number)) }
-        ensures refused { OnErr result (self.new ≡ self.old) }
+        ensures unchanged_on_error { OnErr result (self.new ≡ self.old) }
     {
         let at = place_for(&self.items, id);
         if has_at(&self.items, at, id) {

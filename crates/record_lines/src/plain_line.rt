@@ -4,13 +4,13 @@ ghost use Rattle.std.specs.Prelude.{◌≡◌, ◌≤◌, ◌++◌, IfOk, IfSome
 ghost use Rattle.std.specs.List.{list_all};
 ghost use Rattle.std.specs.Option.{option_copied};
 ghost use Rattle.record_lines.specs.Json.{is_plain};
-ghost use Rattle.record_lines.specs.PlainLine.{SpellsEvent, SpellsEnd, SpellsLine, SpellsTold};
+ghost use Rattle.record_lines.specs.PlainLine.{SpellsEvent, SpellsEnd, SpellsLine, SpellsReported};
 
 use crate::header::Version;
 use crate::line::Line;
-use crate::quick_reply::quick_told;
-use crate::reply_text::told_of;
-use crate::told::Told;
+use crate::quick_reply::quick_reported;
+use crate::reply_text::reported_of;
+use crate::reported::Reported;
 use command_lines::words::is_word;
 use commands::{Event, WorldKind};
 use player::{Command, after_front, quick_command};
@@ -76,11 +76,15 @@ fn plain_end(text: &[u8]) -> Option<(&[u8], Option<&[u8]>)>
 /// What is told by the reply with which a line of a record of this version ends, and by the view beside it. `None` says nothing of the
 /// bytes. An error where a growth was refused.
 #[inline(never)]
-fn plain_told(alloc: Global, version: Version, text: &[u8]) -> Result<Option<Told>, AllocError>
-    ensures { IfOk result (λ r. IfSome r (SpellsTold version text.now)) }
+fn plain_reported(
+    alloc: Global,
+    version: Version,
+    text: &[u8],
+) -> Result<Option<Reported>, AllocError>
+    ensures { IfOk result (λ r. IfSome r (SpellsReported version text.now)) }
 {
     match plain_end(text) {
-        Some((reply, view)) => told_of(alloc, version, reply, view),
+        Some((reply, view)) => reported_of(alloc, version, reply, view),
         None => Ok(None),
     }
 }
@@ -100,11 +104,11 @@ pub fn plain_line(
     let Some((event, text)) = plain_event(kind, bytes) else {
         return Ok(None);
     };
-    if let Some(told) = quick_told(text) {
-        return Ok(Some(Line { event, told }));
+    if let Some(reported) = quick_reported(text) {
+        return Ok(Some(Line { event, reported }));
     }
-    match plain_told(alloc, version, text)? {
-        Some(told) => Ok(Some(Line { event, told })),
+    match plain_reported(alloc, version, text)? {
+        Some(reported) => Ok(Some(Line { event, reported })),
         None => Ok(None),
     }
 }

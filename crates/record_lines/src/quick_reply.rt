@@ -3,46 +3,46 @@
 ghost use Rattle.std.specs.Prelude.{IfSome};
 ghost use Rattle.record_lines.specs.PlainLine.{SpellsReply, SpellsLastNumber, SpellsNumberAfter};
 
-use crate::told::Told;
+use crate::reported::Reported;
 use command_lines::words::is_word;
 use player::{after_front, quick_number};
 
 /// What the reply tells with which a line ends, where its word is common and told alike in each version. `None` says nothing of the
 /// bytes.
 #[inline(always)]
-pub fn quick_told(text: &[u8]) -> Option<Told>
+pub fn quick_reported(text: &[u8]) -> Option<Reported>
     ensures { IfSome result (λ t. SpellsReply text.now t) }
 {
     if is_word(text, b"quiet\"}") {
-        return Some(Told::Quiet);
+        return Some(Reported::Quiet);
     }
     if is_word(text, b"ok\"}") {
-        return Some(Told::Ok);
+        return Some(Reported::Ok);
     }
     if is_word(text, b"missed\"}") {
-        return Some(Told::Missed);
+        return Some(Reported::Missed);
     }
-    quick_number_told(text)
+    quick_number_reported(text)
 }
 
-/// As `quick_told`, of a word and a number.
-fn quick_number_told(text: &[u8]) -> Option<Told>
+/// As `quick_reported`, of a word and a number.
+fn quick_number_reported(text: &[u8]) -> Option<Reported>
     ensures { IfSome result (λ t. SpellsReply text.now t) }
 {
     if let Some(number) = number_after(text, b"proposed ") {
-        return Some(Told::Proposed(number));
+        return Some(Reported::Proposed(number));
     }
     if let Some(number) = number_after(text, b"refused ") {
-        return Some(Told::Refused(number));
+        return Some(Reported::Refused(number));
     }
     if let Some(number) = number_after(text, b"got ") {
-        return Some(Told::Got(number));
+        return Some(Reported::Got(number));
     }
     if let Some(number) = number_after(text, b"left ") {
-        return Some(Told::Left(number));
+        return Some(Reported::Left(number));
     }
     if let Some(number) = number_after(text, b"value ") {
-        return Some(Told::Value(number));
+        return Some(Reported::Value(number));
     }
     None
 }

@@ -12,7 +12,7 @@ use crate::header::{Header, Version};
 use crate::line::Line;
 use crate::object::{header, texts};
 use crate::plain_line::plain_line;
-use crate::reply_text::told_of;
+use crate::reply_text::reported_of;
 use commands::{Event, WorldKind};
 use player::{Command, parse_line};
 use serde_json::Value;
@@ -59,8 +59,8 @@ fn line_of(
     let Some(event) = event_of(texts.command, kind) else {
         return Ok(None);
     };
-    match told_of(alloc, version, texts.reply, texts.view)? {
-        Some(told) => Ok(Some(Line { event, told })),
+    match reported_of(alloc, version, texts.reply, texts.view)? {
+        Some(reported) => Ok(Some(Line { event, reported })),
         None => Ok(None),
     }
 }

@@ -4,11 +4,11 @@ ghost use Rattle.std.specs.Prelude.{◌≡◌, IfOk, None, Some};
 ghost use Rattle.std.specs.Option.{option_copied};
 ghost use Rattle.command_lines.specs.Lines.{pieces_left};
 ghost use Rattle.record_lines.specs.declared.header.Version.TheVariants.{Two};
-ghost use Rattle.record_lines.specs.ReplyText.{pair_in, pairs_in, word_alone, owner_of, word_with, plain_of, told_in, told_with, told_by};
+ghost use Rattle.record_lines.specs.ReplyText.{pair_in, pairs_in, word_alone, owner_of, word_with, plain_of, reported_in, reported_with, reported_by};
 
 use crate::header::Version;
 use crate::pairs::Pairs;
-use crate::told::Told;
+use crate::reported::Reported;
 use command_lines::words::{cut, is_word, number, wide_number};
 use std::alloc::{AllocError, Global};
 
@@ -47,56 +47,56 @@ pub fn pairs(alloc: Global, text: &[u8]) -> Result<Option<Pairs>, AllocError>
 }
 
 /// The reply of one word.
-fn alone(word: &[u8]) -> Option<Told>
+fn alone(word: &[u8]) -> Option<Reported>
     ensures { result ≡ word_alone word.now }
 {
     if is_word(word, b"ok") {
-        Some(Told::Ok)
+        Some(Reported::Ok)
     } else if is_word(word, b"quiet") {
-        Some(Told::Quiet)
+        Some(Reported::Quiet)
     } else if is_word(word, b"stop") {
-        Some(Told::Stop)
+        Some(Reported::Stop)
     } else if is_word(word, b"right") {
-        Some(Told::Right)
+        Some(Reported::Right)
     } else if is_word(word, b"down") {
-        Some(Told::Down)
+        Some(Reported::Down)
     } else if is_word(word, b"spent") {
-        Some(Told::Spent)
+        Some(Reported::Spent)
     } else if is_word(word, b"missed") {
-        Some(Told::Missed)
+        Some(Reported::Missed)
     } else {
         None
     }
 }
 
 /// Who has a name, or that no one has.
-fn owner(other: &[u8]) -> Option<Told>
+fn owner(other: &[u8]) -> Option<Reported>
     ensures { result ≡ owner_of other.now }
 {
     if is_word(other, b"none") {
-        return Some(Told::Owner(None));
+        return Some(Reported::Owner(None));
     }
-    number(other).map(|id| Told::Owner(Some(id)))
+    number(other).map(|id| Reported::Owner(Some(id)))
 }
 
 /// The reply of a word and another.
-fn with(word: &[u8], other: &[u8]) -> Option<Told>
+fn with(word: &[u8], other: &[u8]) -> Option<Reported>
     ensures { result ≡ word_with word.now other.now }
 {
     if is_word(word, b"place") {
-        wide_number(other).map(Told::Place)
+        wide_number(other).map(Reported::Place)
     } else if is_word(word, b"proposed") {
-        number(other).map(Told::Proposed)
+        number(other).map(Reported::Proposed)
     } else if is_word(word, b"named") {
-        number(other).map(|name| Told::Named(name, None))
+        number(other).map(|name| Reported::Named(name, None))
     } else if is_word(word, b"got") {
-        number(other).map(Told::Got)
+        number(other).map(Reported::Got)
     } else if is_word(word, b"left") {
-        number(other).map(Told::Left)
+        number(other).map(Reported::Left)
     } else if is_word(word, b"value") {
-        number(other).map(Told::Value)
+        number(other).map(Reported::Value)
     } else if is_word(word, b"refused") {
-        number(other).map(Told::Refused)
+        number(other).map(Reported::Refused)
     } else if is_word(word, b"owner") {
         owner(other)
     } else {
@@ -105,7 +105,7 @@ fn with(word: &[u8], other: &[u8]) -> Option<Told>
 }
 
 /// The reply of a word and the others, which are no pairs.
-fn plain(word: &[u8], others: Option<&[u8]>) -> Option<Told>
+fn plain(word: &[u8], others: Option<&[u8]>) -> Option<Reported>
     ensures { result ≡ plain_of word.now (pieces_left 32 (option_copied others.entry)) }
 {
     let Some(text) = others else {
@@ -119,8 +119,8 @@ fn plain(word: &[u8], others: Option<&[u8]>) -> Option<Told>
 }
 
 /// The reply that a text tells, without its LF; `None` where it is no reply. An error where a growth was refused.
-pub fn read_reply(alloc: Global, text: &[u8]) -> Result<Option<Told>, AllocError>
-    ensures { IfOk result (λ r. r ≡ told_in text.now) }
+pub fn read_reply(alloc: Global, text: &[u8]) -> Result<Option<Reported>, AllocError>
+    ensures { IfOk result (λ r. r ≡ reported_in text.now) }
 {
     let (word, others) = cut(text, b' ');
     if !is_word(word, b"saw") {
@@ -130,29 +130,29 @@ pub fn read_reply(alloc: Global, text: &[u8]) -> Result<Option<Told>, AllocError
         return Ok(None);
     };
     match pairs(alloc, text)? {
-        Some(view) => Ok(Some(Told::Saw(view))),
+        Some(view) => Ok(Some(Reported::Saw(view))),
         None => Ok(None),
     }
 }
 
 /// What is told of a reply beside which no view is written, in a record of this version.
-fn without_view(version: Version, told: Told) -> Option<Told>
-    ensures { result ≡ told_with version told None }
+fn without_view(version: Version, reported: Reported) -> Option<Reported>
+    ensures { result ≡ reported_with version reported None }
 {
-    match (version, &told) {
-        (Version::Two, Told::Named(_, _)) => None,
-        _ => Some(told),
+    match (version, &reported) {
+        (Version::Two, Reported::Named(_, _)) => None,
+        _ => Some(reported),
     }
 }
 
 /// What is told of a reply beside which the pairs of this text are written, in a record of version 2. An error where a growth
 /// was refused.
-fn with_view(alloc: Global, told: Told, text: &[u8]) -> Result<Option<Told>, AllocError>
-    ensures { IfOk result (λ r. r ≡ told_with Two told (Some text.now)) }
+fn with_view(alloc: Global, reported: Reported, text: &[u8]) -> Result<Option<Reported>, AllocError>
+    ensures { IfOk result (λ r. r ≡ reported_with Two reported (Some text.now)) }
 {
-    match told {
-        Told::Named(name, _) => match pairs(alloc, text)? {
-            Some(view) => Ok(Some(Told::Named(name, Some(view)))),
+    match reported {
+        Reported::Named(name, _) => match pairs(alloc, text)? {
+            Some(view) => Ok(Some(Reported::Named(name, Some(view)))),
             None => Ok(None),
         },
         _ => Ok(None),
@@ -160,22 +160,22 @@ fn with_view(alloc: Global, told: Told, text: &[u8]) -> Result<Option<Told>, All
 }
 
 /// What a reply and the view beside it tell, in a record of this version. An error where a growth was refused.
-pub fn told_of(
+pub fn reported_of(
     alloc: Global,
     version: Version,
     reply: &[u8],
     view: Option<&[u8]>,
-) -> Result<Option<Told>, AllocError>
-    ensures { IfOk result (λ r. r ≡ told_by version reply.now (option_copied view.entry)) }
+) -> Result<Option<Reported>, AllocError>
+    ensures { IfOk result (λ r. r ≡ reported_by version reply.now (option_copied view.entry)) }
 {
-    let Some(told) = read_reply(alloc, reply)? else {
+    let Some(reported) = read_reply(alloc, reply)? else {
         return Ok(None);
     };
     let Some(text) = view else {
-        return Ok(without_view(version, told));
+        return Ok(without_view(version, reported));
     };
     match version {
         Version::One => Ok(None),
-        Version::Two => with_view(alloc, told, text),
+        Version::Two => with_view(alloc, reported, text),
     }
 }

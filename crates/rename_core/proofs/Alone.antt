@@ -8,7 +8,7 @@ use Rattle.rename_core.specs.Alone.{LeavesAlone, HasTwoLeft, steps_alone}
 use Rattle.rename_core.proofs.LocalSteps.{wish_becomes}
 use Rattle.proposal_rounds.proofs.Numbers.{next_free}
 use Rattle.rename_core.proofs.rounds.Standing.{others_stand}
-use Rattle.rename_core.proofs.rounds.StepCases.{begun_own, no_round, told_answer, told_state, refusal_here, closed_answer, step_refused}
+use Rattle.rename_core.proofs.rounds.StepCases.{begun_own, no_round, reported_answer, reported_state, refusal_here, closed_answer, step_refused}
 use Rattle.rename_core.proofs.rounds.Stepping.{HasGone, placing_gone, proposing_gone, looking_gone, standing_made}
 use Rattle.rename_core.proofs.rounds.Tied.{IsAtStage, IsPlacing, IsProposing, IsLooking, IsTied}
 use Rattle.rename_core.proofs.rounds.Views.{taken_not}
@@ -308,11 +308,11 @@ module _ {S R V U K : Type 0} (W : KnownPlaces S R V U K) (terms : RenameTerms) 
         conclude : (reply : SnapReply) → snap_answer W w.snap p ≡ Ok reply → stage_refusal v.program.stage ≡ None → LessLeft (followed v.program p reply w.limit) → Nearer
         conclude reply answer unclosed left =
             let f : Follow = followed v.program p reply w.limit in
-            let same : Ok said ≡ Ok f.reply = said_is ∙ sym (told_answer W w p v here reply unclosed (sym answer)) in
-            let told : f.reply ≡ said = cc in
-            let state : world_of f ≡ after_rename_step W w p = told_state W w p v here reply unclosed (sym answer) in
+            let same : Ok said ≡ Ok f.reply = said_is ∙ sym (reported_answer W w p v here reply unclosed (sym answer)) in
+            let reported : f.reply ≡ said = cc in
+            let state : world_of f ≡ after_rename_step W w p = reported_state W w p v here reply unclosed (sym answer) in
             subst (λ (x : RenameState S U K). LeftAlone x (after_step o p said) (paced_step t p said) p n) state
-            (subst (λ (x : StepReply). LeftAlone (world_of f) (after_step o p x) (paced_step t p x) p n) told (beginner p f.round, round_put f, left))
+            (subst (λ (x : StepReply). LeftAlone (world_of f) (after_step o p x) (paced_step t p x) p n) reported (beginner p f.round, round_put f, left))
 
         nearer_at : (stage : Stage) → v.program.stage ≡ stage → IsAtStage terms o t i.object w.snap p v.program stage → LeftAt w o t p v.program stage (suc n) → Nearer
         nearer_at Placing e h left =

@@ -34,7 +34,7 @@ pub use Rattle.snapshot_core.specs.Machine.{snapshot}
 pub use Rattle.rename_core.specs.Reply.{StepReply, outcome_with}
 pub use Rattle.rename_core.specs.RenameState.{RenameState}
 pub use Rattle.rename_core.specs.Machine.{renaming, next, IsReply, BeginsTheSame}
-pub use Rattle.rename_core.specs.RenameWorld.{rename_answer, after_rename_step, step_refusal, may_lack, after_wish, begun_snap, begun_unless, has_place, world_with, snap_step, snap_told, after_follow, answer_told, answer_open, answer_by, after_told, after_open, after_by, name_in, owner_by, shown_by, name_by}
+pub use Rattle.rename_core.specs.RenameWorld.{rename_answer, after_rename_step, step_refusal, may_lack, after_wish, begun_snap, begun_unless, has_place, world_with, snap_step, snap_reported, after_follow, answer_reported, answer_open, answer_by, after_reported, after_open, after_by, name_in, owner_by, shown_by, name_by}
 pub use Rattle.rename_core.specs.declared.reply.Reply.TheVariants.{Quiet, Proposed, Saw, Placed, Named, Spent}
 pub use Rattle.rename_core.specs.declared.round.Round.{Round}
 pub use Rattle.rename_core.specs.declared.round.Follow.{Follow}

@@ -25,7 +25,7 @@ pub only_for_memory : {X : Type 0} (r : Result X Refusal) → IfErr r (λ why. w
 only_for_memory (Ok x) p = tt
 only_for_memory (Err why) p = inl p
 
--- no refusal for want of memory is one of a range
+-- no refusal because an allocation failed is one of a range
 pub refused_for : {X : Type 0} (r : Result X Refusal) → IfErr r (λ why. why ≡ NoMemory) → r ≡ Err OutOfRange → ⊥
 refused_for (Ok x) p e = cc
 refused_for (Err why) p e = let is : why ≡ OutOfRange = cc in let never : NoMemory ≡ OutOfRange = sym p ∙ is in cc

@@ -1,6 +1,6 @@
 -- a step is local
 use Rattle.std.proofs.Common.{◌≡◌, ◌≢◌, ℕ, true, false, cond, List, Option, Some, None, Result, Ok, Err, inl, inr, refl, sym, ap, subst, ◌∙◌, option_map}
-use Rattle.rename_core.proofs.Common.{set_at-same, set_at-other, Participant, Refusal, NotBegun, Finished, NoMemory, participant_of, program_of, with_participant, beginner, resumed, Client, SnapReply, is_idle, scanning, updating, KnownPlaces, StepReply, Follow, Round, Wish, Nothing, Update, Scan, RenameState, after_wish, snap_step, snap_told, after_follow, answer_told, answer_open, answer_by, after_told, after_open, after_by, rename_answer, after_rename_step, stage_refusal, followed}
+use Rattle.rename_core.proofs.Common.{set_at-same, set_at-other, Participant, Refusal, NotBegun, Finished, NoMemory, participant_of, program_of, with_participant, beginner, resumed, Client, SnapReply, is_idle, scanning, updating, KnownPlaces, StepReply, Follow, Round, Wish, Nothing, Update, Scan, RenameState, after_wish, snap_step, snap_reported, after_follow, answer_reported, answer_open, answer_by, after_reported, after_open, after_by, rename_answer, after_rename_step, stage_refusal, followed}
 use Rattle.step_memory.specs.declared.access.Access.{Access}
 use Rattle.step_memory.specs.declared.access.Answer.{Answer}
 use Rattle.step_memory.specs.Steps.{Spares}
@@ -8,7 +8,7 @@ use Rattle.step_memory.specs.World.{step_answer_by}
 use Rattle.step_memory.specs.Calls.{reply_of}
 use Rattle.step_memory.proofs.ParticipantLemmas.{participant_of-put, identity_of}
 use Rattle.step_memory.proofs.StepLemmas.{going_after, lacks_or_not}
-use Rattle.snapshot_core.specs.SnapWorld.{SnapState, asked, clients_over, told, scan_refusal_by, update_refusal_by, snap_answer_by, after_snap_step}
+use Rattle.snapshot_core.specs.SnapWorld.{SnapState, asked, clients_over, reported, scan_refusal_by, update_refusal_by, snap_answer_by, after_snap_step}
 use Rattle.rename_core.specs.Locality.{client_of, round_of, wished, asked_unless, access_of, got_in, follow_by, ChangesOnly}
 
 -- who is put in is found there, and no other has changed
@@ -48,11 +48,11 @@ module _ {S R V U K : Type 0} (W : KnownPlaces S R V U K) where
   pub record IsAccepted (s : SnapState S U K) (p : ℕ) (reply : SnapReply) : Type 0 where
     pub who : Participant (Client U K)
     pub here : participant_of p s.participants ≡ Some who
-    pub answer : reply ≡ told ((clients_over W).note who.program (got_in W s.memory who.program))
+    pub answer : reply ≡ reported ((clients_over W).note who.program (got_in W s.memory who.program))
     pub after : after_snap_step W s p ≡ record { memory = W.memory.after s.memory (access_of W who.program); most = s.most; participants = with_participant (resumed (clients_over W) who (got_in W s.memory who.program)) s.participants }
 
   module _ (s : SnapState S U K) (p : ℕ) (reply : SnapReply) where
-    awake : (v : Participant (Client U K)) → participant_of p s.participants ≡ Some v → is_idle v.program.pending ≡ false → v.ended ≡ false → told ((clients_over W).note v.program (got_in W s.memory v.program)) ≡ reply → IsAccepted s p reply
+    awake : (v : Participant (Client U K)) → participant_of p s.participants ≡ Some v → is_idle v.program.pending ≡ false → v.ended ≡ false → reported ((clients_over W).note v.program (got_in W s.memory v.program)) ≡ reply → IsAccepted s p reply
     awake v h busy goes e = record {
       who = v;
       here = h;
@@ -60,14 +60,14 @@ module _ {S R V U K : Type 0} (W : KnownPlaces S R V U K) where
       after = (let is : program_of p s.participants ≡ Some v.program = ap (option_map (λ u. u.program)) h in rw (is, busy) (going_after (clients_over W) W.memory s p v h goes));
     }
 
-    going : (v : Participant (Client U K)) → participant_of p s.participants ≡ Some v → is_idle v.program.pending ≡ false → reply_of told (step_answer_by (clients_over W) W.memory s.memory (Some v)) ≡ Ok reply → IsAccepted s p reply
-    going v h busy e = elim v.ended as (λ b. v.ended ≡ b → reply_of told (cond b (Err Finished) (Ok ((clients_over W).note v.program (got_in W s.memory v.program)))) ≡ Ok reply → IsAccepted s p reply) [
+    going : (v : Participant (Client U K)) → participant_of p s.participants ≡ Some v → is_idle v.program.pending ≡ false → reply_of reported (step_answer_by (clients_over W) W.memory s.memory (Some v)) ≡ Ok reply → IsAccepted s p reply
+    going v h busy e = elim v.ended as (λ b. v.ended ≡ b → reply_of reported (cond b (Err Finished) (Ok ((clients_over W).note v.program (got_in W s.memory v.program)))) ≡ Ok reply → IsAccepted s p reply) [
       | true ↦ λ g k. absurd (let no : Err Finished ≡ Ok reply = k in cc)
-      | false ↦ λ g k. awake v h busy g (let same : told ((clients_over W).note v.program (got_in W s.memory v.program)) ≡ reply = cc in same)
+      | false ↦ λ g k. awake v h busy g (let same : reported ((clients_over W).note v.program (got_in W s.memory v.program)) ≡ reply = cc in same)
     ] refl e
 
     found_going : (v : Participant (Client U K)) → participant_of p s.participants ≡ Some v → snap_answer_by W s p (Some v.program) ≡ Ok reply → IsAccepted s p reply
-    found_going v h e = elim (is_idle v.program.pending) as (λ b. is_idle v.program.pending ≡ b → cond b (Err Finished) (reply_of told (step_answer_by (clients_over W) W.memory s.memory (participant_of p s.participants))) ≡ Ok reply → IsAccepted s p reply) [
+    found_going v h e = elim (is_idle v.program.pending) as (λ b. is_idle v.program.pending ≡ b → cond b (Err Finished) (reply_of reported (step_answer_by (clients_over W) W.memory s.memory (participant_of p s.participants))) ≡ Ok reply → IsAccepted s p reply) [
       | true ↦ λ idle k. absurd (let no : Err Finished ≡ Ok reply = k in cc)
       | false ↦ λ busy k. going v h busy (rw h at k)
     ] refl e
@@ -145,12 +145,12 @@ module _ {S R V U K : Type 0} (W : KnownPlaces S R V U K) where
       }
 
     module _ (v : Participant Round) (here : participant_of p w.rounds ≡ Some v) where
-      told_local : (answer : Result SnapReply Refusal) → snap_told W w p ≡ answer → ChangesOnly W p w (after_told W w p v.program answer) (answer_told W w p v.program answer)
-      told_local (Ok reply) e = accepted_local v here reply (accepted w.snap p reply e)
-      told_local (Err why) e = refused_local why
+      reported_local : (answer : Result SnapReply Refusal) → snap_reported W w p ≡ answer → ChangesOnly W p w (after_reported W w p v.program answer) (answer_reported W w p v.program answer)
+      reported_local (Ok reply) e = accepted_local v here reply (accepted w.snap p reply e)
+      reported_local (Err why) e = refused_local why
 
       open_local : (why : Option Refusal) → ChangesOnly W p w (after_open W w p v.program why) (answer_open W w p v.program why)
-      open_local None = told_local (snap_told W w p) refl
+      open_local None = reported_local (snap_reported W w p) refl
       open_local (Some why) = refused_local why
 
     -- every step is local

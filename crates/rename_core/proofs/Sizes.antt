@@ -1,6 +1,6 @@
 -- no call changes the most participants, nor the round limit
 use Rattle.std.proofs.Common.{◌≡◌, ℕ, true, false, cond, List, [], ◌∷◌, Option, Some, None, Result, Ok, Err, refl, ap, ◌∙◌}
-use Rattle.rename_core.proofs.Common.{Refusal, Call, lacked_memory, Began, Stepped, program_of, Run, begin_refusal, SnapReply, StepReply, Round, KnownPlaces, RenameState, begun_unless, has_place, after_told, after_open, after_by, after_rename_step, snap_told, stage_refusal, followed, first_wish}
+use Rattle.rename_core.proofs.Common.{Refusal, Call, lacked_memory, Began, Stepped, program_of, Run, begin_refusal, SnapReply, StepReply, Round, KnownPlaces, RenameState, begun_unless, has_place, after_reported, after_open, after_by, after_rename_step, snap_reported, stage_refusal, followed, first_wish}
 use Rattle.rename_core.specs.Machine.{next, IsReply, KeepsSizes}
 use Rattle.rename_core.proofs.rounds.StepCases.{begun_large, step_large}
 
@@ -9,12 +9,12 @@ module _ {S R V U K : Type 0} (W : KnownPlaces S R V U K) (w : RenameState S U K
   abbrev IsSized : RenameState S U K → Type 0
   IsSized new = (new.snap.most ≡ w.snap.most) × (new.limit ≡ w.limit)
 
-  told_sized : (r : Round) (told : Result SnapReply Refusal) → IsSized (after_told W w p r told)
-  told_sized r (Ok reply) = ((step_large W w p (followed r p reply w.limit).wish).most, refl)
-  told_sized r (Err why) = (refl, refl)
+  reported_sized : (r : Round) (reported : Result SnapReply Refusal) → IsSized (after_reported W w p r reported)
+  reported_sized r (Ok reply) = ((step_large W w p (followed r p reply w.limit).wish).most, refl)
+  reported_sized r (Err why) = (refl, refl)
 
   open_sized : (r : Round) (why : Option Refusal) → IsSized (after_open W w p r why)
-  open_sized r None = told_sized r (snap_told W w p)
+  open_sized r None = reported_sized r (snap_reported W w p)
   open_sized r (Some why) = (refl, refl)
 
   by_sized : (o : Option Round) → IsSized (after_by W w p o)

@@ -9,7 +9,7 @@ use Rattle.step_memory.specs.Steps.{Spares, answer_from}
 use Rattle.snapshot_core.specs.declared.client.Client.{Client}
 use Rattle.snapshot_core.specs.Client.{scanning, updating}
 use Rattle.snapshot_core.specs.Places.{KnownPlaces}
-use Rattle.snapshot_core.specs.SnapWorld.{clients_over, told, scan_refusal_by, update_refusal_by}
+use Rattle.snapshot_core.specs.SnapWorld.{clients_over, reported, scan_refusal_by, update_refusal_by}
 use Rattle.rename_core.specs.Reply.{StepReply}
 use Rattle.rename_core.specs.declared.round.Follow.{Follow}
 use Rattle.rename_core.specs.declared.round.Round.{Round}
@@ -45,7 +45,7 @@ module _ {S R V U K : Type 0} (W : KnownPlaces S R V U K) where
 
   -- what follows the answer: reply and round, and what the client becomes
   abbrev pub follow_by : ℕ → ℕ → Client U K → Round → Answer V → Follow
-  follow_by p limit c r got = followed r p (told ((clients_over W).note c got)) limit
+  follow_by p limit c r got = followed r p (reported ((clients_over W).note c got)) limit
 
   abbrev pub client_by : ℕ → ℕ → Client U K → Round → Answer V → Client U K
   client_by p limit c r got = wished (follow_by p limit c r got).wish ((clients_over W).resumed c got)

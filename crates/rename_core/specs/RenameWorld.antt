@@ -86,15 +86,15 @@ module _ {S R V U K : Type 0} (W : KnownPlaces S R V U K) where
   abbrev pub snap_step : RenameState S U K → ℕ → SnapState S U K
   snap_step w id = after_snap_step W w.snap id
 
-  abbrev pub snap_told : RenameState S U K → ℕ → Result SnapReply Refusal
-  snap_told w id = snap_answer W w.snap id
+  abbrev pub snap_reported : RenameState S U K → ℕ → Result SnapReply Refusal
+  snap_reported w id = snap_answer W w.snap id
 
-  abbrev pub answer_told : RenameState S U K → ℕ → Round → Result SnapReply Refusal → Result StepReply Refusal
-  answer_told w id r (Ok reply) = Ok (followed r id reply w.limit).reply
-  answer_told w id r (Err why) = Err why
+  abbrev pub answer_reported : RenameState S U K → ℕ → Round → Result SnapReply Refusal → Result StepReply Refusal
+  answer_reported w id r (Ok reply) = Ok (followed r id reply w.limit).reply
+  answer_reported w id r (Err why) = Err why
 
   abbrev pub answer_open : RenameState S U K → ℕ → Round → Option Refusal → Result StepReply Refusal
-  answer_open w id r None = answer_told w id r (snap_told w id)
+  answer_open w id r None = answer_reported w id r (snap_reported w id)
   answer_open w id r (Some why) = Err why
 
   abbrev pub answer_by : RenameState S U K → ℕ → Option Round → Result StepReply Refusal
@@ -108,12 +108,12 @@ module _ {S R V U K : Type 0} (W : KnownPlaces S R V U K) where
   abbrev pub after_follow : RenameState S U K → ℕ → Follow → RenameState S U K
   after_follow w id f = world_with w (after_wish (snap_step w id) id f.wish) id f.round
 
-  abbrev pub after_told : RenameState S U K → ℕ → Round → Result SnapReply Refusal → RenameState S U K
-  after_told w id r (Ok reply) = after_follow w id (followed r id reply w.limit)
-  after_told w id r (Err why) = w
+  abbrev pub after_reported : RenameState S U K → ℕ → Round → Result SnapReply Refusal → RenameState S U K
+  after_reported w id r (Ok reply) = after_follow w id (followed r id reply w.limit)
+  after_reported w id r (Err why) = w
 
   abbrev pub after_open : RenameState S U K → ℕ → Round → Option Refusal → RenameState S U K
-  after_open w id r None = after_told w id r (snap_told w id)
+  after_open w id r None = after_reported w id r (snap_reported w id)
   after_open w id r (Some why) = w
 
   abbrev pub after_by : RenameState S U K → ℕ → Option Round → RenameState S U K
@@ -124,7 +124,7 @@ module _ {S R V U K : Type 0} (W : KnownPlaces S R V U K) where
   abbrev pub after_rename_step : RenameState S U K → ℕ → RenameState S U K
   after_rename_step w id = after_by w id (program_of id w.rounds)
 
-  -- whether that step may be refused for want of memory
+  -- whether that step may be refused because an allocation failed
   abbrev pub may_lack : RenameState S U K → ℕ → Bool
   may_lack w id = may_lack_memory W w.snap id
 

@@ -9,10 +9,10 @@ abbrev pub StepReply : Type 0
 StepReply = Reply (List (ℕ × ℕ))
 
 -- the view by which it was decided
-abbrev pub view_told : {V : Type 0} → Reply V → Option V
-view_told (Saw view) = Some view
-view_told (Named name view) = Some view
-view_told r = None
+abbrev pub view_reported : {V : Type 0} → Reply V → Option V
+view_reported (Saw view) = Some view
+view_reported (Named name view) = Some view
+view_reported r = None
 
 -- the reply with this view in the place of what it carries
 abbrev pub with_view : {V W : Type 0} → Reply V → W → Reply W

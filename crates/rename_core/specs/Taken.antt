@@ -18,21 +18,21 @@ snap_err why = Err why
 
 module _ {S R V U K : Type 0} (W : KnownPlaces S R V U K) (snap new : SnapState S U K) (v u : Participant Round) (limit : ℕ) (result : Result (Reply (Unit {0})) Refusal) (view : List (ℕ × ℕ)) where
   -- the object told this, and what follows is answered, asked for and stands in the round
-  pub record HasFollowed (told : SnapReply) : Type 0 where
-    pub is_told : Ok told ≡ snap_answer W snap v.identity
+  pub record HasFollowed (reported : SnapReply) : Type 0 where
+    pub is_reported : Ok reported ≡ snap_answer W snap v.identity
     pub reply : Reply (Unit {0})
     pub result_is : result ≡ Ok reply
-    pub reply_is : with_view reply view ≡ (followed v.program v.identity told limit).reply
-    pub asked : new ≡ after_wish (after_snap_step W snap v.identity) v.identity (followed v.program v.identity told limit).wish
-    pub round : u ≡ beginner v.identity (followed v.program v.identity told limit).round
+    pub reply_is : with_view reply view ≡ (followed v.program v.identity reported limit).reply
+    pub asked : new ≡ after_wish (after_snap_step W snap v.identity) v.identity (followed v.program v.identity reported limit).wish
+    pub round : u ≡ beginner v.identity (followed v.program v.identity reported limit).round
 
   -- the object refused the step, and nothing has changed
   pub record WasRefused (why : Refusal) : Type 0 where
     pub result_is : result ≡ Err why
     pub kept : new ≡ snap
     pub same : u ≡ v
-    pub is_told : snap_err why ≢ snap_err NoMemory → snap_err why ≡ snap_answer W snap v.identity
+    pub is_reported : snap_err why ≢ snap_err NoMemory → snap_err why ≡ snap_answer W snap v.identity
     pub lacks : snap_err why ≡ snap_err NoMemory → may_lack_memory W snap v.identity ≡ true
 
   abbrev pub IsTaken : Type 0
-  IsTaken = ((told : SnapReply) × HasFollowed told) ⊎ ((why : Refusal) × WasRefused why)
+  IsTaken = ((reported : SnapReply) × HasFollowed reported) ⊎ ((why : Refusal) × WasRefused why)

@@ -27,7 +27,7 @@ use std::alloc::Allocator;
 
 /// A law, which runs nothing: renaming is a machine whose calls lead on, whose lists of calls, with every prefix of them, keep
 /// the law of renaming, and each of whose calls is answered as the object that those before it make may answer it. A call
-/// keeps the world's sizes. After a list of calls a step is refused, want of memory aside, only where its round is ended or
+/// keeps the world's sizes. After a list of calls a step is refused, failed allocations aside, only where its round is ended or
 /// its participant has not begun.
 pub fn law_of_renaming_calls<W: RenamePlaces<A>, A: Allocator>()
     ensures machine { IsProved (renaming ⟦<W as Known>⟧.places W.world) }

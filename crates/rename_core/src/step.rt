@@ -41,7 +41,7 @@ where
 fn follow<W: RenamePlaces<A> + Drop, A: Allocator>(
     snap: &mut SnapWorld<W, A>,
     participant: &mut Participant<Round>,
-    told: SnapReply,
+    reported: SnapReply,
     limit: u64,
     view: &mut View,
 ) -> Reply<()>
@@ -49,12 +49,12 @@ where
     W::Walker: Copy,
     W::Walk: Copy,
     W::Value: Drop,
-    ensures reply { with_view result view.new ≡ (followed participant.old.program participant.old.identity told limit).reply }
-    ensures asked { snap.new ≡ after_wish snap.old participant.old.identity (followed participant.old.program participant.old.identity told limit).wish }
-    ensures round { participant.new ≡ beginner participant.old.identity (followed participant.old.program participant.old.identity told limit).round }
+    ensures reply { with_view result view.new ≡ (followed participant.old.program participant.old.identity reported limit).reply }
+    ensures asked { snap.new ≡ after_wish snap.old participant.old.identity (followed participant.old.program participant.old.identity reported limit).wish }
+    ensures round { participant.new ≡ beginner participant.old.identity (followed participant.old.program participant.old.identity reported limit).round }
 {
     let id = participant.identity;
-    let follow = participant.program.followed(id, told, limit);
+    let follow = participant.program.followed(id, reported, limit);
     ask(snap, id, follow.wish);
     participant.program = follow.round;
     participant.ended = false;
@@ -77,7 +77,7 @@ where
     ensures { IsTaken ⟦<W as Known>⟧.places snap.old snap.new participant.old participant.new limit result view.new }
 {
     match snap.step(participant.identity) {
-        Ok(told) => Ok(follow(snap, participant, told, limit, view)),
+        Ok(reported) => Ok(follow(snap, participant, reported, limit, view)),
         Err(refusal) => Err(refusal),
     }
 }

@@ -52,7 +52,7 @@ fn show(view: &mut View, participant: &Participant<Round>)
     }
 }
 
-/// Where the round of an identity stands that may take a step; why it may take none, want of memory aside.
+/// Where the round of an identity stands that may take a step; why it may take none, failed allocations aside.
 #[inline(always)]
 fn open_round(hints: &Hints, rounds: &[Participant<Round>], id: u64) -> Result<usize, Refusal>
     requires { AreDistinct rounds.now }
@@ -126,7 +126,7 @@ impl<W: RenamePlaces<A>, A: Allocator> RenameWorld<W, A> {
         &self.snap
     }
 
-    /// Why an identity may take no step: what `step` would be refused, want of memory aside. It changes nothing.
+    /// Why an identity may take no step: what `step` would be refused, failed allocations aside. It changes nothing.
     pub fn step_refusal(&self, id: u64) -> Option<Refusal>
         ensures { result ≡ step_refusal self.now id }
     {
@@ -190,7 +190,7 @@ where
     fn take_step(&mut self, id: u64, view: &mut View) -> Result<Reply<()>, Refusal>
         ensures answer { result ≢ Err Refusal.NoMemory → outcome_with result view.new ≡ rename_answer ⟦<W as Known>⟧.places self.old id }
         ensures state { result ≢ Err Refusal.NoMemory → self.new ≡ after_rename_step ⟦<W as Known>⟧.places self.old id }
-        ensures refused { OnErr result (self.new ≡ self.old) }
+        ensures unchanged_on_error { OnErr result (self.new ≡ self.old) }
         ensures no_memory { result ≡ Err Refusal.NoMemory → LacksMemory ⟦<W as Known>⟧.places self.old id }
     {
         match open_round(&self.hints, &self.rounds, id) {
@@ -204,7 +204,7 @@ where
     pub fn step(&mut self, id: u64) -> Result<Reply<View>, Refusal>
         ensures answer { result ≢ Err Refusal.NoMemory → result ≡ rename_answer ⟦<W as Known>⟧.places self.old id }
         ensures state { result ≢ Err Refusal.NoMemory → self.new ≡ after_rename_step ⟦<W as Known>⟧.places self.old id }
-        ensures refused { OnErr result (self.new ≡ self.old) }
+        ensures unchanged_on_error { OnErr result (self.new ≡ self.old) }
         ensures no_memory { result ≡ Err Refusal.NoMemory → LacksMemory ⟦<W as Known>⟧.places self.old id }
 
         // The law, over every list of calls and replies that the world may be after.
@@ -227,7 +227,7 @@ where
     pub fn step_short(&mut self, id: u64, view: &mut View) -> Result<Reply<()>, Refusal>
         ensures answer { result ≢ Err Refusal.NoMemory → outcome_with result view.new ≡ rename_answer ⟦<W as Known>⟧.places self.old id }
         ensures state { result ≢ Err Refusal.NoMemory → self.new ≡ after_rename_step ⟦<W as Known>⟧.places self.old id }
-        ensures refused { OnErr result (self.new ≡ self.old) }
+        ensures unchanged_on_error { OnErr result (self.new ≡ self.old) }
         ensures no_memory { result ≡ Err Refusal.NoMemory → LacksMemory ⟦<W as Known>⟧.places self.old id }
         ensures after { Extends (renaming ⟦<W as Known>⟧.places W.world) self.old self.new (Stepped id (outcome_with result view.new)) }
         ensures law { SatisfiesSpec (renaming ⟦<W as Known>⟧.places W.world) self.new }

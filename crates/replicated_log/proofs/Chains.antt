@@ -4,7 +4,7 @@ use Rattle.std.proofs.Common.{length-append, Result, Ok, Err, IfOk, IfErr, ◌�
 use Rattle.replicated_log.specs.declared.replica.Step.{Step}
 use Rattle.replicated_log.specs.declared.replica.Step.TheVariants.{Nothing, Answered, Passed}
 use Rattle.replicated_log.specs.declared.serve_fault.Cause.{Cause}
-use Rattle.replicated_log.specs.declared.serve_fault.Cause.TheVariants.{Memory, Spoiled, Full, Busy, Store}
+use Rattle.replicated_log.specs.declared.serve_fault.Cause.TheVariants.{Memory, Poisoned, Full, Busy, Store}
 use Rattle.replicated_log.specs.declared.serve_fault.ServeFault.{ServeFault}
 use Rattle.replicated_log.specs.declared.serve_fault.ServeFault.TheVariants.{TooLong, Unknown}
 use Rattle.replicated_log.specs.Places.{Adds, Keeps, Same}
@@ -75,11 +75,11 @@ module _ {M R : Type 0} (applies : M → List ℕ → R → M → Type 0) where
   leads_append a b c [] fs h g = subst (λ (m : M). Leads applies m fs c) (sym h) g
   leads_append a b c (e ∷ es) fs h g = (h.0, h.1, h.2, leads_append h.1 b c es fs h.3 g)
 
-  pub none_goes_on : (stands : ℕ → List ℕ → Type 0) (r : ReplicaState M) → r.spoiled ≡ false → GoesOn applies stands r r
+  pub none_goes_on : (stands : ℕ → List ℕ → Type 0) (r : ReplicaState M) → r.poisoned ≡ false → GoesOn applies stands r r
   none_goes_on stands r well = record { more = []; led = refl; stood = tt; count = sym (add-zero r.place); was_well = well }
 
   -- nothing was applied, and it may be behind now or not
-  pub same_goes_on : (stands : ℕ → List ℕ → Type 0) (old new : ReplicaState M) (behind : Bool) → new ≡ record old { behind = behind } → old.spoiled ≡ false → GoesOn applies stands old new
+  pub same_goes_on : (stands : ℕ → List ℕ → Type 0) (old new : ReplicaState M) (behind : Bool) → new ≡ record old { behind = behind } → old.poisoned ≡ false → GoesOn applies stands old new
   same_goes_on stands old new behind is well = subst (GoesOn applies stands old) (sym is) (record { more = []; led = refl; stood = tt; count = sym (add-zero old.place); was_well = well })
 
   pub one_goes_on : (stands : ℕ → List ℕ → Type 0) (old : ReplicaState M) (entry : List ℕ) (said : R) (new : ReplicaState M) → IsApplied applies stands old entry said new → GoesOn applies stands old new
@@ -105,14 +105,14 @@ module _ {M R : Type 0} (applies : M → List ℕ → R → M → Type 0) where
     others = one.more;
     before = b.machine;
     led = one.led;
-    told = h.applied;
+    reported = h.applied;
     stood = stands_append last a.place one.more (batch ∷ []) (stands_still_from first last keeps a.place one.more one.stood) (subst (λ (k : ℕ). StandsFrom last k (batch ∷ [])) one.count (h.stood, tt));
     count = (let p = one.count in let q = h.count in omega (arith, p, q));
     was_well = one.was_well;
     is_well = h.is_well;
   }
 
-  pub follows : (first last : ℕ → List ℕ → Type 0) → Keeps first last → (old new : ReplicaState M) → (new.spoiled ≡ false → GoesOn applies last old new) → (start : M) → IsReplica applies first start old → IsReplica applies last start new
+  pub follows : (first last : ℕ → List ℕ → Type 0) → Keeps first last → (old new : ReplicaState M) → (new.poisoned ≡ false → GoesOn applies last old new) → (start : M) → IsReplica applies first start old → IsReplica applies last start new
   follows first last keeps old new goes start was = λ well.
       let on = goes well in
       let had = was on.was_well in
@@ -124,19 +124,19 @@ module _ {M R : Type 0} (applies : M → List ℕ → R → M → Type 0) where
       }
 
   -- where a fault left it unspoiled it is as it was
-  pub fault_goes_on : (stands : ℕ → List ℕ → Type 0) (old new : ReplicaState M) (cause : Cause) → FaultLeaves old cause new → new.spoiled ≡ false → GoesOn applies stands old new
-  fault_goes_on stands old new (Store fault) is well = same_goes_on stands old new new.behind is (ap (λ (r : ReplicaState M). r.spoiled) (sym is) ∙ well)
+  pub fault_goes_on : (stands : ℕ → List ℕ → Type 0) (old new : ReplicaState M) (cause : Cause) → FaultLeaves old cause new → new.poisoned ≡ false → GoesOn applies stands old new
+  fault_goes_on stands old new (Store fault) is well = same_goes_on stands old new new.behind is (ap (λ (r : ReplicaState M). r.poisoned) (sym is) ∙ well)
   fault_goes_on stands old new Memory is well = absurd (let bad : true ≡ false = sym is ∙ well in cc)
-  fault_goes_on stands old new Spoiled is well = absurd (let bad : true ≡ false = sym is.0 ∙ (ap (λ (r : ReplicaState M). r.spoiled) (sym is.1) ∙ well) in cc)
-  fault_goes_on stands old new Full is well = subst (GoesOn applies stands old) (sym is.1) (none_goes_on stands old (ap (λ (r : ReplicaState M). r.spoiled) (sym is.1) ∙ well))
+  fault_goes_on stands old new Poisoned is well = absurd (let bad : true ≡ false = sym is.0 ∙ (ap (λ (r : ReplicaState M). r.poisoned) (sym is.1) ∙ well) in cc)
+  fault_goes_on stands old new Full is well = subst (GoesOn applies stands old) (sym is.1) (none_goes_on stands old (ap (λ (r : ReplicaState M). r.poisoned) (sym is.1) ∙ well))
   fault_goes_on stands old new Busy is well = absurd is
 
   -- behind steps after which it was well
-  pub fault_ends : (old mid new : ReplicaState M) (cause : Cause) → mid.spoiled ≡ false → FaultLeaves mid cause new → EndsBy old cause new
-  fault_ends old mid new (Store fault) well is = ap (λ (r : ReplicaState M). r.spoiled) is ∙ well
+  pub fault_ends : (old mid new : ReplicaState M) (cause : Cause) → mid.poisoned ≡ false → FaultLeaves mid cause new → EndsBy old cause new
+  fault_ends old mid new (Store fault) well is = ap (λ (r : ReplicaState M). r.poisoned) is ∙ well
   fault_ends old mid new Memory well is = is
-  fault_ends old mid new Spoiled well is = absurd (let bad : true ≡ false = sym is.0 ∙ well in cc)
-  fault_ends old mid new Full well is = (subst (λ (r : ReplicaState M). MOST_PLACES ≤ r.place) (sym is.1) is.0, ap (λ (r : ReplicaState M). r.spoiled) is.1 ∙ well)
+  fault_ends old mid new Poisoned well is = absurd (let bad : true ≡ false = sym is.0 ∙ well in cc)
+  fault_ends old mid new Full well is = (subst (λ (r : ReplicaState M). MOST_PLACES ≤ r.place) (sym is.1) is.0, ap (λ (r : ReplicaState M). r.poisoned) is.1 ∙ well)
   fault_ends old mid new Busy well is = absurd is
 
   pub more_goes_on : (stands : ℕ → List ℕ → Type 0) (old new : ReplicaState M) → OneMore applies stands old new → GoesOn applies stands old new
@@ -145,23 +145,23 @@ module _ {M R : Type 0} (applies : M → List ℕ → R → M → Type 0) where
   -- each step goes on, but where it spoils
   pub step_goes_on : (stands : ℕ → List ℕ → Type 0) (old : ReplicaState M) (batch : List ℕ) (replies : R) (new : ReplicaState M) (result : Result Step Cause) →
       (result ≡ Ok Answered → IsApplied applies stands old batch replies new) → (result ≡ Ok Passed → OneMore applies stands old new) →
-      (result ≡ Ok Nothing → (new ≡ record old { behind = not old.behind }) × (old.spoiled ≡ false)) → IfErr result (λ cause. FaultLeaves old cause new) → new.spoiled ≡ false → GoesOn applies stands old new
+      (result ≡ Ok Nothing → (new ≡ record old { behind = not old.behind }) × (old.poisoned ≡ false)) → IfErr result (λ cause. FaultLeaves old cause new) → new.poisoned ≡ false → GoesOn applies stands old new
   step_goes_on stands old batch replies new (Ok Answered) answered passed nothing fault well = one_goes_on stands old batch replies new (answered refl)
   step_goes_on stands old batch replies new (Ok Passed) answered passed nothing fault well = more_goes_on stands old new (passed refl)
   step_goes_on stands old batch replies new (Ok Nothing) answered passed nothing fault well = same_goes_on stands old new (not old.behind) (nothing refl).0 (nothing refl).1
   step_goes_on stands old batch replies new (Err cause) answered passed nothing fault well = fault_goes_on stands old new cause fault well
 
-  -- and is not spoiled, but by a fault
+  -- and is not poisoned, but by a fault
   pub step_is_well : (stands : ℕ → List ℕ → Type 0) (old : ReplicaState M) (batch : List ℕ) (replies : R) (new : ReplicaState M) (step : Step) (result : Result Step Cause) → result ≡ Ok step →
       (result ≡ Ok Answered → IsApplied applies stands old batch replies new) → (result ≡ Ok Passed → OneMore applies stands old new) →
-      (result ≡ Ok Nothing → (new ≡ record old { behind = not old.behind }) × (old.spoiled ≡ false)) → new.spoiled ≡ false
+      (result ≡ Ok Nothing → (new ≡ record old { behind = not old.behind }) × (old.poisoned ≡ false)) → new.poisoned ≡ false
   step_is_well stands old batch replies new Answered result is answered passed nothing = (answered is).is_well
   step_is_well stands old batch replies new Passed result is answered passed nothing = (passed is).more.is_well
-  step_is_well stands old batch replies new Nothing result is answered passed nothing = let h = nothing is in ap (λ (r : ReplicaState M). r.spoiled) h.0 ∙ h.1
+  step_is_well stands old batch replies new Nothing result is answered passed nothing = let h = nothing is in ap (λ (r : ReplicaState M). r.poisoned) h.0 ∙ h.1
 
   -- behind what went on and wrote nothing
   pub later_follows : (first between last : ℕ → List ℕ → Type 0) → Same first between → Keeps between last → (a b c : ReplicaState M) →
-      GoesOn applies between a b → (c.spoiled ≡ false → GoesOn applies last b c) → (start : M) → IsReplica applies first start a → IsReplica applies last start c
+      GoesOn applies between a b → (c.poisoned ≡ false → GoesOn applies last b c) → (start : M) → IsReplica applies first start a → IsReplica applies last start c
   later_follows first between last same keeps a b c one two =
       follows first last (λ place entry h. keeps place entry (same.keeps place entry h)) a c (λ well. goes_on_trans between last keeps a b c one (two well))
 
@@ -180,7 +180,7 @@ module _ {M R : Type 0} (applies : M → List ℕ → R → M → Type 0) where
         before = had.entries ++ so.others;
         was = so.before;
         led = leads_append start old.machine so.before had.entries so.others had.led so.led;
-        due = so.told;
+        due = so.reported;
         stood = subst (StandsFrom last 0) (sym (append_assoc had.entries so.others (batch ∷ []))) all;
         count = (let n = length-append had.entries so.others in let p = had.count in let q = so.count in omega (arith, n, p, q));
         is_well = so.is_well;

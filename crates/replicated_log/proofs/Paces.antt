@@ -49,7 +49,7 @@ module _ {S M : Type 0} (stands : S → ℕ → List ℕ → Type 0) (lacks : S 
   pub paced_step : {R : Type 0} (applies : M → List ℕ → R → M → Type 0) (s t : S) (from steps : ℕ) (old : ReplicaState M) (batch : List ℕ) (replies : R) (new : ReplicaState M) (step : Step) (result : Result Step Cause) →
       result ≡ Ok step → Same (stands s) (stands t) →
       (result ≡ Ok Answered → IsApplied applies (stands t) old batch replies new) → (result ≡ Ok Passed → OneMore applies (stands t) old new) →
-      (result ≡ Ok Nothing → (new ≡ record old { behind = not old.behind }) × (old.spoiled ≡ false)) →
+      (result ≡ Ok Nothing → (new ≡ record old { behind = not old.behind }) × (old.poisoned ≡ false)) →
       (result ≡ Ok Nothing → old.behind ≡ true → lacks t old.place) → (result ≡ Ok Nothing → old.behind ≡ false → IsTaken (stands t) old.place) →
       IsPaced s from steps old → IsPaced t from (steps + 1) new
   paced_step applies s t from steps old batch replies new Answered result is same answered passed nothing missed stood = paced_on s t from steps old new (answered is).count

@@ -3,7 +3,7 @@ use Rattle.std.proofs.Common.{◌≡◌, Bool, true, false, cond, ℕ, zero, suc
 use mathlib.Core.List.{IsPrefix}
 use Rattle.std.specs.List.{All}
 use Rattle.std.proofs.lemmas.List.Elements.{All-append, All-cons, All-nil}
-use Rattle.replicated_log.specs.Groups.{IsDetermined, IsDueIn, IsOneHistory, Told}
+use Rattle.replicated_log.specs.Groups.{IsDetermined, IsDueIn, IsOneHistory, Reported}
 use Rattle.replicated_log.specs.Places.{Adds, stands_in}
 use Rattle.replicated_log.specs.Replicas.{HasApplied, IsAnswered, IsReplica, Leads, StandsFrom}
 use Rattle.replicated_log.specs.ReplicaState.{ReplicaState}
@@ -57,7 +57,7 @@ never_both log place entry behind h =
     let at : place ≡ length log + (place - length log) = omega (arith, behind) in
     stands_within log (place - length log) entry (subst (λ (k : ℕ). stands_in log k entry) at h)
 
--- what stands first behind a beginning
+-- what stands first behind a prefix
 pub stands_behind : (log : List (List ℕ)) (entry : List ℕ) (more : List (List ℕ)) → stands_in (log ++ entry ∷ more) (length log) entry
 stands_behind [] entry more = refl
 stands_behind (first ∷ log) entry more = stands_behind log entry more
@@ -92,10 +92,10 @@ added_log old new at batch adds =
 module _ {M R : Type 0} (applies : M → List ℕ → R → M → Type 0) (start : M) where
   -- one replica took a step on a log that was kept
   module _ (old new : List (List ℕ)) (keeps : (place : ℕ) (entry : List ℕ) → stands_in old place entry → stands_in new place entry) where
-    due_still : (told : Told R) → IsDueIn applies start old told → IsDueIn applies start new told
-    due_still told h = record {
+    due_still : (reported : Reported R) → IsDueIn applies start old reported → IsDueIn applies start new reported
+    due_still reported h = record {
       before = h.before;
-      stands = prefix_trans (h.before ++ told.batch ∷ []) old new h.stands (stands_all old new keeps);
+      stands = prefix_trans (h.before ++ reported.batch ∷ []) old new h.stands (stands_all old new keeps);
       was = h.was;
       is = h.is;
       led = h.led;
@@ -111,10 +111,10 @@ module _ {M R : Type 0} (applies : M → List ℕ → R → M → Type 0) (start
         All-cons (IsReplica applies (stands_in new) start) first (slice_set rest at one) (still applies (stands_in old) (stands_in new) keeps start first (all zero first (omega arith)))
         (all_still rest at one (λ k d within. all (suc k) d (omega (arith, within))) h)
 
-    pub history_after : (replicas : List (ReplicaState M)) (at : ℕ) (one : ReplicaState M) → IsReplica applies (stands_in new) start one → (told : List (Told R)) → IsOneHistory applies start old replicas told → IsOneHistory applies start new (slice_set replicas at one) told
-    history_after replicas at one follows told h = record {
+    pub history_after : (replicas : List (ReplicaState M)) (at : ℕ) (one : ReplicaState M) → IsReplica applies (stands_in new) start one → (reported : List (Reported R)) → IsOneHistory applies start old replicas reported → IsOneHistory applies start new (slice_set replicas at one) reported
+    history_after replicas at one follows reported h = record {
       prefixes = all_still replicas at one h.prefixes follows;
-      answers = λ k d within. due_still (get_or told k d) (h.answers k d within);
+      answers = λ k d within. due_still (get_or reported k d) (h.answers k d within);
     }
 
   -- the replies to a batch that was served are due at its place
@@ -131,27 +131,27 @@ module _ {M R : Type 0} (applies : M → List ℕ → R → M → Type 0) (start
       }
 
   -- what is told behind all others
-  pub history_told : (log : List (List ℕ)) (replicas : List (ReplicaState M)) (told : List (Told R)) (last : Told R) → IsOneHistory applies start log replicas told → IsDueIn applies start log last → IsOneHistory applies start log replicas (told ++ last ∷ [])
-  history_told log replicas told last h due = record {
+  pub history_reported : (log : List (List ℕ)) (replicas : List (ReplicaState M)) (reported : List (Reported R)) (last : Reported R) → IsOneHistory applies start log replicas reported → IsDueIn applies start log last → IsOneHistory applies start log replicas (reported ++ last ∷ [])
+  history_reported log replicas reported last h due = record {
     prefixes = h.prefixes;
-    answers = All-append (IsDueIn applies start log) told (last ∷ []) h.answers (All-cons (IsDueIn applies start log) last [] due (All-nil (IsDueIn applies start log)));
+    answers = All-append (IsDueIn applies start log) reported (last ∷ []) h.answers (All-cons (IsDueIn applies start log) last [] due (All-nil (IsDueIn applies start log)));
   }
 
   -- who joins has applied nothing
-  pub joined : (log : List (List ℕ)) (replicas : List (ReplicaState M)) (told : List (Told R)) → IsOneHistory applies start log replicas told → IsOneHistory applies start log (replicas ++ record { machine = start; place = 0; spoiled = false; behind = false } ∷ []) told
-  joined log replicas told h =
+  pub joined : (log : List (List ℕ)) (replicas : List (ReplicaState M)) (reported : List (Reported R)) → IsOneHistory applies start log replicas reported → IsOneHistory applies start log (replicas ++ record { machine = start; place = 0; poisoned = false; behind = false } ∷ []) reported
+  joined log replicas reported h =
       let P : ReplicaState M → Type 0 = IsReplica applies (stands_in log) start in
-      let new : ReplicaState M = record { machine = start; place = 0; spoiled = false; behind = false } in
+      let new : ReplicaState M = record { machine = start; place = 0; poisoned = false; behind = false } in
       record {
         prefixes = All-append P replicas (new ∷ []) h.prefixes (All-cons P new [] (λ well. record { entries = []; led = refl; stood = tt; count = refl }) (All-nil P));
         answers = h.answers;
       }
 
-  pub pushed : (done : Bool) (log : List (List ℕ)) (replicas now : List (ReplicaState M)) (added : ReplicaState M) → added ≡ record { machine = start; place = 0; spoiled = false; behind = false } → now ≡ cond done (replicas ++ added ∷ []) replicas →
-      (told : List (Told R)) → IsOneHistory applies start log replicas told → IsOneHistory applies start log now told
-  pushed true log replicas now added new is told h =
-      subst (λ (rs : List (ReplicaState M)). IsOneHistory applies start log rs told) (sym (is ∙ ap (λ r. replicas ++ r ∷ []) new)) (joined log replicas told h)
-  pushed false log replicas now added new is told h = subst (λ (rs : List (ReplicaState M)). IsOneHistory applies start log rs told) (sym is) h
+  pub pushed : (done : Bool) (log : List (List ℕ)) (replicas now : List (ReplicaState M)) (added : ReplicaState M) → added ≡ record { machine = start; place = 0; poisoned = false; behind = false } → now ≡ cond done (replicas ++ added ∷ []) replicas →
+      (reported : List (Reported R)) → IsOneHistory applies start log replicas reported → IsOneHistory applies start log now reported
+  pushed true log replicas now added new is reported h =
+      subst (λ (rs : List (ReplicaState M)). IsOneHistory applies start log rs reported) (sym (is ∙ ap (λ r. replicas ++ r ∷ []) new)) (joined log replicas reported h)
+  pushed false log replicas now added new is reported h = subst (λ (rs : List (ReplicaState M)). IsOneHistory applies start log rs reported) (sym is) h
 
 -- prefixes of one list, of one length, are the same
 same_prefix : (es fs log : List (List ℕ)) → IsPrefix es log → IsPrefix fs log → length es ≡ length fs → es ≡ fs
@@ -183,15 +183,15 @@ module _ {M R : Type 0} (applies : M → List ℕ → R → M → Type 0) (deter
       let mid = (determined m e h.0 g.0 h.1 g.1 h.2 g.2).1 in
       same_leads g.1 n k es (subst (λ (w : M). Leads applies w es n) mid h.3) g.3
 
-  pub same_states : (start : M) (log : List (List ℕ)) (a b : ReplicaState M) → IsReplica applies (stands_in log) start a → IsReplica applies (stands_in log) start b → a.spoiled ≡ false → b.spoiled ≡ false → a.place ≡ b.place → a.machine ≡ b.machine
+  pub same_states : (start : M) (log : List (List ℕ)) (a b : ReplicaState M) → IsReplica applies (stands_in log) start a → IsReplica applies (stands_in log) start b → a.poisoned ≡ false → b.poisoned ≡ false → a.place ≡ b.place → a.machine ≡ b.machine
   same_states start log a b ha hb wa wb place =
       let ga = ha wa in
       let gb = hb wb in
       let same = same_prefix ga.entries gb.entries log (stands_prefix ga.entries log ga.stood) (stands_prefix gb.entries log gb.stood) (sym ga.count ∙ (place ∙ gb.count)) in
       same_leads start a.machine b.machine gb.entries (subst (λ (es : List (List ℕ)). Leads applies start es a.machine) same ga.led) gb.led
 
-  pub same_told : (start : M) (log : List (List ℕ)) (one other : Told R) (h : IsDueIn applies start log one) (k : IsDueIn applies start log other) → length h.before ≡ length k.before → one ≡ other
-  same_told start log one other h k place =
+  pub same_reported : (start : M) (log : List (List ℕ)) (one other : Reported R) (h : IsDueIn applies start log one) (k : IsDueIn applies start log other) → length h.before ≡ length k.before → one ≡ other
+  same_reported start log one other h k place =
       let n = (let p = length-append h.before (one.batch ∷ []) in let q = length-append k.before (other.batch ∷ []) in
       let r : length (h.before ++ one.batch ∷ []) ≡ length (k.before ++ other.batch ∷ []) = omega (arith, p, q, place) in r) in
       let whole = same_prefix (h.before ++ one.batch ∷ []) (k.before ++ other.batch ∷ []) log h.stands k.stands n in
@@ -199,4 +199,4 @@ module _ {M R : Type 0} (applies : M → List ℕ → R → M → Type 0) (deter
       let was = same_leads start h.was k.was k.before (subst (λ (es : List (List ℕ)). Leads applies start es h.was) parts.0 h.led) k.led in
       let due : applies k.was other.batch one.replies h.is = subst (λ (e : List ℕ). applies k.was e one.replies h.is) parts.1 (subst (λ (m : M). applies m one.batch one.replies h.is) was h.due) in
       let said = (determined k.was other.batch one.replies other.replies h.is k.is due k.due).0 in
-      ap (λ (b : List ℕ). let t : Told R = record { batch = b; replies = one.replies } in t) parts.1 ∙ ap (λ (r : R). let t : Told R = record { batch = other.batch; replies = r } in t) said
+      ap (λ (b : List ℕ). let t : Reported R = record { batch = b; replies = one.replies } in t) parts.1 ∙ ap (λ (r : R). let t : Reported R = record { batch = other.batch; replies = r } in t) said

@@ -1,6 +1,6 @@
 -- Why a batch was not answered.
 use Rattle.replicated_log.specs.declared.serve_fault.Cause.{Cause}
-use Rattle.replicated_log.specs.declared.serve_fault.Cause.TheVariants.{Memory, Spoiled, Full, Busy, Store}
+use Rattle.replicated_log.specs.declared.serve_fault.Cause.TheVariants.{Memory, Poisoned, Full, Busy, Store}
 use Rattle.replicated_log.specs.declared.serve_fault.ServeFault.{ServeFault}
 use Rattle.replicated_log.specs.declared.serve_fault.ServeFault.TheVariants.{TooLong, Unknown}
 use Rattle.replicated_log.specs.declared.store_fault.StoreFault.{StoreFault}
@@ -9,7 +9,7 @@ use Rattle.replicated_log.specs.declared.store_fault.StoreFault.{StoreFault}
 abbrev pub MayCause : (StoreFault → Type 0) → Cause → Type 0
 MayCause fails (Store fault) = fails fault
 MayCause fails Memory = Unit {0}
-MayCause fails Spoiled = Unit {0}
+MayCause fails Poisoned = Unit {0}
 MayCause fails Full = Unit {0}
 MayCause fails Busy = Unit {0}
 

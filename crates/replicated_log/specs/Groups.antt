@@ -7,34 +7,34 @@ use Rattle.replicated_log.specs.Replicas.{IsReplica, Leads}
 use Rattle.replicated_log.specs.ReplicaState.{ReplicaState}
 
 -- a batch, and the replies that were told to whom it came from
-pub record Told (R : Type 0) : Type 0 where
+pub record Reported (R : Type 0) : Type 0 where
   pub batch : List ℕ
   pub replies : R
 
 module _ {M R : Type 0} (applies : M → List ℕ → R → M → Type 0) where
   -- the batch stands in the log, and the replies are those due at its place, behind all that stands before it
-  pub record IsDueIn (start : M) (log : List (List ℕ)) (told : Told R) : Type 0 where
+  pub record IsDueIn (start : M) (log : List (List ℕ)) (reported : Reported R) : Type 0 where
     pub before : List (List ℕ)
-    pub stands : IsPrefix (before ++ told.batch ∷ []) log
+    pub stands : IsPrefix (before ++ reported.batch ∷ []) log
     pub was : M
     pub is : M
     pub led : Leads applies start before was
-    pub due : applies was told.batch told.replies is
+    pub due : applies was reported.batch reported.replies is
 
-  -- each replica that is not spoiled was led from this start by a prefix of the log, and each reply that was told is due at its batch's
+  -- each replica that is not poisoned was led from this start by a prefix of the log, and each reply that was told is due at its batch's
   -- place of it
-  pub record IsOneHistory (start : M) (log : List (List ℕ)) (replicas : List (ReplicaState M)) (told : List (Told R)) : Type 0 where
+  pub record IsOneHistory (start : M) (log : List (List ℕ)) (replicas : List (ReplicaState M)) (reported : List (Reported R)) : Type 0 where
     pub prefixes : All (IsReplica applies (stands_in log) start) replicas
-    pub answers : All (IsDueIn start log) told
+    pub answers : All (IsDueIn start log) reported
 
   -- one history from this start with all that was told before is one still
   abbrev pub StaysOneHistory : M → GroupState M → GroupState M → Type 0
-  StaysOneHistory start old new = (told : List (Told R)) → IsOneHistory start old.log old.replicas told → IsOneHistory start new.log new.replicas told
+  StaysOneHistory start old new = (reported : List (Reported R)) → IsOneHistory start old.log old.replicas reported → IsOneHistory start new.log new.replicas reported
 
   -- and it is one with these replies to a batch told behind all others
   abbrev pub TellsOneMore : M → GroupState M → GroupState M → List ℕ → R → Type 0
-  TellsOneMore start old new batch replies = (told : List (Told R)) → IsOneHistory start old.log old.replicas told →
-      IsOneHistory start new.log new.replicas (told ++ record { batch = batch; replies = replies } ∷ [])
+  TellsOneMore start old new batch replies = (reported : List (Reported R)) → IsOneHistory start old.log old.replicas reported →
+      IsOneHistory start new.log new.replicas (reported ++ record { batch = batch; replies = replies } ∷ [])
 
   -- what is said to an entry, and the machine after it, are determined by the entry and the machine before it
   abbrev pub IsDetermined : Type 0

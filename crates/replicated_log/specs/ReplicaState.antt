@@ -6,5 +6,5 @@ use Rattle.std.specs.Prelude.{ℕ, Bool}
 pub record ReplicaState (M : Type 0) : Type 0 where
   pub machine : M
   pub place : ℕ
-  pub spoiled : Bool
+  pub poisoned : Bool
   pub behind : Bool

@@ -1,7 +1,7 @@
 -- Replicas of a machine that apply the entries of one log (state machine replication: Schneider 1990).
 use Rattle.std.specs.Prelude.{◌≡◌, ◌≤◌, ℕ, ◌+◌, List, [], ◌∷◌, ◌++◌, length, false, true}
 use Rattle.replicated_log.specs.declared.serve_fault.Cause.{Cause}
-use Rattle.replicated_log.specs.declared.serve_fault.Cause.TheVariants.{Store, Memory, Spoiled, Full, Busy}
+use Rattle.replicated_log.specs.declared.serve_fault.Cause.TheVariants.{Store, Memory, Poisoned, Full, Busy}
 use Rattle.replicated_log.specs.declared.serve_fault.ServeFault.{ServeFault}
 use Rattle.replicated_log.specs.declared.serve_fault.ServeFault.TheVariants.{TooLong, Unknown}
 use Rattle.replicated_log.specs.declared.store.TheConstants.{MOST_PLACES}
@@ -18,22 +18,22 @@ pub record AddsOnce (before : ℕ → List ℕ → Type 0) (batch : List ℕ) (a
   pub at : ℕ
   pub adds : Adds before at batch after
 
--- so a fault of a step leaves a replica: where an entry was to be applied and memory was refused it is spoiled, and else as it was, but that
+-- so a fault of a step leaves a replica: where an entry was to be applied and memory was refused it is poisoned, and else as it was, but that
 -- it may be behind now. No place is left where all were applied, and no step is told that others came first
 abbrev pub FaultLeaves : {M : Type 0} → ReplicaState M → Cause → ReplicaState M → Type 0
 FaultLeaves old (Store fault) new = new ≡ record old { behind = new.behind }
-FaultLeaves old Memory new = new.spoiled ≡ true
-FaultLeaves old Spoiled new = (old.spoiled ≡ true) × (new ≡ old)
+FaultLeaves old Memory new = new.poisoned ≡ true
+FaultLeaves old Poisoned new = (old.poisoned ≡ true) × (new ≡ old)
 FaultLeaves old Full new = (MOST_PLACES ≤ old.place) × (new ≡ old)
 FaultLeaves old Busy new = ⊥
 
 -- so a fault ends some steps of a replica, which may have applied entries before it
 abbrev pub EndsBy : {M : Type 0} → ReplicaState M → Cause → ReplicaState M → Type 0
-EndsBy old (Store fault) new = new.spoiled ≡ false
-EndsBy old Memory new = new.spoiled ≡ true
-EndsBy old Spoiled new = (old.spoiled ≡ true) × (new ≡ old)
-EndsBy old Full new = (MOST_PLACES ≤ new.place) × (new.spoiled ≡ false)
-EndsBy old Busy new = new.spoiled ≡ false
+EndsBy old (Store fault) new = new.poisoned ≡ false
+EndsBy old Memory new = new.poisoned ≡ true
+EndsBy old Poisoned new = (old.poisoned ≡ true) × (new ≡ old)
+EndsBy old Full new = (MOST_PLACES ≤ new.place) × (new.poisoned ≡ false)
+EndsBy old Busy new = new.poisoned ≡ false
 
 -- so one leaves a replica that was to serve a batch
 abbrev pub ServeLeaves : {M : Type 0} → ReplicaState M → ServeFault → ReplicaState M → Type 0
@@ -54,8 +54,8 @@ module _ {M R : Type 0} (applies : M → List ℕ → R → M → Type 0) where
       pub applied : applies old.machine entry replies new.machine
       pub stood : stands old.place entry
       pub count : new.place ≡ old.place + 1
-      pub was_well : old.spoiled ≡ false
-      pub is_well : new.spoiled ≡ false
+      pub was_well : old.poisoned ≡ false
+      pub is_well : new.poisoned ≡ false
 
     -- one more entry was applied
     pub record OneMore (old new : ReplicaState M) : Type 0 where
@@ -69,18 +69,18 @@ module _ {M R : Type 0} (applies : M → List ℕ → R → M → Type 0) where
       pub led : Leads old.machine more new.machine
       pub stood : StandsFrom stands old.place more
       pub count : new.place ≡ old.place + length more
-      pub was_well : old.spoiled ≡ false
+      pub was_well : old.poisoned ≡ false
 
     -- a batch was applied last, at its place behind what had been applied and the entries of others, and the replies are those due there
     pub record IsAnswered (old : ReplicaState M) (batch : List ℕ) (new : ReplicaState M) (replies : R) : Type 0 where
       pub others : List (List ℕ)
       pub before : M
       pub led : Leads old.machine others before
-      pub told : applies before batch replies new.machine
+      pub reported : applies before batch replies new.machine
       pub stood : StandsFrom stands old.place (others ++ batch ∷ [])
       pub count : new.place ≡ old.place + length others + 1
-      pub was_well : old.spoiled ≡ false
-      pub is_well : new.spoiled ≡ false
+      pub was_well : old.poisoned ≡ false
+      pub is_well : new.poisoned ≡ false
 
     -- what was applied to the machine since it was so
     pub record HasApplied (start : M) (r : ReplicaState M) : Type 0 where
@@ -89,9 +89,9 @@ module _ {M R : Type 0} (applies : M → List ℕ → R → M → Type 0) where
       pub stood : StandsFrom stands 0 entries
       pub count : r.place ≡ length entries
 
-    -- its machine was led from this start by the entries of the log up to its place, but where it is spoiled
+    -- its machine was led from this start by the entries of the log up to its place, but where it is poisoned
     abbrev pub IsReplica : M → ReplicaState M → Type 0
-    IsReplica start r = r.spoiled ≡ false → HasApplied start r
+    IsReplica start r = r.poisoned ≡ false → HasApplied start r
 
     -- these are the replies due to a batch at its place, behind all that stands before it, and the replica has applied all that up to it
     pub record IsDueAt (start : M) (batch : List ℕ) (replies : R) (r : ReplicaState M) : Type 0 where
@@ -101,4 +101,4 @@ module _ {M R : Type 0} (applies : M → List ℕ → R → M → Type 0) where
       pub due : applies was batch replies r.machine
       pub stood : StandsFrom stands 0 (before ++ batch ∷ [])
       pub count : r.place ≡ length before + 1
-      pub is_well : r.spoiled ≡ false
+      pub is_well : r.poisoned ≡ false

@@ -66,8 +66,8 @@ impl<M: Machine + Drop> Group<M> {
     /// same at their start. An error where a growth was refused.
     pub fn join(&mut self, machine: M) -> Result<(), AllocError>
         ensures log { self.new.log ≡ self.old.log }
-        ensures joined { OnOk result (self.new.replicas ≡ self.old.replicas ++ record { machine = machine; place = 0; spoiled = false; behind = false } ∷ []) }
-        ensures refused { OnErr result (self.new.replicas ≡ self.old.replicas) }
+        ensures joined { OnOk result (self.new.replicas ≡ self.old.replicas ++ record { machine = machine; place = 0; poisoned = false; behind = false } ∷ []) }
+        ensures unchanged_on_error { OnErr result (self.new.replicas ≡ self.old.replicas) }
         ensures history { StaysOneHistory M.applies machine self.old self.new }
     {
         match self.replicas.push(Replica::new(self.alloc, machine)) {
@@ -88,7 +88,7 @@ impl<M: Machine + Drop> Group<M> {
         ensures passed { (r s : ReplicaState M) → slice_get self.old.replicas at ≡ Some r → slice_get self.new.replicas at ≡ Some s →
             result ≡ Ok Passed → OneMore M.applies (stands_in self.new.log) r s }
         ensures nothing { (r s : ReplicaState M) → slice_get self.old.replicas at ≡ Some r → slice_get self.new.replicas at ≡ Some s →
-            result ≡ Ok Nothing → (s ≡ record r { behind = not r.behind }) × (r.spoiled ≡ false) }
+            result ≡ Ok Nothing → (s ≡ record r { behind = not r.behind }) × (r.poisoned ≡ false) }
         ensures missed { (r : ReplicaState M) → slice_get self.old.replicas at ≡ Some r → result ≡ Ok Nothing → r.behind ≡ true → length self.new.log ≤ r.place }
         ensures stood { (r : ReplicaState M) → slice_get self.old.replicas at ≡ Some r → result ≡ Ok Nothing → r.behind ≡ false → IsTaken (stands_in self.new.log) r.place }
         ensures lost { (s : ReplicaState M) → slice_get self.new.replicas at ≡ Some s → (fault : StoreFault) → result ≡ Err (cause.Store fault) → s.behind ≡ true }

@@ -1,7 +1,7 @@
 //! What follows from what replicas promise.
 
 ghost use Rattle.std.specs.Prelude.{◌≡◌, ◌≤◌, ℕ, List, length, false};
-ghost use Rattle.replicated_log.specs.Groups.{IsDetermined, IsDueIn, Told};
+ghost use Rattle.replicated_log.specs.Groups.{IsDetermined, IsDueIn, Reported};
 ghost use Rattle.replicated_log.specs.Places.{Contradicts, Keeps, stands_in};
 ghost use Rattle.replicated_log.specs.Replicas.{IsAnswered, IsDueAt, IsReplica};
 ghost use Rattle.replicated_log.specs.ReplicaState.{ReplicaState};
@@ -16,8 +16,8 @@ use crate::store::Store;
 pub fn law_of_agreement<M: Machine>()
     ensures states { IsDetermined M.applies → (start : M) (log : List (List ℕ)) (a b : ReplicaState M) →
         IsReplica M.applies (stands_in log) start a → IsReplica M.applies (stands_in log) start b →
-        a.spoiled ≡ false → b.spoiled ≡ false → a.place ≡ b.place → a.machine ≡ b.machine }
-    ensures replies { IsDetermined M.applies → (start : M) (log : List (List ℕ)) (one other : Told M.Replies)
+        a.poisoned ≡ false → b.poisoned ≡ false → a.place ≡ b.place → a.machine ≡ b.machine }
+    ensures replies { IsDetermined M.applies → (start : M) (log : List (List ℕ)) (one other : Reported M.Replies)
         (h : IsDueIn M.applies start log one) (k : IsDueIn M.applies start log other) → length h.before ≡ length k.before → one ≡ other }
 {}
 

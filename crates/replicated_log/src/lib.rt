@@ -11,7 +11,7 @@
 //! At a fault nothing is answered, and the fate of the batch is not known (`ServeFault::Unknown`). The same replica can be asked to
 //! serve the same bytes again: it reads what stands at the place before it offers them once more, and takes an entry of equal bytes
 //! for its own. So two batches that are to be two entries differ in their bytes: let each begin with a token of its own. A machine that was
-//! refused memory while it applied an entry is not known any more: its replica is spoiled, and never answers again (`Cause::Spoiled`).
+//! refused memory while it applied an entry is not known any more: its replica is poisoned, and never answers again (`Cause::Poisoned`).
 //!
 //! ```text
 //! let mut store = MemoryStore::new(alloc);

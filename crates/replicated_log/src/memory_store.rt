@@ -47,7 +47,7 @@ impl MemoryStore {
     // Writes the first place that is empty.
     fn append(&mut self, entry: &[u8]) -> Result<(), AllocError>
         ensures written { OnOk result (self.new ≡ self.old ++ entry.now ∷ []) }
-        ensures refused { OnErr result (self.new ≡ self.old) }
+        ensures unchanged_on_error { OnErr result (self.new ≡ self.old) }
     {
         let entry = Vec::from_slice(self.alloc, entry)?;
         match self.entries.push(entry) {

@@ -6,7 +6,7 @@ ghost use Rattle.replicated_log.specs.Replicas.{AddsOnce, EndsBy, FaultLeaves, G
 ghost use Rattle.replicated_log.specs.Causes.{MayCause, MayFail};
 ghost use Rattle.replicated_log.specs.declared.store.TheConstants.{MOST_PLACES};
 ghost use Rattle.replicated_log.specs.declared.replica.Step.TheVariants.{Nothing, Answered, Passed};
-ghost use Rattle.replicated_log.specs.declared.serve_fault.Cause.TheVariants.{Busy, Spoiled};
+ghost use Rattle.replicated_log.specs.declared.serve_fault.Cause.TheVariants.{Busy, Poisoned};
 ghost use Rattle.replicated_log.specs.declared.serve_fault.Cause.TheVariants as cause;
 ghost use Rattle.replicated_log.specs.declared.serve_fault.ServeFault.TheVariants.{TooLong, Unknown};
 ghost use Rattle.replicated_log.specs.declared.store_fault.StoreFault.{StoreFault};
@@ -35,14 +35,14 @@ pub enum Step {
 }
 
 /// A machine to which the entries of a log were applied, each once, in their order. Contracts see the machine, how many entries were
-/// applied to it, and whether it is spoiled: it is once memory was refused while it applied an entry, and never answers then.
+/// applied to it, and whether it is poisoned: it is once memory was refused while it applied an entry, and never answers then.
 #[derive(Drop)]
 pub struct Replica<M: Machine> {
     alloc: Global,
     machine: M,
     entry: Vec<u8>,
     place: u64,
-    spoiled: bool,
+    poisoned: bool,
     behind: bool,
 }
 
@@ -51,20 +51,20 @@ impl<M: Machine> Model for Replica<M> {
 
     ghost Value = { ReplicaState M };
 
-    ghost view = { λ r. record { machine = r.machine; place = r.place; spoiled = r.spoiled; behind = r.behind } };
+    ghost view = { λ r. record { machine = r.machine; place = r.place; poisoned = r.poisoned; behind = r.behind } };
 }
 
 impl<M: Machine> Replica<M> {
     /// A replica of a machine, to which no entry of the log was applied.
     pub fn new(alloc: Global, machine: M) -> Replica<M>
-        ensures { result ≡ record { machine = machine; place = 0; spoiled = false; behind = false } }
+        ensures { result ≡ record { machine = machine; place = 0; poisoned = false; behind = false } }
     {
         Replica {
             alloc,
             machine,
             entry: Vec::new(alloc),
             place: 0,
-            spoiled: false,
+            poisoned: false,
             behind: false,
         }
     }
@@ -77,10 +77,10 @@ impl<M: Machine> Replica<M> {
     }
 
     /// Whether memory was refused while it applied an entry.
-    pub fn is_spoiled(&self) -> bool
-        ensures { result ≡ self.now.spoiled }
+    pub fn is_poisoned(&self) -> bool
+        ensures { result ≡ self.now.poisoned }
     {
-        self.spoiled
+        self.poisoned
     }
 
     /// The machine.
@@ -98,7 +98,7 @@ impl<M: Machine> Replica<M> {
         replies: &mut M::Replies,
     ) -> Result<Step, Cause>
         requires room { self.old.place < 10000000000000000 }
-        requires well { self.old.spoiled ≡ false }
+        requires well { self.old.poisoned ≡ false }
         ensures answered { result ≡ Ok Answered → IsApplied M.applies (S.stands store.new) self.old batch.now replies.new self.new }
         ensures passed { result ≡ Ok Passed → OneMore M.applies (S.stands store.new) self.old self.new }
         ensures nothing { result ≡ Ok Nothing → self.new ≡ record self.old { behind = false } }
@@ -117,7 +117,7 @@ impl<M: Machine> Replica<M> {
             Err(fault) => return Err(Cause::Store(fault)),
         }
         let Ok(()) = self.machine.apply(&self.entry, replies) else {
-            self.spoiled = true;
+            self.poisoned = true;
             return Err(Cause::Memory);
         };
         self.place += 1;
@@ -136,7 +136,7 @@ impl<M: Machine> Replica<M> {
         replies: &mut M::Replies,
     ) -> Result<Step, Cause>
         requires room { self.old.place < 10000000000000000 }
-        requires well { self.old.spoiled ≡ false }
+        requires well { self.old.poisoned ≡ false }
         ensures answered { result ≡ Ok Answered → IsApplied M.applies (S.stands store.new) self.old batch.now replies.new self.new }
         ensures passed { result ≢ Ok Passed }
         ensures nothing { result ≡ Ok Nothing → (self.new ≡ record self.old { behind = true }) × Same (S.stands store.old) (S.stands store.new) }
@@ -153,7 +153,7 @@ impl<M: Machine> Replica<M> {
             Err(fault) => return Err(Cause::Store(fault)),
         }
         let Ok(()) = self.machine.apply(batch, replies) else {
-            self.spoiled = true;
+            self.poisoned = true;
             return Err(Cause::Memory);
         };
         self.place += 1;
@@ -163,7 +163,7 @@ impl<M: Machine> Replica<M> {
 
     // Applies what stands at the next place, and tells whether anything does.
     fn pass<S: Store>(&mut self, store: &mut S, replies: &mut M::Replies) -> Result<bool, Cause>
-        requires well { self.old.spoiled ≡ false }
+        requires well { self.old.poisoned ≡ false }
         ensures passed { result ≡ Ok true → OneMore M.applies (S.stands store.new) self.old self.new }
         ensures nothing { result ≡ Ok false → self.new ≡ record self.old { behind = self.new.behind } }
         ensures missed { result ≡ Ok false → (MOST_PLACES ≤ self.old.place) ⊎ S.lacks store.new self.old.place }
@@ -186,7 +186,7 @@ impl<M: Machine> Replica<M> {
     ) -> Result<Step, Cause>
         ensures answered { result ≡ Ok Answered → IsApplied M.applies (S.stands store.new) self.old batch.now replies.new self.new }
         ensures passed { result ≡ Ok Passed → OneMore M.applies (S.stands store.new) self.old self.new }
-        ensures nothing { result ≡ Ok Nothing → (self.new ≡ record self.old { behind = not self.old.behind }) × (self.old.spoiled ≡ false) }
+        ensures nothing { result ≡ Ok Nothing → (self.new ≡ record self.old { behind = not self.old.behind }) × (self.old.poisoned ≡ false) }
         ensures missed { result ≡ Ok Nothing → self.old.behind ≡ true → S.lacks store.new self.old.place }
         ensures stood { result ≡ Ok Nothing → self.old.behind ≡ false → IsTaken (S.stands store.new) self.old.place }
         ensures lost { (fault : StoreFault) → result ≡ Err (cause.Store fault) → self.new.behind ≡ true }
@@ -194,11 +194,11 @@ impl<M: Machine> Replica<M> {
         ensures unwritten { IfOk result (λ step. step ≢ Answered → Same (S.stands store.old) (S.stands store.new)) }
         ensures fault { IfErr result (λ cause. FaultLeaves self.old cause self.new) }
         ensures cause { IfErr result (MayCause S.fails) }
-        ensures spoiled { self.old.spoiled ≡ true → (result ≡ Err Spoiled) × (store.new ≡ store.old) }
+        ensures poisoned { self.old.poisoned ≡ true → (result ≡ Err Poisoned) × (store.new ≡ store.old) }
         ensures adds { Adds (S.stands store.old) self.old.place batch.now (S.stands store.new) }
     {
-        if self.spoiled {
-            return Err(Cause::Spoiled);
+        if self.poisoned {
+            return Err(Cause::Poisoned);
         }
         if self.place >= MOST_PLACES {
             return Err(Cause::Full);
@@ -212,7 +212,7 @@ impl<M: Machine> Replica<M> {
 
     /// One step for a batch, which asks the store once. A replica that is behind reads what stands at its next place and applies it;
     /// one that is not offers the batch for that place. Answered with its replies where the batch stands there, and with none
-    /// otherwise. One that is spoiled does nothing.
+    /// otherwise. One that is poisoned does nothing.
     pub fn step<S: Store>(
         &mut self,
         store: &mut S,
@@ -222,7 +222,7 @@ impl<M: Machine> Replica<M> {
         ensures answered { result ≡ Ok Answered → IsApplied M.applies (S.stands store.new) self.old batch.now replies.new self.new }
         ensures unanswered { result ≢ Ok Answered → M.silent replies.new }
         ensures passed { result ≡ Ok Passed → OneMore M.applies (S.stands store.new) self.old self.new }
-        ensures nothing { result ≡ Ok Nothing → (self.new ≡ record self.old { behind = not self.old.behind }) × (self.old.spoiled ≡ false) }
+        ensures nothing { result ≡ Ok Nothing → (self.new ≡ record self.old { behind = not self.old.behind }) × (self.old.poisoned ≡ false) }
         ensures missed { result ≡ Ok Nothing → self.old.behind ≡ true → S.lacks store.new self.old.place }
         ensures stood { result ≡ Ok Nothing → self.old.behind ≡ false → IsTaken (S.stands store.new) self.old.place }
         ensures lost { (fault : StoreFault) → result ≡ Err (cause.Store fault) → self.new.behind ≡ true }
@@ -230,8 +230,8 @@ impl<M: Machine> Replica<M> {
         ensures unwritten { IfOk result (λ step. step ≢ Answered → Same (S.stands store.old) (S.stands store.new)) }
         ensures fault { IfErr result (λ cause. FaultLeaves self.old cause self.new) }
         ensures cause { IfErr result (MayCause S.fails) }
-        ensures spoiled { self.old.spoiled ≡ true → (result ≡ Err Spoiled) × (store.new ≡ store.old) }
-        ensures goes_on { self.new.spoiled ≡ false → GoesOn M.applies (S.stands store.new) self.old self.new }
+        ensures poisoned { self.old.poisoned ≡ true → (result ≡ Err Poisoned) × (store.new ≡ store.old) }
+        ensures goes_on { self.new.poisoned ≡ false → GoesOn M.applies (S.stands store.new) self.old self.new }
         ensures follows { (start : M) → IsReplica M.applies (S.stands store.old) start self.old → IsReplica M.applies (S.stands store.new) start self.new }
         ensures adds { Adds (S.stands store.old) self.old.place batch.now (S.stands store.new) }
     {
@@ -257,9 +257,9 @@ impl<M: Machine> Replica<M> {
         ensures fault { IfErr result (MayFail S.fails) }
         ensures busy { result ≡ Err (Unknown Busy) → (self.old.place + 333333 ≤ self.new.place) ⊎ Contradicts S.stands S.lacks }
         ensures leaves { IfErr result (λ fault. ServeLeaves self.old fault self.new) }
-        ensures spoiled { self.old.spoiled ≡ true → length batch.now ≤ 65536 →
-            (result ≡ Err (Unknown Spoiled)) × (self.new ≡ self.old) × (store.new ≡ store.old) }
-        ensures goes_on { self.new.spoiled ≡ false → GoesOn M.applies (S.stands store.new) self.old self.new }
+        ensures poisoned { self.old.poisoned ≡ true → length batch.now ≤ 65536 →
+            (result ≡ Err (Unknown Poisoned)) × (self.new ≡ self.old) × (store.new ≡ store.old) }
+        ensures goes_on { self.new.poisoned ≡ false → GoesOn M.applies (S.stands store.new) self.old self.new }
         ensures follows { (start : M) → IsReplica M.applies (S.stands store.old) start self.old → IsReplica M.applies (S.stands store.new) start self.new }
         ensures once { AddsOnce (S.stands store.old) batch.now (S.stands store.new) }
     {
@@ -267,9 +267,9 @@ impl<M: Machine> Replica<M> {
             M::forget(replies);
             return Err(ServeFault::TooLong);
         }
-        if self.spoiled {
+        if self.poisoned {
             M::forget(replies);
-            return Err(ServeFault::Unknown(Cause::Spoiled));
+            return Err(ServeFault::Unknown(Cause::Poisoned));
         }
         for _ in 0..MOST_STEPS {
             match self.step(store, batch, replies) {
@@ -293,15 +293,15 @@ impl<M: Machine> Replica<M> {
         ensures most { IfOk result (λ n. n ≤ most) }
         ensures stopped { IfOk result (λ n. n < most → (MOST_PLACES ≤ self.new.place) ⊎ S.lacks store.new self.new.place) }
         ensures fault { IfErr result (λ cause. EndsBy self.old cause self.new) }
-        ensures well { OnOk result (self.new.spoiled ≡ false) }
-        ensures spoiled { self.old.spoiled ≡ true → (result ≡ Err Spoiled) × (self.new ≡ self.old) }
+        ensures well { OnOk result (self.new.poisoned ≡ false) }
+        ensures poisoned { self.old.poisoned ≡ true → (result ≡ Err Poisoned) × (self.new ≡ self.old) }
         ensures not_busy { result ≢ Err Busy }
-        ensures goes_on { self.new.spoiled ≡ false → GoesOn M.applies (S.stands store.new) self.old self.new }
+        ensures goes_on { self.new.poisoned ≡ false → GoesOn M.applies (S.stands store.new) self.old self.new }
         ensures same { Same (S.stands store.old) (S.stands store.new) }
         ensures cause { IfErr result (MayCause S.fails) }
     {
-        if self.spoiled {
-            return Err(Cause::Spoiled);
+        if self.poisoned {
+            return Err(Cause::Poisoned);
         }
         for passed in 0..most {
             let stood = self.pass(store, replies)?;
@@ -324,11 +324,11 @@ impl<M: Machine> Replica<M> {
         ensures most { IfOk result (λ n. n ≤ most) }
         ensures stopped { IfOk result (λ n. n < most → (MOST_PLACES ≤ self.new.place) ⊎ S.lacks store.new self.new.place) }
         ensures fault { IfErr result (λ cause. EndsBy self.old cause self.new) }
-        ensures well { OnOk result (self.new.spoiled ≡ false) }
+        ensures well { OnOk result (self.new.poisoned ≡ false) }
         ensures unanswered { M.silent replies.new }
-        ensures spoiled { self.old.spoiled ≡ true → (result ≡ Err Spoiled) × (self.new ≡ self.old) }
+        ensures poisoned { self.old.poisoned ≡ true → (result ≡ Err Poisoned) × (self.new ≡ self.old) }
         ensures not_busy { result ≢ Err Busy }
-        ensures goes_on { self.new.spoiled ≡ false → GoesOn M.applies (S.stands store.new) self.old self.new }
+        ensures goes_on { self.new.poisoned ≡ false → GoesOn M.applies (S.stands store.new) self.old self.new }
         ensures follows { (start : M) → IsReplica M.applies (S.stands store.old) start self.old → IsReplica M.applies (S.stands store.new) start self.new }
         ensures same { Same (S.stands store.old) (S.stands store.new) }
         ensures cause { IfErr result (MayCause S.fails) }

@@ -9,10 +9,10 @@ use std::fmt;
 pub enum Cause {
     /// The store's fault.
     Store(StoreFault),
-    /// A growth was refused while an entry of the log was applied: the replica is spoiled by this.
+    /// A growth was refused while an entry of the log was applied: the replica is poisoned by this.
     Memory,
-    /// The replica was spoiled before: nothing is known of its machine, and it never goes on.
-    Spoiled,
+    /// The replica was poisoned before: nothing is known of its machine, and it never goes on.
+    Poisoned,
     /// The log has no place left.
     Full,
     /// Others came first for `MOST_STEPS` steps.
@@ -24,7 +24,7 @@ impl fmt::Display for Cause {
         match self {
             Cause::Store(fault) => write!(f, "{fault}"),
             Cause::Memory => f.write_str("no memory to apply an entry"),
-            Cause::Spoiled => f.write_str("no memory was there to apply an earlier entry"),
+            Cause::Poisoned => f.write_str("no memory was there to apply an earlier entry"),
             Cause::Full => f.write_str("the log is full"),
             Cause::Busy => f.write_str("others came first"),
         }
@@ -39,7 +39,7 @@ pub enum ServeFault {
     /// It is longer than `MOST_BATCH` bytes: it was not offered.
     TooLong,
     /// Its fate is not known: it may stand in the log or not, or come to stand there later. The same replica can be asked to serve
-    /// it again, and then it comes to stand there once; a replica that is spoiled never serves it.
+    /// it again, and then it comes to stand there once; a replica that is poisoned never serves it.
     Unknown(Cause),
 }
 

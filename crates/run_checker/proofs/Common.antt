@@ -20,7 +20,7 @@ pub use Rattle.commands.specs.declared.kind.WorldKind.{WorldKind}
 pub use Rattle.commands.specs.Replies.{done_reply, value_reply, ShownReply}
 pub use Rattle.command_lines.specs.Lines.{left_length}
 pub use Rattle.player.specs.Records.{header_line, exchange_line, record_of}
-pub use Rattle.player.specs.Turns.Turn.{Answered, Told, Ended, Misread}
+pub use Rattle.player.specs.Turns.Turn.{Answered, Reported, Ended, Misread}
 pub use Rattle.snapshot_core.specs.Snapshot.{IsMoment}
 pub use Rattle.rename_core.specs.RenameObject.{RenameTerms, RenameObject, IsRecent, ShowsSole, no_begin, no_step, ShowsConflict}
 pub use Rattle.rename_core.specs.Reply.{StepReply}
@@ -34,7 +34,7 @@ pub use Rattle.desk.specs.DeskCalls.{DeskCall, exchange_of}
 pub use Rattle.desk.specs.DeskCalls.DeskCall.{Renamed, Slotted}
 pub use Rattle.desk.specs.DeskValue.{DeskValue}
 pub use Rattle.record_lines.specs.declared.line.Line.{Line}
-pub use Rattle.record_lines.specs.Lines.{told_of, line_of, IsLineOf, IsShown}
+pub use Rattle.record_lines.specs.Lines.{reported_of, line_of, IsLineOf, IsShown}
 pub use Rattle.record_lines.specs.Records.{record_lines, lines_left, IsRecordOf, AreRead}
 pub use Rattle.record_lines.specs.declared.header.Header.{Header}
 pub use Rattle.record_lines.specs.RecordLine.{FindsLine, IsEventLine, IsHeaderLine}

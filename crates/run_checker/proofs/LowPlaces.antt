@@ -16,7 +16,7 @@ use Rattle.snapshot_core.specs.Places.{KnownPlaces, PlacesLaws}
 use Rattle.snapshot_core.specs.SnapCalls.{SnapCall, next as snap_next, IsReply as IsSnapReply}
 use Rattle.snapshot_core.specs.SnapCalls.SnapCall.{Began as SnapBegan, Updated, Scanned, Stepped as SnapStepped}
 use Rattle.snapshot_core.specs.SnapWorld.{SnapState, place_in, ways_of, way_now, scan_refusal, update_refusal, after_snap_step}
-use Rattle.snapshot_core.proofs.Following.{told_holds, consistent_holds}
+use Rattle.snapshot_core.proofs.Following.{reported_holds, consistent_holds}
 use Rattle.splitter_grid.specs.Door.{IsDoorWithin}
 use Rattle.splitter_grid.specs.Walk as walk
 use Rattle.splitter_grid.proofs.GridLaw.{grid_law}
@@ -39,7 +39,7 @@ use Rattle.rename_core.specs.declared.round.Wish.TheVariants.{Nothing, Update, S
 use Rattle.commands.specs.declared.kind.WorldKind.TheVariants as world
 use Rattle.rename_core.specs.Machine.{next, IsReply, renaming}
 use Rattle.rename_core.specs.RenameState.{RenameState}
-use Rattle.rename_core.specs.RenameWorld.{after_wish, begun_unless, snap_told, answer_told, answer_open, answer_by, rename_answer, after_told, after_open, after_by, after_rename_step}
+use Rattle.rename_core.specs.RenameWorld.{after_wish, begun_unless, snap_reported, answer_reported, answer_open, answer_by, rename_answer, after_reported, after_open, after_by, after_rename_step}
 use Rattle.rename_core.specs.Round.{stage_refusal, followed, decided, spent_by, saw_by, named_by}
 use Rattle.proposal_rounds.specs.Proposals.{is_taken}
 use Rattle.bit_allocator.specs.declared.probe.Probe.{Probe}
@@ -91,12 +91,12 @@ module _ {S R V U K : Type 0} (W : KnownPlaces S R V U K) (laws : PlacesLaws W) 
   begun_so first w p None k = wished first _ p _ (called first w.snap (SnapBegan p (done_unless (begin_refusal w.snap p))) k refl)
   begun_so first w p (Some why) k = k
 
-  told_so : (first : S) (w : RenameState S U K) (p : ℕ) (r : Round) (told : Result SnapReply Refusal) → snap_told W w p ≡ told → ComesFrom first w.snap → ComesFrom first (after_told W w p r told).snap
-  told_so first w p r (Ok said) e k = wished first (after_snap_step W w.snap p) p (followed r p said w.limit).wish (called first w.snap (SnapStepped p (Ok said)) k (inl (sym e)))
-  told_so first w p r (Err why) e k = k
+  reported_so : (first : S) (w : RenameState S U K) (p : ℕ) (r : Round) (reported : Result SnapReply Refusal) → snap_reported W w p ≡ reported → ComesFrom first w.snap → ComesFrom first (after_reported W w p r reported).snap
+  reported_so first w p r (Ok said) e k = wished first (after_snap_step W w.snap p) p (followed r p said w.limit).wish (called first w.snap (SnapStepped p (Ok said)) k (inl (sym e)))
+  reported_so first w p r (Err why) e k = k
 
   open_so : (first : S) (w : RenameState S U K) (p : ℕ) (r : Round) (why : Option Refusal) → ComesFrom first w.snap → ComesFrom first (after_open W w p r why).snap
-  open_so first w p r None k = told_so first w p r (snap_told W w p) refl k
+  open_so first w p r None k = reported_so first w p r (snap_reported W w p) refl k
   open_so first w p r (Some why) k = k
 
   stepped_so : (first : S) (w : RenameState S U K) (p : ℕ) (r : Option Round) → ComesFrom first w.snap → ComesFrom first (after_by W w p r).snap
@@ -130,15 +130,15 @@ module _ {S R V U K : Type 0} (W : KnownPlaces S R V U K) (laws : PlacesLaws W) 
   followed_place r p place (snap.View view) limit e = absurd (decided_other r p place view limit e)
   followed_place r p place said limit e = absurd (cc)
 
-  told_place : (w : RenameState S U K) (p place : ℕ) (r : Round) (told : Result SnapReply Refusal) → answer_told W w p r told ≡ Ok (step.Placed place) → told ≡ Ok (snap.Placed place)
-  told_place w p place r (Ok said) e = (let same : (followed r p said w.limit).reply ≡ step.Placed place = cc in ap (λ (x : SnapReply). Ok x) (followed_place r p place said w.limit same))
-  told_place w p place r (Err why) e = absurd (cc)
+  reported_place : (w : RenameState S U K) (p place : ℕ) (r : Round) (reported : Result SnapReply Refusal) → answer_reported W w p r reported ≡ Ok (step.Placed place) → reported ≡ Ok (snap.Placed place)
+  reported_place w p place r (Ok said) e = (let same : (followed r p said w.limit).reply ≡ step.Placed place = cc in ap (λ (x : SnapReply). Ok x) (followed_place r p place said w.limit same))
+  reported_place w p place r (Err why) e = absurd (cc)
 
-  open_place : (w : RenameState S U K) (p place : ℕ) (r : Round) (why : Option Refusal) → answer_open W w p r why ≡ Ok (step.Placed place) → snap_told W w p ≡ Ok (snap.Placed place)
-  open_place w p place r None e = told_place w p place r (snap_told W w p) e
+  open_place : (w : RenameState S U K) (p place : ℕ) (r : Round) (why : Option Refusal) → answer_open W w p r why ≡ Ok (step.Placed place) → snap_reported W w p ≡ Ok (snap.Placed place)
+  open_place w p place r None e = reported_place w p place r (snap_reported W w p) e
   open_place w p place r (Some why) e = absurd (cc)
 
-  answer_place : (w : RenameState S U K) (p place : ℕ) (r : Option Round) → answer_by W w p r ≡ Ok (step.Placed place) → snap_told W w p ≡ Ok (snap.Placed place)
+  answer_place : (w : RenameState S U K) (p place : ℕ) (r : Option Round) → answer_by W w p r ≡ Ok (step.Placed place) → snap_reported W w p ≡ Ok (snap.Placed place)
   answer_place w p place None e = absurd (cc)
   answer_place w p place (Some r) e = open_place w p place r (stage_refusal r.stage) e
 
@@ -154,12 +154,12 @@ module _ {S R V U K : Type 0} (W : KnownPlaces S R V U K) (laws : PlacesLaws W) 
     place_low : (kind : WorldKind) (w : RenameState S U K) (first : S × ℕ) (r : List (Call StepReply)) → Reaches (renaming W kind) first w r → (p place : ℕ) → rename_answer W w p ≡ Ok (step.Placed place) → place < 2 ^ 64
     unfolding called
     place_low kind w first r a p place e =
-        let told : snap_told W w p ≡ Ok (snap.Placed place) = answer_place w p place (program_of p w.rounds) e in
+        let reported : snap_reported W w p ≡ Ok (snap.Placed place) = answer_place w p place (program_of p w.rounds) e in
         let k = after_so kind w first r a in
         let h : SnapCall = SnapStepped p (Ok (snap.Placed place)) in
-        let now = called first.0 w.snap h k (inl (sym told)) in
+        let now = called first.0 w.snap h k (inl (sym reported)) in
         let there : Contains (k.calls ++ h ∷ []) h = Contains-append_right k.calls (h ∷ []) h (0, omega arith, refl) in
-        let is = told_holds W laws (after_snap_step W w.snap p) p first.0 (k.calls ++ h ∷ []) now.after a.started.new place there in
+        let is = reported_holds W laws (after_snap_step W w.snap p) p first.0 (k.calls ++ h ∷ []) now.after a.started.new place there in
         way_low (after_snap_step W w.snap p) (consistent_holds W laws (after_snap_step W w.snap p) first.0 (k.calls ++ h ∷ []) now.after a.started.new) p place is
 
     step_low : (place : ℕ) (answer : Result StepReply Refusal) → step_reply answer ≡ reply.Place place → answer ≡ Ok (step.Placed place)

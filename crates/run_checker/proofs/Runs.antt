@@ -7,17 +7,17 @@ use Rattle.std.specs.Result.{IfOk}
 use Rattle.commands.specs.declared.event.Event.TheVariants.{Begin, Step, Enter, Probe, Leave, Put, Widen}
 use Rattle.run_checker.specs.declared.fault.Fault.{Fault}
 use Rattle.run_checker.specs.declared.fault.Fault.TheVariants.{Unlawful, NoMemory}
-use Rattle.run_checker.specs.Fault.{told_by}
-use Rattle.record_lines.specs.declared.told.Told.{Told}
-use Rattle.record_lines.specs.declared.told.Told.TheVariants.{Ok as Accepted, Proposed, Missed, Left}
+use Rattle.run_checker.specs.Fault.{reported_by}
+use Rattle.record_lines.specs.declared.reported.Reported.{Reported}
+use Rattle.record_lines.specs.declared.reported.Reported.TheVariants.{Ok as Accepted, Proposed, Missed, Left}
 use Rattle.run_checker.specs.Reasons.{KeepsAll, IsLeastReason}
 use Rattle.record_lines.specs.Lines.{IsLineOf, AreLinesOf}
-use Rattle.run_checker.specs.Lines.{AreLinesOfRun, CanFollow, after_told, after_line, Follow}
+use Rattle.run_checker.specs.Lines.{AreLinesOfRun, CanFollow, after_reported, after_line, Follow}
 use Rattle.run_checker.specs.Judged.{HoldsDesk, IsTaken, IsJudged, HasTaken, IsFaultAfter, TakesOn, IsFirstFault}
 use Rattle.run_checker.proofs.Following.{can_follow, follows_keeps, same_after}
 
 -- a line makes at most one moment
-last_after : (o : DeskObject) (e : Event) (t : Told) → (after_told o e t).names.last ≤ o.names.last + 1
+last_after : (o : DeskObject) (e : Event) (t : Reported) → (after_reported o e t).names.last ≤ o.names.last + 1
 last_after o (Begin p) Accepted = omega arith
 last_after o (Step p) (Proposed n) = omega arith
 last_after o (Enter p) Accepted = omega arith
@@ -32,17 +32,17 @@ pub taken_on : (terms : RenameTerms) (size : ℕ) (lines : List Line) (l : Line)
 taken_on terms size lines l old new h few j =
     let last = h.few in
     let t : IsTaken terms h.object l new = j h.object h.held (omega arith) in
-    let more = last_after h.object l.event l.told in
+    let more = last_after h.object l.event l.reported in
     let count = length-append lines (l ∷ []) in
     record {
       object = after_line h.object l;
-      run = run_more after_line (CanFollow terms) (fresh_desk_object size) lines h.object l h.run (can_follow terms h.object l.event l.told t.keeps);
+      run = run_more after_line (CanFollow terms) (fresh_desk_object size) lines h.object l h.run (can_follow terms h.object l.event l.reported t.keeps);
       held = t.after;
       few = omega arith;
     }
 
 pub fault_on : (terms : RenameTerms) (size : ℕ) (lines : List Line) (l : Line) (old : Checker) (why : Reason) → HasTaken terms size lines old → length lines < 2 ^ 62 →
-    ((o : DeskObject) → HoldsDesk terms old o → o.names.last < 2 ^ 62 → IsLeastReason terms o l.event l.told why) → IsFaultAfter terms size lines l why
+    ((o : DeskObject) → HoldsDesk terms old o → o.names.last < 2 ^ 62 → IsLeastReason terms o l.event l.reported why) → IsFaultAfter terms size lines l why
 fault_on terms size lines l old why h few j = let last = h.few in record { object = h.object; run = h.run; least = j h.object h.held (omega arith) }
 
 -- a call leaves what any line of it does
@@ -90,13 +90,13 @@ at_fault terms size before l more why f r =
     let k = run_follows terms size (before ++ l ∷ more) r in
     let s = run_splits after_line (CanFollow terms) (fresh_desk_object size) before (l ∷ more) k.0 k.1 in
     let same : s.0 ≡ f.object = run_one after_line (CanFollow terms) (fresh_desk_object size) before s.0 f.object s.1 f.run in
-    f.least.fits (subst (λ (x : DeskObject). KeepsAll terms x l.event l.told) same (follows_keeps terms s.0 l s.2.0) why)
+    f.least.fits (subst (λ (x : DeskObject). KeepsAll terms x l.event l.reported) same (follows_keeps terms s.0 l s.2.0) why)
 
 -- what a fault tells of a line
-pub told_fault : (l : Line) (old new : Checker) (f : Fault) → ((terms : RenameTerms) (o : DeskObject) → HoldsDesk terms old o → o.names.last < 2 ^ 62 → IsJudged terms o l (Err f) new) →
-    IfOk (told_by f) (λ r. (terms : RenameTerms) (size : ℕ) (lines : List Line) → HasTaken terms size lines old → length lines < 2 ^ 62 → TakesOn terms size lines l r new)
-told_fault l old new (Unlawful why) j = λ terms size lines h few. fault_on terms size lines l old why h few (λ o. j terms o)
-told_fault l old new NoMemory j = tt
+pub reported_fault : (l : Line) (old new : Checker) (f : Fault) → ((terms : RenameTerms) (o : DeskObject) → HoldsDesk terms old o → o.names.last < 2 ^ 62 → IsJudged terms o l (Err f) new) →
+    IfOk (reported_by f) (λ r. (terms : RenameTerms) (size : ℕ) (lines : List Line) → HasTaken terms size lines old → length lines < 2 ^ 62 → TakesOn terms size lines l r new)
+reported_fault l old new (Unlawful why) j = λ terms size lines h few. fault_on terms size lines l old why h few (λ o. j terms o)
+reported_fault l old new NoMemory j = tt
 
 -- the line at fault is the first
 pub first_at : (terms : RenameTerms) (size : ℕ) (lines : List Line) (i : ℕ) (l : Line) (why : Reason) → i < length lines → l ≡ get_or lines i l → IsFaultAfter terms size (take i lines) l why → IsFirstFault terms size lines i why

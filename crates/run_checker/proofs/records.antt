@@ -4,6 +4,6 @@ pub mod Rows
 pub mod Gathered
 pub mod Stages
 pub mod OneVerdict
-pub mod Talking
+pub mod Transcribing
 pub mod Recording
 pub mod Migrated

@@ -6,6 +6,6 @@ use Rattle.run_checker.specs.declared.fault.Fault.TheVariants.{Unlawful, NoMemor
 use Rattle.run_checker.specs.declared.reason.Reason.{Reason}
 
 -- the reason, or that a growth was refused
-abbrev pub told_by : Fault → Result (Option Reason) AllocError
-told_by (Unlawful why) = Ok (Some why)
-told_by NoMemory = Err alloc_error
+abbrev pub reported_by : Fault → Result (Option Reason) AllocError
+reported_by (Unlawful why) = Ok (Some why)
+reported_by NoMemory = Err alloc_error

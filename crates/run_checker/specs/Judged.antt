@@ -10,7 +10,7 @@ use Rattle.run_checker.specs.declared.fault.Fault.TheVariants.{Unlawful, NoMemor
 use Rattle.record_lines.specs.declared.line.Line.{Line}
 use Rattle.run_checker.specs.declared.reason.Reason.{Reason}
 use Rattle.run_checker.specs.declared.reason.Reason.TheVariants as reason
-use Rattle.record_lines.specs.declared.told.Told.{Told}
+use Rattle.record_lines.specs.declared.reported.Reported.{Reported}
 use Rattle.run_checker.specs.ObjectRun.{DeskObject}
 use Rattle.run_checker.specs.Lines.{after_line, Follow, AreLinesOfRun}
 use Rattle.run_checker.specs.Reasons.{Keeps, KeepsAll, IsLeastReason, why_of}
@@ -24,19 +24,19 @@ pub record HoldsDesk (terms : RenameTerms) (c : Checker) (o : DeskObject) : Type
   pub grows_is : c.grows ≡ terms.grows
 
 -- it is a reply of the command, and a refusal where and as one is due
-pub record IsRefusedAsDue (terms : RenameTerms) (o : DeskObject) (e : Event) (t : Told) : Type 0 where
+pub record IsRefusedAsDue (terms : RenameTerms) (o : DeskObject) (e : Event) (t : Reported) : Type 0 where
   pub reply : Keeps terms o e t reason.Reply
   pub refusal : Keeps terms o e t reason.Refusal
 
 -- no reason fits, and what is kept is of the objects after the line
 pub record IsTaken (terms : RenameTerms) (o : DeskObject) (l : Line) (new : Checker) : Type 0 where
-  pub keeps : KeepsAll terms o l.event l.told
+  pub keeps : KeepsAll terms o l.event l.reported
   pub after : HoldsDesk terms new (after_line o l)
 
 -- it can follow, or the least reason for which it can't is told; a refused growth says nothing
 abbrev pub IsJudged : RenameTerms → DeskObject → Line → Result (Unit {0}) Fault → Checker → Type 0
 IsJudged terms o l (Ok done) new = IsTaken terms o l new
-IsJudged terms o l (Err (Unlawful why)) new = IsLeastReason terms o l.event l.told why
+IsJudged terms o l (Err (Unlawful why)) new = IsLeastReason terms o l.event l.reported why
 IsJudged terms o l (Err NoMemory) new = Unit {0}
 
 -- what is kept is of some objects of which this holds: then what is said of the line, and kept after it, is right
@@ -71,7 +71,7 @@ HoldsNumber id terms o = why_of (number_in o.slots.pool id) ≡ None
 abbrev pub MayWiden : ℕ → RenameTerms → DeskObject → Type 0
 MayWiden more terms o = widen_refusal o.slots.pool.size more ≡ None
 
-abbrev pub IsDueSo : Event → Told → RenameTerms → DeskObject → Type 0
+abbrev pub IsDueSo : Event → Reported → RenameTerms → DeskObject → Type 0
 IsDueSo e t terms o = IsRefusedAsDue terms o e t
 
 -- these lines were taken: each can follow those before it, and what is kept is of the objects after them
@@ -85,7 +85,7 @@ pub record HasTaken (terms : RenameTerms) (size : ℕ) (lines : List Line) (c : 
 pub record IsFaultAfter (terms : RenameTerms) (size : ℕ) (lines : List Line) (l : Line) (why : Reason) : Type 0 where
   pub object : DeskObject
   pub run : Follow terms size lines object
-  pub least : IsLeastReason terms object l.event l.told why
+  pub least : IsLeastReason terms object l.event l.reported why
 
 -- one more line is taken, or it is the first at fault
 abbrev pub TakesOn : RenameTerms → ℕ → List Line → Line → Option Reason → Checker → Type 0

@@ -13,8 +13,8 @@ use Rattle.commands.specs.declared.exchange.Exchange.{Exchange}
 use Rattle.desk.specs.DeskCalls.{DeskCall, exchange_of}
 use Rattle.desk.specs.DeskCalls.DeskCall.{Renamed, Slotted}
 use Rattle.record_lines.specs.declared.line.Line.{Line}
-use Rattle.record_lines.specs.declared.told.Told.{Told}
-use Rattle.record_lines.specs.declared.told.Told.TheVariants.{Ok as Accepted, Place, Proposed, Named, Spent, Missed, Got, Left}
+use Rattle.record_lines.specs.declared.reported.Reported.{Reported}
+use Rattle.record_lines.specs.declared.reported.Reported.TheVariants.{Ok as Accepted, Place, Proposed, Named, Spent, Missed, Got, Left}
 use Rattle.run_checker.specs.ObjectRun.{DeskObject, fresh_desk_object, AllowsCall, after_call, IsObjectRun}
 use Rattle.record_lines.specs.Lines.{IsLineOf, AreLinesOf}
 
@@ -32,22 +32,22 @@ pub record CanFollow (terms : RenameTerms) (o : DeskObject) (l : Line) : Type 0 
   pub allowed : AllowsCall terms o call
 
 -- the objects after an event with what is told of its reply
-abbrev pub after_told : DeskObject → Event → Told → DeskObject
-after_told o (Begin p) Accepted = after_call o (Renamed (Began p (Ok tt)))
-after_told o (Step p) (Place place) = after_call o (Renamed (Stepped p (Ok (step.Placed place))))
-after_told o (Step p) (Proposed number) = after_call o (Renamed (Stepped p (Ok (step.Proposed number))))
-after_told o (Step p) (Named name shown) = after_call o (Renamed (Stepped p (Ok (step.Named name []))))
-after_told o (Step p) Spent = after_call o (Renamed (Stepped p (Ok step.Spent)))
-after_told o (Enter p) Accepted = after_call o (Slotted (Pooled (Entered p (Ok tt))))
-after_told o (Probe p) Missed = after_call o (Slotted (Pooled (Probed p (Ok probe.Missed))))
-after_told o (Probe p) (Got number) = after_call o (Slotted (Pooled (Probed p (Ok (probe.Got number)))))
-after_told o (Leave p) (Left number) = after_call o (Slotted (Pooled (HasLeft p (Ok number))))
-after_told o (Put p value) Accepted = after_call o (Slotted (Stored p value (Ok tt)))
-after_told o (Widen more) Accepted = after_call o (Slotted (Extended more 0 (Ok tt)))
-after_told o e t = o
+abbrev pub after_reported : DeskObject → Event → Reported → DeskObject
+after_reported o (Begin p) Accepted = after_call o (Renamed (Began p (Ok tt)))
+after_reported o (Step p) (Place place) = after_call o (Renamed (Stepped p (Ok (step.Placed place))))
+after_reported o (Step p) (Proposed number) = after_call o (Renamed (Stepped p (Ok (step.Proposed number))))
+after_reported o (Step p) (Named name shown) = after_call o (Renamed (Stepped p (Ok (step.Named name []))))
+after_reported o (Step p) Spent = after_call o (Renamed (Stepped p (Ok step.Spent)))
+after_reported o (Enter p) Accepted = after_call o (Slotted (Pooled (Entered p (Ok tt))))
+after_reported o (Probe p) Missed = after_call o (Slotted (Pooled (Probed p (Ok probe.Missed))))
+after_reported o (Probe p) (Got number) = after_call o (Slotted (Pooled (Probed p (Ok (probe.Got number)))))
+after_reported o (Leave p) (Left number) = after_call o (Slotted (Pooled (HasLeft p (Ok number))))
+after_reported o (Put p value) Accepted = after_call o (Slotted (Stored p value (Ok tt)))
+after_reported o (Widen more) Accepted = after_call o (Slotted (Extended more 0 (Ok tt)))
+after_reported o e t = o
 
 abbrev pub after_line : DeskObject → Line → DeskObject
-after_line o l = after_told o l.event l.told
+after_line o l = after_reported o l.event l.reported
 
 -- each of these lines can follow those before it, and the objects are then in this state
 abbrev pub Follow : RenameTerms → ℕ → List Line → DeskObject → Type 0

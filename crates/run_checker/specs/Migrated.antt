@@ -19,8 +19,8 @@ use Rattle.run_judges.specs.declared.firsts.Firsts.{Firsts}
 use Rattle.record_lines.specs.declared.header.Header.{Header}
 use Rattle.record_lines.specs.declared.line.Line.{Line}
 use Rattle.run_checker.specs.declared.migration.Migration.{Migration}
-use Rattle.record_lines.specs.declared.told.Told.{Told}
-use Rattle.record_lines.specs.declared.told.Told.TheVariants as told
+use Rattle.record_lines.specs.declared.reported.Reported.{Reported}
+use Rattle.record_lines.specs.declared.reported.Reported.TheVariants as reported
 use Rattle.run_checker.specs.declared.verdict.Verdict.{Verdict}
 use Rattle.run_checker.specs.declared.verdict.Verdict.TheVariants.{Yes}
 use Rattle.run_checker.specs.Config.{terms_of}
@@ -41,15 +41,15 @@ pub record Telling : Type 0 where
   pub call : DeskCall
 
 -- where the view by which a name was given is not written, it is the first by which it could be given
-abbrev pub ShowsFirst : RenameObject → Event → ShownReply → Told → Type 0
-ShowsFirst o (event.Step p) (reply.Named n view) (told.Named m None) = IsFirstSole o p n view
+abbrev pub ShowsFirst : RenameObject → Event → ShownReply → Reported → Type 0
+ShowsFirst o (event.Step p) (reply.Named n view) (reported.Named m None) = IsFirstSole o p n view
 ShowsFirst o e r t = Unit {0}
 
 -- the objects may give the call its reply, and the line says it
 pub record IsTelling (terms : RenameTerms) (o : DeskObject) (t : Telling) : Type 0 where
   pub allowed : AllowsCall terms o t.call
   pub spelled : IsLineOf (exchange_of t.call) t.line
-  pub first : ShowsFirst o.names (exchange_of t.call).event (exchange_of t.call).reply t.line.told
+  pub first : ShowsFirst o.names (exchange_of t.call).event (exchange_of t.call).reply t.line.reported
 
 abbrev pub after_telling : DeskObject → Telling → DeskObject
 after_telling o t = after_call o t.call
@@ -88,12 +88,12 @@ pub record IsMigratedTo (bytes text : List ℕ) : Type 0 where
 abbrev pub GainsMigrated : Option (List ℕ) → Option (List ℕ) → List ℕ → Type 0
 GainsMigrated before now bytes = (text : List ℕ) × IsMigratedTo bytes text × Appends before now text
 
--- or a beginning of one
+-- or a prefix of one
 abbrev pub GainsPart : Option (List ℕ) → Option (List ℕ) → List ℕ → Type 0
 GainsPart before now bytes = (text : List ℕ) × IsMigratedTo bytes text × HasPartOf before now text
 
 -- what `migrate` answers of a record: its verdict, with the text to which it is migrated written where that is Yes, and nothing
--- written elsewhere; or that a write failed, with a beginning of that text written
+-- written elsewhere; or that a write failed, with a prefix of that text written
 abbrev pub IsMigrated : {W : Type 0} → Writing W → List ℕ → Result Verdict Fault → Type 0
 IsMigrated writing bytes (Ok Yes) = (writing.failed writing.new ≡ writing.failed writing.old) × GainsMigrated (writing.contents writing.old) (writing.contents writing.new) bytes
 IsMigrated writing bytes (Ok v) = IsVerdict bytes v × (writing.new ≡ writing.old)
@@ -102,8 +102,8 @@ IsMigrated writing bytes (Err fault) = (fault ≡ Write) × (writing.failed writ
 -- ---- what is gathered of the lines so far
 
 -- who proposes in a line, and which number
-abbrev pub proposal_of : Event → Told → Option (ℕ × ℕ)
-proposal_of (event.Step p) (told.Proposed n) = Some (p, n)
+abbrev pub proposal_of : Event → Reported → Option (ℕ × ℕ)
+proposal_of (event.Step p) (reported.Proposed n) = Some (p, n)
 proposal_of e t = None
 
 -- the view that is kept of who steps in an event
@@ -112,9 +112,9 @@ first_of f (event.Step p) = unwrap_or (view_at f p) []
 first_of f e = []
 
 -- the view by which a line tells that a name was given: the one that is written, or the first that there was
-abbrev pub shown_in : Firsts → Event → Told → List (ℕ × ℕ)
-shown_in f e (told.Named n (Some view)) = view
-shown_in f e (told.Named n None) = first_of f e
+abbrev pub shown_in : Firsts → Event → Reported → List (ℕ × ℕ)
+shown_in f e (reported.Named n (Some view)) = view
+shown_in f e (reported.Named n None) = first_of f e
 shown_in f e t = []
 
 -- what a line changes in what is kept of first moments

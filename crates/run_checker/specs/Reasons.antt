@@ -11,9 +11,9 @@ use Rattle.commands.specs.declared.event.Event.{Event}
 use Rattle.commands.specs.declared.event.Event.TheVariants.{Begin, Step, Enter, Probe, Leave, Put, Get, Widen}
 use Rattle.run_checker.specs.declared.reason.Reason.{Reason}
 use Rattle.run_checker.specs.declared.reason.Reason.TheVariants as reason
-use Rattle.record_lines.specs.declared.told.Told.{Told}
-use Rattle.record_lines.specs.declared.told.Told.TheVariants.{Place, Proposed, Saw, Named, Spent, Missed, Got, Left, Value, Refused}
-use Rattle.record_lines.specs.Told.{identity_of, is_step, is_reply_of}
+use Rattle.record_lines.specs.declared.reported.Reported.{Reported}
+use Rattle.record_lines.specs.declared.reported.Reported.TheVariants.{Place, Proposed, Saw, Named, Spent, Missed, Got, Left, Value, Refused}
+use Rattle.record_lines.specs.Reported.{identity_of, is_step, is_reply_of}
 use Rattle.run_judges.specs.Named.{MayBeNamed}
 use Rattle.run_checker.specs.ObjectRun.{DeskObject}
 
@@ -30,7 +30,7 @@ abbrev pub why_of : Result ℕ Refusal → Option Refusal
 why_of (Ok number) = None
 why_of (Err why) = Some why
 
--- the refusal that an event is due, want of memory aside
+-- the refusal that an event is due, failed allocations aside
 abbrev pub refusal_due : RenameTerms → DeskObject → Event → Option Refusal
 refusal_due terms o (Begin p) = no_begin terms o.names p
 refusal_due terms o (Step p) = no_step o.names p
@@ -41,23 +41,23 @@ refusal_due terms o (Put p value) = why_of (number_in o.slots.pool p)
 refusal_due terms o (Get p) = why_of (number_in o.slots.pool p)
 refusal_due terms o (Widen more) = widen_refusal o.slots.pool.size more
 
--- where none is due, want of memory may be told of a step in a world that grows
-abbrev pub is_told_rightly : Option Refusal → Bool → ℕ → Bool
-is_told_rightly None lacks number = lacks && number == 12
-is_told_rightly (Some why) lacks number = refusal_number why == number
+-- where none is due, an allocation failure may be told of a step in a world that grows
+abbrev pub is_reported_rightly : Option Refusal → Bool → ℕ → Bool
+is_reported_rightly None lacks number = lacks && number == 12
+is_reported_rightly (Some why) lacks number = refusal_number why == number
 
 -- a refusal is told where it is due and as it is due
-abbrev pub is_refused_as_due : Option Refusal → Bool → Told → Bool
-is_refused_as_due due lacks (Refused number) = is_told_rightly due lacks number
+abbrev pub is_refused_as_due : Option Refusal → Bool → Reported → Bool
+is_refused_as_due due lacks (Refused number) = is_reported_rightly due lacks number
 is_refused_as_due due lacks t = is_none due
 
 -- the identity has no place, and no one this one
-abbrev pub GivesFreePlace : RenameObject → ℕ → Told → Type 0
+abbrev pub GivesFreePlace : RenameObject → ℕ → Reported → Type 0
 GivesFreePlace o p (Place place) = IsFreePlace o p place
 GivesFreePlace o p t = Unit {0}
 
 -- who proposes may propose this number; who saw has proposed and has proposals left; who is spent has none left
-abbrev pub ProposesInTurn : RenameTerms → RenameObject → ℕ → Told → Type 0
+abbrev pub ProposesInTurn : RenameTerms → RenameObject → ℕ → Reported → Type 0
 ProposesInTurn terms o p (Proposed number) = MayPropose terms o p number
 ProposesInTurn terms o p (Saw view) = (1 ≤ o.count p) × (o.count p < terms.limit)
 ProposesInTurn terms o p Spent = o.count p ≡ terms.limit
@@ -65,18 +65,18 @@ ProposesInTurn terms o p t = Unit {0}
 
 -- what was seen is a moment since the identity's last proposal in which another proposes the same; and there is one where the
 -- identity is spent
-abbrev pub ShowsWhatWas : RenameObject → ℕ → Told → Type 0
+abbrev pub ShowsWhatWas : RenameObject → ℕ → Reported → Type 0
 ShowsWhatWas o p (Saw view) = ShowsConflict o p view
 ShowsWhatWas o p Spent = HasConflict o p
 ShowsWhatWas o p t = Unit {0}
 
-abbrev pub GivesFreeName : RenameObject → ℕ → Told → Type 0
+abbrev pub GivesFreeName : RenameObject → ℕ → Reported → Type 0
 GivesFreeName o p (Named name shown) = MayBeNamed o p name shown
 GivesFreeName o p t = Unit {0}
 
 -- a number is got that is free; not each probe of a stay is missed, by the present size; the number that is held is given back;
 -- and a value is got that is in its slot
-abbrev pub KeepsThePool : SlotsObject ℕ → ℕ → Told → Type 0
+abbrev pub KeepsThePool : SlotsObject ℕ → ℕ → Reported → Type 0
 KeepsThePool o p Missed = o.pool.probes p + 1 ≢ max 1 (o.pool.size - 1)
 KeepsThePool o p (Got number) = IsFree o.pool number
 KeepsThePool o p (Left number) = number_in o.pool p ≡ Ok number
@@ -84,7 +84,7 @@ KeepsThePool o p (Value value) = IsFetched o.values (number_in o.pool p) (Ok val
 KeepsThePool o p t = Unit {0}
 
 -- what a reason is the breach of
-abbrev pub Keeps : RenameTerms → DeskObject → Event → Told → Reason → Type 0
+abbrev pub Keeps : RenameTerms → DeskObject → Event → Reported → Reason → Type 0
 Keeps terms o e t reason.Reply = is_reply_of t e ≡ true
 Keeps terms o e t reason.Refusal = is_refused_as_due (refusal_due terms o e) (terms.grows && is_step e) t ≡ true
 Keeps terms o e t reason.Place = GivesFreePlace o.names (identity_of e) t
@@ -94,10 +94,10 @@ Keeps terms o e t reason.Name = GivesFreeName o.names (identity_of e) t
 Keeps terms o e t reason.Pool = KeepsThePool o.slots (identity_of e) t
 
 -- no reason fits
-abbrev pub KeepsAll : RenameTerms → DeskObject → Event → Told → Type 0
+abbrev pub KeepsAll : RenameTerms → DeskObject → Event → Reported → Type 0
 KeepsAll terms o e t = (why : Reason) → Keeps terms o e t why
 
 -- this reason fits, and no lesser one
-pub record IsLeastReason (terms : RenameTerms) (o : DeskObject) (e : Event) (t : Told) (why : Reason) : Type 0 where
+pub record IsLeastReason (terms : RenameTerms) (o : DeskObject) (e : Event) (t : Reported) (why : Reason) : Type 0 where
   pub fits : Keeps terms o e t why → ⊥
   pub least : (other : Reason) → reason_number other < reason_number why → Keeps terms o e t other

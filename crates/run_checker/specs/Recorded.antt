@@ -8,7 +8,7 @@ use Rattle.commands.specs.declared.command.Command.{Command}
 use Rattle.commands.specs.declared.command.Command.TheVariants as command
 use Rattle.command_lines.specs.Lines.{lines}
 use Rattle.player.specs.Asked.{asked_by}
-use Rattle.schedule_player.specs.IsTalk.{IsTalk}
+use Rattle.schedule_player.specs.IsTranscript.{IsTranscript}
 use Rattle.player.specs.Played.{Reading, Writing}
 use Rattle.schedule_player.specs.Recorded.{IsRecorded}
 use Rattle.player.specs.Turns.{Turn, asked, exchanges}
@@ -17,11 +17,11 @@ use Rattle.run_checker.specs.declared.verdict.Verdict.TheVariants.{Yes, NoMemory
 use Rattle.run_checker.specs.Verdict.{IsVerdict}
 use Rattle.record_lines.specs.Records.{IsRecordOf}
 
--- a talk of this config, in whose world names are given, to what these lines ask, with at most a million events
-pub record IsShortTalk (c : Config) (ls : List (List ℕ)) (ts : List Turn) : Type 0 where
+-- a transcript of this config, in whose world names are given, to what these lines ask, with at most a million events
+pub record IsShortTranscript (c : Config) (ls : List (List ℕ)) (ts : List Turn) : Type 0 where
   pub names : gives_names c.world ≡ true
   pub asked_is : map asked ts ≡ asked_by c.world ls
-  pub talk : IsTalk c ts
+  pub transcript : IsTranscript c ts
   pub few : length (exchanges ts) ≤ 1000000
 
 abbrev pub events_among : List (Result Command Bad) → ℕ
@@ -44,10 +44,10 @@ pub record HasRecorded (c : Config) {R W : Type 0} (reading : Reading R) (writin
   pub none : writing.contents writing.old ≡ Some []
   pub now : writing.contents writing.new ≡ Some bytes
 
--- the bytes are the record of a talk to the lines of this input
-pub record RecordsTalk (c : Config) (input bytes : List ℕ) : Type 0 where
+-- the bytes are the record of a transcript to the lines of this input
+pub record RecordsTranscript (c : Config) (input bytes : List ℕ) : Type 0 where
   pub turns : List Turn
-  pub talk : IsShortTalk c (lines input) turns
+  pub transcript : IsShortTranscript c (lines input) turns
   pub record_is : IsRecordOf c (exchanges turns) bytes
 
 -- where no growth is refused, nothing but Yes is said of these bytes

@@ -4,19 +4,19 @@ ghost use Rattle.std.specs.Prelude.{◌≡◌, ◌&&◌, [], Ok, IfOk};
 ghost use Rattle.std.specs.Option.{option_copied};
 ghost use Rattle.rename_core.specs.RenameObject.{RenameTerms};
 ghost use Rattle.commands.specs.declared.event.Event.TheVariants as event;
-ghost use Rattle.record_lines.specs.declared.told.Told.TheVariants as told;
+ghost use Rattle.record_lines.specs.declared.reported.Reported.TheVariants as reported;
 ghost use Rattle.run_checker.specs.Config.{terms_of};
 ghost use Rattle.run_checker.specs.ObjectRun.{DeskObject};
-ghost use Rattle.record_lines.specs.Told.{is_step};
-ghost use Rattle.run_checker.specs.Reasons.{refusal_due, is_told_rightly, is_refused_as_due};
+ghost use Rattle.record_lines.specs.Reported.{is_step};
+ghost use Rattle.run_checker.specs.Reasons.{refusal_due, is_reported_rightly, is_refused_as_due};
 ghost use Rattle.record_lines.specs.Lines.{line};
 ghost use Rattle.run_checker.specs.Judged.{HoldsDesk, Judges, JudgesWithRoom, HasRoom, HasTaken, TakesMore, MayBegin, MayStep, MayEnter, MayProbe, MayWiden, HoldsNumber, IsDueSo};
 
 use crate::fault::Fault;
 use crate::reason::Reason;
 use commands::{Config, Event};
-use record_lines::told::is_step;
-use record_lines::{Line, Pairs, Told};
+use record_lines::reported::is_step;
+use record_lines::{Line, Pairs, Reported};
 use run_judges::{Names, Stays};
 use std::alloc::{AllocError, Global};
 use step_memory::{Place, Refusal};
@@ -39,9 +39,9 @@ impl Drop for Checker {
     }
 }
 
-/// Whether a refusal is told as it is due; where none is, want of memory may be told where there may be one.
-fn is_told_rightly(due: Option<Refusal>, lacks: bool, number: u64) -> bool
-    ensures { result ≡ is_told_rightly due lacks number }
+/// Whether a refusal is told as it is due; where none is, an allocation failure may be told where there may be one.
+fn is_reported_rightly(due: Option<Refusal>, lacks: bool, number: u64) -> bool
+    ensures { result ≡ is_reported_rightly due lacks number }
 {
     match due {
         Some(refusal) => u64::from(refusal.number()) == number,
@@ -50,11 +50,11 @@ fn is_told_rightly(due: Option<Refusal>, lacks: bool, number: u64) -> bool
 }
 
 /// Whether a refusal is told where it is due, and as it is due.
-fn is_refused_as_due(due: Option<Refusal>, lacks: bool, told: &Told) -> bool
-    ensures { result ≡ is_refused_as_due due lacks told.now }
+fn is_refused_as_due(due: Option<Refusal>, lacks: bool, reported: &Reported) -> bool
+    ensures { result ≡ is_refused_as_due due lacks reported.now }
 {
-    match told {
-        Told::Refused(number) => is_told_rightly(due, lacks, *number),
+    match reported {
+        Reported::Refused(number) => is_reported_rightly(due, lacks, *number),
         _ => due.is_none(),
     }
 }
@@ -72,7 +72,7 @@ impl Checker {
         })
     }
 
-    /// The refusal that an event is due, want of memory aside.
+    /// The refusal that an event is due, failed allocations aside.
     fn refusal_due(&self, event: Event) -> Option<Refusal>
         ensures { (terms : RenameTerms) (o : DeskObject) → HoldsDesk terms self.now o → result ≡ refusal_due terms o event }
     {
@@ -88,7 +88,7 @@ impl Checker {
         }
     }
 
-    /// Whether want of memory may be told of an event of which no other refusal is due.
+    /// Whether an allocation failure may be told of an event of which no other refusal is due.
     fn may_lack(&self, event: Event) -> bool
         ensures { result ≡ (self.now.grows && is_step event) }
     {
@@ -97,7 +97,7 @@ impl Checker {
 
     /// A participant begins that may.
     fn begin(&mut self, id: u64) -> Result<(), Fault>
-        ensures { Judges (MayBegin id) self.old (line (event.Begin id) told.Ok) result self.new }
+        ensures { Judges (MayBegin id) self.old (line (event.Begin id) reported.Ok) result self.new }
     {
         self.names.begin(id)?;
         Ok(())
@@ -105,7 +105,7 @@ impl Checker {
 
     /// A participant that may step is told a place.
     fn place(&mut self, id: u64, place: Place) -> Result<(), Fault>
-        ensures { Judges (MayStep id) self.old (line (event.Step id) (told.Place place)) result self.new }
+        ensures { Judges (MayStep id) self.old (line (event.Step id) (reported.Place place)) result self.new }
     {
         if !self.names.place(id, place) {
             return Err(Fault::Unlawful(Reason::Place));
@@ -115,7 +115,7 @@ impl Checker {
 
     /// A participant that may step is told that it has proposed.
     fn propose(&mut self, id: u64, number: u64) -> Result<(), Fault>
-        ensures { JudgesWithRoom (MayStep id) self.old (line (event.Step id) (told.Proposed number)) result self.new }
+        ensures { JudgesWithRoom (MayStep id) self.old (line (event.Step id) (reported.Proposed number)) result self.new }
     {
         if !self.names.may_propose(id, number) {
             return Err(Fault::Unlawful(Reason::Proposal));
@@ -126,7 +126,7 @@ impl Checker {
 
     /// A participant that may step is told a view.
     fn see(&self, id: u64, view: &Pairs) -> Result<(), Fault>
-        ensures { Judges (MayStep id) self.now (line (event.Step id) (told.Saw view.now)) result self.now }
+        ensures { Judges (MayStep id) self.now (line (event.Step id) (reported.Saw view.now)) result self.now }
     {
         if !self.names.has_turns(id) {
             return Err(Fault::Unlawful(Reason::Proposal));
@@ -139,7 +139,7 @@ impl Checker {
 
     /// A participant that may step is told a name.
     fn name(&mut self, id: u64, name: u64, shown: Option<&Pairs>) -> Result<(), Fault>
-        ensures { Judges (MayStep id) self.old (line (event.Step id) (told.Named name (option_copied shown.entry))) result self.new }
+        ensures { Judges (MayStep id) self.old (line (event.Step id) (reported.Named name (option_copied shown.entry))) result self.new }
     {
         if !self.names.may_name(id, name, shown) {
             return Err(Fault::Unlawful(Reason::Name));
@@ -150,7 +150,7 @@ impl Checker {
 
     /// A participant that may step is told that it is spent.
     fn spend(&mut self, id: u64) -> Result<(), Fault>
-        ensures { Judges (MayStep id) self.old (line (event.Step id) told.Spent) result self.new }
+        ensures { Judges (MayStep id) self.old (line (event.Step id) reported.Spent) result self.new }
     {
         if !self.names.is_last_turn(id) {
             return Err(Fault::Unlawful(Reason::Proposal));
@@ -164,7 +164,7 @@ impl Checker {
 
     /// An identity enters that may.
     fn enter(&mut self, id: u64) -> Result<(), Fault>
-        ensures { Judges (MayEnter id) self.old (line (event.Enter id) told.Ok) result self.new }
+        ensures { Judges (MayEnter id) self.old (line (event.Enter id) reported.Ok) result self.new }
     {
         self.stays.enter(id)?;
         Ok(())
@@ -172,7 +172,7 @@ impl Checker {
 
     /// An identity that may probe is told that it missed.
     fn miss(&mut self, id: u64) -> Result<(), Fault>
-        ensures { Judges (MayProbe id) self.old (line (event.Probe id) told.Missed) result self.new }
+        ensures { Judges (MayProbe id) self.old (line (event.Probe id) reported.Missed) result self.new }
     {
         if !self.stays.may_miss(id) {
             return Err(Fault::Unlawful(Reason::Pool));
@@ -183,7 +183,7 @@ impl Checker {
 
     /// An identity that may probe is told a number.
     fn gain(&mut self, id: u64, number: u64) -> Result<(), Fault>
-        ensures { Judges (MayProbe id) self.old (line (event.Probe id) (told.Got number)) result self.new }
+        ensures { Judges (MayProbe id) self.old (line (event.Probe id) (reported.Got number)) result self.new }
     {
         if !self.stays.is_free(number) {
             return Err(Fault::Unlawful(Reason::Pool));
@@ -194,7 +194,7 @@ impl Checker {
 
     /// The holder of a number is told which one it gives back.
     fn leave(&mut self, id: u64, number: u64) -> Result<(), Fault>
-        ensures { Judges (HoldsNumber id) self.old (line (event.Leave id) (told.Left number)) result self.new }
+        ensures { Judges (HoldsNumber id) self.old (line (event.Leave id) (reported.Left number)) result self.new }
     {
         let Ok(held) = self.stays.number_of(id) else {
             return Err(Fault::Unlawful(Reason::Refusal));
@@ -208,7 +208,7 @@ impl Checker {
 
     /// The holder of a number puts a value.
     fn put(&mut self, id: u64, value: u64) -> Result<(), Fault>
-        ensures { Judges (HoldsNumber id) self.old (line (event.Put id value) told.Ok) result self.new }
+        ensures { Judges (HoldsNumber id) self.old (line (event.Put id value) reported.Ok) result self.new }
     {
         let Ok(held) = self.stays.number_of(id) else {
             return Err(Fault::Unlawful(Reason::Refusal));
@@ -219,7 +219,7 @@ impl Checker {
 
     /// The holder of a number is told the value in its slot.
     fn get(&self, id: u64, value: u64) -> Result<(), Fault>
-        ensures { Judges (HoldsNumber id) self.now (line (event.Get id) (told.Value value)) result self.now }
+        ensures { Judges (HoldsNumber id) self.now (line (event.Get id) (reported.Value value)) result self.now }
     {
         let Ok(held) = self.stays.number_of(id) else {
             return Err(Fault::Unlawful(Reason::Refusal));
@@ -232,66 +232,66 @@ impl Checker {
 
     /// The pool gets more numbers where it may.
     fn widen(&mut self, more: u64) -> Result<(), Fault>
-        ensures { Judges (MayWiden more) self.old (line (event.Widen more) told.Ok) result self.new }
+        ensures { Judges (MayWiden more) self.old (line (event.Widen more) reported.Ok) result self.new }
     {
         self.stays.widen(more)?;
         Ok(())
     }
 
     /// What a step is told changes the renaming object.
-    fn step(&mut self, id: u64, told: &Told) -> Result<(), Fault>
-        ensures { JudgesWithRoom (IsDueSo (event.Step id) told.now) self.old (line (event.Step id) told.now) result self.new }
+    fn step(&mut self, id: u64, reported: &Reported) -> Result<(), Fault>
+        ensures { JudgesWithRoom (IsDueSo (event.Step id) reported.now) self.old (line (event.Step id) reported.now) result self.new }
     {
-        match told {
-            Told::Place(place) => self.place(id, *place),
-            Told::Proposed(number) => self.propose(id, *number),
-            Told::Saw(view) => self.see(id, view),
-            Told::Named(name, shown) => self.name(id, *name, shown.as_ref()),
-            Told::Spent => self.spend(id),
+        match reported {
+            Reported::Place(place) => self.place(id, *place),
+            Reported::Proposed(number) => self.propose(id, *number),
+            Reported::Saw(view) => self.see(id, view),
+            Reported::Named(name, shown) => self.name(id, *name, shown.as_ref()),
+            Reported::Spent => self.spend(id),
             _ => Ok(()),
         }
     }
 
     /// What a probe is told changes the pool.
-    fn probe(&mut self, id: u64, told: &Told) -> Result<(), Fault>
-        ensures { Judges (IsDueSo (event.Probe id) told.now) self.old (line (event.Probe id) told.now) result self.new }
+    fn probe(&mut self, id: u64, reported: &Reported) -> Result<(), Fault>
+        ensures { Judges (IsDueSo (event.Probe id) reported.now) self.old (line (event.Probe id) reported.now) result self.new }
     {
-        match told {
-            Told::Missed => self.miss(id),
-            Told::Got(number) => self.gain(id, *number),
+        match reported {
+            Reported::Missed => self.miss(id),
+            Reported::Got(number) => self.gain(id, *number),
             _ => Ok(()),
         }
     }
 
     /// What is told of an event, of whose command it is a reply and which is refused as it is due, changes the objects.
-    fn follow(&mut self, event: Event, told: &Told) -> Result<(), Fault>
-        ensures { JudgesWithRoom (IsDueSo event told.now) self.old (line event told.now) result self.new }
+    fn follow(&mut self, event: Event, reported: &Reported) -> Result<(), Fault>
+        ensures { JudgesWithRoom (IsDueSo event reported.now) self.old (line event reported.now) result self.new }
     {
         match event {
-            Event::Begin(id) => match told {
-                Told::Ok => self.begin(id),
+            Event::Begin(id) => match reported {
+                Reported::Ok => self.begin(id),
                 _ => Ok(()),
             },
-            Event::Step(id) => self.step(id, told),
-            Event::Enter(id) => match told {
-                Told::Ok => self.enter(id),
+            Event::Step(id) => self.step(id, reported),
+            Event::Enter(id) => match reported {
+                Reported::Ok => self.enter(id),
                 _ => Ok(()),
             },
-            Event::Probe(id) => self.probe(id, told),
-            Event::Leave(id) => match told {
-                Told::Left(number) => self.leave(id, *number),
+            Event::Probe(id) => self.probe(id, reported),
+            Event::Leave(id) => match reported {
+                Reported::Left(number) => self.leave(id, *number),
                 _ => Ok(()),
             },
-            Event::Put(id, value) => match told {
-                Told::Ok => self.put(id, value),
+            Event::Put(id, value) => match reported {
+                Reported::Ok => self.put(id, value),
                 _ => Ok(()),
             },
-            Event::Get(id) => match told {
-                Told::Value(value) => self.get(id, *value),
+            Event::Get(id) => match reported {
+                Reported::Value(value) => self.get(id, *value),
                 _ => Ok(()),
             },
-            Event::Widen(more) => match told {
-                Told::Ok => self.widen(more),
+            Event::Widen(more) => match reported {
+                Reported::Ok => self.widen(more),
                 _ => Ok(()),
             },
         }
@@ -301,14 +301,14 @@ impl Checker {
     fn take_line(&mut self, line: &Line) -> Result<(), Fault>
         ensures { Judges HasRoom self.old line.now result self.new }
     {
-        if !line.told.is_reply_of(line.event) {
+        if !line.reported.is_reply_of(line.event) {
             return Err(Fault::Unlawful(Reason::Reply));
         }
         let due = self.refusal_due(line.event);
-        if !is_refused_as_due(due, self.may_lack(line.event), &line.told) {
+        if !is_refused_as_due(due, self.may_lack(line.event), &line.reported) {
             return Err(Fault::Unlawful(Reason::Refusal));
         }
-        self.follow(line.event, &line.told)
+        self.follow(line.event, &line.reported)
     }
 
     /// Takes a line, and tells nothing, where it can follow those before it; else tells the least reason for which it can't.
@@ -318,7 +318,7 @@ impl Checker {
     {
         match self.take_line(line) {
             Ok(()) => Ok(None),
-            Err(fault) => fault.told(),
+            Err(fault) => fault.reported(),
         }
     }
 }

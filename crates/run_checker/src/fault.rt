@@ -1,7 +1,7 @@
 //! Why a checker does not go on.
 
 ghost use Rattle.std.specs.Prelude.{◌≡◌};
-ghost use Rattle.run_checker.specs.Fault.{told_by};
+ghost use Rattle.run_checker.specs.Fault.{reported_by};
 ghost use Rattle.run_checker.specs.declared.fault.Fault.TheVariants as fault;
 
 use crate::reason::Reason;
@@ -18,8 +18,8 @@ pub enum Fault {
 
 impl Fault {
     /// The reason, or that a growth was refused.
-    pub fn told(self) -> Result<Option<Reason>, AllocError>
-        ensures { result ≡ told_by self }
+    pub fn reported(self) -> Result<Option<Reason>, AllocError>
+        ensures { result ≡ reported_by self }
     {
         match self {
             Fault::Unlawful(reason) => Ok(Some(reason)),

@@ -17,7 +17,7 @@ ghost use Rattle.desk.specs.DeskRun.{IsDeskRun};
 ghost use Rattle.player.specs.Played.{reading, writing};
 ghost use Rattle.player.specs.Records.{record_of};
 ghost use Rattle.player.specs.Turns.{Turn, exchanges};
-ghost use Rattle.run_checker.specs.Recorded.{HasRecorded, IsShortTalk, IsYes, RecordsTalk};
+ghost use Rattle.run_checker.specs.Recorded.{HasRecorded, IsShortTranscript, IsYes, RecordsTranscript};
 ghost use Rattle.record_lines.specs.Records.{IsRecordOf, record_lines};
 ghost use Rattle.run_checker.specs.declared.verdict.Verdict.{Verdict};
 ghost use Rattle.run_checker.specs.declared.verdict.Verdict.TheVariants.{Yes};
@@ -27,7 +27,7 @@ use player::{Sink, Source};
 
 /// A law, which runs nothing: a line can follow those before it exactly where none of the seven reasons fits.
 pub fn law_of_reasons()
-    ensures { (terms : RenameTerms) (o : DeskObject) (l : Line) → CanFollow terms o l ↔ KeepsAll terms o l.event l.told }
+    ensures { (terms : RenameTerms) (o : DeskObject) (l : Line) → CanFollow terms o l ↔ KeepsAll terms o l.event l.reported }
 {}
 
 /// A law, which runs nothing: lines are those of a run, for some choice of the views that are not written, exactly where each
@@ -62,20 +62,20 @@ pub fn law_of_desk_runs()
         IsDeskRun terms bounds size r → (shows : Bool) → AreLinesOfRun terms size (map (line_of shows) r) }
 {}
 
-/// A law, which runs nothing, of the worlds with names: the record of a talk to what some lines ask, with at most a million events,
+/// A law, which runs nothing, of the worlds with names: the record of a transcript to what some lines ask, with at most a million events,
 /// is a header and for each exchange, in order, a line that says it; it is said to be a run's, and nothing else is said of it where no
 /// growth is refused.
-pub fn law_of_recorded_talks()
-    ensures says { (c : Config) (ls : List (List ℕ)) (ts : List Turn) → IsShortTalk c ls ts → IsRecordOf c (exchanges ts) (record_of c ts) }
-    ensures said { (c : Config) (ls : List (List ℕ)) (ts : List Turn) → IsShortTalk c ls ts → IsSaid (record_lines (record_of c ts)) Yes }
-    ensures yes { (c : Config) (ls : List (List ℕ)) (ts : List Turn) → IsShortTalk c ls ts → IsYes (record_of c ts) }
+pub fn law_of_recorded_transcripts()
+    ensures says { (c : Config) (ls : List (List ℕ)) (ts : List Turn) → IsShortTranscript c ls ts → IsRecordOf c (exchanges ts) (record_of c ts) }
+    ensures said { (c : Config) (ls : List (List ℕ)) (ts : List Turn) → IsShortTranscript c ls ts → IsSaid (record_lines (record_of c ts)) Yes }
+    ensures yes { (c : Config) (ls : List (List ℕ)) (ts : List Turn) → IsShortTranscript c ls ts → IsYes (record_of c ts) }
 {}
 
 /// A law, which runs nothing: where `record` has ended, of an input with at most a million events, what it wrote is the record of a
-/// talk to the input's lines; and `check` answers `Yes` to it, or `NoMemory` where a growth was refused.
+/// transcript to the input's lines; and `check` answers `Yes` to it, or `NoMemory` where a growth was refused.
 pub fn law_of_recording<R: Source, W: Sink>()
     ensures says { (c : Config) (r r' : R) (w w' : W) (input bytes : List ℕ) →
-        HasRecorded c (reading R.remaining R.calls R.failed r r') (writing W.contents W.failed w w') input bytes → RecordsTalk c input bytes }
+        HasRecorded c (reading R.remaining R.calls R.failed r r') (writing W.contents W.failed w w') input bytes → RecordsTranscript c input bytes }
     ensures yes { (c : Config) (r r' : R) (w w' : W) (input bytes : List ℕ) →
         HasRecorded c (reading R.remaining R.calls R.failed r r') (writing W.contents W.failed w w') input bytes → IsYes bytes }
 {}

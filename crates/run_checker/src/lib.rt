@@ -18,10 +18,10 @@
 //! `law_of_desk_runs`. A `Checker` judges one line after the other, and keeps what `run_judges` keeps of the objects. `Checker::judge` takes
 //! a line exactly where it can follow those that were taken before it, and else says the least of seven reasons (`TakesMore`). `first_fault`
 //! goes over a list of lines that were read already. That a line of a run is one that can follow those before it is `law_of_followed_lines`. What a line
-//! says is read by `record_lines`, whose `Line`, `Told`, `Pairs`, `Header`, `Version` and `read_reply` can be named here as well.
+//! says is read by `record_lines`, whose `Line`, `Reported`, `Pairs`, `Header`, `Version` and `read_reply` can be named here as well.
 //!
-//! What `record` of `schedule_player` writes of an input with at most 1,000,000 events is the record of a talk to its lines, and `check`
-//! answers `Yes` to it, or `NoMemory`: `law_of_recording`, and over talks alone `law_of_recorded_talks`.
+//! What `record` of `schedule_player` writes of an input with at most 1,000,000 events is the record of a transcript to its lines, and `check`
+//! answers `Yes` to it, or `NoMemory`: `law_of_recording`, and over transcripts alone `law_of_recorded_transcripts`.
 //!
 //! `Judge` judges a record whose bytes come one after the other, as `check` judges one that lies there whole, and keeps none of its lines
 //! but the one that is not whole: `take` for the bytes, and `verdict` at the end (`HasTakenAll`, `IsSaid`).
@@ -29,7 +29,7 @@
 //! `migrate` writes a record again in version 2 where it is one of a run, in the compact spelling. A view by which a name was given
 //! that is not written is the first moment since the identity's last proposal in which no other proposed the same. What is proved
 //! (`IsMigrated`): the lines are those of exchanges that the objects can make, with each such view the first; what is written is their
-//! record of version 2, of which nothing but `Yes` is said, or at a write fault a beginning of it; with another verdict nothing is
+//! record of version 2, of which nothing but `Yes` is said, or at a write fault a prefix of it; with another verdict nothing is
 //! written.
 //!
 //! `NoMemory` says nothing of the record, and no clause says when a growth is refused: that a verdict comes where memory is given is
@@ -61,12 +61,12 @@ pub mod verdict;
 pub use checker::Checker;
 pub use judge::Judge;
 pub use laws::{
-    law_of_desk_runs, law_of_followed_lines, law_of_reasons, law_of_recorded_talks,
+    law_of_desk_runs, law_of_followed_lines, law_of_reasons, law_of_recorded_transcripts,
     law_of_recording, law_of_records,
 };
 pub use lines::first_fault;
 pub use migrating::migrate;
 pub use reason::Reason;
 pub use record::check;
-pub use record_lines::{Header, Line, Pairs, Told, Version, read_reply};
+pub use record_lines::{Header, Line, Pairs, Reported, Version, read_reply};
 pub use verdict::Verdict;

@@ -31,7 +31,7 @@ fn migrated(alloc: Global, bytes: &[u8]) -> Result<Result<Text, Verdict>, AllocE
 /// Writes a record again in version 2 where it is one of a run, and answers the verdict on it: `Yes` with the text written,
 /// another with nothing written. A view by which a name was given that is not written is the first by which it could be given.
 ///
-/// `Fault::Write` where the writer failed, with a beginning of the text written.
+/// `Fault::Write` where the writer failed, with a prefix of the text written.
 pub fn migrate<W: Sink>(alloc: Global, bytes: &[u8], writer: &mut W) -> Result<Verdict, Fault>
     requires { W.calls writer.old < 2 ^ 64 }
     ensures { IsMigrated (writing W.contents W.failed writer.old writer.new) bytes.now result }

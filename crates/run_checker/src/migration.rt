@@ -5,7 +5,7 @@ ghost use Rattle.run_checker.specs.Migrated.{first_of, proposal_of, shown_in, Go
 
 use crate::gather::Gather;
 use commands::{Config, Event};
-use record_lines::{Line, Text, Told, put_header, put_line};
+use record_lines::{Line, Reported, Text, put_header, put_line};
 use run_judges::Firsts;
 use std::alloc::{AllocError, Global};
 
@@ -19,13 +19,13 @@ pub struct Migration {
 
 /// Who proposes in a line, and which number.
 fn proposal(line: &Line) -> Option<(u64, u64)>
-    ensures { result ≡ proposal_of line.now.event line.now.told }
+    ensures { result ≡ proposal_of line.now.event line.now.reported }
 {
     let Event::Step(id) = line.event else {
         return None;
     };
-    match &line.told {
-        Told::Proposed(number) => Some((id, *number)),
+    match &line.reported {
+        Reported::Proposed(number) => Some((id, *number)),
         _ => None,
     }
 }
@@ -45,18 +45,18 @@ fn first_view(firsts: &Firsts, event: Event) -> &[(u64, u64)]
 
 /// The view by which a line tells that a name was given: the one that is written, or the first that there was.
 fn shown<'a>(firsts: &'a Firsts, line: &'a Line) -> &'a [(u64, u64)]
-    ensures { result.now ≡ shown_in firsts.now line.now.event line.now.told }
+    ensures { result.now ≡ shown_in firsts.now line.now.event line.now.reported }
 {
-    match &line.told {
-        Told::Named(_, Some(view)) => view.as_slice(),
-        Told::Named(_, None) => first_view(firsts, line.event),
+    match &line.reported {
+        Reported::Named(_, Some(view)) => view.as_slice(),
+        Reported::Named(_, None) => first_view(firsts, line.event),
         _ => &[],
     }
 }
 
 /// What is kept of first moments is changed by a line.
 fn follow(firsts: &mut Firsts, line: &Line) -> Result<(), AllocError>
-    ensures { OnOk result (GoesOn (proposal_of line.now.event line.now.told) firsts.old firsts.new) }
+    ensures { OnOk result (GoesOn (proposal_of line.now.event line.now.reported) firsts.old firsts.new) }
 {
     match proposal(line) {
         Some((id, number)) => firsts.propose(id, number),

@@ -23,7 +23,7 @@ pub use Rattle.run_judges.specs.declared.names.Names.{Names}
 pub use Rattle.run_judges.specs.declared.standing.Standing.{Standing}
 pub use Rattle.run_judges.specs.declared.standing.Turn.{Turn}
 pub use Rattle.run_judges.specs.Moments.{crowded, SomeSince, turned_at, HoldsMoments, IsPast}
-pub use Rattle.run_judges.specs.Standing.{turn_of, count_of, since_of, told_in, Stands, HoldsNames, turns_in, is_held, place_of, number_told, HoldsTurns}
+pub use Rattle.run_judges.specs.Standing.{turn_of, count_of, since_of, reported_in, Stands, HoldsNames, turns_in, is_held, place_of, number_reported, HoldsTurns}
 pub use Rattle.run_judges.specs.Named.{MayBeNamed}
 pub use Rattle.run_judges.specs.declared.firsts.Firsts.{Firsts}
 pub use Rattle.run_judges.specs.declared.moments.Moments.{Moments}

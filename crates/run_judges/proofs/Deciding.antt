@@ -1,47 +1,47 @@
 -- what tables tell of those who have proposed
 use Rattle.std.proofs.Common.{◌≡◌, ℕ, ◌≤◌, ◌==◌, ◌↔◌, inl, inr, Bool, true, false, List, [], ◌∷◌, length, refl, sym, ap, ◌∙◌, arith, Some, None, Option, IsTrue, option_map}
-use Rattle.run_judges.proofs.Common.{eqb_tells, Participant, participant_of, program_of, IsRising, value_of, inserted, IsRising-inserted, value_of-inserted, IsMoment, Names, Standing, Turn, crowded, SomeSince, turn_of, count_of, since_of, told_in, Stands, HoldsNames, turns_in, MayBeNamed}
+use Rattle.run_judges.proofs.Common.{eqb_tells, Participant, participant_of, program_of, IsRising, value_of, inserted, IsRising-inserted, value_of-inserted, IsMoment, Names, Standing, Turn, crowded, SomeSince, turn_of, count_of, since_of, reported_in, Stands, HoldsNames, turns_in, MayBeNamed}
 use Rattle.rename_core.specs.RenameObject.{RenameTerms, RenameObject, IsRecent, IsConflict, IsSole, HasConflict, IsFreeName}
 use Rattle.run_judges.proofs.seats.Crowds.{own, conflicting, standing_alone}
 
 -- the view of a moment: the pairs of those of whom it says something
-abbrev with_told : List (ℕ × ℕ) → ℕ → Option ℕ → List (ℕ × ℕ)
-with_told view p None = view
-with_told view p (Some n) = inserted view (p, n)
+abbrev with_reported : List (ℕ × ℕ) → ℕ → Option ℕ → List (ℕ × ℕ)
+with_reported view p None = view
+with_reported view p (Some n) = inserted view (p, n)
 
 abbrev view_of : List (Participant Standing) → (ℕ → Option ℕ) → List (ℕ × ℕ)
-view_of [] told = []
-view_of (v ∷ vs) told = with_told (view_of vs told) v.identity (told v.identity)
+view_of [] reported = []
+view_of (v ∷ vs) reported = with_reported (view_of vs reported) v.identity (reported v.identity)
 
-with_rises : (view : List (ℕ × ℕ)) (p : ℕ) (o : Option ℕ) → IsRising view → IsRising (with_told view p o)
+with_rises : (view : List (ℕ × ℕ)) (p : ℕ) (o : Option ℕ) → IsRising view → IsRising (with_reported view p o)
 with_rises view p None h = h
 with_rises view p (Some n) h = IsRising-inserted view (p, n) h
 
-view_rises : (ps : List (Participant Standing)) (told : ℕ → Option ℕ) → IsRising (view_of ps told)
-view_rises [] told = tt
-view_rises (v ∷ vs) told = with_rises (view_of vs told) v.identity (told v.identity) (view_rises vs told)
+view_rises : (ps : List (Participant Standing)) (reported : ℕ → Option ℕ) → IsRising (view_of ps reported)
+view_rises [] reported = tt
+view_rises (v ∷ vs) reported = with_rises (view_of vs reported) v.identity (reported v.identity) (view_rises vs reported)
 
 -- what is put in of one is not seen of another
-with_other : (view : List (ℕ × ℕ)) (p q : ℕ) (o : Option ℕ) → (p == q) ≡ false → value_of q (with_told view p o) ≡ value_of q view
+with_other : (view : List (ℕ × ℕ)) (p q : ℕ) (o : Option ℕ) → (p == q) ≡ false → value_of q (with_reported view p o) ≡ value_of q view
 with_other view p q None h = refl
 with_other view p q (Some n) h = value_of-inserted q view (p, n) ∙ rw h refl
 
 -- so it says of each what is told of it, where nothing is told of who is not among them
-view_says : (ps : List (Participant Standing)) (told : ℕ → Option ℕ) (q : ℕ) → (participant_of q ps ≡ None → told q ≡ None) → value_of q (view_of ps told) ≡ told q
-view_says [] told q none = sym (none refl)
-view_says (v ∷ vs) told q none = elim (eqb_tells v.identity q) [
-  | inl y ↦ (elim (told v.identity) as (λ o. told v.identity ≡ o → value_of q (with_told (view_of vs told) v.identity o) ≡ told q) [
-    | None ↦ λ e. view_says vs told q (λ _. sym (ap told y.1) ∙ e)
-    | Some n ↦ λ e. value_of-inserted q (view_of vs told) (v.identity, n) ∙ rw y.0 (sym e ∙ ap told y.1)
+view_says : (ps : List (Participant Standing)) (reported : ℕ → Option ℕ) (q : ℕ) → (participant_of q ps ≡ None → reported q ≡ None) → value_of q (view_of ps reported) ≡ reported q
+view_says [] reported q none = sym (none refl)
+view_says (v ∷ vs) reported q none = elim (eqb_tells v.identity q) [
+  | inl y ↦ (elim (reported v.identity) as (λ o. reported v.identity ≡ o → value_of q (with_reported (view_of vs reported) v.identity o) ≡ reported q) [
+    | None ↦ λ e. view_says vs reported q (λ _. sym (ap reported y.1) ∙ e)
+    | Some n ↦ λ e. value_of-inserted q (view_of vs reported) (v.identity, n) ∙ rw y.0 (sym e ∙ ap reported y.1)
   ]) refl
-  | inr y ↦ with_other (view_of vs told) v.identity q (told v.identity) y.0 ∙ view_says vs told q (λ e. none (rw y.0 e))
+  | inr y ↦ with_other (view_of vs reported) v.identity q (reported v.identity) y.0 ∙ view_says vs reported q (λ e. none (rw y.0 e))
 ]
 
 -- each moment of the object has its view
 has_view : (terms : RenameTerms) (s : Names) (o : RenameObject) (i : ℕ) → HoldsNames terms s o → i ≤ o.last → IsMoment (view_of s.participants.items (o.moment i)) (o.moment i)
 has_view terms s o i h l = record {
   rising = view_rises s.participants.items (o.moment i);
-  values = λ q. view_says s.participants.items (o.moment i) q (λ none. h.turns.shown i l q ∙ ap (λ x. told_in (h.turns.rows i) (turn_of (option_map (λ v. v.program) x))) none);
+  values = λ q. view_says s.participants.items (o.moment i) q (λ none. h.turns.shown i l q ∙ ap (λ x. reported_in (h.turns.rows i) (turn_of (option_map (λ v. v.program) x))) none);
 }
 
 -- of one who has begun and proposed
@@ -81,16 +81,16 @@ module _ (terms : RenameTerms) (s : Names) (o : RenameObject) (p : ℕ) (st : St
     own_is i from l = own (turns_in s.participants.items) (length s.participants.items) terms.limit s.moments o.last o.moment o.count o.since h.turns i p t.number t l fits turn_is (stand.in_each i from l) stand.positive
 
     -- another has proposed the same
-    pub conflict_told : (r : Bool) → IsTrue r ↔ SomeSince (λ i. crowded t.number (h.turns.rows i) ≡ true) t.since o.last → IsTrue r ↔ HasConflict o p
-    conflict_told r w = (
+    pub conflict_reported : (r : Bool) → IsTrue r ↔ SomeSince (λ i. crowded t.number (h.turns.rows i) ≡ true) t.since o.last → IsTrue r ↔ HasConflict o p
+    conflict_reported r w = (
       (λ y. let k = w.0 y in record { index = k.index; recent = recent k.index k.no_earlier k.no_later; conflict = (conflicts k.index k.no_earlier k.no_later).0 k.passes }),
       (λ k.
           let from = since_of_recent k.index k.recent in
           w.1 (record { index = k.index; no_earlier = from; no_later = k.recent.no_later; passes = (conflicts k.index from k.recent.no_later).1 k.conflict })),
     )
 
-    pub sole_told : (r : Bool) → IsTrue r ↔ SomeSince (λ i. crowded t.number (h.turns.rows i) ≡ false) t.since o.last → IsFreeName o t.number → IsTrue r ↔ MayBeNamed o p t.number None
-    sole_told r w free = (
+    pub sole_reported : (r : Bool) → IsTrue r ↔ SomeSince (λ i. crowded t.number (h.turns.rows i) ≡ false) t.since o.last → IsFreeName o t.number → IsTrue r ↔ MayBeNamed o p t.number None
+    sole_reported r w free = (
       (λ y.
           let k = w.0 y in
           record {

@@ -5,7 +5,7 @@ use Rattle.snapshot_core.specs.Snapshot.{IsMoment}
 use Rattle.rename_core.specs.RenameObject.{RenameObject}
 use Rattle.run_judges.specs.declared.standing.Turn.{Turn}
 use Rattle.run_judges.specs.Moments.{SomeSince}
-use Rattle.run_judges.specs.Standing.{told_in}
+use Rattle.run_judges.specs.Standing.{reported_in}
 
 -- an identity has this seat, and the number is one that is proposed
 pub record HasPair (turns : ℕ → Option Turn) (p n seat : ℕ) : Type 0 where
@@ -22,7 +22,7 @@ LacksPair turns p n = (t : Turn) → turns p ≡ Some t → 1 ≤ n → n < 128 
 -- the row says what the pairs say
 pub record IsRowOf (turns : ℕ → Option Turn) (many : ℕ) (view : List (ℕ × ℕ)) (row : List ℕ) : Type 0 where
   pub wide : length row ≡ 64
-  pub says : (q : ℕ) → value_of q view ≡ told_in row (turns q)
+  pub says : (q : ℕ) → value_of q view ≡ reported_in row (turns q)
   pub unused : (seat : ℕ) → many ≤ seat → slice_index row seat ≡ 0
 
 -- a rising view is a moment exactly where this is its row; where there is none, it is no moment

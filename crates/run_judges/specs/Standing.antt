@@ -32,13 +32,13 @@ since_of None = 0
 since_of (Some t) = t.since
 
 -- what a row says of a seat
-abbrev pub number_told : ℕ → Option ℕ
-number_told n = if n == 0 then None else Some n
+abbrev pub number_reported : ℕ → Option ℕ
+number_reported n = if n == 0 then None else Some n
 
 -- what a row says of an identity
-abbrev pub told_in : List ℕ → Option Turn → Option ℕ
-told_in row None = None
-told_in row (Some t) = number_told (slice_index row t.seat)
+abbrev pub reported_in : List ℕ → Option Turn → Option ℕ
+reported_in row None = None
+reported_in row (Some t) = number_reported (slice_index row t.seat)
 
 -- whether what may be held is this number
 abbrev pub is_held : ℕ → Option ℕ → Bool
@@ -78,7 +78,7 @@ pub record HoldsTurns (turns : ℕ → Option Turn) (many limit : ℕ) (m : Mome
   pub apart : (p q : ℕ) (t u : Turn) → turns p ≡ Some t → turns q ≡ Some u → t.seat ≡ u.seat → p ≡ q
   pub seated : (q : ℕ) (t : Turn) → turns q ≡ Some t → t.seat < many
   pub taken : (seat : ℕ) → seat < many → IsTaken turns seat
-  pub shown : (i : ℕ) → i ≤ last → (q : ℕ) → moment i q ≡ told_in (rows i) (turns q)
+  pub shown : (i : ℕ) → i ≤ last → (q : ℕ) → moment i q ≡ reported_in (rows i) (turns q)
   pub unused : (i : ℕ) → i ≤ last → (seat : ℕ) → many ≤ seat → slice_index (rows i) seat ≡ 0
   pub small : (i : ℕ) → i ≤ last → (seat : ℕ) → slice_index (rows i) seat < 128
   pub stands : (q : ℕ) (t : Turn) → turns q ≡ Some t → 1 ≤ t.count → Stands rows last t

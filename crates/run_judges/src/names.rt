@@ -112,7 +112,7 @@ impl Names {
         }
     }
 
-    /// Why a step of an identity is to be refused, want of memory aside.
+    /// Why a step of an identity is to be refused, failed allocations aside.
     pub fn step_refusal(&self, id: u64) -> Option<Refusal>
         ensures { OfNames self.now (λ terms o. result ≡ no_step o id) }
     {
@@ -154,7 +154,7 @@ impl Names {
 
     /// Gives an identity that may step a place; tells whether it may have this one. Else nothing changes.
     pub fn place(&mut self, id: u64, place: Place) -> bool
-        ensures told { OfNames self.old (λ terms o. no_step o id ≡ None → IsTrue result ↔ IsFreePlace o id place) }
+        ensures reported { OfNames self.old (λ terms o. no_step o id ≡ None → IsTrue result ↔ IsFreePlace o id place) }
         ensures after { OfNames self.old (λ terms o. no_step o id ≡ None → IsTrue result →
             HoldsNames terms self.new (after_step o id (step.Placed place))) }
     {

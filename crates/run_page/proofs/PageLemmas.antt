@@ -113,14 +113,14 @@ module _ (s : Stretch) (rs : List (List ℕ)) (r : List ℕ) (n : ℕ) (so_many 
 before_rows : (text head line word number rows : List ℕ) → (((text ++ head) ++ line) ++ (word ++ number)) ++ rows ≡ text ++ (head ++ (((line ++ word) ++ number) ++ rows))
 before_rows text head line word number rows = simp append_assoc
 
-pub put_first : (t0 t1 t2 t3 t4 told head line word number rows : List ℕ) → t4 ≡ t3 ++ rows → t3 ≡ t2 ++ (word ++ number) → t2 ≡ t1 ++ line → t1 ≡ t0 ++ told → told ≡ head → t4 ≡ t0 ++ (head ++ (((line ++ word) ++ number) ++ rows))
-put_first t0 t1 t2 t3 t4 told head line word number rows a b c d e = a ∙ rw (b, c, d, e) (before_rows t0 head line word number rows)
+pub put_first : (t0 t1 t2 t3 t4 reported head line word number rows : List ℕ) → t4 ≡ t3 ++ rows → t3 ≡ t2 ++ (word ++ number) → t2 ≡ t1 ++ line → t1 ≡ t0 ++ reported → reported ≡ head → t4 ≡ t0 ++ (head ++ (((line ++ word) ++ number) ++ rows))
+put_first t0 t1 t2 t3 t4 reported head line word number rows a b c d e = a ∙ rw (b, c, d, e) (before_rows t0 head line word number rows)
 
 closing_parts : (t a before b n e : List ℕ) → (((t ++ a) ++ before) ++ (b ++ n)) ++ e ≡ t ++ ((((a ++ before) ++ b) ++ n) ++ e)
 closing_parts t a before b n e = simp append_assoc
 
-pub put_closing : (t0 t1 t2 t3 t4 told a before b n e : List ℕ) → t4 ≡ t3 ++ e → t3 ≡ t2 ++ (b ++ n) → t2 ≡ t1 ++ told → t1 ≡ t0 ++ a → told ≡ before → t4 ≡ t0 ++ ((((a ++ before) ++ b) ++ n) ++ e)
-put_closing t0 t1 t2 t3 t4 told a before b n e x y z u v = x ∙ rw (y, z, u, v) (closing_parts t0 a before b n e)
+pub put_closing : (t0 t1 t2 t3 t4 reported a before b n e : List ℕ) → t4 ≡ t3 ++ e → t3 ≡ t2 ++ (b ++ n) → t2 ≡ t1 ++ reported → t1 ≡ t0 ++ a → reported ≡ before → t4 ≡ t0 ++ ((((a ++ before) ++ b) ++ n) ++ e)
+put_closing t0 t1 t2 t3 t4 reported a before b n e x y z u v = x ∙ rw (y, z, u, v) (closing_parts t0 a before b n e)
 
 after_rows : (text last middle state between listed tail : List ℕ) → (((((text ++ last) ++ middle) ++ state) ++ between) ++ listed) ++ tail ≡ text ++ (((((last ++ middle) ++ state) ++ between) ++ listed) ++ tail)
 after_rows text last middle state between listed tail = simp append_assoc

@@ -19,9 +19,9 @@ use Rattle.step_memory.specs.Refusal.{refusal_number}
 use Rattle.command_lines.specs.Events.{event_words}
 use Rattle.commands.specs.Config.{facts_of, is_letter, world_name}
 use Rattle.command_lines.specs.Replies.{owner_words, pair_word, pair_words, reply_words}
-use Rattle.record_lines.specs.declared.told.Told.{Told}
-use Rattle.record_lines.specs.declared.told.Told.TheVariants as told
-use Rattle.record_lines.specs.ToldWords.{told_words}
+use Rattle.record_lines.specs.declared.reported.Reported.{Reported}
+use Rattle.record_lines.specs.declared.reported.Reported.TheVariants as reported
+use Rattle.record_lines.specs.ReportedWords.{reported_words}
 use Rattle.step_memory.specs.declared.refusal.Refusal.{Refusal}
 use Rattle.bit_allocator.specs.declared.stay.Stay.{Stay}
 use Rattle.bit_allocator.specs.declared.stay.Stay.TheVariants.{Seeking, Settled}
@@ -116,16 +116,16 @@ replies (reply.Owner o) = owners o
 replies (reply.Refused why) = word (codes "refused ") (refusal_number why) refl
 replies r = refl
 
-pub tells : (t : Told) → Clean (told_words t)
-tells (told.Place place) = word (codes "place ") place refl
-tells (told.Proposed n) = word (codes "proposed ") n refl
-tells (told.Saw view) = both (codes "saw") (pair_words view) refl (pairs_clean view)
-tells (told.Named n view) = word (codes "named ") n refl
-tells (told.Got n) = word (codes "got ") n refl
-tells (told.Left n) = word (codes "left ") n refl
-tells (told.Value n) = word (codes "value ") n refl
-tells (told.Owner o) = owners o
-tells (told.Refused n) = word (codes "refused ") n refl
+pub tells : (t : Reported) → Clean (reported_words t)
+tells (reported.Place place) = word (codes "place ") place refl
+tells (reported.Proposed n) = word (codes "proposed ") n refl
+tells (reported.Saw view) = both (codes "saw") (pair_words view) refl (pairs_clean view)
+tells (reported.Named n view) = word (codes "named ") n refl
+tells (reported.Got n) = word (codes "got ") n refl
+tells (reported.Left n) = word (codes "left ") n refl
+tells (reported.Value n) = word (codes "value ") n refl
+tells (reported.Owner o) = owners o
+tells (reported.Refused n) = word (codes "refused ") n refl
 tells t = refl
 
 -- ---- accesses and rows
@@ -190,8 +190,8 @@ deeds (Some d) = deed d
 
 one_row : (l : Line) (d : Option Done) → Clean (row_of l d)
 one_row l d =
-    let begun = codes "[\"" ++ event_words l.event ++ codes "\",\"" ++ told_words l.told ++ codes "\",\"" in
-    three begun (words_of d) (codes "\"],\n") (five (codes "[\"") (event_words l.event) (codes "\",\"") (told_words l.told) (codes "\",\"") refl (events l.event) refl (tells l.told) refl) (deeds d) refl
+    let begun = codes "[\"" ++ event_words l.event ++ codes "\",\"" ++ reported_words l.reported ++ codes "\",\"" in
+    three begun (words_of d) (codes "\"],\n") (five (codes "[\"") (event_words l.event) (codes "\",\"") (reported_words l.reported) (codes "\",\"") refl (events l.event) refl (tells l.reported) refl) (deeds d) refl
 
 -- ---- all that a desk holds
 

@@ -10,10 +10,10 @@ use Rattle.desk.specs.Held.{slots_of}
 use Rattle.command_lines.specs.Events.{event_words}
 use Rattle.command_lines.specs.Replies.{reply_words}
 use Rattle.record_lines.specs.declared.line.Line.{Line}
-use Rattle.record_lines.specs.declared.told.Told.{Told}
-use Rattle.record_lines.specs.declared.told.Told.TheVariants as told
-use Rattle.record_lines.specs.Told.{identity_of}
-use Rattle.record_lines.specs.ToldWords.{told_words}
+use Rattle.record_lines.specs.declared.reported.Reported.{Reported}
+use Rattle.record_lines.specs.declared.reported.Reported.TheVariants as reported
+use Rattle.record_lines.specs.Reported.{identity_of}
+use Rattle.record_lines.specs.ReportedWords.{reported_words}
 use Rattle.run_page.specs.declared.done.Done.{Done}
 use Rattle.run_page.specs.declared.form.Form.TheVariants.{Data}
 use Rattle.run_page.specs.Access.{access_words, held_at, with_reached}
@@ -21,8 +21,8 @@ use Rattle.run_page.specs.Standing.{standing_on, standing_words}
 
 -- ---- what a desk does at a line
 
-abbrev pub is_refused : Told → Bool
-is_refused (told.Refused number) = true
+abbrev pub is_refused : Reported → Bool
+is_refused (reported.Refused number) = true
 is_refused t = false
 
 -- only a step reaches a register of splitters or segments: the one that its participant accesses next
@@ -47,14 +47,14 @@ done_unless_refused true w e = None
 done_unless_refused false w e = Some (done_by w e)
 
 abbrev pub done_at : DeskValue → Line → Option Done
-done_at w l = done_unless_refused (is_refused l.told) w l.event
+done_at w l = done_unless_refused (is_refused l.reported) w l.event
 
 abbrev pub next_unless_refused : Bool → DeskValue → Event → DeskValue
 next_unless_refused true w e = w
 next_unless_refused false w e = desk_after w e
 
 abbrev pub desk_next : DeskValue → Line → DeskValue
-desk_next w l = next_unless_refused (is_refused l.told) w l.event
+desk_next w l = next_unless_refused (is_refused l.reported) w l.event
 
 -- ---- in words
 
@@ -75,7 +75,7 @@ words_of (Some d) = done_words d
 
 -- a list of ten texts in JSON: the event, what is told of its reply, and what the desk did
 abbrev pub row_of : Line → Option Done → List ℕ
-row_of l done = codes "[\"" ++ event_words l.event ++ codes "\",\"" ++ told_words l.told ++ codes "\",\"" ++ words_of done ++ codes "\"],\n"
+row_of l done = codes "[\"" ++ event_words l.event ++ codes "\",\"" ++ reported_words l.reported ++ codes "\",\"" ++ words_of done ++ codes "\"],\n"
 
 -- the rows of lines that are replayed on a desk
 abbrev pub rows : DeskValue → List Line → List (List ℕ)

@@ -31,12 +31,12 @@ pub record IsPage (bytes : List ℕ) (s : Stretch) (text : List ℕ) : Type 0 wh
 abbrev pub GainsPage : Option (List ℕ) → Option (List ℕ) → List ℕ → Stretch → Type 0
 GainsPage before now bytes s = (text : List ℕ) × IsPage bytes s text × Appends before now text
 
--- or a beginning of it
+-- or a prefix of it
 abbrev pub GainsPart : Option (List ℕ) → Option (List ℕ) → List ℕ → Stretch → Type 0
 GainsPart before now bytes s = (text : List ℕ) × IsPage bytes s text × HasPartOf before now text
 
 -- what `show` answers of a record: its verdict, with the page written where that is Yes, and nothing written elsewhere; or that a
--- write failed, with a beginning of the page written
+-- write failed, with a prefix of the page written
 abbrev pub IsShown : {W : Type 0} → Writing W → List ℕ → Stretch → Result Verdict Fault → Type 0
 IsShown writing bytes s (Ok Yes) = (writing.failed writing.new ≡ writing.failed writing.old) × GainsPage (writing.contents writing.old) (writing.contents writing.new) bytes s
 IsShown writing bytes s (Ok v) = IsVerdict bytes v × (writing.new ≡ writing.old)

@@ -5,8 +5,8 @@ use Rattle.commands.specs.declared.event.Event.TheVariants as event
 use Rattle.desk.specs.DeskValue.{DeskValue}
 use Rattle.command_lines.specs.Events.{event_words}
 use Rattle.record_lines.specs.declared.line.Line.{Line}
-use Rattle.record_lines.specs.Told.{identity_of}
-use Rattle.record_lines.specs.ToldWords.{told_words}
+use Rattle.record_lines.specs.Reported.{identity_of}
+use Rattle.record_lines.specs.ReportedWords.{reported_words}
 use Rattle.run_page.specs.declared.done.Done.{Done}
 use Rattle.run_page.specs.Access.{access_words}
 use Rattle.run_page.specs.Row.{access_in, desk_next, done_at, is_refused}
@@ -23,7 +23,7 @@ unless_refused false p = p
 
 -- who begins at a line
 abbrev pub beginner_at : Line → Option ℕ
-beginner_at l = unless_refused (is_refused l.told) (beginner_by l.event)
+beginner_at l = unless_refused (is_refused l.reported) (beginner_by l.event)
 
 abbrev pub with_beginner : List ℕ → Option ℕ → List ℕ
 with_beginner ids None = ids
@@ -50,7 +50,7 @@ abbrev pub item_begin : ℕ → Option ℕ → List ℕ
 item_begin number lane = codes "<li value=\"" ++ decimal number ++ codes "\"" ++ lane_words lane ++ codes ">"
 
 abbrev pub item_words : Line → Option Done → List ℕ
-item_words l d = event_words l.event ++ codes " <b>" ++ access_words (access_in d) ++ codes "</b> " ++ told_words l.told ++ codes "</li>\n"
+item_words l d = event_words l.event ++ codes " <b>" ++ access_words (access_in d) ++ codes "</b> " ++ reported_words l.reported ++ codes "</li>\n"
 
 abbrev pub item_of : List ℕ → ℕ → Line → Option Done → List ℕ
 item_of ids number l d = item_begin number (lane_of ids l.event) ++ item_words l d

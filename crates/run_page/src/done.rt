@@ -2,13 +2,13 @@
 
 ghost use Rattle.std.specs.Prelude.{◌≡◌, IfOk, OnOk};
 ghost use Rattle.desk.specs.Desk.{desk_after, desk_reply};
-ghost use Rattle.record_lines.specs.Told.{identity_of};
+ghost use Rattle.record_lines.specs.Reported.{identity_of};
 ghost use Rattle.run_page.specs.Row.{access_at, access_in, desk_next, done_at, is_refused};
 
 use crate::access::held_at;
 use crate::standing::Standing;
 use desk::{Coming, Desk, Event, Reply};
-use record_lines::{Line, Told};
+use record_lines::{Line, Reported};
 use std::alloc::{AllocError, Global};
 use step_memory::{Refusal, View};
 
@@ -44,10 +44,10 @@ pub(crate) fn identity_of(event: Event) -> u64
 }
 
 /// Whether an event is told to be refused.
-pub(crate) fn is_refused(told: &Told) -> bool
-    ensures { result ≡ is_refused told.now }
+pub(crate) fn is_refused(reported: &Reported) -> bool
+    ensures { result ≡ is_refused reported.now }
 {
-    matches!(told, Told::Refused(_))
+    matches!(reported, Reported::Refused(_))
 }
 
 /// The access that an event makes to a register of splitters or segments: a step alone makes one.
@@ -96,7 +96,7 @@ pub(crate) fn replay(
     ensures desk { OnOk result (desk.new ≡ desk_next desk.old line.now) }
     ensures done { OnOk result (done.new ≡ done_at desk.old line.now) }
 {
-    if is_refused(&line.told) {
+    if is_refused(&line.reported) {
         *done = None;
         return Ok(());
     }

@@ -4,9 +4,9 @@ ghost use Rattle.std.specs.Prelude.{◌≡◌, ℕ, false, List, Option, decimal
 ghost use Rattle.commands.specs.declared.config.Config.{Config};
 ghost use Rattle.commands.specs.declared.event.Event.{Event};
 ghost use Rattle.desk.specs.declared.coming.Coming.{Coming};
-ghost use Rattle.record_lines.specs.ToldWords.{told_words};
+ghost use Rattle.record_lines.specs.ReportedWords.{reported_words};
 ghost use Rattle.record_lines.specs.declared.line.Line.{Line};
-ghost use Rattle.record_lines.specs.declared.told.Told.{Told};
+ghost use Rattle.record_lines.specs.declared.reported.Reported.{Reported};
 ghost use Rattle.command_lines.specs.Events.{event_words};
 ghost use Rattle.desk.specs.declared.coming.Register.{Register};
 ghost use Rattle.run_page.specs.declared.form.Form.{Form};
@@ -24,6 +24,6 @@ pub fn law_of_data()
     ensures registers { (r : Register) → has_tag (register_words r) ≡ false }
     ensures standings { (f : Form) (s : Standing) → has_tag (standing_words f s) ≡ false }
     ensures accesses { (a : Option Coming) → has_tag (access_words a) ≡ false }
-    ensures replies { (t : Told) → has_tag (told_words t) ≡ false }
+    ensures replies { (t : Reported) → has_tag (reported_words t) ≡ false }
     ensures numbers { (n : ℕ) → has_tag (decimal n) ≡ false }
 {}

@@ -9,7 +9,7 @@ use crate::done::Done;
 use crate::form::Form;
 use crate::standing::put_standing;
 use desk::Reply;
-use record_lines::{Line, Text, put_event, put_owner, put_told, put_view};
+use record_lines::{Line, Text, put_event, put_owner, put_reported, put_view};
 use std::alloc::AllocError;
 use step_memory::View;
 
@@ -78,7 +78,7 @@ fn put_row(line: &Line, done: &Option<Done>, out: &mut Text) -> Result<(), Alloc
     out.put(b"[\"")?;
     put_event(line.event, out)?;
     out.put(b"\",\"")?;
-    put_told(&line.told, out)?;
+    put_reported(&line.reported, out)?;
     out.put(b"\",\"")?;
     put_done_or_none(done, out)?;
     out.put(b"\"],\n")

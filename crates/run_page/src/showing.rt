@@ -36,7 +36,7 @@ fn shown(alloc: Global, bytes: &[u8], stretch: Stretch) -> Result<Result<Text, V
 /// Writes the page of a stretch of a record where that is one of a run, and answers the verdict on it: `Yes` with the page written,
 /// another with nothing written.
 ///
-/// `Fault::Write` where the writer failed, with a beginning of the page written.
+/// `Fault::Write` where the writer failed, with a prefix of the page written.
 pub fn show<W: Sink>(
     alloc: Global,
     bytes: &[u8],

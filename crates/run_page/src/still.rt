@@ -1,20 +1,20 @@
 //! What a page tells of the events where no script runs: they as a list.
 
 ghost use Rattle.std.specs.Prelude.{◌≡◌, ◌++◌, ◌==◌, [], OnOk, if◌then◌else◌, position};
-ghost use Rattle.record_lines.specs.Told.{identity_of};
+ghost use Rattle.record_lines.specs.Reported.{identity_of};
 ghost use Rattle.run_page.specs.Still.{beginner_at, begun_after, item_begin, item_of, item_words, lane_of, lane_words};
 
 use crate::access::put_access;
 use crate::done::{Done, access_in, identity_of, is_refused};
 use desk::Event;
-use record_lines::{Line, Text, put_event, put_told};
+use record_lines::{Line, Text, put_event, put_reported};
 use std::alloc::AllocError;
 
 /// Who begins at a line.
 fn beginner_at(line: &Line) -> Option<u64>
     ensures { result ≡ beginner_at line.now }
 {
-    if is_refused(&line.told) {
+    if is_refused(&line.reported) {
         return None;
     }
     match line.event {
@@ -79,7 +79,7 @@ fn put_item_words(line: &Line, done: &Option<Done>, out: &mut Text) -> Result<()
     out.put(b" <b>")?;
     put_access(access_in(done), out)?;
     out.put(b"</b> ")?;
-    put_told(&line.told, out)?;
+    put_reported(&line.reported, out)?;
     out.put(b"</li>\n")
 }
 

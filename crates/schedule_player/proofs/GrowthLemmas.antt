@@ -1,4 +1,4 @@
--- a desk's talk without the turns that were refused memory
+-- a desk's transcript without the turns that were refused memory
 use Rattle.std.proofs.Common.{◌≡◌, ◌≢◌, ◌==◌, ◌||◌, ◌*◌, nat_le, nat_lt, is_some, ℕ, Bool, true, false, cond, inl, inr, List, [], ◌∷◌, ◌++◌, length, Option, Some, None, refl, sym, ap, subst, ◌∙◌}
 use Rattle.step_memory.specs.declared.refusal.Refusal.{Refusal}
 use Rattle.step_memory.specs.declared.refusal.Refusal.TheVariants as refusal
@@ -32,16 +32,16 @@ use Rattle.desk.specs.DeskValue.{DeskValue}
 use Rattle.desk.specs.DeskValue.DeskValue.{OverGrid, OverTree}
 use Rattle.desk.specs.Rules.{may_by}
 use Rattle.desk.proofs.DeskLaws as desk
-use Rattle.schedule_player.specs.DeskWorld.{DeskWorldMay, IsDeskTalk}
-use Rattle.schedule_player.proofs.TalkLemmas.{desk_talk}
-use Rattle.schedule_player.specs.IsTalkProofs.{is_desk_talk}
+use Rattle.schedule_player.specs.DeskWorld.{DeskWorldMay, IsDeskTranscript}
+use Rattle.schedule_player.proofs.TranscriptLemmas.{desk_transcript}
+use Rattle.schedule_player.specs.IsTranscriptProofs.{is_desk_transcript}
 use Rattle.schedule_player.specs.Granted.{is_of_memory, is_lack, granted}
-use Rattle.schedule_player.specs.IsTalk.{IsTalkByKind}
+use Rattle.schedule_player.specs.IsTranscript.{IsTranscriptByKind}
 use Rattle.player.specs.Runs.{Runs, NoneRefusedGrowth}
 use Rattle.player.specs.Turns.{Turn}
-use Rattle.player.specs.Turns.Turn.{Answered, Told, Ended, Misread}
+use Rattle.player.specs.Turns.Turn.{Answered, Reported, Ended, Misread}
 
--- a reason other than want of memory, where there is one
+-- a reason other than an allocation failure, where there is one
 abbrev IsOther : Option Refusal → Type 0
 IsOther None = Unit {0}
 IsOther (Some why) = is_of_memory why ≡ false
@@ -111,7 +111,7 @@ lack_is : (r : ShownReply) → is_lack r ≡ true → r ≡ reply.Refused refusa
 lack_is (reply.Refused why) is = ap (λ (w : Refusal). let q : ShownReply = reply.Refused w in q) (is_memory why is)
 lack_is _ is = absurd cc
 
--- a refusal for want of memory left the desk as it was, and may have come only over a tree
+-- a refusal because an allocation failed left the desk as it was, and may have come only over a tree
 lacked : (c : Config) (w : DeskValue) (calls : List DeskCall) (e : Event) (r : ShownReply) (u : DeskValue) → IsAfterDesk c w calls → may_by desk_rules w e r u → r ≡ reply.Refused refusal.NoMemory → (u ≡ w) × (desk_rules.grows w e ≡ true)
 lacked c w calls e r u after (inl is) lack = absurd (not_memory (desk_refusal w e) (other_due w e) ((desk.refusal w e c calls after refusal.NoMemory).0 (sym is.0 ∙ lack)))
 lacked c w calls e r u after (inr is) lack = (is.1, is.2)
@@ -125,7 +125,7 @@ runs_granted c w u calls (Answered x ∷ ts) after run =
       | true ↦ λ lack. subst (λ (t : DeskValue). Runs DeskWorldMay t (granted ts) u) (lacked c w calls x.event x.reply run.0 after run.1 (lack_is x.reply lack)).0 rest
       | false ↦ λ none. (run.0, run.1, rest)
     ] refl
-runs_granted c w u calls (Told n r ∷ ts) after run =
+runs_granted c w u calls (Reported n r ∷ ts) after run =
     (run.0, run.1, runs_granted c run.0 u calls ts (subst (λ (t : DeskValue). IsAfterDesk c t calls) (sym run.1.1) after) run.2)
 runs_granted c w u calls (Ended ∷ ts) after run = runs_granted c w u calls ts after run
 runs_granted c w u calls (Misread bad ∷ ts) after run = runs_granted c w u calls ts after run
@@ -135,14 +135,14 @@ grid_grants : (c : Config) (w : DeskValue) (calls : List DeskCall) (e : Event) �
 grid_grants c (OverGrid w) calls e is after = refl
 grid_grants c (OverTree w) calls e is after = let bad : Rename ≡ Tree = sym is ∙ after.0 in cc
 
-told_by_test : (b : Bool) (o : Option ℕ) → let told : ShownReply = cond b (reply.Refused refusal.OutOfRange) (reply.Owner o) in told ≢ reply.Refused refusal.NoMemory
-told_by_test true o is = cc
-told_by_test false o is = cc
+reported_by_test : (b : Bool) (o : Option ℕ) → let reported : ShownReply = cond b (reply.Refused refusal.OutOfRange) (reply.Owner o) in reported ≢ reply.Refused refusal.NoMemory
+reported_by_test true o is = cc
+reported_by_test false o is = cc
 
 -- who has a name is told, or the number is out of range
 owner_grants : (w : DeskValue) (n : ℕ) → owner_reply w n ≢ reply.Refused refusal.NoMemory
-owner_grants (OverGrid w) n is = told_by_test ((n == 0) || nat_le (2 * w.names.snap.most) n) (owner_by n w.names.rounds) is
-owner_grants (OverTree w) n is = told_by_test ((n == 0) || nat_le (2 * w.names.snap.most) n) (owner_by n w.names.rounds) is
+owner_grants (OverGrid w) n is = reported_by_test ((n == 0) || nat_le (2 * w.names.snap.most) n) (owner_by n w.names.rounds) is
+owner_grants (OverTree w) n is = reported_by_test ((n == 0) || nat_le (2 * w.names.snap.most) n) (owner_by n w.names.rounds) is
 
 none_refused : (c : Config) (w u : DeskValue) (calls : List DeskCall) (ts : List Turn) → c.world ≡ Rename → IsAfterDesk c w calls → Runs DeskWorldMay w ts u → NoneRefusedGrowth ts
 none_refused c w u calls [] is after run = tt
@@ -151,7 +151,7 @@ none_refused c w u calls (Answered x ∷ ts) is after run =
       (λ lack. let bad : true ≡ false = sym (lacked c w calls x.event x.reply run.0 after run.1 lack).1 ∙ grid_grants c w calls x.event is after in cc),
       none_refused c run.0 u (calls ++ one.call ∷ []) ts is one.after run.2,
     )
-none_refused c w u calls (Told n r ∷ ts) is after run = (
+none_refused c w u calls (Reported n r ∷ ts) is after run = (
   (λ lack. owner_grants w n (sym run.1.0 ∙ lack)),
   none_refused c run.0 u calls ts is (subst (λ (t : DeskValue). IsAfterDesk c t calls) (sym run.1.1) after) run.2,
 )
@@ -159,14 +159,14 @@ none_refused c w u calls (Ended ∷ ts) is after run = none_refused c w u calls 
 none_refused c w u calls (Misread bad ∷ ts) is after run = none_refused c w u calls ts is after run
 
 -- whoever could run so runs so too where the turns that were refused memory are left out
-granted_talk : (c : Config) (k : WorldKind) → gives_names k ≡ true → (ts : List Turn) → IsDeskTalk c ts → IsTalkByKind k c (granted ts)
-granted_talk c k named ts t =
-    desk_talk c k named t.could.start t.could.last (granted ts) t.could.is_fresh (runs_granted c t.could.start t.could.last [] ts (desk.fresh c t.could.start t.could.is_fresh) t.could.run)
+granted_transcript : (c : Config) (k : WorldKind) → gives_names k ≡ true → (ts : List Turn) → IsDeskTranscript c ts → IsTranscriptByKind k c (granted ts)
+granted_transcript c k named ts t =
+    desk_transcript c k named t.could.start t.could.last (granted ts) t.could.is_fresh (runs_granted c t.could.start t.could.last [] ts (desk.fresh c t.could.start t.could.is_fresh) t.could.run)
 
-pub left_out : (c : Config) → gives_names c.world ≡ true → (ts : List Turn) → IsTalkByKind c.world c ts → IsTalkByKind c.world c (granted ts)
-left_out c named ts t = granted_talk c c.world named ts (is_desk_talk c c.world named ts t)
+pub left_out : (c : Config) → gives_names c.world ≡ true → (ts : List Turn) → IsTranscriptByKind c.world c ts → IsTranscriptByKind c.world c (granted ts)
+left_out c named ts t = granted_transcript c c.world named ts (is_desk_transcript c c.world named ts t)
 
-pub only_tree : (c : Config) → c.world ≡ Rename → (ts : List Turn) → IsTalkByKind c.world c ts → NoneRefusedGrowth ts
+pub only_tree : (c : Config) → c.world ≡ Rename → (ts : List Turn) → IsTranscriptByKind c.world c ts → NoneRefusedGrowth ts
 only_tree c is ts t =
-    let talk = subst (λ (k : WorldKind). IsTalkByKind k c ts) is t in
-    none_refused c talk.could.start talk.could.last [] ts is (desk.fresh c talk.could.start talk.could.is_fresh) talk.could.run
+    let transcript = subst (λ (k : WorldKind). IsTranscriptByKind k c ts) is t in
+    none_refused c transcript.could.start transcript.could.last [] ts is (desk.fresh c transcript.could.start transcript.could.is_fresh) transcript.could.run

@@ -12,14 +12,14 @@ use Rattle.player.specs.Recorded.{IsRecordedOn}
 use Rattle.player.specs.Records.{record_of}
 use Rattle.player.specs.Runs.{IsRunTo, CanRun}
 use Rattle.schedule_player.specs.DeskWorld.{DeskWorldMay}
-use Rattle.schedule_player.specs.IsTalk.{IsTalk}
+use Rattle.schedule_player.specs.IsTranscript.{IsTranscript}
 use Rattle.schedule_player.specs.Recorded.{IsRecorded}
-use Rattle.schedule_player.proofs.TalkLemmas.{desk_talk}
+use Rattle.schedule_player.proofs.TranscriptLemmas.{desk_transcript}
 
 module _ (c : Config) {R W : Type 0} (reading : Reading R) (writing : Writing W) where
   -- where memory was refused nothing is recorded
   pub unrecorded : reading.new ≡ reading.old → writing.new ≡ writing.old → (result : Result (Unit {0}) Fault) → result ≡ Err Memory → IsRecorded c reading writing result
-  unrecorded unread unwritten result is = inl (Err Memory, is, unplayed (record_of c) (IsTalk c) (IsTalk c) c.world reading writing unread unwritten)
+  unrecorded unread unwritten result is = inl (Err Memory, is, unplayed (record_of c) (IsTranscript c) (IsTranscript c) c.world reading writing unread unwritten)
 
   -- a fresh desk was played
   pub recorded : gives_names c.world ≡ true → (start last : DeskValue) → IsFreshDesk c start → (result : Result (Unit {0}) Fault) →
@@ -27,7 +27,7 @@ module _ (c : Config) {R W : Type 0} (reading : Reading R) (writing : Writing W)
   recorded named start last fresh result (inl t) = inl (
     t.0,
     t.1,
-    played_weaker (record_of c) (IsRunTo DeskWorldMay start last) (CanRun DeskWorldMay start) (IsTalk c) (IsTalk c) (λ ts run. desk_talk c c.world named start last ts fresh run)
-        (λ ts run. desk_talk c c.world named start run.0 ts fresh run.1) c.world reading writing t.0 t.2,
+    played_weaker (record_of c) (IsRunTo DeskWorldMay start last) (CanRun DeskWorldMay start) (IsTranscript c) (IsTranscript c) (λ ts run. desk_transcript c c.world named start last ts fresh run)
+        (λ ts run. desk_transcript c c.world named start run.0 ts fresh run.1) c.world reading writing t.0 t.2,
   )
   recorded named start last fresh result (inr t) = inr (t.0, t.1)

@@ -8,7 +8,7 @@ use Rattle.desk.specs.DeskValue.{DeskValue}
 use Rattle.desk.specs.Rules.{may_by}
 use Rattle.commands.specs.Requests.{Request}
 use Rattle.commands.specs.Requests.Request.{Take, OwnerOf}
-use Rattle.schedule_player.specs.Talks.{IsTalkOf}
+use Rattle.schedule_player.specs.Transcripts.{IsTranscriptOf}
 use Rattle.player.specs.Turns.{Turn}
 
 -- an event is answered by the desk's rules, and who has a name is told with nothing changed
@@ -17,5 +17,5 @@ DeskWorldMay w (Take e) r u = may_by desk_rules w e r u
 DeskWorldMay w (OwnerOf n) r u = (r ≡ owner_reply w n) × (u ≡ w)
 
 -- what is said in turn in a world of this config
-abbrev pub IsDeskTalk : Config → List Turn → Type 0
-IsDeskTalk c ts = IsTalkOf (IsDeskRunOf c) c.m (IsFreshDesk c) DeskWorldMay ts
+abbrev pub IsDeskTranscript : Config → List Turn → Type 0
+IsDeskTranscript c ts = IsTranscriptOf (IsDeskRunOf c) c.m (IsFreshDesk c) DeskWorldMay ts

@@ -13,13 +13,13 @@ use Rattle.desk.specs.DeskValue.{DeskValue}
 use Rattle.desk.specs.Names.{IsOwnerReply}
 use Rattle.desk.proofs.DeskLaws as desk
 use Rattle.schedule_player.specs.DeskWorld.{DeskWorldMay}
-use Rattle.schedule_player.specs.Talks.{AreOwnersTold}
+use Rattle.schedule_player.specs.Transcripts.{AreOwnersReported}
 use Rattle.commands.specs.Requests.{Request}
 use Rattle.commands.specs.Requests.Request.{Take, OwnerOf}
 use Rattle.player.specs.Runs.{Runs}
 use Rattle.player.specs.RunProofs.{runs-cut}
 use Rattle.player.specs.Turns.{Turn, exchanges}
-use Rattle.player.specs.Turns.Turn.{Answered, Told, Ended, Misread}
+use Rattle.player.specs.Turns.Turn.{Answered, Reported, Ended, Misread}
 
 -- there is an answer to each request
 pub desk_answers : (w : DeskValue) (q : Request) → (r : ShownReply) × (u : DeskValue) × DeskWorldMay w q r u
@@ -44,7 +44,7 @@ calls_of_run c w u before (Answered x ∷ ts) after run =
       ap (λ (y : Exchange). y ∷ map exchange_of rest.0) one.spelled ∙ ap (λ (l : List Exchange). x ∷ l) rest.1,
       subst (λ (l : List DeskCall). IsAfterDesk c u l) (append_assoc before (one.call ∷ []) rest.0) rest.2,
     )
-calls_of_run c w u before (Told n r ∷ ts) after run =
+calls_of_run c w u before (Reported n r ∷ ts) after run =
     calls_of_run c w u before ts after (subst (λ (t : DeskValue). Runs DeskWorldMay t ts u) run.1.1 run.2)
 calls_of_run c w u before (Ended ∷ ts) after run = calls_of_run c w u before ts after run
 calls_of_run c w u before (Misread bad ∷ ts) after run = calls_of_run c w u before ts after run
@@ -54,13 +54,13 @@ desk_lawful c w u ts fresh run =
     let calls = calls_of_run c w u [] ts (desk.fresh c w fresh) run in
     subst (λ (r : List Exchange). IsDeskRunOf c r) calls.1 (desk.law c u calls.0 calls.2)
 
-pub desk_tells : (c : Config) (w u : DeskValue) (ts : List Turn) → IsFreshDesk c w → Runs DeskWorldMay w ts u → AreOwnersTold c.m ts
+pub desk_tells : (c : Config) (w u : DeskValue) (ts : List Turn) → IsFreshDesk c w → Runs DeskWorldMay w ts u → AreOwnersReported c.m ts
 desk_tells c w u ts fresh run = λ front back n r is.
-    let cut = runs-cut DeskWorldMay w u front (Told n r ∷ back) (subst (λ (l : List Turn). Runs DeskWorldMay w l u) is run) in
+    let cut = runs-cut DeskWorldMay w u front (Reported n r ∷ back) (subst (λ (l : List Turn). Runs DeskWorldMay w l u) is run) in
     let calls = calls_of_run c w cut.0 [] front (desk.fresh c w fresh) cut.1 in
-    let told = desk.owner cut.0 n c calls.0 calls.2 in
+    let reported = desk.owner cut.0 n c calls.0 calls.2 in
     subst (λ (x : ShownReply). IsOwnerReply c.m (exchanges front) n x) (sym cut.2.1.0)
-    (subst (λ (l : List Exchange). IsOwnerReply c.m l n (owner_reply cut.0 n)) calls.1 told)
+    (subst (λ (l : List Exchange). IsOwnerReply c.m l n (owner_reply cut.0 n)) calls.1 reported)
 
 pub one_desk_fresh : (c : Config) (w u : DeskValue) → IsFreshDesk c w → IsFreshDesk c u → w ≡ u
 one_desk_fresh = desk.one_fresh

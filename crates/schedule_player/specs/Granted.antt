@@ -5,7 +5,7 @@ use Rattle.step_memory.specs.declared.refusal.Refusal.TheVariants.{NoMemory}
 use Rattle.commands.specs.Replies.{ShownReply}
 use Rattle.commands.specs.declared.reply.Reply.TheVariants.{Refused}
 use Rattle.player.specs.Turns.{Turn}
-use Rattle.player.specs.Turns.Turn.{Answered, Told, Ended, Misread}
+use Rattle.player.specs.Turns.Turn.{Answered, Reported, Ended, Misread}
 
 abbrev pub is_of_memory : Refusal → Bool
 is_of_memory NoMemory = true
@@ -20,6 +20,6 @@ is_lack _ = false
 abbrev pub granted : List Turn → List Turn
 granted [] = []
 granted (Answered x ∷ ts) = if is_lack x.reply then granted ts else Answered x ∷ granted ts
-granted (Told n r ∷ ts) = Told n r ∷ granted ts
+granted (Reported n r ∷ ts) = Reported n r ∷ granted ts
 granted (Ended ∷ ts) = Ended ∷ granted ts
 granted (Misread bad ∷ ts) = Misread bad ∷ granted ts

@@ -7,7 +7,7 @@ use Rattle.commands.specs.declared.kind.WorldKind.TheVariants.{Grid}
 use Rattle.commands.specs.declared.exchange.Exchange.{Exchange}
 use Rattle.commands.specs.Replies.{ShownReply}
 use Rattle.commands.specs.declared.reply.Reply.TheVariants as reply
-use Rattle.schedule_player.specs.Talks.{IsTalkOf}
+use Rattle.schedule_player.specs.Transcripts.{IsTranscriptOf}
 use Rattle.player.specs.Turns.{Turn}
 use Rattle.schedule_player.specs.WorldRuns.{fits_in}
 use Rattle.schedule_player.specs.Visits.{IsCallRun, VisitRules, visit_may, world_rules}
@@ -28,8 +28,8 @@ abbrev pub IsGridRun : List Exchange → Type 0
 IsGridRun r = IsCallRun place_reply GridSpec r
 
 -- what is said in turn in a world of this config
-abbrev pub IsGridTalk : Config → List Turn → Type 0
-IsGridTalk c ts = IsTalkOf IsGridRun c.m (grid_fresh c) (visit_may grid_rules) ts
+abbrev pub IsGridTranscript : Config → List Turn → Type 0
+IsGridTranscript c ts = IsTranscriptOf IsGridRun c.m (grid_fresh c) (visit_may grid_rules) ts
 
 pub one_grid_fresh : (c : Config) (w v : GridState) → grid_fresh c w → grid_fresh c v → w ≡ v
 one_grid_fresh c w v a b = a.1 ∙ sym b.1

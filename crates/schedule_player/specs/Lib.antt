@@ -1,7 +1,7 @@
 pub mod Granted
-pub mod OneTalk
-pub mod OneTalkProofs
-pub mod Talks
+pub mod OneTranscript
+pub mod OneTranscriptProofs
+pub mod Transcripts
 pub mod Visits
 pub mod SplitterWorld
 pub mod GridWorld
@@ -9,6 +9,6 @@ pub mod VisitProofs
 pub mod DeskWorld
 pub mod DeskWorldProofs
 pub mod WorldRuns
-pub mod IsTalk
-pub mod IsTalkProofs
+pub mod IsTranscript
+pub mod IsTranscriptProofs
 pub mod Recorded

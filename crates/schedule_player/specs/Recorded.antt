@@ -7,10 +7,10 @@ use Rattle.player.specs.declared.summary.Summary.{Summary}
 use Rattle.player.specs.Played.{Reading, Writing, IsPlayed}
 use Rattle.player.specs.Recorded.{StopsAtHeader, end_of}
 use Rattle.player.specs.Records.{record_of}
-use Rattle.schedule_player.specs.IsTalk.{IsTalk}
+use Rattle.schedule_player.specs.IsTranscript.{IsTranscript}
 
 -- a run of the config was played, and its record is what is written of it; or not even the header could be written
 abbrev pub IsRecorded : Config → {R W : Type 0} → Reading R → Writing W → Result (Unit {0}) Fault → Type 0
 IsRecorded config reading writing result =
-    ((played : Result Summary Fault) × (result ≡ end_of played) × IsPlayed (record_of config) (IsTalk config) (IsTalk config) config.world reading writing played)
+    ((played : Result Summary Fault) × (result ≡ end_of played) × IsPlayed (record_of config) (IsTranscript config) (IsTranscript config) config.world reading writing played)
     ⊎ ((result ≡ Err Write) × StopsAtHeader config reading writing)

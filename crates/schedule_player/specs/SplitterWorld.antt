@@ -8,7 +8,7 @@ use Rattle.commands.specs.declared.config.Config.{Config}
 use Rattle.commands.specs.declared.exchange.Exchange.{Exchange}
 use Rattle.commands.specs.Replies.{ShownReply}
 use Rattle.commands.specs.declared.reply.Reply.TheVariants as reply
-use Rattle.schedule_player.specs.Talks.{IsTalkOf}
+use Rattle.schedule_player.specs.Transcripts.{IsTranscriptOf}
 use Rattle.player.specs.Turns.{Turn}
 use Rattle.schedule_player.specs.Visits.{IsCallRun, VisitRules, visit_may, world_rules}
 
@@ -30,8 +30,8 @@ abbrev pub IsSplitterRun : List Exchange → Type 0
 IsSplitterRun r = IsCallRun way_reply SplitterSpec r
 
 -- what is said in turn in a world of this config
-abbrev pub IsSplitterTalk : Config → List Turn → Type 0
-IsSplitterTalk c ts = IsTalkOf IsSplitterRun c.m (splitter_fresh c) (visit_may splitter_rules) ts
+abbrev pub IsSplitterTranscript : Config → List Turn → Type 0
+IsSplitterTranscript c ts = IsTranscriptOf IsSplitterRun c.m (splitter_fresh c) (visit_may splitter_rules) ts
 
 pub one_splitter_fresh : (c : Config) (w v : SplitterState) → splitter_fresh c w → splitter_fresh c v → w ≡ v
 one_splitter_fresh c w v a b = a ∙ sym b

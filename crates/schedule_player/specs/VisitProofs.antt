@@ -20,13 +20,13 @@ use Rattle.commands.specs.declared.command.Command.{Command}
 use Rattle.commands.specs.declared.command.Command.TheVariants as command
 use Rattle.command_lines.specs.Meaning.{meaning, command_in, command_of_one, command_if, quit_of, number_in, same_bytes, desk_command_of, is_printable, words}
 use Rattle.player.specs.Knows.{Knows}
-use Rattle.schedule_player.specs.Talks.{AreOwnersTold}
+use Rattle.schedule_player.specs.Transcripts.{AreOwnersReported}
 use Rattle.commands.specs.Requests.{Request, as_command}
 use Rattle.commands.specs.Requests.Request.{Take, OwnerOf}
 use Rattle.player.specs.Runs.{Runs}
 use Rattle.player.specs.RunProofs.{runs-cut}
 use Rattle.player.specs.Turns.{Turn, exchanges}
-use Rattle.player.specs.Turns.Turn.{Answered, Told, Ended, Misread}
+use Rattle.player.specs.Turns.Turn.{Answered, Reported, Ended, Misread}
 use Rattle.schedule_player.specs.Visits.{VisitRules, NoName, visit_may, step_may, said_reply, knows_visits, exchange_of, IsCallRun}
 
 -- a line of a kind without a desk means a visit, `quit`, or nothing
@@ -131,9 +131,9 @@ module _ {T X : Type 0} (rules : VisitRules T X) where
   one_visit w u v (OwnerOf n) a b x y na nb = one_no_name w u v n a b x y
 
   -- who asks for a name is told right
-  pub visits_tell : (most : ℕ) (w u : T) (ts : List Turn) → Runs (visit_may rules) w ts u → AreOwnersTold most ts
+  pub visits_tell : (most : ℕ) (w u : T) (ts : List Turn) → Runs (visit_may rules) w ts u → AreOwnersReported most ts
   visits_tell most w u ts run = λ front back n r is.
-      let cut = runs-cut (visit_may rules) w u front (Told n r ∷ back) (subst (λ (l : List Turn). Runs (visit_may rules) w l u) is run) in
+      let cut = runs-cut (visit_may rules) w u front (Reported n r ∷ back) (subst (λ (l : List Turn). Runs (visit_may rules) w l u) is run) in
       no_name_right most (exchanges front) cut.0 cut.2.0 n r cut.2.1
 
   module _ (Reaches : T → List (Call X) → Type 0)
@@ -180,7 +180,7 @@ module _ {T X : Type 0} (rules : VisitRules T X) where
           ap (λ (y : Exchange). y ∷ map (exchange_of rules.shown) rest.0) one.1 ∙ ap (λ (l : List Exchange). x ∷ l) rest.1,
           subst (λ (l : List (Call X)). Reaches u l) (append_assoc before (one.0 ∷ []) rest.0) rest.2,
         )
-    calls_of_run w u before (Told n r ∷ ts) after run = calls_of_run run.0 u before ts (subst (λ (t : T). Reaches t before) (sym (no_name_kept w run.0 n r run.1)) after) run.2
+    calls_of_run w u before (Reported n r ∷ ts) after run = calls_of_run run.0 u before ts (subst (λ (t : T). Reaches t before) (sym (no_name_kept w run.0 n r run.1)) after) run.2
     calls_of_run w u before (Ended ∷ ts) after run = calls_of_run w u before ts after run
     calls_of_run w u before (Misread bad ∷ ts) after run = calls_of_run w u before ts after run
 

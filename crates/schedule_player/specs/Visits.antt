@@ -21,7 +21,7 @@ knows_visits (Take (Step p)) = true
 knows_visits (OwnerOf zero) = true
 knows_visits r = false
 
--- the outcome of `begin` and of `step` and the state after each, whether a step may be refused for want of memory instead,
+-- the outcome of `begin` and of `step` and the state after each, whether a step may be refused because an allocation failed instead,
 -- and what an accepted step is shown as
 pub record VisitRules (T X : Type 0) : Type 0 where
   pub begins : T → ℕ → Result (Unit {0}) Refusal

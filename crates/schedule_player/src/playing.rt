@@ -4,11 +4,11 @@ ghost use Rattle.std.specs.Prelude.{◌≡◌, true, ◌^◌, ◌<◌, IfOk, IfE
 ghost use Rattle.commands.specs.Config.{gives_names};
 ghost use Rattle.player.specs.Played.{IsPlayed, IsPlayedIn, reading, writing};
 ghost use Rattle.player.specs.Texts.{replies_of};
-ghost use Rattle.schedule_player.specs.DeskWorld.{IsDeskTalk};
-ghost use Rattle.schedule_player.specs.GridWorld.{IsGridTalk};
-ghost use Rattle.schedule_player.specs.IsTalk.{IsTalk};
-ghost use Rattle.schedule_player.specs.SplitterWorld.{IsSplitterTalk};
-ghost use Rattle.schedule_player.specs.Talks.{IsTalkOf};
+ghost use Rattle.schedule_player.specs.DeskWorld.{IsDeskTranscript};
+ghost use Rattle.schedule_player.specs.GridWorld.{IsGridTranscript};
+ghost use Rattle.schedule_player.specs.IsTranscript.{IsTranscript};
+ghost use Rattle.schedule_player.specs.SplitterWorld.{IsSplitterTranscript};
+ghost use Rattle.schedule_player.specs.Transcripts.{IsTranscriptOf};
 
 use crate::world::{Unshared, World};
 use commands::{Config, WorldKind};
@@ -18,7 +18,7 @@ use splitter::SplitterWorld;
 use splitter_grid::GridWorld;
 use std::alloc::Allocator;
 
-/// Plays the commands that a reader gives, line by line, and writes the replies, one a line: a talk of the config's world,
+/// Plays the commands that a reader gives, line by line, and writes the replies, one a line: a transcript of the config's world,
 /// which the world's own clause spells out.
 ///
 /// The run ends at the end of the input or at `quit`, and then the text of all answers is written. The replies to what one
@@ -27,7 +27,7 @@ use std::alloc::Allocator;
 ///
 /// `Fault::Memory` where it was refused, with nothing read and nothing written; `Fault::Read` where the reader failed or
 /// was read 2^40 times, with the answers to all whole lines written and a cut line not run; `Fault::Write` where the
-/// writer failed or took nothing, with a beginning of the text written.
+/// writer failed or took nothing, with a prefix of the text written.
 pub fn play<A: Allocator + Clone, R: Source, W: Sink>(
     alloc: A,
     reader: &mut R,
@@ -36,11 +36,11 @@ pub fn play<A: Allocator + Clone, R: Source, W: Sink>(
 ) -> Result<Summary, Fault>
     requires reads { R.calls reader.old < 2 ^ 64 }
     requires writes { W.calls writer.old < 2 ^ 64 }
-    ensures splitter { config.world ≡ WorldKind.Splitter → IsPlayedIn (IsSplitterTalk config) config.world
+    ensures splitter { config.world ≡ WorldKind.Splitter → IsPlayedIn (IsSplitterTranscript config) config.world
         (reading R.remaining R.calls R.failed reader.old reader.new) (writing W.contents W.failed writer.old writer.new) result }
-    ensures grid { config.world ≡ WorldKind.Grid → IsPlayedIn (IsGridTalk config) config.world
+    ensures grid { config.world ≡ WorldKind.Grid → IsPlayedIn (IsGridTranscript config) config.world
         (reading R.remaining R.calls R.failed reader.old reader.new) (writing W.contents W.failed writer.old writer.new) result }
-    ensures names { gives_names config.world ≡ true → IsPlayedIn (IsDeskTalk config) config.world
+    ensures names { gives_names config.world ≡ true → IsPlayedIn (IsDeskTranscript config) config.world
         (reading R.remaining R.calls R.failed reader.old reader.new) (writing W.contents W.failed writer.old writer.new) result }
 {
     match config.world {
@@ -64,7 +64,7 @@ fn play_fresh<D: World<A, Unshared> + Drop, A: Allocator + Clone, R: Source, W: 
     requires serves { D.serves config.world ≡ true }
     requires reads { R.calls reader.old < 2 ^ 64 }
     requires writes { W.calls writer.old < 2 ^ 64 }
-    ensures { IsPlayedIn (IsTalkOf (D.IsRunIn config) config.m (D.fresh config) D.may) config.world
+    ensures { IsPlayedIn (IsTranscriptOf (D.IsRunIn config) config.m (D.fresh config) D.may) config.world
         (reading R.remaining R.calls R.failed reader.old reader.new) (writing W.contents W.failed writer.old writer.new) result }
 {
     let mut world = opened::<D, Unshared, A>(&alloc, config)?;
@@ -80,7 +80,7 @@ pub fn play_any<A: Allocator + Clone, R: Source, W: Sink>(
 ) -> Result<Summary, Fault>
     requires reads { R.calls reader.old < 2 ^ 64 }
     requires writes { W.calls writer.old < 2 ^ 64 }
-    ensures { IsPlayedIn (IsTalk config) config.world
+    ensures { IsPlayedIn (IsTranscript config) config.world
         (reading R.remaining R.calls R.failed reader.old reader.new) (writing W.contents W.failed writer.old writer.new) result }
 {
     play(alloc, reader, writer, config)
@@ -117,8 +117,8 @@ pub fn play_in<D: World<A, H>, H, A: Allocator + Clone, R: Source, W: Sink>(
     requires fresh { D.fresh config world.old }
     requires reads { R.calls reader.old < 2 ^ 64 }
     requires writes { W.calls writer.old < 2 ^ 64 }
-    ensures { IsPlayed replies_of (IsTalkOf (D.IsRunIn config) config.m (D.fresh config) D.may)
-        (IsTalkOf (D.IsRunIn config) config.m (D.fresh config) D.may) config.world
+    ensures { IsPlayed replies_of (IsTranscriptOf (D.IsRunIn config) config.m (D.fresh config) D.may)
+        (IsTranscriptOf (D.IsRunIn config) config.m (D.fresh config) D.may) config.world
         (reading R.remaining R.calls R.failed reader.old reader.new) (writing W.contents W.failed writer.old writer.new) result }
 {
     play_on(alloc, rt, world, config.world, reader, writer)

@@ -8,7 +8,7 @@ ghost use Rattle.commands.specs.declared.reply.Reply.TheVariants as reply;
 ghost use Rattle.commands.specs.declared.config.Config.{Config};
 ghost use Rattle.commands.specs.declared.kind.WorldKind.{WorldKind};
 ghost use Rattle.player.specs.Knows.{Knows};
-ghost use Rattle.schedule_player.specs.Talks.{AreOwnersTold};
+ghost use Rattle.schedule_player.specs.Transcripts.{AreOwnersReported};
 ghost use Rattle.commands.specs.Requests.{Request};
 ghost use Rattle.player.specs.Runs.{Runs};
 ghost use Rattle.player.specs.Turns.{Turn, exchanges};
@@ -48,7 +48,7 @@ pub trait World<A, R>: Service<R> {
     ghost lawful: { (c : Config) (w u : Self) (ts : List Turn) → fresh c w → Runs Self.may w ts u → IsRunIn c (exchanges ts) };
 
     /// Everyone is told right who has a name.
-    ghost tells: { (c : Config) (w u : Self) (ts : List Turn) → fresh c w → Runs Self.may w ts u → AreOwnersTold c.m ts };
+    ghost tells: { (c : Config) (w u : Self) (ts : List Turn) → fresh c w → Runs Self.may w ts u → AreOwnersReported c.m ts };
 
     /// All that are fresh under a config are one.
     ghost one_fresh: { (c : Config) (w v : Self) → fresh c w → fresh c v → w ≡ v };

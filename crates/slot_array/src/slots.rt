@@ -90,7 +90,7 @@ impl<T: Drop, A: Allocator> Slots<T, A> {
     pub fn enter(&mut self, id: u64) -> Result<(), Refusal>
         ensures answer { result ≡ enter_answer self.old.pool id }
         ensures state { self.new ≡ record self.old { pool = after_enter self.old.pool id } }
-        ensures refused { OnErr result (self.new ≡ self.old) }
+        ensures unchanged_on_error { OnErr result (self.new ≡ self.old) }
         ensures after { Extends slots self.old self.new (Pooled (Entered id result)) }
         ensures law { SatisfiesSpec slots self.new }
     {
@@ -102,7 +102,7 @@ impl<T: Drop, A: Allocator> Slots<T, A> {
     pub fn probe(&mut self, id: u64) -> Result<Probe, Refusal>
         ensures answer { result ≡ probe_answer self.old.pool id }
         ensures state { self.new ≡ record self.old { pool = after_probe self.old.pool id } }
-        ensures refused { OnErr result (self.new ≡ self.old) }
+        ensures unchanged_on_error { OnErr result (self.new ≡ self.old) }
         ensures after { Extends slots self.old self.new (Pooled (Probed id result)) }
         ensures law { SatisfiesSpec slots self.new }
 
@@ -120,7 +120,7 @@ impl<T: Drop, A: Allocator> Slots<T, A> {
     pub fn leave(&mut self, id: u64) -> Result<u8, Refusal>
         ensures answer { result ≡ number_answer self.old.pool id }
         ensures state { self.new ≡ record self.old { pool = after_leave self.old.pool id } }
-        ensures refused { OnErr result (self.new ≡ self.old) }
+        ensures unchanged_on_error { OnErr result (self.new ≡ self.old) }
         ensures after { Extends slots self.old self.new (Pooled (Left id result)) }
         ensures law { SatisfiesSpec slots self.new }
 
@@ -140,7 +140,7 @@ impl<T: Drop, A: Allocator> Slots<T, A> {
         ensures answer { result ≡ stored_reply (number_answer self.old.pool id) }
         ensures state { self.new ≡ after_put self.old id value }
         ensures changes { ChangesOwnSlot id value self.old self.new }
-        ensures refused { OnErr result (self.new ≡ self.old) }
+        ensures unchanged_on_error { OnErr result (self.new ≡ self.old) }
         ensures after { Extends slots self.old self.new (Stored id value result) }
         ensures law { SatisfiesSpec slots self.new }
     {
@@ -170,7 +170,7 @@ impl<T: Copy, A: Allocator> Slots<T, A> {
         ensures answer { result ≡ widen_answer self.old.pool size }
         ensures state { self.new ≡ after_extend self.old size value }
         ensures fills { IfOk result (λ done. FillsNewSlots size value self.old self.new) }
-        ensures refused { OnErr result (self.new ≡ self.old) }
+        ensures unchanged_on_error { OnErr result (self.new ≡ self.old) }
         ensures after { Extends slots self.old self.new (Extended size value result) }
         ensures law { SatisfiesSpec slots self.new }
 

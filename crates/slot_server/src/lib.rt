@@ -2,13 +2,13 @@
 //!
 //! `serve_one` reads commands, has a service answer them and writes the replies: it has the theorem of `play_on` (`IsPlayed`), for
 //! every reader and writer that tell their bytes, at the end and at each fault. Over a `Hall` the turns that it answers are a
-//! talk of the hall's config with the refusals 13 and 12 added, and the history gains just the accepted events
+//! transcript of the hall's config with the refusals 13 and 12 added, and the history gains just the accepted events
 //! (`hall::law_of_serving`). Over a `ServingClerk`, a clerk with its lock, each reply is one that some hall of a lawful
 //! history gives, and what was accepted is kept.
 //!
 //! `serve_many` accepts so many connections, numbers them from 0 in order of acceptance (`Connections::accept`), and has one worker
 //! for each clerk serve them, each connection whole. No lock of the hall is held while a client is waited for. A fault of
-//! one connection ends it alone. All clerks come back but for want of memory (`clerks`), each with what it had kept and, behind
+//! one connection ends it alone. All clerks come back but for failed allocations (`clerks`), each with what it had kept and, behind
 //! that, the accepted events of turns that it answered (`kept`, by `law_of_clerks`), so that the lock can be closed with them; and
 //! where no fault is told as many were served as were asked for (`all`).
 //!

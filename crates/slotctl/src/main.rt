@@ -5,7 +5,7 @@
 //! that outlives it. What the words of the command line ask for is done by `program` of `program_work`, over any reader and
 //! writer, but to race, which is `race`, to serve, which is `serve` of `slot_server`, and to host, which is `host_hall` of `hall_host`. The status is 0
 //! where it was done and for help, 1 where a record is none of a run, 2 where the words are refused, and 3 at a fault or for
-//! want of memory; at 2 and 3, and where a page was asked for at 1, a text on the standard error says why.
+//! an allocation failure; at 2 and 3, and where a page was asked for at 1, a text on the standard error says why.
 #![tactic(auto)]
 
 ghost use Rattle.std.specs.Prelude.{◌≡◌};

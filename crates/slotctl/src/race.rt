@@ -98,12 +98,12 @@ fn tell_round<W: Write>(finishes: &[Finish], threads: u64, output: &mut W) -> Re
     }
     let bound = threads.saturating_mul(2).saturating_sub(1);
     let lawful = are_lawful(finishes, threads, bound);
-    let told = if lawful {
+    let reported = if lawful {
         write!(output, "distinct, at most {bound}\n")
     } else {
         write!(output, "two alike, or one above {bound}\n")
     };
-    match told {
+    match reported {
         Ok(()) => Ok(lawful),
         Err(_) => Err(Fault::Write),
     }

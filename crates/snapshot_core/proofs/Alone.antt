@@ -1,6 +1,6 @@
 -- one who steps alone ends what it does soon
 use Rattle.std.proofs.Common.{◌≡◌, ◌≢◌, ℕ, zero, suc, ◌+◌, ◌-◌, ◌*◌, ◌≤◌, Bool, false, cond, ◌⊎◌, List, [], ◌∷◌, ◌++◌, length, Some, None, Ok, inl, inr, refl, sym, ap, subst, ◌∙◌, arith, add-one, option_map}
-use Rattle.snapshot_core.proofs.Common.{cases_Bool, eqb_tells, reply_of, Answer, Participant, ends, participant_of, program_of, with_participant, set_at, participant_of-put, set_at-same, Client, Pending, Nothing, Places, Scans, Update, Writing, SnapReply, is_idle, access_for, after_for, note_for, note_after, pending_after, KnownPlaces, PlacesLaws, value_for, scan_after, scan_view, SnapCall, snapshot, Stepped, SnapObject, new_object, observed, Allows, Absent, Idle, Placing, Scanning, Updating, SnapState, told, clients_over, snap_answer, after_snap_step, way_now, ways_of}
+use Rattle.snapshot_core.proofs.Common.{cases_Bool, eqb_tells, reply_of, Answer, Participant, ends, participant_of, program_of, with_participant, set_at, participant_of-put, set_at-same, Client, Pending, Nothing, Places, Scans, Update, Writing, SnapReply, is_idle, access_for, after_for, note_for, note_after, pending_after, KnownPlaces, PlacesLaws, value_for, scan_after, scan_view, SnapCall, snapshot, Stepped, SnapObject, new_object, observed, Allows, Absent, Idle, Placing, Scanning, Updating, SnapState, reported, clients_over, snap_answer, after_snap_step, way_now, ways_of}
 use Rattle.step_memory.specs.declared.access.Access.{Access}
 use Rattle.step_memory.specs.declared.access.Access.TheVariants.{Read, Nothing as Idling}
 use Rattle.step_memory.specs.Locality.{Indistinguishable}
@@ -75,7 +75,7 @@ module _ {S R V U K : Type 0} (t : LawfulPlaces S R V U K) where
     program_after z = after_for t.known.walker t.known.walks v.program z (got z)
 
     abbrev reply_for : Pending → SnapReply
-    reply_for z = told (note_for t.known.walker t.known.walks v.program z (got z))
+    reply_for z = reported (note_for t.known.walker t.known.walks v.program z (got z))
 
     abbrev memory_after : Pending → S
     memory_after z = t.known.memory.after w.memory (access_for t.known.walker t.known.place_of t.known.walks v.program z)
@@ -94,7 +94,7 @@ module _ {S R V U K : Type 0} (t : LawfulPlaces S R V U K) where
     some_program = sym (ap (option_map (λ u. u.program)) there)
 
     answer_is : is_idle v.program.pending ≡ false → snap_answer t.known w p ≡ Ok (reply_for v.program.pending)
-    answer_is busy = busy_answer t.known w p v.program some_program busy ∙ ap (reply_of told) (going_answer (clients_over t.known) t.known.memory w p v there (i.named p v there).1)
+    answer_is busy = busy_answer t.known w p v.program some_program busy ∙ ap (reply_of reported) (going_answer (clients_over t.known) t.known.memory w p v there (i.named p v there).1)
 
     state_is : is_idle v.program.pending ≡ false → after_snap_step t.known w p ≡ after
     state_is busy = busy_state t.known w p v.program some_program busy ∙ going_after (clients_over t.known) t.known.memory w p v there (i.named p v there).1
@@ -140,7 +140,7 @@ module _ {S R V U K : Type 0} (t : LawfulPlaces S R V U K) where
         let k : IsAtTask t (era_now t w o i) (o.task p) (o.steps p) (o.since p) v.program Scans = rw pending at (i.clients p v there).at in
         let room = room_at k.0 k.4 in
         elim (scan_view t.known.walks v.program.scan value_read) as (λ s. scan_view t.known.walks v.program.scan value_read ≡ s →
-        (is_quiet (told (note_after s None)) ≡ false) ⊎ LeftFor c (memory_after Scans) (record v.program { scan = scan_after t.known.walks v.program.scan value_read v.program.walk; pending = pending_after s None v.program.pending }) (pending_after s None v.program.pending) n) [
+        (is_quiet (reported (note_after s None)) ≡ false) ⊎ LeftFor c (memory_after Scans) (record v.program { scan = scan_after t.known.walks v.program.scan value_read v.program.walk; pending = pending_after s None v.program.pending }) (pending_after s None v.program.pending) n) [
           | Some view ↦ λ e. inl refl
           | None ↦ λ e. inr (rw pending (scan_on n room h e))
         ] refl
@@ -150,7 +150,7 @@ module _ {S R V U K : Type 0} (t : LawfulPlaces S R V U K) where
         let some = some_left t.known w.memory t.laws b (ways_of w.participants) i.consistent c enough v.program.scan h.0 h.1 in
         let short = h.2 in
         elim (scan_view t.known.walks v.program.scan value_read) as (λ s. scan_view t.known.walks v.program.scan value_read ≡ s →
-        (is_quiet (told (note_after s (Some value))) ≡ false) ⊎ LeftFor c (memory_after (Update value)) (record v.program { scan = scan_after t.known.walks v.program.scan value_read v.program.walk; pending = pending_after s (Some value) v.program.pending }) (pending_after s (Some value) v.program.pending) n) [
+        (is_quiet (reported (note_after s (Some value))) ≡ false) ⊎ LeftFor c (memory_after (Update value)) (record v.program { scan = scan_after t.known.walks v.program.scan value_read v.program.walk; pending = pending_after s (Some value) v.program.pending }) (pending_after s (Some value) v.program.pending) n) [
           | Some view ↦ λ e. inr (omega arith)
           | None ↦ λ e. inr (rw pending (less_left h.0 n room h.1 short e))
         ] refl

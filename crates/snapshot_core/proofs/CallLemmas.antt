@@ -8,9 +8,9 @@ use Rattle.snapshot_core.proofs.SnapWorldLemmas.{after_stepped}
 use Rattle.step_memory.specs.Machine.{Extends}
 use Rattle.step_memory.proofs.MachineLemmas.{call_leads_on}
 use Rattle.step_memory.specs.Locality.{ReadsNext, IsTaken}
-use Rattle.snapshot_core.specs.SnapWorld.{SnapState, after_snap_begin, scan_refusal, update_refusal, after_scan, after_update, told, clients_over, snap_answer, after_snap_step, may_lack_memory}
+use Rattle.snapshot_core.specs.SnapWorld.{SnapState, after_snap_begin, scan_refusal, update_refusal, after_scan, after_update, reported, clients_over, snap_answer, after_snap_step, may_lack_memory}
 
--- what was accepted was not refused for want of memory, and what a refusal keeps is kept
+-- what was accepted was not refused because an allocation failed, and what a refusal keeps is kept
 pub no_lack : {X : Type 0} (x : X) → ◌≡◌ {A = Result X Refusal} (Ok x) (Err NoMemory) → ⊥
 no_lack x e = cc
 
@@ -45,7 +45,7 @@ module _ {S R V U K : Type 0} (t : KnownPlaces S R V U K) where
   busy_state : (w : SnapState S U K) (id : ℕ) (c : Client U K) → Some c ≡ program_of id w.participants → is_idle c.pending ≡ false → after_snap_step t w id ≡ after_step (clients_over t) t.memory w id
   busy_state w id c h busy = let e = sym h in rw (e, busy) refl
 
-  busy_answer : (w : SnapState S U K) (id : ℕ) (c : Client U K) → Some c ≡ program_of id w.participants → is_idle c.pending ≡ false → snap_answer t w id ≡ reply_of told (step_answer (clients_over t) t.memory w id)
+  busy_answer : (w : SnapState S U K) (id : ℕ) (c : Client U K) → Some c ≡ program_of id w.participants → is_idle c.pending ≡ false → snap_answer t w id ≡ reply_of reported (step_answer (clients_over t) t.memory w id)
   busy_answer w id c h busy = let e = sym h in rw (e, busy) refl
 
   -- a step that is answered so
@@ -64,23 +64,23 @@ module _ {S R V U K : Type 0} (t : KnownPlaces S R V U K) where
     pub refused : OnErr reply (new ≡ w)
     pub no_memory : reply ≡ Err NoMemory → may_lack_memory t w id ≡ true
 
-  refused_too : (P : Type 0) (result : Result (Note SnapReply) Refusal) → OnErr result P → OnErr (reply_of told result) P
+  refused_too : (P : Type 0) (result : Result (Note SnapReply) Refusal) → OnErr result P → OnErr (reply_of reported result) P
   refused_too P (Ok note) h = tt
   refused_too P (Err why) h = h
 
-  lacked_too : (result : Result (Note SnapReply) Refusal) → reply_of told result ≡ Err NoMemory → result ≡ Err NoMemory
+  lacked_too : (result : Result (Note SnapReply) Refusal) → reply_of reported result ≡ Err NoMemory → result ≡ Err NoMemory
   lacked_too (Ok note) h = absurd (cc)
   lacked_too (Err why) h = cc
 
   -- that of one who has something to do is a step of the world
   pub busy_step : (w : SnapState S U K) (id : ℕ) (c : Client U K) → program_of id w.participants ≡ Some c → is_idle c.pending ≡ false → (new : SnapState S U K) (result : Result (Note SnapReply) Refusal) →
       (result ≢ Err NoMemory → result ≡ step_answer (clients_over t) t.memory w id) → (result ≢ Err NoMemory → new ≡ after_step (clients_over t) t.memory w id) →
-      OnErr result (new ≡ w) → (result ≡ Err NoMemory → may_lack_memory t w id ≡ true) → (reply : Result SnapReply Refusal) → reply ≡ reply_of told result → BusyStep w id new reply
+      OnErr result (new ≡ w) → (result ≡ Err NoMemory → may_lack_memory t w id ≡ true) → (reply : Result SnapReply Refusal) → reply ≡ reply_of reported result → BusyStep w id new reply
   busy_step w id c e busy new result answer after kept lacks reply is =
-      let made : reply ≢ Err NoMemory → result ≢ Err NoMemory = λ goes h. goes (is ∙ ap (reply_of told) h) in
+      let made : reply ≢ Err NoMemory → result ≢ Err NoMemory = λ goes h. goes (is ∙ ap (reply_of reported) h) in
       record {
         step = record {
-          answer = λ goes. is ∙ ap (reply_of told) (answer (made goes)) ∙ sym (busy_answer w id c (sym e) busy);
+          answer = λ goes. is ∙ ap (reply_of reported) (answer (made goes)) ∙ sym (busy_answer w id c (sym e) busy);
           state = λ goes. after (made goes) ∙ sym (busy_state w id c (sym e) busy);
         };
         refused = rw is (refused_too (new ≡ w) result kept);
@@ -97,10 +97,10 @@ module _ {S R V U K : Type 0} (t : KnownPlaces S R V U K) where
       let here : Some h.0.program ≡ program_of id w.participants = sym (ap (option_map (λ (v : Participant (Client U K)). v.program)) h.2) in
       busy_state w id h.0.program here (reads_busy h.0.program h.0.program.pending h.1 h.3)
 
-  pub reads_answer : (w : SnapState S U K) (id : ℕ) → ReadsNext (clients_over t) w id → step_answer (clients_over t) t.memory w id ≡ Ok Quiet → snap_answer t w id ≡ Ok (told Quiet)
+  pub reads_answer : (w : SnapState S U K) (id : ℕ) → ReadsNext (clients_over t) w id → step_answer (clients_over t) t.memory w id ≡ Ok Quiet → snap_answer t w id ≡ Ok (reported Quiet)
   reads_answer w id h e =
       let here : Some h.0.program ≡ program_of id w.participants = sym (ap (option_map (λ (v : Participant (Client U K)). v.program)) h.2) in
-      busy_answer w id h.0.program here (reads_busy h.0.program h.0.program.pending h.1 h.3) ∙ ap (reply_of told) e
+      busy_answer w id h.0.program here (reads_busy h.0.program h.0.program.pending h.1 h.3) ∙ ap (reply_of reported) e
 
   -- so has one on its way to its place
   pub way_state : (w : SnapState S U K) (id : ℕ) → IsTaken (λ c. c.pending ≡ Placing) w id → after_snap_step t w id ≡ after_step (clients_over t) t.memory w id
@@ -108,7 +108,7 @@ module _ {S R V U K : Type 0} (t : KnownPlaces S R V U K) where
       let here : Some h.0.program ≡ program_of id w.participants = sym (ap (option_map (λ (v : Participant (Client U K)). v.program)) h.1) in
       busy_state w id h.0.program here (ap is_idle h.2)
 
-  pub way_answer : (w : SnapState S U K) (id : ℕ) (note : Note SnapReply) → IsTaken (λ c. c.pending ≡ Placing) w id → step_answer (clients_over t) t.memory w id ≡ Ok note → snap_answer t w id ≡ Ok (told note)
+  pub way_answer : (w : SnapState S U K) (id : ℕ) (note : Note SnapReply) → IsTaken (λ c. c.pending ≡ Placing) w id → step_answer (clients_over t) t.memory w id ≡ Ok note → snap_answer t w id ≡ Ok (reported note)
   way_answer w id note h e =
       let here : Some h.0.program ≡ program_of id w.participants = sym (ap (option_map (λ (v : Participant (Client U K)). v.program)) h.1) in
-      busy_answer w id h.0.program here (ap is_idle h.2) ∙ ap (reply_of told) e
+      busy_answer w id h.0.program here (ap is_idle h.2) ∙ ap (reply_of reported) e

@@ -1,6 +1,6 @@
 -- what the calls of a snapshot object do to who takes part in it
 use Rattle.std.proofs.Common.{◌≡◌, ℕ, ◌+◌, ◌<◌, ◌≤◌, Bool, true, false, not, cond, List, ◌++◌, ◌∷◌, [], Option, Some, None, refl, ap, ◌∙◌, arith, length-append, nat_lt, option_map, is_some}
-use Rattle.snapshot_core.proofs.Common.{Answer, Participant, Note, Quiet, Said, Ended, Spent, ends, set_at, set_at-same, set_at-other, going_answer, going_after, let_in, Client, Pending, SnapReply, KnownPlaces, scan_view, SnapState, beginner_at, after_scan, after_update, scan_refusal, update_refusal, clients_over, after_snap_step, told}
+use Rattle.snapshot_core.proofs.Common.{Answer, Participant, Note, Quiet, Said, Ended, Spent, ends, set_at, set_at-same, set_at-other, going_answer, going_after, let_in, Client, Pending, SnapReply, KnownPlaces, scan_view, SnapState, beginner_at, after_scan, after_update, scan_refusal, update_refusal, clients_over, after_snap_step, reported}
 use Rattle.std.proofs.lemmas.Bool.{lt-ltb, le-ltb}
 use Rattle.step_memory.specs.declared.access.Answer.TheVariants.{Value, WasSet, Done}
 use Rattle.step_memory.specs.Participant.{participant_of, program_of, with_participant, beginner, resumed}
@@ -80,7 +80,7 @@ module _ {S R V U K : Type 0} (t : KnownPlaces S R V U K) where
   -- what a participant that has something pending makes of an answer
   record Moves (c : Client U K) (after : Client U K) (note : Note SnapReply) : Type 0 where
     goes : ends note ≡ false
-    idle : is_idle after.pending ≡ not (is_quiet (told note))
+    idle : is_idle after.pending ≡ not (is_quiet (reported note))
     updates : after.updates ≡ c.updates
 
   placed_moves : (c : Client U K) (got : Answer V) → c.pending ≡ Placing → (n : Note ℕ) → Moves c (record c { walker = t.walker.resumed c.walker got; pending = cond (is_placed n) Nothing c.pending }) (placed_note n)
@@ -119,7 +119,7 @@ module _ {S R V U K : Type 0} (t : KnownPlaces S R V U K) where
       record {
         scan = rw (there, h.idle_is) refl;
         update = rw (there, h.idle_is) refl;
-        reply = told (client_note t.walker t.walks h.who.program got);
+        reply = reported (client_note t.walker t.walks h.who.program got);
         answer = rw (there, h.idle_is, going_answer (clients_over t) t.memory w p h.who h.is h.goes) refl;
         comes = rw goes (record {
           stands = record { who = new; is = put_new p ∙ set_at-same (λ v. participant_of v w.participants) p (Some new); goes = m.goes; idle_is = m.idle; updates_is = m.updates ∙ h.updates_is };

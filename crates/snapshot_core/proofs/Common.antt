@@ -34,6 +34,6 @@ pub use Rattle.snapshot_core.specs.Machine.{snapshot}
 pub use Rattle.snapshot_core.specs.SnapCalls.SnapCall.{Stepped, Began, Updated, Scanned}
 pub use Rattle.snapshot_core.specs.Snapshot.{SnapObject, new_object, observed, Allows, IsMoment, Task}
 pub use Rattle.snapshot_core.specs.Snapshot.Task.{Absent, Idle, Placing, Scanning, Updating}
-pub use Rattle.snapshot_core.specs.SnapWorld.{SnapState, told, clients_over, snap_answer, after_snap_step, way_now, ways_of, beginner_at, after_scan, after_update, scan_refusal, update_refusal, scan_refusal_by, update_refusal_by, may_lack_memory}
+pub use Rattle.snapshot_core.specs.SnapWorld.{SnapState, reported, clients_over, snap_answer, after_snap_step, way_now, ways_of, beginner_at, after_scan, after_update, scan_refusal, update_refusal, scan_refusal_by, update_refusal_by, may_lack_memory}
 pub use Rattle.snapshot_core.specs.declared.sightings.Sighting.{Sighting}
 pub use Rattle.snapshot_core.specs.Sightings.{met_in, number_met, sighting_of, noted, with_sighting, carried_over, shown_by, unknown, index_of}

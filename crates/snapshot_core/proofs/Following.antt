@@ -9,9 +9,9 @@ use Rattle.step_memory.proofs.RunLemmas.{run_more, run_keeps, run_answers}
 use Rattle.snapshot_core.specs.declared.scan.Scan.{Scan}
 use Rattle.snapshot_core.specs.declared.client.SnapReply.TheVariants.{Quiet as Silent, Placed, Written, View as Viewed}
 use Rattle.snapshot_core.specs.Client.{first_pending, is_idle, scanning, updating, record_of, with_pending, is_placed, placed_note, pending_after, note_after, access_for, after_for, note_for}
-use Rattle.snapshot_core.specs.SnapWorld.{SnapState, place_in, beginner_at, scan_refusal, update_refusal, scan_refusal_by, update_refusal_by, asked, after_scan, after_update, told, clients_over, snap_answer, after_snap_step, way_now, ways_of}
+use Rattle.snapshot_core.specs.SnapWorld.{SnapState, place_in, beginner_at, scan_refusal, update_refusal, scan_refusal_by, update_refusal_by, asked, after_scan, after_update, reported, clients_over, snap_answer, after_snap_step, way_now, ways_of}
 use Rattle.snapshot_core.specs.SnapCalls.{SnapCall, next, IsReply}
-use Rattle.snapshot_core.specs.Machine.{snapshot, MakesOwnAccess, BeginsTheSame, HasDistinctPlaces, IsConsistentAfter, KeepsTold}
+use Rattle.snapshot_core.specs.Machine.{snapshot, MakesOwnAccess, BeginsTheSame, HasDistinctPlaces, IsConsistentAfter, KeepsReported}
 use Rattle.step_memory.specs.Machine.{Reaches, SatisfiesSpec, RefusesWhereDue, IsProved}
 use Rattle.step_memory.proofs.MachineLemmas.{machine_proved}
 use Rattle.snapshot_core.specs.Places.{KnownPlaces, PlacesLaws, BeginsAlike, BoundsScans, KeepsWalks, HasGoneOn, value_for}
@@ -140,7 +140,7 @@ module _ {S R V U K : Type 0} (t : LawfulPlaces S R V U K) (w : SnapState S U K)
 
       abbrev Follows : Pending → Type 0
       Follows z =
-          Allows (bounds_with t w.most scans) o (Stepped id (Ok (told (note_for t.known.walker t.known.walks v.program z (got z)))))
+          Allows (bounds_with t w.most scans) o (Stepped id (Ok (reported (note_for t.known.walker t.known.walks v.program z (got z)))))
           × IsTied t (record {
             memory = t.known.memory.after w.memory (access_for t.known.walker t.known.place_of t.known.walks v.program z);
             most = w.most;
@@ -149,7 +149,7 @@ module _ {S R V U K : Type 0} (t : LawfulPlaces S R V U K) (w : SnapState S U K)
               program = after_for t.known.walker t.known.walks v.program z (got z);
               ended = ends (note_for t.known.walker t.known.walks v.program z (got z));
             }) w.participants;
-          }) (observed o (Stepped id (Ok (told (note_for t.known.walker t.known.walks v.program z (got z))))))
+          }) (observed o (Stepped id (Ok (reported (note_for t.known.walker t.known.walks v.program z (got z))))))
 
       doing : IsDoing t (era_now t w o i) (o.task id) (o.steps id) (o.since id) id v.program
       doing = i.clients id v there
@@ -223,7 +223,7 @@ module _ {S R V U K : Type 0} (t : LawfulPlaces S R V U K) (w : SnapState S U K)
         -- the step is a read of a scan, after which this value is to be written or none, and the scan has come to this view or goes on
         abbrev HasRead : Option ℕ → Option (List (ℕ × ℕ)) → Type 0
         HasRead new_value view =
-            Allows (bounds_with t w.most scans) o (Stepped id (Ok (told (note_after view new_value))))
+            Allows (bounds_with t w.most scans) o (Stepped id (Ok (reported (note_after view new_value))))
             × IsTied t (record {
               memory = t.known.memory.after w.memory (Read (t.known.walks.next v.program.scan.walk));
               most = w.most;
@@ -232,7 +232,7 @@ module _ {S R V U K : Type 0} (t : LawfulPlaces S R V U K) (w : SnapState S U K)
                 program = record v.program { scan = scan'; pending = pending_after view new_value v.program.pending };
                 ended = ends (note_after view new_value);
               }) w.participants;
-            }) (observed o (Stepped id (Ok (told (note_after view new_value)))))
+            }) (observed o (Stepped id (Ok (reported (note_after view new_value)))))
 
         -- p has read and goes on with this
         reads_on : (pending : Pending) (task : Task) → IsAtTask t (era_now t w o i) task (o.steps id + 1) (since_of o id) (record v.program { scan = scan'; pending = pending }) pending →
@@ -305,23 +305,23 @@ module _ {S R V U K : Type 0} (t : LawfulPlaces S R V U K) (w : SnapState S U K)
         went : (z : Pending) (o' : SnapObject) → o'.begun ≡ o.begun → o'.last ≡ o.last → o'.moment ≡ o.moment → ((q : ℕ) → q ≢ id → (o'.task q ≡ o.task q) × (o'.steps q ≡ o.steps q) × (o'.since q ≡ o.since q) × (o'.updates q ≡ o.updates q)) → o'.updates id ≡ v.program.updates →
             ((q x : ℕ) → o'.place q ≡ Some x → (o.place q ≡ Some x) ⊎ ((q ≡ id) × (t.known.place_of (t.known.walker.resumed u answer_now) ≡ Some x))) →
             IsDoing t era_walked (o'.task id) (o'.steps id) (o'.since id) id (walked z) → IsTied t (world_with w later id (walked z)) o'
-        went z o' begun last moment others asked told_place does =
+        went z o' begun last moment others asked reported_place does =
             tied_joined t w o i id (walked z) later (length w.participants) i.who absent_place up more (λ j l. refl) (i.listed id u way) gone.consistent gone.segments gone.kept
             (with_participant (record { identity = id; program = walked z; ended = false }) w.participants) (put_there w.participants id v (walked z) there)
-            (length-with_participant w.participants (record { identity = id; program = walked z; ended = false })) o' (begun ∙ i.counted) last moment others asked told_place does
+            (length-with_participant w.participants (record { identity = id; program = walked z; ended = false })) o' (begun ∙ i.counted) last moment others asked reported_place does
 
         nothing_stood : (x : ℕ) → t.known.place_of (t.known.walker.resumed u answer_now) ≡ Some x → i.past o.last x ≡ None
         nothing_stood x e = nothing_yet t w o i id (walked Nothing) later (length w.participants) i.who absent_place up more (λ j l. refl) (i.listed id u way) gone.consistent gone.segments gone.kept x o.last e (omega arith)
 
         -- no one has told the place that p has reached
         is_free : (x : ℕ) → t.known.place_of (t.known.walker.resumed u answer_now) ≡ Some x → (q : ℕ) → o.place q ≢ Some x
-        is_free x e q h = free t w o i id (walked Nothing) later (length w.participants) i.who absent_place up more (λ j l. refl) (i.listed id u way) gone.consistent gone.segments gone.kept q x (i.told q x h) e
+        is_free x e q h = free t w o i id (walked Nothing) later (length w.participants) i.who absent_place up more (λ j l. refl) (i.listed id u way) gone.consistent gone.segments gone.kept q x (i.reported q x h) e
 
         -- and p has told none
         is_first : o.place id ≡ None
         is_first = elim (o.place id) as (λ z. o.place id ≡ z → z ≡ None) [
           | None ↦ λ _. refl
-          | Some x ↦ λ h. absurd (let two : None ≡ Some x = sym absent_place ∙ i.told id x h in cc)
+          | Some x ↦ λ h. absurd (let two : None ≡ Some x = sym absent_place ∙ i.reported id x h in cc)
         ] refl
 
         -- the way goes on
@@ -371,7 +371,7 @@ module _ {S R V U K : Type 0} (t : LawfulPlaces S R V U K) (w : SnapState S U K)
         ] refl
 
         place_by_note : (n : Note ℕ) → t.known.walker.note u answer_now ≡ n →
-            Allows (bounds_with t w.most scans) o (Stepped id (Ok (told (placed_note n))))
+            Allows (bounds_with t w.most scans) o (Stepped id (Ok (reported (placed_note n))))
             × IsTied t (record {
               memory = later;
               most = w.most;
@@ -380,7 +380,7 @@ module _ {S R V U K : Type 0} (t : LawfulPlaces S R V U K) (w : SnapState S U K)
                 program = walked (cond (is_placed n) Nothing v.program.pending);
                 ended = ends (placed_note n);
               }) w.participants;
-            }) (observed o (Stepped id (Ok (told (placed_note n)))))
+            }) (observed o (Stepped id (Ok (reported (placed_note n)))))
         place_by_note Quiet e = let s = stays (no_place Quiet e (λ x h. absurd (cc))) in (rw k.1 s.0, rw (own_name, pending) s.1)
         place_by_note (Said y) e = let s = stays (no_place (Said y) e (λ x h. absurd (cc))) in (rw k.1 s.0, rw (own_name, pending) s.1)
         place_by_note (Ended x) e = let s = arrives x ((gone.ended x).0 e) in (s.0, rw own_name s.1)
@@ -419,8 +419,8 @@ module _ {S R V U K : Type 0} (t : LawfulPlaces S R V U K) (w : SnapState S U K)
             | inl idle ↦ by_answer (Err Finished) w (rw (there, idle) refl) (rw (there, idle) refl) (inl (step_idle t w o i id scans fits v e idle), i)
             | inr busy ↦
                 let on : v.ended ≡ false = (i.named id v e).1 in
-                let ea : answer ≡ Ok (told (note_for t.known.walker t.known.walks v.program v.program.pending (got v e v.program.pending))) =
-                busy_answer t.known w id v.program some busy ∙ ap (reply_of told) (going_answer (clients_over t.known) t.known.memory w id v e on) in
+                let ea : answer ≡ Ok (reported (note_for t.known.walker t.known.walks v.program v.program.pending (got v e v.program.pending))) =
+                busy_answer t.known w id v.program some busy ∙ ap (reply_of reported) (going_answer (clients_over t.known) t.known.memory w id v e on) in
                 let eb : after ≡ record {
                   memory = t.known.memory.after w.memory (access_for t.known.walker t.known.place_of t.known.walks v.program v.program.pending);
                   most = w.most;
@@ -472,8 +472,8 @@ module _ {S R V U K : Type 0} (t : LawfulPlaces S R V U K) (scans : ℕ → ℕ)
   only_call h g (zero, l, e) = e
   only_call h g (suc n, l, e) = absurd (omega arith)
 
-  told_now : (o : SnapObject) (h : SnapCall) (p x : ℕ) → h ≡ Stepped p (Ok (Placed x)) → (observed o h).place p ≡ Some x
-  told_now o h p x e = rw e (set_at-same o.place p (Some x))
+  reported_now : (o : SnapObject) (h : SnapCall) (p x : ℕ) → h ≡ Stepped p (Ok (Placed x)) → (observed o h).place p ≡ Some x
+  reported_now o h p x e = rw e (set_at-same o.place p (Some x))
 
   -- what holds after every run
   pub record Holds (most : ℕ) (w : SnapState S U K) (r : List SnapCall) : Type 0 where
@@ -494,7 +494,7 @@ module _ {S R V U K : Type 0} (t : LawfulPlaces S R V U K) (scans : ℕ → ℕ)
         same_most = most_kept t.known w h ∙ k.same_most;
         answered = λ p x c. elim (Contains-append_cases r (h ∷ []) (Stepped p (Ok (Placed x))) c) [
           | inl old ↦ place_stays (bounds_with t most scans) k.object h p x allowed (k.answered p x old)
-          | inr now ↦ told_now k.object h p x (only_call h (Stepped p (Ok (Placed x))) now)
+          | inr now ↦ reported_now k.object h p x (only_call h (Stepped p (Ok (Placed x))) now)
         ];
       }
 
@@ -536,10 +536,10 @@ module _ {S R V U K : Type 0} (known : KnownPlaces S R V U K) (laws : PlacesLaws
       let k = after_all w first r new a in
       k.tied.history.distinct p q x (sym (place_is lawful (all_reads first) w k.object k.tied p) ∙ mine) (sym (place_is lawful (all_reads first) w k.object k.tied q) ∙ theirs)
 
-  pub told_holds : (w : SnapState S U K) (p : ℕ) → KeepsTold known w p
-  told_holds w p first r a new x c =
+  pub reported_holds : (w : SnapState S U K) (p : ℕ) → KeepsReported known w p
+  reported_holds w p first r a new x c =
       let k = after_all w first r new a in
-      place_is lawful (all_reads first) w k.object k.tied p ∙ k.tied.told p x (k.answered p x c)
+      place_is lawful (all_reads first) w k.object k.tied p ∙ k.tied.reported p x (k.answered p x c)
 
   -- the memory agrees with those who have begun
   pub consistent_holds : (w : SnapState S U K) → IsConsistentAfter known w

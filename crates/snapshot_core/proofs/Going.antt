@@ -45,7 +45,7 @@ module _ {S R V U K : Type 0} (t : LawfulPlaces S R V U K) (w : SnapState S U K)
           placed = λ q. i.placed q ∙ ap (place_by t.known.place_of) (sym (ways_at q));
           history = i.history;
           present = i.present;
-          told = i.told;
+          reported = i.reported;
           beginning = refl;
           doing = rw (set_at-same o.task p task, set_at-same o.steps p steps, set_at-same o.since p since) doing;
           carries = λ q own u n there at. carries_same t (era_now t w o i) own;
@@ -119,7 +119,7 @@ module _ {S R V U K : Type 0} (t : LawfulPlaces S R V U K) (w : SnapState S U K)
               | inl e ↦ ap (wrote (o.last + 1)) e.1 ∙ here_now ∙ sym (ap (segment_in t.known written) e.1 ∙ k.own)
               | inr e ↦ other y e.1 ∙ i.present y ∙ sym (k.others y e.1)
             ];
-            told = i.told;
+            reported = i.reported;
             beginning = k.kept.beginning;
             doing = rw (set_at-same o.task p Idle, set_at-same o.steps p steps, set_at-same o.since p since) done;
             carries = λ q y u n on at. carries_later y (λ e.
@@ -173,7 +173,7 @@ module _ {S R V U K : Type 0} (t : LawfulPlaces S R V U K) (w : SnapState S U K)
   pub tied_joined : (ps : List (Participant (Client U K))) → ((q : ℕ) → participant_of q ps ≡ set_at (λ u. participant_of u w.participants) p (Some (record { identity = p; program = c; ended = false })) q) → length ps ≡ n →
       (o' : SnapObject) → o'.begun ≡ n → o'.last ≡ o.last → o'.moment ≡ o.moment → ((q : ℕ) → q ≢ p → (o'.task q ≡ o.task q) × (o'.steps q ≡ o.steps q) × (o'.since q ≡ o.since q) × (o'.updates q ≡ o.updates q)) → o'.updates p ≡ c.updates → ((q x : ℕ) → o'.place q ≡ Some x → (o.place q ≡ Some x) ⊎ ((q ≡ p) × (t.known.place_of c.walker ≡ Some x))) →
       IsDoing t era_joined (o'.task p) (o'.steps p) (o'.since p) p c → IsTied t (record { memory = memory; most = w.most; participants = ps }) o'
-  tied_joined ps put many o' counted last moment others asked told doing =
+  tied_joined ps put many o' counted last moment others asked reported doing =
       let history : IsHistory o.last i.past o.moment place' = history_joined o.last i.past o.moment i.place i.history p (t.known.place_of c.walker) absent free in
       let kept_place : (q x : ℕ) → i.place q ≡ Some x → place' q ≡ Some x = λ q x e. elim (eqb_tells q p) [
         | inl u ↦ absurd (let k : None ≡ Some x = sym absent ∙ ap i.place (sym u.1) ∙ e in cc)
@@ -195,8 +195,8 @@ module _ {S R V U K : Type 0} (t : LawfulPlaces S R V U K) (w : SnapState S U K)
         placed = λ q. elim (eqb_tells q p) [ inl e ↦ rw e.0 refl | inr e ↦ rw e.0 (i.placed q) ];
         history = rw (last, moment) history;
         present = λ x. rw last (i.present x ∙ sym (segments x));
-        told = λ q x e. elim (told q x e) [
-          | inl k ↦ kept_place q x (i.told q x k)
+        reported = λ q x e. elim (reported q x e) [
+          | inl k ↦ kept_place q x (i.reported q x k)
           | inr k ↦ rw k.0 (set_at-same i.place p (t.known.place_of c.walker) ∙ k.1)
         ];
         beginning = kept.beginning;

@@ -84,22 +84,22 @@ turn a b = elim (eqb_tells a b) [
 ]
 
 -- what the first of a place tells, after another place, or itself, was noted
-told-with : {X : Type 0} (told : List Sighting → ℕ → X) (tells : Sighting → X) → ((s : Sighting) (ss : List Sighting) (x : ℕ) → told (s ∷ ss) x ≡ cond (s.place == x) (tells s) (told ss x)) →
-    (new : Sighting) (ss : List Sighting) (x : ℕ) → told (with_sighting new ss) x ≡ set_at (told ss) new.place (tells new) x
-told-with told tells first new [] x = rw (turn x new.place) (first new [] x)
-told-with told tells first new (s ∷ ss) x = rw (turn x new.place) (elim (eqb_tells s.place new.place) [
+reported-with : {X : Type 0} (reported : List Sighting → ℕ → X) (tells : Sighting → X) → ((s : Sighting) (ss : List Sighting) (x : ℕ) → reported (s ∷ ss) x ≡ cond (s.place == x) (tells s) (reported ss x)) →
+    (new : Sighting) (ss : List Sighting) (x : ℕ) → reported (with_sighting new ss) x ≡ set_at (reported ss) new.place (tells new) x
+reported-with reported tells first new [] x = rw (turn x new.place) (first new [] x)
+reported-with reported tells first new (s ∷ ss) x = rw (turn x new.place) (elim (eqb_tells s.place new.place) [
   | inl e ↦ rw (e.0, first new ss x, first s ss x, e.1) (elim (eqb_tells new.place x) [ inl g ↦ rw g.0 refl | inr g ↦ rw g.0 refl ])
-  | inr e ↦ rw (e.0, first s (with_sighting new ss) x, first s ss x, told-with told tells first new ss x, turn x new.place) (elim (eqb_tells s.place x) [
+  | inr e ↦ rw (e.0, first s (with_sighting new ss) x, first s ss x, reported-with reported tells first new ss x, turn x new.place) (elim (eqb_tells s.place x) [
     | inl f ↦ elim (eqb_tells new.place x) [ inl g ↦ absurd (e.1 (f.1 ∙ sym g.1)) | inr g ↦ rw (f.0, g.0) refl ]
     | inr f ↦ rw f.0 refl
   ])
 ])
 
 pub sighting_of-with : (new : Sighting) (ss : List Sighting) (x : ℕ) → sighting_of x (with_sighting new ss) ≡ set_at (λ y. sighting_of y ss) new.place new x
-sighting_of-with = told-with (λ ss x. sighting_of x ss) (λ s. s) (λ s ss x. refl)
+sighting_of-with = reported-with (λ ss x. sighting_of x ss) (λ s. s) (λ s ss x. refl)
 
 pub is_known-with : (new : Sighting) (ss : List Sighting) (x : ℕ) → is_known (with_sighting new ss) x ≡ set_at (is_known ss) new.place true x
-is_known-with = told-with is_known (λ s. true) (λ s ss x. elim (s.place == x) as (λ b. is_some (cond b (Some 0) (option_map (λ k. k + 1) (index_of x ss))) ≡ cond b true (is_known ss x)) [ true ↦ refl | false ↦ known_there (index_of x ss) ])
+is_known-with = reported-with is_known (λ s. true) (λ s ss x. elim (s.place == x) as (λ b. is_some (cond b (Some 0) (option_map (λ k. k + 1) (index_of x ss))) ≡ cond b true (is_known ss x)) [ true ↦ refl | false ↦ known_there (index_of x ss) ])
 
 pub length-with-known : (new : Sighting) (ss : List Sighting) → is_known ss new.place ≡ true → length (with_sighting new ss) ≡ length ss
 length-with-known new [] h = absurd (cc)

@@ -7,7 +7,7 @@ use Rattle.step_memory.specs.Machine.{Extends}
 use Rattle.step_memory.proofs.MachineLemmas.{call_leads_on}
 use Rattle.step_memory.specs.Locality.{Indistinguishable, StandAlike}
 use Rattle.step_memory.proofs.LocalityLemmas.{answers_alike, stand_alike}
-use Rattle.snapshot_core.specs.SnapWorld.{SnapState, beginner_at, scan_refusal, update_refusal, asked, told, clients_over, snap_answer, snap_answer_by, after_snap_step, after_snap_by, StaysAlike}
+use Rattle.snapshot_core.specs.SnapWorld.{SnapState, beginner_at, scan_refusal, update_refusal, asked, reported, clients_over, snap_answer, snap_answer_by, after_snap_step, after_snap_by, StaysAlike}
 
 module _ {S R V U K : Type 0} (t : KnownPlaces S R V U K) where
   most_asked : (w : SnapState S U K) (id : ℕ) (asking : Client U K → Client U K) (c : Option (Client U K)) (why : Option Refusal) → (asked w id asking c why).most ≡ w.most
@@ -27,7 +27,7 @@ module _ {S R V U K : Type 0} (t : KnownPlaces S R V U K) where
 
   snap_lacks_none : (w : SnapState S U K) (id : ℕ) (o : Option (Client U K)) → lacked_memory (snap_answer_by t w id o) ≡ false
   snap_lacks_none w id None = refl
-  snap_lacks_none w id (Some c) = elim (is_idle c.pending) as (λ b. lacked_memory (cond b (Err Finished) (reply_of told (step_answer (clients_over t) t.memory w id))) ≡ false) [ true ↦ refl | false ↦ lacks_none (clients_over t) t.memory told w id ]
+  snap_lacks_none w id (Some c) = elim (is_idle c.pending) as (λ b. lacked_memory (cond b (Err Finished) (reply_of reported (step_answer (clients_over t) t.memory w id))) ≡ false) [ true ↦ refl | false ↦ lacks_none (clients_over t) t.memory reported w id ]
 
   -- one more step for which no growth was refused
   pub after_stepped : (w new : SnapState S U K) (id : ℕ) (reply : Result SnapReply Refusal) → new ≡ after_snap_step t w id → reply ≡ snap_answer t w id → Extends (snapshot t) w new (Stepped id reply)
@@ -39,12 +39,12 @@ module _ {S R V U K : Type 0} (t : KnownPlaces S R V U K) where
   pub busy_state : (w : SnapState S U K) (id : ℕ) (c : Client U K) → Some c ≡ program_of id w.participants → is_idle c.pending ≡ false → after_snap_step t w id ≡ after_step (clients_over t) t.memory w id
   busy_state w id c h busy = let e = sym h in rw (e, busy) refl
 
-  pub busy_answer : (w : SnapState S U K) (id : ℕ) (c : Client U K) → Some c ≡ program_of id w.participants → is_idle c.pending ≡ false → snap_answer t w id ≡ reply_of told (step_answer (clients_over t) t.memory w id)
+  pub busy_answer : (w : SnapState S U K) (id : ℕ) (c : Client U K) → Some c ≡ program_of id w.participants → is_idle c.pending ≡ false → snap_answer t w id ≡ reply_of reported (step_answer (clients_over t) t.memory w id)
   busy_answer w id c h busy = let e = sym h in rw (e, busy) refl
 
   answer_by_alike : (w other : SnapState S U K) (p : ℕ) → Indistinguishable (clients_over t) t.memory p w other → (o : Option (Client U K)) → snap_answer_by t w p o ≡ snap_answer_by t other p o
   answer_by_alike w other p alike None = refl
-  answer_by_alike w other p alike (Some c) = ap (λ (x : Result SnapReply Refusal). cond (is_idle c.pending) (Err Finished) x) (ap (reply_of told) (answers_alike (clients_over t) t.memory p w other alike))
+  answer_by_alike w other p alike (Some c) = ap (λ (x : Result SnapReply Refusal). cond (is_idle c.pending) (Err Finished) x) (ap (reply_of reported) (answers_alike (clients_over t) t.memory p w other alike))
 
   -- what a participant is answered depends on what it sees
   pub snap_alike : (w other : SnapState S U K) (p : ℕ) → Indistinguishable (clients_over t) t.memory p w other → snap_answer t w p ≡ snap_answer t other p

@@ -1,4 +1,4 @@
--- want of memory refuses no step but those on a way to a place
+-- an allocation failure refuses no step but those on a way to a place
 use Rattle.std.proofs.Common.{◌≡◌, ◌⊎◌, inl, inr, ℕ, true, false, cond, Option, Some, None, refl, sym, ap, ◌∙◌, option_map}
 use Rattle.snapshot_core.proofs.Common.{Record, participant_of, may_refuse_by, Client, Pending, KnownPlaces, PlacesLaws}
 use Rattle.snapshot_core.specs.declared.client.Pending.TheVariants.{Nothing, Placing, Scan, Update, Write as Writing}

@@ -94,7 +94,7 @@ pub record IsTied {S R V U K : Type 0} (t : LawfulPlaces S R V U K) (w : SnapSta
   pub placed : (p : ℕ) → place p ≡ place_by t.known.place_of (ways_of w.participants p)
   pub history : IsHistory o.last past o.moment place
   pub present : (x : ℕ) → past o.last x ≡ segment_in t.known w.memory x
-  pub told : (p x : ℕ) → o.place p ≡ Some x → place p ≡ Some x
+  pub reported : (p x : ℕ) → o.place p ≡ Some x → place p ≡ Some x
   pub absent : (p : ℕ) → participant_of p w.participants ≡ None → (o.task p ≡ Absent) × (o.updates p ≡ 0)
   pub asked : (p : ℕ) (v : Participant (Client U K)) → participant_of p w.participants ≡ Some v → o.updates p ≡ v.program.updates
   pub clients : (p : ℕ) (v : Participant (Client U K)) → participant_of p w.participants ≡ Some v →
@@ -121,7 +121,7 @@ tied_new t first new = record {
     distinct = λ p q x e. absurd (cc);
   };
   present = λ x. sym (t.laws.empty first new x);
-  told = λ p x e. absurd (cc);
+  reported = λ p x e. absurd (cc);
   absent = λ p h. (refl, refl);
   asked = λ p v h. absurd (cc);
   clients = λ p v h. absurd (cc);
@@ -180,7 +180,7 @@ module _ {S R V U K : Type 0} (t : LawfulPlaces S R V U K) (w : SnapState S U K)
         pub placed : (q : ℕ) → place q ≡ place_by t.known.place_of (set_at (ways_of w.participants) p (Some c.walker) q)
         pub history : IsHistory o'.last past o'.moment place
         pub present : (x : ℕ) → past o'.last x ≡ segment_in t.known memory x
-        pub told : (q x : ℕ) → o'.place q ≡ Some x → place q ≡ Some x
+        pub reported : (q x : ℕ) → o'.place q ≡ Some x → place q ≡ Some x
         pub beginning : t.known.walk_from memory ≡ t.known.walk_from w.memory
         pub doing : IsDoing t era_next (o'.task p) (o'.steps p) (o'.since p) p c
         pub carries : (q own : ℕ) (u : U) → q ≢ p → ways_of w.participants q ≡ Some u → t.known.place_of u ≡ Some own → CarriesOn t era_now era_next own
@@ -200,7 +200,7 @@ module _ {S R V U K : Type 0} (t : LawfulPlaces S R V U K) (w : SnapState S U K)
             placed = λ q. k.placed q ∙ ap (λ (g : ℕ → Option U). place_by t.known.place_of (g q)) (sym same);
             history = k.history;
             present = k.present;
-            told = k.told;
+            reported = k.reported;
             absent = λ q none. elim (eqb_tells q p) [
               | inl e ↦ absurd (let own : participant_of p ps ≡ None = rw e.1 at none in let k : Some new ≡ None = sym (set_at-same (λ z. participant_of z w.participants) p (Some new)) ∙ sym (put p) ∙ own in cc)
               | inr e ↦ let was = i.absent q (sym (put_other q e.1) ∙ none) in ((k.others q e.1).0 ∙ was.0, (k.others q e.1).3 ∙ was.1)

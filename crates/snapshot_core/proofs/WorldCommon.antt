@@ -16,4 +16,4 @@ pub use Rattle.snapshot_core.specs.Client.{is_idle, access_for, placed_note, upd
 pub use Rattle.snapshot_core.specs.Places.{KnownPlaces, BoundsScans, places_by}
 pub use Rattle.snapshot_core.specs.Machine.{snapshot}
 pub use Rattle.snapshot_core.specs.SnapCalls.SnapCall.{Stepped, Began, Updated, Scanned}
-pub use Rattle.snapshot_core.specs.SnapWorld.{SnapState, told, clients_over, snap_answer, after_snap_step, after_scan, after_update, scan_refusal, update_refusal, scan_refusal_by, update_refusal_by, told_of_way}
+pub use Rattle.snapshot_core.specs.SnapWorld.{SnapState, reported, clients_over, snap_answer, after_snap_step, after_scan, after_update, scan_refusal, update_refusal, scan_refusal_by, update_refusal_by, reported_of_way}

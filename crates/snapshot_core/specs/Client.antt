@@ -17,9 +17,9 @@ use Rattle.snapshot_core.specs.Walks.{WalkSteps}
 use Rattle.snapshot_core.specs.Scan.{scan_from, scan_after, scan_view}
 
 -- the view with which a scan has ended
-abbrev pub view_told : SnapReply → Option (List (ℕ × ℕ))
-view_told (Viewed view) = Some view
-view_told s = None
+abbrev pub view_reported : SnapReply → Option (List (ℕ × ℕ))
+view_reported (Viewed view) = Some view
+view_reported s = None
 
 abbrev pub is_idle : Pending → Bool
 is_idle Nothing = true

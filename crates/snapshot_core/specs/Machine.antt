@@ -56,8 +56,8 @@ module _ {S R V U K : Type 0} (t : KnownPlaces S R V U K) where
   IsConsistentAfter w = OnEveryHistoryFromNew (λ first r. t.ties.IsConsistent w.memory (length w.participants) (ways_of w.participants)) w
 
   -- who was told its place has it
-  abbrev pub KeepsTold : SnapState S U K → ℕ → Type 0
-  KeepsTold w p = OnEveryHistoryFromNew (λ first r. (place : ℕ) → Contains r (Stepped p (Ok (Placed place))) → place_in t w p ≡ Some place) w
+  abbrev pub KeepsReported : SnapState S U K → ℕ → Type 0
+  KeepsReported w p = OnEveryHistoryFromNew (λ first r. (place : ℕ) → Contains r (Stepped p (Ok (Placed place))) → place_in t w p ≡ Some place) w
 
   -- a step of p that is answered as it is due, and leaves what it is to leave, leads on
   abbrev pub StepExtends : SnapState S U K → ℕ → Type 0

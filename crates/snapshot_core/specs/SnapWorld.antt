@@ -77,14 +77,14 @@ module _ {S U K : Type 0} where
   after_update w id value = asked w id (λ c. updating c value) (program_of id w.participants) (update_refusal w id)
 
 -- what a step tells
-abbrev pub told : Note SnapReply → SnapReply
-told Quiet = Silent
-told (Said reply) = reply
-told (Ended reply) = reply
+abbrev pub reported : Note SnapReply → SnapReply
+reported Quiet = Silent
+reported (Said reply) = reply
+reported (Ended reply) = reply
 
 -- and of a way that says this
-abbrev pub told_of_way : Note ℕ → SnapReply
-told_of_way note = told (placed_note note)
+abbrev pub reported_of_way : Note ℕ → SnapReply
+reported_of_way note = reported (placed_note note)
 
 module _ {S R V U K : Type 0} (t : KnownPlaces S R V U K) where
   -- the participants' programs
@@ -93,7 +93,7 @@ module _ {S R V U K : Type 0} (t : KnownPlaces S R V U K) where
 
   abbrev pub snap_answer_by : SnapState S U K → ℕ → Option (Client U K) → Result SnapReply Refusal
   snap_answer_by w id None = Err NotBegun
-  snap_answer_by w id (Some c) = if is_idle c.pending then Err Finished else reply_of told (step_answer clients_over t.memory w id)
+  snap_answer_by w id (Some c) = if is_idle c.pending then Err Finished else reply_of reported (step_answer clients_over t.memory w id)
 
   abbrev pub after_snap_by : SnapState S U K → ℕ → Option (Client U K) → SnapState S U K
   after_snap_by w id None = w
@@ -107,7 +107,7 @@ module _ {S R V U K : Type 0} (t : KnownPlaces S R V U K) where
   abbrev pub after_snap_step : SnapState S U K → ℕ → SnapState S U K
   after_snap_step w id = after_snap_by w id (program_of id w.participants)
 
-  -- whether that step may be refused for want of memory
+  -- whether that step may be refused because an allocation failed
   abbrev pub may_lack_memory : SnapState S U K → ℕ → Bool
   may_lack_memory w id = may_refuse_step clients_over t.memory w id
 
@@ -128,7 +128,7 @@ module _ {S R V U K : Type 0} (t : KnownPlaces S R V U K) where
   abbrev pub IsOnWay : SnapState S U K → ℕ → Type 0
   IsOnWay w p = (c : Client U K) × (program_of p w.participants ≡ Some c) × (c.pending ≡ Placing)
 
-  -- of p's steps only one on its way to its place may be refused for want of memory
+  -- of p's steps only one on its way to its place may be refused because an allocation failed
   abbrev pub LacksOnWay : SnapState S U K → ℕ → Type 0
   LacksOnWay w p = may_lack_memory w p ≡ true → IsOnWay w p
 

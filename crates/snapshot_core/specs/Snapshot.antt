@@ -170,11 +170,11 @@ module _ (bounds : SnapBounds) (o : SnapObject) (p : ℕ) where
       if has_begun (o.task p) then (if has_nothing_pending then Some Finished else None)
       else Some NotBegun
 
-  -- a step on the way to a place, for which nothing else is due, may be refused for want of memory
+  -- a step on the way to a place, for which nothing else is due, may be refused because an allocation failed
   abbrev pub LacksMemory : Refusal → Type 0
   LacksMemory why = (why ≡ NoMemory) × (step_due ≡ None) × (o.task p ≡ Placing)
 
--- what a call may answer. It is refused exactly where that is due, but for want of memory
+-- what a call may answer. It is refused exactly where that is due, but for failed allocations
 abbrev pub Allows : SnapBounds → SnapObject → SnapCall → Type 0
 Allows bounds o (Began p reply) = reply ≡ done_unless (begin_due bounds o p)
 Allows bounds o (Updated p value reply) = reply ≡ done_unless (update_due bounds o p)

@@ -6,8 +6,8 @@ ghost use Rattle.step_memory.specs.declared.access.Answer.TheVariants.{Value};
 ghost use Rattle.step_memory.specs.declared.note.Note.TheVariants as note;
 ghost use Rattle.snapshot_core.specs.declared.client.Pending.TheVariants.{Placing};
 ghost use Rattle.snapshot_core.specs.declared.client.TheConstants.{MOST_UPDATES};
-ghost use Rattle.snapshot_core.specs.Client.{view_told, is_idle, client_at, client_steps, updating, scanning, next_access, client_after, client_note, scan_resumed, scan_note, placing_resumed, placing_note, placed_note};
-ghost use Rattle.snapshot_core.specs.SnapWorld.{told, told_of_way};
+ghost use Rattle.snapshot_core.specs.Client.{view_reported, is_idle, client_at, client_steps, updating, scanning, next_access, client_after, client_note, scan_resumed, scan_note, placing_resumed, placing_note, placed_note};
+ghost use Rattle.snapshot_core.specs.SnapWorld.{reported, reported_of_way};
 
 use crate::places::{PlaceWalker, Places};
 use crate::scan::Scan;
@@ -35,7 +35,7 @@ pub enum SnapReply {
 impl SnapReply {
     /// What a step of a way tells, of which the way says this.
     pub fn of_way(note: Note<Place>) -> Self
-        ensures { result ≡ told_of_way note }
+        ensures { result ≡ reported_of_way note }
     {
         match note {
             Note::Quiet => SnapReply::Quiet,
@@ -47,7 +47,7 @@ impl SnapReply {
     /// What a step tells, of which the participant says this.
     #[inline(always)]
     pub fn of_step(note: Note<SnapReply>) -> Self
-        ensures { result ≡ told note }
+        ensures { result ≡ reported note }
     {
         match note {
             Note::Quiet => SnapReply::Quiet,
@@ -58,7 +58,7 @@ impl SnapReply {
 
     /// The view with which a scan has ended.
     pub fn view(&self) -> Option<View>
-        ensures { result ≡ view_told self.now }
+        ensures { result ≡ view_reported self.now }
     {
         match self {
             SnapReply::Quiet => None,
@@ -300,7 +300,7 @@ where
     W::Walk: Copy,
     W::Value: Drop,
 {
-    type Told = Note<Place>;
+    type Reported = Note<Place>;
 
     ghost takes = { λ c. c.pending ≡ Placing };
 

@@ -3,7 +3,7 @@
 ghost use Rattle.std.specs.Prelude.{ℕ};
 ghost use Rattle.snapshot_core.specs.Alone.{EndsSoonAlone, EndsAlike};
 ghost use Rattle.snapshot_core.specs.Places.{BeginsAlike};
-ghost use Rattle.snapshot_core.specs.Machine.{snapshot, MakesOwnAccess, BeginsTheSame, HasDistinctPlaces, IsConsistentAfter, KeepsTold, StepExtends};
+ghost use Rattle.snapshot_core.specs.Machine.{snapshot, MakesOwnAccess, BeginsTheSame, HasDistinctPlaces, IsConsistentAfter, KeepsReported, StepExtends};
 ghost use Rattle.snapshot_core.specs.Snapshot.{SnapBounds, HoldsOfPrefixes};
 ghost use Rattle.step_memory.specs.Machine.{IsProved};
 ghost use Rattle.snapshot_core.specs.SnapWorld.{SnapState, snap_answer, after_snap_step, LacksOnWay, AnswersAlike, StaysAlike};
@@ -23,7 +23,7 @@ pub fn law_of_snapshot_calls<W: Places>()
     ensures machine { IsProved (snapshot ⟦<W as Known>⟧.places) }
     ensures prefix { (bounds : SnapBounds) → HoldsOfPrefixes bounds }
     ensures distinct { (w : SnapState W W.Walker W.Walk) → HasDistinctPlaces ⟦<W as Known>⟧.places w }
-    ensures told { (w : SnapState W W.Walker W.Walk) (p : ℕ) → KeepsTold ⟦<W as Known>⟧.places w p }
+    ensures reported { (w : SnapState W W.Walker W.Walk) (p : ℕ) → KeepsReported ⟦<W as Known>⟧.places w p }
     ensures consistent { (w : SnapState W W.Walker W.Walk) → IsConsistentAfter ⟦<W as Known>⟧.places w }
     ensures sure { (w : SnapState W W.Walker W.Walk) (p : ℕ) → LacksOnWay ⟦<W as Known>⟧.places w p }
     ensures own { (w : SnapState W W.Walker W.Walk) (p : ℕ) → MakesOwnAccess ⟦<W as Known>⟧.places w p }

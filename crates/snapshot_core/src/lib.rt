@@ -12,7 +12,7 @@
 //! that was the last at the scan's first read, and no later than its last read; it has no more pairs than have begun. Where
 //! b have begun, of whom walks over the segments make at most r reads, a scan takes at most (b + 1)r steps whatever the
 //! others do, each a read, and an update takes one step more, its write. A call is refused exactly where that is due, and
-//! for want of memory only on the way to a place. A step makes one access, which the participant's own state names.
+//! because an allocation failed only on the way to a place. A step makes one access, which the participant's own state names.
 //! (Counting steps, the sequence numbers' beginning at 1 and the limit of updates are this project's profile.)
 //!
 //! Here are the participants, each a program of one access a step (`Client`), and the laws of the machine that their calls

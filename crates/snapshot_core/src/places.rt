@@ -1,7 +1,7 @@
 //! What gives participants places.
 
 ghost use Rattle.std.specs.Prelude.{◌≡◌, ℕ, Option, None, IfSome, OnErr, true};
-ghost use Rattle.step_memory.specs.Taken.{told_in};
+ghost use Rattle.step_memory.specs.Taken.{reported_in};
 ghost use Rattle.snapshot_core.specs.Places.{PlaceTies, KnownPlaces, places_by, PlacesLaws, way_note, way_after};
 
 use crate::walk::SegmentWalk;
@@ -53,11 +53,11 @@ pub trait Places: StepMemory {
     /// Takes the next step of a way where it stands, so that no value is copied, and gives what the way says. `None` where it
     /// did not, and an error where a growth was refused: then nothing has changed, and the step is still to be taken.
     fn walk_on(&mut self, _walker: &mut Self::Walker) -> Result<Option<Note<Place>>, NoMemory>
-        ensures note { IfSome (told_in result) (λ note. note ≡ way_note Self.Walker.steps Self.steps _walker.old self.old) }
-        ensures after { IfSome (told_in result) (λ _. _walker.new ≡ way_after Self.Walker.steps Self.steps _walker.old self.old) }
-        ensures memory { IfSome (told_in result) (λ _. self.new ≡ Self.steps.after self.old (Self.Walker.steps.next _walker.old)) }
-        ensures kept { told_in result ≡ None → _walker.new ≡ _walker.old }
-        ensures memory_kept { told_in result ≡ None → self.new ≡ self.old }
+        ensures note { IfSome (reported_in result) (λ note. note ≡ way_note Self.Walker.steps Self.steps _walker.old self.old) }
+        ensures after { IfSome (reported_in result) (λ _. _walker.new ≡ way_after Self.Walker.steps Self.steps _walker.old self.old) }
+        ensures memory { IfSome (reported_in result) (λ _. self.new ≡ Self.steps.after self.old (Self.Walker.steps.next _walker.old)) }
+        ensures kept { reported_in result ≡ None → _walker.new ≡ _walker.old }
+        ensures memory_kept { reported_in result ≡ None → self.new ≡ self.old }
         ensures no_memory { OnErr result (Self.steps.may_refuse self.old (Self.Walker.steps.next _walker.old) ≡ true) }
     {
         Ok(None)

@@ -4,10 +4,10 @@ ghost use Rattle.std.specs.Prelude.{◌≡◌, ◌≢◌, [], IfOk, IfSome, OnEr
 ghost use Rattle.std.specs.Option.{option_copied};
 ghost use Rattle.step_memory.specs.Locality.{ChangesOnly};
 ghost use Rattle.step_memory.specs.Participant.{program_of};
-ghost use Rattle.step_memory.specs.Taken.{told_in};
+ghost use Rattle.step_memory.specs.Taken.{reported_in};
 ghost use Rattle.step_memory.specs.World.{begin_refusal, done_unless};
-ghost use Rattle.snapshot_core.specs.SnapWorld.{place_in, after_snap_begin, scan_refusal, update_refusal, after_scan, after_update, clients_over, snap_answer, after_snap_step, may_lack_memory, IsOnWay, AnswersAlike, StaysAlike, told_of_way};
-ghost use Rattle.snapshot_core.specs.Machine.{snapshot, MakesOwnAccess, HasDistinctPlaces, KeepsTold};
+ghost use Rattle.snapshot_core.specs.SnapWorld.{place_in, after_snap_begin, scan_refusal, update_refusal, after_scan, after_update, clients_over, snap_answer, after_snap_step, may_lack_memory, IsOnWay, AnswersAlike, StaysAlike, reported_of_way};
+ghost use Rattle.snapshot_core.specs.Machine.{snapshot, MakesOwnAccess, HasDistinctPlaces, KeepsReported};
 ghost use Rattle.snapshot_core.specs.SnapCalls.{fresh_over};
 ghost use Rattle.step_memory.specs.Machine.{Reaches, SatisfiesSpec, Extends};
 ghost use Rattle.snapshot_core.specs.SnapCalls.SnapCall.{Began, Updated, Scanned, Stepped};
@@ -53,7 +53,7 @@ impl<W: Places, A: Allocator> SnapWorld<W, A> {
 
         // No two have one place, and where a step has told a place, it is that one.
         ensures distinct { HasDistinctPlaces ⟦<W as Known>⟧.places self.now }
-        ensures told { KeepsTold ⟦<W as Known>⟧.places self.now id }
+        ensures reported { KeepsReported ⟦<W as Known>⟧.places self.now id }
     {
         self.world.program(id)?.walker.place()
     }
@@ -98,7 +98,7 @@ where
     pub fn begin(&mut self, id: u64) -> Result<(), Refusal>
         ensures answer { result ≡ done_unless (begin_refusal self.old id) }
         ensures state { self.new ≡ after_snap_begin ⟦<W as Known>⟧.places self.old id }
-        ensures refused { OnErr result (self.new ≡ self.old) }
+        ensures unchanged_on_error { OnErr result (self.new ≡ self.old) }
         ensures no_access { self.new.memory ≡ self.old.memory }
         ensures after { Extends (snapshot ⟦<W as Known>⟧.places) self.old self.new (Began id result) }
         ensures law { SatisfiesSpec (snapshot ⟦<W as Known>⟧.places) self.new }
@@ -114,7 +114,7 @@ where
     pub fn update(&mut self, id: u64, value: u64) -> Result<(), Refusal>
         ensures answer { result ≡ done_unless (update_refusal self.old id) }
         ensures state { self.new ≡ after_update self.old id value }
-        ensures refused { OnErr result (self.new ≡ self.old) }
+        ensures unchanged_on_error { OnErr result (self.new ≡ self.old) }
         ensures no_access { self.new.memory ≡ self.old.memory }
         ensures after { Extends (snapshot ⟦<W as Known>⟧.places) self.old self.new (Updated id value result) }
         ensures law { SatisfiesSpec (snapshot ⟦<W as Known>⟧.places) self.new }
@@ -136,7 +136,7 @@ where
     pub fn scan(&mut self, id: u64) -> Result<(), Refusal>
         ensures answer { result ≡ done_unless (scan_refusal self.old id) }
         ensures state { self.new ≡ after_scan self.old id }
-        ensures refused { OnErr result (self.new ≡ self.old) }
+        ensures unchanged_on_error { OnErr result (self.new ≡ self.old) }
         ensures no_access { self.new.memory ≡ self.old.memory }
         ensures after { Extends (snapshot ⟦<W as Known>⟧.places) self.old self.new (Scanned id result) }
         ensures law { SatisfiesSpec (snapshot ⟦<W as Known>⟧.places) self.new }
@@ -168,12 +168,12 @@ where
     /// the step was not made: then nothing has changed, and `step` makes it or refuses it. An error where the memory refused a
     /// growth: then nothing has changed, and the same step may be asked again.
     pub fn walk_on(&mut self, id: u64) -> Result<Option<Note<Place>>, NoMemory>
-        ensures answer { IfSome (told_in result) (λ note. snap_answer ⟦<W as Known>⟧.places self.old id ≡ Ok (told_of_way note)) }
-        ensures state { IfSome (told_in result) (λ _. self.new ≡ after_snap_step ⟦<W as Known>⟧.places self.old id) }
-        ensures kept { told_in result ≡ None → self.new ≡ self.old }
+        ensures answer { IfSome (reported_in result) (λ note. snap_answer ⟦<W as Known>⟧.places self.old id ≡ Ok (reported_of_way note)) }
+        ensures state { IfSome (reported_in result) (λ _. self.new ≡ after_snap_step ⟦<W as Known>⟧.places self.old id) }
+        ensures kept { reported_in result ≡ None → self.new ≡ self.old }
         ensures no_memory { OnErr result (may_lack_memory ⟦<W as Known>⟧.places self.old id ≡ true) }
-        ensures local { IfSome (told_in result) (λ _. ChangesOnly (clients_over ⟦<W as Known>⟧.places) W.steps id self.old self.new) }
-        ensures after { IfSome (told_in result) (λ note. Extends (snapshot ⟦<W as Known>⟧.places) self.old self.new (Stepped id (Ok (told_of_way note)))) }
+        ensures local { IfSome (reported_in result) (λ _. ChangesOnly (clients_over ⟦<W as Known>⟧.places) W.steps id self.old self.new) }
+        ensures after { IfSome (reported_in result) (λ note. Extends (snapshot ⟦<W as Known>⟧.places) self.old self.new (Stepped id (Ok (reported_of_way note)))) }
         ensures law { SatisfiesSpec (snapshot ⟦<W as Known>⟧.places) self.new }
     {
         self.world.take::<OnWay>(id)
@@ -184,7 +184,7 @@ where
     fn take_step(&mut self, id: u64) -> Result<SnapReply, Refusal>
         ensures answer { result ≢ Err Refusal.NoMemory → result ≡ snap_answer ⟦<W as Known>⟧.places self.old id }
         ensures state { result ≢ Err Refusal.NoMemory → self.new ≡ after_snap_step ⟦<W as Known>⟧.places self.old id }
-        ensures refused { OnErr result (self.new ≡ self.old) }
+        ensures unchanged_on_error { OnErr result (self.new ≡ self.old) }
         ensures no_memory { result ≡ Err Refusal.NoMemory → may_lack_memory ⟦<W as Known>⟧.places self.old id ≡ true }
         ensures local { ChangesOnly (clients_over ⟦<W as Known>⟧.places) W.steps id self.old self.new }
         ensures alike { result ≢ Err Refusal.NoMemory → AnswersAlike ⟦<W as Known>⟧.places self.old id result }
@@ -207,7 +207,7 @@ where
     pub fn step(&mut self, id: u64) -> Result<SnapReply, Refusal>
         ensures answer { result ≢ Err Refusal.NoMemory → result ≡ snap_answer ⟦<W as Known>⟧.places self.old id }
         ensures state { result ≢ Err Refusal.NoMemory → self.new ≡ after_snap_step ⟦<W as Known>⟧.places self.old id }
-        ensures refused { OnErr result (self.new ≡ self.old) }
+        ensures unchanged_on_error { OnErr result (self.new ≡ self.old) }
         ensures on_way { result ≡ Err Refusal.NoMemory → IsOnWay ⟦<W as Known>⟧.places self.old id }
         ensures no_memory { result ≡ Err Refusal.NoMemory → may_lack_memory ⟦<W as Known>⟧.places self.old id ≡ true }
         ensures after { Extends (snapshot ⟦<W as Known>⟧.places) self.old self.new (Stepped id result) }

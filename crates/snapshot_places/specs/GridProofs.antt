@@ -48,9 +48,9 @@ sent : (g : GridState) (id x y : ℕ) (s : Stage) → after_access g (door_acces
 sent g id x y Outside = refl
 sent g id x y s = refl
 
-told : (g : GridState) (id x y : ℕ) (s : Stage) → word_answer (answer_from (register_of g) (door_access (access_at id x y s))) ≡ registers.answer_of g.doors (access_at id x y s)
-told g id x y Outside = refl
-told g id x y s = refl
+reported : (g : GridState) (id x y : ℕ) (s : Stage) → word_answer (answer_from (register_of g) (door_access (access_at id x y s))) ≡ registers.answer_of g.doors (access_at id x y s)
+reported g id x y Outside = refl
+reported g id x y s = refl
 
 sent_plain : (id x y : ℕ) (s : Stage) → ReadsOrWrites (door_access (access_at id x y s))
 sent_plain id x y Outside = tt
@@ -89,7 +89,7 @@ grid_gone_on g b ways c p u here none =
     let v = u.walker.visitor in
     rw (sent g v.identity v.x v.y v.stage) (record {
       consistent = record {
-        doors = rw (walks_with ways p (grid_walker_steps.resumed u (answer_from (register_of g) (door_access (walk.next_access u.walker)))), told g v.identity v.x v.y v.stage) (kept.gone_on g.most b g.doors (walks_of ways) c.doors p u.walker is);
+        doors = rw (walks_with ways p (grid_walker_steps.resumed u (answer_from (register_of g) (door_access (walk.next_access u.walker)))), reported g v.identity v.x v.y v.stage) (kept.gone_on g.most b g.doors (walks_of ways) c.doors p u.walker is);
         segments = c.segments;
       };
       segments = λ x. refl;

@@ -10,7 +10,7 @@
 //! The law is that of the snapshot object, over every list of calls, by the same functions: over a grid for m participants,
 //! with G = m(m + 1)/2 segments, a place comes within 4b steps where b have begun, a scan takes at most G(G + 1) reads, and
 //! after `new` no step wants memory. Over a tree a place comes within 5b steps and a scan takes at most (b + 1)(6b - 2)
-//! reads; only a step that makes a node may be refused for want of memory, and then nothing has changed. Over both, what one
+//! reads; only a step that makes a node may be refused because an allocation failed, and then nothing has changed. Over both, what one
 //! begins with is a function of its identity and of m alone.
 //!
 //! A caller, over a tree for two:

@@ -72,7 +72,7 @@ impl<A: Allocator + Clone> StepMemory for TreePlaces<A> {
     fn access(&mut self, a: Access<TreeRegister, TreeValue>) -> Result<Answer<TreeValue>, NoMemory>
         ensures answer { IfOk result (λ got. got ≡ answer_from (register_in self.old) a) }
         ensures after { OnOk result (self.new ≡ tree_after self.old a) }
-        ensures refused { OnErr result (self.new ≡ self.old) }
+        ensures unchanged_on_error { OnErr result (self.new ≡ self.old) }
         ensures no_memory { OnErr result (tree_refuses self.old a ≡ true) }
     {
         self.tree.access(a)

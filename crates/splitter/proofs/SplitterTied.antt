@@ -10,8 +10,8 @@ use Rattle.step_memory.specs.Calls.{Call, steps_of, steps_by, outcome_of, outcom
 use Rattle.step_memory.specs.Calls.Call.{Began, Stepped}
 use Rattle.step_memory.proofs.ParticipantLemmas.{participant_of-push, participant_of-put}
 use Rattle.step_memory.proofs.WorldKeeps.{IsLetIn, IsKept, moved, stepped}
-use Rattle.step_memory.specs.Told.{Tells}
-use Rattle.step_memory.proofs.ToldLemmas.{told_quiet, told_stepped}
+use Rattle.step_memory.specs.Reported.{Tells}
+use Rattle.step_memory.proofs.ReportedLemmas.{reported_quiet, reported_stepped}
 use Rattle.step_memory.specs.Due.{EndsOnce}
 use Rattle.step_memory.proofs.DueLemmas.{outcomes_tell, never_grows}
 use Rattle.step_memory.specs.Machine.{Reaches, IsProved, SatisfiesSpec, RefusesWhereDue, Extends}
@@ -61,10 +61,10 @@ pub record IsTied (w : SplitterState) (r : List (Call (Option Way))) : Type 0 wh
   registers : length w.memory.values ≡ 2
   visits : (p : ℕ) (v : Participant (Visitor ℕ)) → participant_of p w.participants ≡ Some v → IsVisitOf p v
   door : DoorSatisfiesSpec (word_of w.memory 0) (word_of w.memory 1) (stages w.participants)
-  told : Tells way_at accesses accesses (stages w.participants) r
+  reported : Tells way_at accesses accesses (stages w.participants) r
 
 steps_are : (w : SplitterState) (r : List (Call (Option Way))) → IsTied w r → (p : ℕ) → steps_of p r ≡ accesses (stages w.participants p)
-steps_are w r t p = omega (arith, t.told.at_least p, t.told.at_most p)
+steps_are w r t p = omega (arith, t.reported.at_least p, t.reported.at_most p)
 
 -- a call that is refused
 refused : (w : SplitterState) (r : List (Call (Option Way))) (h : Call (Option Way)) → ((p : ℕ) → steps_by p h ≡ 0) → ((p : ℕ) → outcome_by p h ≡ None) → IsTied w r → IsTied w (r ++ h ∷ [])
@@ -72,7 +72,7 @@ refused w r h none quiet t = record {
   registers = t.registers;
   visits = t.visits;
   door = t.door;
-  told = told_quiet way_at accesses accesses (stages w.participants) r t.told h none quiet;
+  reported = reported_quiet way_at accesses accesses (stages w.participants) r t.reported h none quiet;
 }
 
 -- one who begins stands outside, as before
@@ -91,7 +91,7 @@ begun_kept w r id in_ t =
           (λ _ k. t.visits p v k)
           (sym (push p) ∙ h);
       door = rw same t.door;
-      told = rw same (told_quiet way_at accesses accesses (stages w.participants) r t.told (Began id (Ok tt)) (λ p. refl) (λ p. refl));
+      reported = rw same (reported_quiet way_at accesses accesses (stages w.participants) r t.reported (Began id (Ok tt)) (λ p. refl) (λ p. refl));
     }
 
 -- an access of a visit that has not ended is one more, and tells the way where it ends
@@ -103,17 +103,17 @@ one_more p SawClear x y h = refl
 one_more p WroteY x y h = elim (x == p) as (λ t. accesses (cond t (Gone Stop) (Gone Down)) ≡ 4) [ true ↦ refl | false ↦ refl ]
 one_more p (Gone way) x y h = absurd (cc)
 
-way_told : (s : Stage) → outcome_in (note_at s) ≡ way_at s
+way_reported : (s : Stage) → outcome_in (note_at s) ≡ way_at s
 unfolding way_at
-way_told Outside = refl
-way_told WroteX = refl
-way_told SawClear = refl
-way_told WroteY = refl
-way_told (Gone way) = refl
+way_reported Outside = refl
+way_reported WroteX = refl
+way_reported SawClear = refl
+way_reported WroteY = refl
+way_reported (Gone way) = refl
 
-end_told : (s : Stage) → ends (note_at s) ≡ is_gone s
-end_told Outside = refl
-end_told s = refl
+end_reported : (s : Stage) → ends (note_at s) ≡ is_gone s
+end_reported Outside = refl
+end_reported s = refl
 
 no_way_yet : (s : Stage) → is_gone s ≡ false → way_at s ≡ None
 unfolding way_at
@@ -145,17 +145,17 @@ going_kept w r id v here goes t =
     ap (word_of m') (sym visit.x) ∙ access.x ∙ ap (λ i. x_after i v.program.stage (word_of w.memory v.program.x)) visit.identity ∙ ap (λ x. x_after id v.program.stage (word_of w.memory x)) visit.x in
     let at_y : word_of m' 1 ≡ y_after v.program.stage (word_of w.memory 1) =
     ap (word_of m') (sym visit.y) ∙ access.y ∙ ap (λ x. y_after v.program.stage (word_of w.memory x)) visit.y in
-    let way : outcome_in (note_after v.program (answer_of w.memory (access_of v.program))) ≡ way_at after = way_told (stage_by v.program (answer_of w.memory (access_of v.program))) ∙ ap way_at reached in
+    let way : outcome_in (note_after v.program (answer_of w.memory (access_of v.program))) ≡ way_at after = way_reported (stage_by v.program (answer_of w.memory (access_of v.program))) ∙ ap way_at reached in
     let none : way_at (stages w.participants id) ≡ None = ap way_at stage_is ∙ no_way_yet v.program.stage on in
     let more : accesses after ≡ accesses (stages w.participants id) + 1 = one_more id v.program.stage (word_of w.memory 0) (word_of w.memory 1) on ∙ ap (λ (s : Stage). accesses s + 1) (sym stage_is) in
     record {
       registers = access.registers ∙ t.registers;
       visits = λ p u h. set_at-cases (λ z. participant_of z w.participants) id (Some new) (λ o. o ≡ Some u → IsVisitOf p u) p
-          (λ e k. let is : new ≡ u = cc in subst (λ (x : Participant (Visitor ℕ)). IsVisitOf p x) is (record { own = visit.own ∙ sym e; identity = visit.identity ∙ sym e; x = visit.x; y = visit.y; ended = end_told new.program.stage }))
+          (λ e k. let is : new ≡ u = cc in subst (λ (x : Participant (Visitor ℕ)). IsVisitOf p x) is (record { own = visit.own ∙ sym e; identity = visit.identity ∙ sym e; x = visit.x; y = visit.y; ended = end_reported new.program.stage }))
           (λ _ k. t.visits p u k)
           (sym (put p) ∙ h);
       door = rw (all, at_x, at_y) (kept (word_of w.memory 0) (word_of w.memory 1) (stages w.participants) id t.door v.program.stage stage_is);
-      told = rw all (told_stepped way_at accesses accesses (stages w.participants) r t.told id after (outcome_in (note_after v.program (answer_of w.memory (access_of v.program)))) none way (omega (arith, more)) (omega (arith, more)));
+      reported = rw all (reported_stepped way_at accesses accesses (stages w.participants) r t.reported id after (outcome_in (note_after v.program (answer_of w.memory (access_of v.program)))) none way (omega (arith, more)) (omega (arith, more)));
     }
 
 -- each call keeps the tie
@@ -174,7 +174,7 @@ tied_new most = record {
   registers = refl;
   visits = λ p v h. absurd (cc);
   door = lawful_new 0;
-  told = record { outcomes = λ p. refl; at_least = λ p. omega arith; at_most = λ p. omega arith };
+  reported = record { outcomes = λ p. refl; at_least = λ p. omega arith; at_most = λ p. omega arith };
 }
 
 -- what the accesses of a visit tell
@@ -224,7 +224,7 @@ gone_by (Gone taken) way h = cc
 
 -- what each took, from the calls to the visits
 took : (w : SplitterState) (r : List (Call (Option Way))) → IsTied w r → (p : ℕ) (way : Way) → outcome_of p r ≡ Some way → stages w.participants p ≡ Gone way
-took w r t p way h = gone_by (stages w.participants p) way (sym (t.told.outcomes p) ∙ h)
+took w r t p way h = gone_by (stages w.participants p) way (sym (t.reported.outcomes p) ∙ h)
 
 entered : (w : SplitterState) (r : List (Call (Option Way))) → IsTied w r → (p : ℕ) → 0 < steps_of p r → has_entered (stages w.participants p) ≡ true
 entered w r t p h = entered_by (stages w.participants p) (omega (arith, h, steps_are w r t p))
@@ -265,7 +265,7 @@ tied_law w r t once =
     record {
       split = split;
       at_most_four = λ p. omega (arith, few_accesses (stages w.participants p), steps_are w r t p);
-      fourth_ends = λ p h. rw (t.told.outcomes p) (fourth_ends (stages w.participants p) (sym (steps_are w r t p) ∙ h));
+      fourth_ends = λ p h. rw (t.reported.outcomes p) (fourth_ends (stages w.participants p) (sym (steps_are w r t p) ∙ h));
       right_at_two = λ p h. steps_are w r t p ∙ ap accesses (took w r t p Right h);
       else_at_four = λ p way n h. steps_are w r t p ∙ ap accesses (took w r t p way h) ∙ other_accesses way n;
       alone_stops = λ p only way h.

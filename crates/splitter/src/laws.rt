@@ -36,7 +36,7 @@ pub fn law_of_ways()
 /// makes at most four accesses, after which the walk has left the door or has its place.
 pub fn law_of_walks<W>()
     ensures on { GoesOn W }
-    ensures told { TellsPlace W }
+    ensures reported { TellsPlace W }
     ensures ended { (note : Note ℕ) (x : ℕ) → (note ≡ Ended x) ↔ (outcome_in note ≡ Some x) }
     ensures place { (k : ℕ) (s : Stage) (place : ℕ) → place_at_door k s ≡ Some place → (s ≡ Stage.Gone Way.Stop) × (place ≡ k) }
     ensures one { HasOneAtPlace }

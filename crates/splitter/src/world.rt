@@ -55,7 +55,7 @@ impl<A: Allocator + Clone> SplitterWorld<A> {
     pub fn begin(&mut self, id: u64) -> Result<(), Refusal>
         ensures answer { result ≡ done_unless (begin_refusal self.old id) }
         ensures state { self.new ≡ after_begin self.old id (visit_of id) }
-        ensures refused { OnErr result (self.new ≡ self.old) }
+        ensures unchanged_on_error { OnErr result (self.new ≡ self.old) }
 
         // The law, over every list of calls and replies that the world may be after.
         ensures after { Extends splitter self.old self.new (Began id result) }
@@ -71,7 +71,7 @@ impl<A: Allocator + Clone> SplitterWorld<A> {
     pub fn step(&mut self, id: u64) -> Result<Option<Way>, Refusal>
         ensures answer { result ≡ step_reply self.old id }
         ensures state { self.new ≡ world_after_step self.old id }
-        ensures refused { OnErr result (self.new ≡ self.old) }
+        ensures unchanged_on_error { OnErr result (self.new ≡ self.old) }
 
         // Nothing of the world changes but this visit and the register that it names, and in another world that looks
         // alike to this visit the answer is the same, and where the visit then stands.

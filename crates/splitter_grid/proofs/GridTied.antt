@@ -7,8 +7,8 @@ use Rattle.step_memory.specs.Calls.{Call, steps_by, outcome_of, outcome_by, outc
 use Rattle.step_memory.proofs.SetAtLemmas.{set_at-cases, set_at-map}
 use Rattle.step_memory.proofs.ParticipantLemmas.{participant_of-push, participant_of-put, length-with_participant}
 use Rattle.step_memory.proofs.WorldKeeps.{begun_in-push, IsLetIn, IsKept, moved, stepped}
-use Rattle.step_memory.specs.Told.{Tells}
-use Rattle.step_memory.proofs.ToldLemmas.{told_quiet, told_begun, told_stepped}
+use Rattle.step_memory.specs.Reported.{Tells}
+use Rattle.step_memory.proofs.ReportedLemmas.{reported_quiet, reported_begun, reported_stepped}
 use Rattle.step_memory.specs.Due.{EndsOnce}
 use Rattle.step_memory.proofs.DueLemmas.{outcomes_tell, never_grows, no_second_end}
 use Rattle.step_memory.specs.Machine.{Reaches, OnEveryHistory, IsProved, SatisfiesSpec, RefusesWhereDue, Extends}
@@ -20,7 +20,7 @@ use Rattle.splitter.specs.Visitor.{stage_by}
 use Rattle.splitter_grid.specs.Machine.{GridState, fresh, grid, grid_parts, place_in, step_reply, world_after_step}
 use Rattle.splitter_grid.specs.Law.{GridSpec}
 use Rattle.splitter_grid.proofs.ConsistentKept.{consistent_new, begun, gone_on}
-use Rattle.splitter_grid.proofs.GridLaw.{grid_law, nearer, place_told}
+use Rattle.splitter_grid.proofs.GridLaw.{grid_law, nearer, place_reported}
 
 -- the walk of each identity
 abbrev pub walkers : List (Participant Walker) → ℕ → Option Walker
@@ -35,7 +35,7 @@ pub record IsTied (w : GridState) (r : List (Call (Option ℕ))) : Type 0 where
   pub consistent : IsConsistent w.most (length w.participants) w.memory (walkers w.participants)
   pub begun_is : begun_in r ≡ length w.participants
   pub known : (p : ℕ) (v : Participant Walker) → participant_of p w.participants ≡ Some v → IsParticipantOf p v
-  pub told : Tells place_by (λ _. 0) accesses_by (walkers w.participants) r
+  pub reported : Tells place_by (λ _. 0) accesses_by (walkers w.participants) r
 
 -- a call that is refused
 refused : (w : GridState) (r : List (Call (Option ℕ))) (h : Call (Option ℕ)) → ((p : ℕ) → steps_by p h ≡ 0) → ((p : ℕ) → outcome_by p h ≡ None) → begun_by h ≡ 0 → IsTied w r → IsTied w (r ++ h ∷ [])
@@ -43,7 +43,7 @@ refused w r h none quiet nobody t = record {
   consistent = t.consistent;
   begun_is = omega (arith, begun_in-push r h, nobody, t.begun_is);
   known = t.known;
-  told = told_quiet place_by (λ _. 0) accesses_by (walkers w.participants) r t.told h none quiet;
+  reported = reported_quiet place_by (λ _. 0) accesses_by (walkers w.participants) r t.reported h none quiet;
 }
 
 -- one who begins
@@ -62,12 +62,12 @@ begun_kept w r id in_ t =
           (λ e k. let is : beginner id (walk_of id) ≡ v = cc in subst (λ (u : Participant Walker). IsParticipantOf p u) is (record { own = sym e; ended = refl }))
           (λ _ k. t.known p v k)
           (sym (push p) ∙ h);
-      told = rw walks (told_begun place_by (λ _. 0) accesses_by (walkers w.participants) r t.told id (Some (walk_of id)) (ap place_by absent) (omega arith) (rw absent (omega arith)));
+      reported = rw walks (reported_begun place_by (λ _. 0) accesses_by (walkers w.participants) r t.reported id (Some (walk_of id)) (ap place_by absent) (omega arith) (rw absent (omega arith)));
     }
 
 -- a walk says that it has ended where it has a place
-end_told : (u : Walker) (s : Stage) → ends (note_at_door (number_of u.door) s) ≡ is_some (place_of (walked_to u s))
-end_told u s = sym (outcomes_tell (note_at_door (number_of u.door) s)) ∙ ap is_some (place_told u s)
+end_reported : (u : Walker) (s : Stage) → ends (note_at_door (number_of u.door) s) ≡ is_some (place_of (walked_to u s))
+end_reported u s = sym (outcomes_tell (note_at_door (number_of u.door) s)) ∙ ap is_some (place_reported u s)
 
 no_place : (o : Option ℕ) → is_some o ≡ false → o ≡ None
 no_place None h = refl
@@ -93,11 +93,11 @@ going_kept w r id v here goes t =
       consistent = rw (many, walks) (gone_on w.most (length w.participants) w.memory (walkers w.participants) t.consistent id v.program is);
       begun_is = omega (arith, begun_in-push r call, t.begun_is, many);
       known = λ p u h. set_at-cases (λ z. participant_of z w.participants) id (Some new) (λ o. o ≡ Some u → IsParticipantOf p u) p
-          (λ e k. let same : new ≡ u = cc in subst (λ (x : Participant Walker). IsParticipantOf p x) same (record { own = known.own ∙ sym e; ended = end_told v.program (stage_by v.program.visitor got) }))
+          (λ e k. let same : new ≡ u = cc in subst (λ (x : Participant Walker). IsParticipantOf p x) same (record { own = known.own ∙ sym e; ended = end_reported v.program (stage_by v.program.visitor got) }))
           (λ _ k. t.known p u k)
           (sym (put p) ∙ h);
-      told = rw walks (told_stepped place_by (λ _. 0) accesses_by (walkers w.participants) r t.told id (Some walk) (outcome_in (walker_note v.program got))
-          (ap place_by is ∙ on) (place_told v.program (stage_by v.program.visitor got)) (omega arith) (rw is more));
+      reported = rw walks (reported_stepped place_by (λ _. 0) accesses_by (walkers w.participants) r t.reported id (Some walk) (outcome_in (walker_note v.program got))
+          (ap place_by is ∙ on) (place_reported v.program (stage_by v.program.visitor got)) (omega arith) (rw is more));
     }
 
 -- each call keeps the tie
@@ -115,7 +115,7 @@ tied_new most few = record {
   consistent = consistent_new most few;
   begun_is = refl;
   known = λ p v h. absurd (cc);
-  told = record { outcomes = λ p. refl; at_least = λ p. omega arith; at_most = λ p. omega arith };
+  reported = record { outcomes = λ p. refl; at_least = λ p. omega arith; at_most = λ p. omega arith };
 }
 
 -- the steps of one are at most the accesses that its walk may have made, so the law of the walks is that of the calls
@@ -123,10 +123,10 @@ tied_law : (w : GridState) (r : List (Call (Option ℕ))) → IsTied w r → End
 tied_law w r t once =
     let law : IsGrid (length w.participants) w.memory (walkers w.participants) = grid_law w.most (length w.participants) w.memory (walkers w.participants) t.consistent in
     record {
-      distinct = λ p q place h k. law.distinct p q place (sym (t.told.outcomes p) ∙ h) (sym (t.told.outcomes q) ∙ k);
-      within = λ p place h. rw t.begun_is (law.within p place (sym (t.told.outcomes p) ∙ h));
-      at_most = λ p. omega (arith, t.told.at_most p, law.at_most p, t.begun_is);
-      last_places = λ p some all. rw (t.told.outcomes p) (law.last_places p (omega (arith, t.told.at_most p, some)) (omega (arith, t.told.at_most p, law.at_most p, t.begun_is, all)));
+      distinct = λ p q place h k. law.distinct p q place (sym (t.reported.outcomes p) ∙ h) (sym (t.reported.outcomes q) ∙ k);
+      within = λ p place h. rw t.begun_is (law.within p place (sym (t.reported.outcomes p) ∙ h));
+      at_most = λ p. omega (arith, t.reported.at_most p, law.at_most p, t.begun_is);
+      last_places = λ p some all. rw (t.reported.outcomes p) (law.last_places p (omega (arith, t.reported.at_most p, some)) (omega (arith, t.reported.at_most p, law.at_most p, t.begun_is, all)));
       ends_once = once;
     }
 
@@ -141,12 +141,12 @@ pub tied_always : (w : GridState) → OnEveryHistory grid (λ most r. IsTied w r
 tied_always w = λ most r a. tied_after grid_parts IsTied tie most w r a
 
 -- nobody is told a second place
-pub one_place_told : (p a b : ℕ) (before between rest : List (Call (Option ℕ))) → GridSpec (before ++ Stepped p (Ok (Some a)) ∷ (between ++ Stepped p (Ok (Some b)) ∷ rest)) → ⊥
-one_place_told p a b before between rest law = no_second_end is_some p (Some a) (Some b) before between rest refl law.ends_once
+pub one_place_reported : (p a b : ℕ) (before between rest : List (Call (Option ℕ))) → GridSpec (before ++ Stepped p (Ok (Some a)) ∷ (between ++ Stepped p (Ok (Some b)) ∷ rest)) → ⊥
+one_place_reported p a b before between rest law = no_second_end is_some p (Some a) (Some b) before between rest refl law.ends_once
 
 -- the place at which a walk has ended is the one that was answered
 pub place_always : (w : GridState) (p : ℕ) → OnEveryHistory grid (λ most r. place_in w p ≡ outcome_of p r) w
-place_always w p most r a = sym ((tied_always w most r a).told.outcomes p)
+place_always w p most r a = sym ((tied_always w most r a).reported.outcomes p)
 
 -- the law of the doors
 pub grid_always : (w : GridState) → OnEveryHistory grid (λ most r. IsGrid (begun_in r) w.memory (walkers w.participants)) w

@@ -4,7 +4,7 @@ use Rattle.splitter_tree.proofs.WorldCommon.{cases_Bool, eqb_tells, Decides-eqb,
 use Rattle.step_memory.specs.Note.{ends}
 use Rattle.step_memory.specs.Participant.{participant_of, with_participant, beginner}
 use Rattle.step_memory.proofs.ParticipantLemmas.{participant_of-put, identity_of}
-use Rattle.splitter_tree.specs.Client.{is_placing, is_idle, is_collecting, is_placed, placed_note, place_told, view_told, collected_note, collecting_after, storing, collecting, with_task, write_at, record_of}
+use Rattle.splitter_tree.specs.Client.{is_placing, is_idle, is_collecting, is_placed, placed_note, place_reported, view_reported, collected_note, collecting_after, storing, collecting, with_task, write_at, record_of}
 
 -- no participant's program ends
 abbrev pub GoesOn : {S : Type 0} → TreeState S → Type 0
@@ -41,7 +41,7 @@ collecting_is (Collecting c) h = (c, refl)
 collecting_is k h = absurd (cc)
 
 -- what a client says of what its walk says, and of what its collect shows
-place_in_note : (n : Note ℕ) → place_told (placed_note n) ≡ outcome_in n
+place_in_note : (n : Note ℕ) → place_reported (placed_note n) ≡ outcome_in n
 place_in_note Quiet = refl
 place_in_note n = refl
 
@@ -49,7 +49,7 @@ placed_goes : (n : Note ℕ) → ends (placed_note n) ≡ false
 placed_goes Quiet = refl
 placed_goes n = refl
 
-shown_is : (shown : Option (List (ℕ × ℕ))) → view_told (collected_note shown) ≡ shown
+shown_is : (shown : Option (List (ℕ × ℕ))) → view_reported (collected_note shown) ≡ shown
 shown_is None = refl
 shown_is (Some view) = refl
 

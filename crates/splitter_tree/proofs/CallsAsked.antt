@@ -1,8 +1,8 @@
 -- what the calls of a tree's world answer and leave, by what the participant has to do
 use Rattle.std.proofs.Common.{◌≡◌, ◌≢◌, ℕ, true, false, cond, List, Option, Some, None, Result, Ok, Err, OnErr, refl, sym, ap, ◌∙◌, option_map}
 use Rattle.std.proofs.lemmas.Option.{same_Some, none-some}
-use Rattle.splitter_tree.proofs.WorldCommon.{Refusal, NotBegun, AlreadyBegun, Finished, NoMemory, Note, Participant, participant_of, program_of, Client, Task, Placing, Nothing, Storing, Collecting, NodeMap, TreeWorldState, tree_steps, may_refuse, client_steps, access_for, is_placing, is_collecting, place_told, storing, collecting, done_unless, after_set}
-use Rattle.splitter_tree.specs.Client.{view_told, is_idle}
+use Rattle.splitter_tree.proofs.WorldCommon.{Refusal, NotBegun, AlreadyBegun, Finished, NoMemory, Note, Participant, participant_of, program_of, Client, Task, Placing, Nothing, Storing, Collecting, NodeMap, TreeWorldState, tree_steps, may_refuse, client_steps, access_for, is_placing, is_collecting, place_reported, storing, collecting, done_unless, after_set}
+use Rattle.splitter_tree.specs.Client.{view_reported, is_idle}
 use Rattle.splitter_tree.specs.declared.client.TreeReply.{TreeReply}
 use Rattle.splitter_tree.specs.TreeWorld.{place_answer, place_answer_by, after_placing, view_answer, view_answer_by, after_collecting, asking_refusal, after_store, after_collect_begin}
 use Rattle.splitter_tree.proofs.StoreLemmas.{store_goes_well}
@@ -51,15 +51,15 @@ module _ (w : TreeWorldState) (id : ℕ) where
   -- of one who is on its way or collects, whose step of the world is answered so
   module _ (c : Client) (here : program_of id w.participants ≡ Some c) (new : TreeWorldState) (result : Result (Note TreeReply) Refusal)
       (answer : result ≢ Err NoMemory → result ≡ step_answer client_steps tree_steps w id) (after : result ≢ Err NoMemory → new ≡ after_step client_steps tree_steps w id) where
-    pub way_step : is_placing c.task ≡ true → (reply : Result (Option ℕ) Refusal) → reply ≡ reply_of place_told result → PlaceStep new reply
+    pub way_step : is_placing c.task ≡ true → (reply : Result (Option ℕ) Refusal) → reply ≡ reply_of place_reported result → PlaceStep new reply
     way_step on reply is =
-        let made : reply ≢ Err NoMemory → result ≢ Err NoMemory = λ goes e. goes (is ∙ ap (reply_of place_told) e) in
-        record { answer = λ goes. is ∙ ap (reply_of place_told) (answer (made goes)) ∙ rw (here, on) refl; state = λ goes. after (made goes) ∙ rw (here, on) refl }
+        let made : reply ≢ Err NoMemory → result ≢ Err NoMemory = λ goes e. goes (is ∙ ap (reply_of place_reported) e) in
+        record { answer = λ goes. is ∙ ap (reply_of place_reported) (answer (made goes)) ∙ rw (here, on) refl; state = λ goes. after (made goes) ∙ rw (here, on) refl }
 
-    pub collect_step : is_collecting c.task ≡ true → (result ≡ Err NoMemory → may_refuse_step client_steps tree_steps w id ≡ true) → (reply : Result (Option (List (ℕ × ℕ))) Refusal) → reply ≡ reply_of view_told result → CollectStep new reply
+    pub collect_step : is_collecting c.task ≡ true → (result ≡ Err NoMemory → may_refuse_step client_steps tree_steps w id ≡ true) → (reply : Result (Option (List (ℕ × ℕ))) Refusal) → reply ≡ reply_of view_reported result → CollectStep new reply
     collect_step on lacks reply is =
         let made : result ≢ Err NoMemory = λ e. let never : true ≡ false = sym (lacks e) ∙ collect_fits (participant_of id w.participants) c here on in cc in
-        record { answer = is ∙ ap (reply_of view_told) (answer made) ∙ rw (here, on) refl; state = after made ∙ rw (here, on) refl }
+        record { answer = is ∙ ap (reply_of view_reported) (answer made) ∙ rw (here, on) refl; state = after made ∙ rw (here, on) refl }
 
 -- what a participant is answered depends on what it sees
 module _ (w other : TreeWorldState) (id : ℕ) (alike : Indistinguishable client_steps tree_steps id w other) where
@@ -68,14 +68,14 @@ module _ (w other : TreeWorldState) (id : ℕ) (alike : Indistinguishable client
 
   place_by : (o : Option Client) → place_answer_by tree_steps w id o ≡ place_answer_by tree_steps other id o
   place_by None = refl
-  place_by (Some c) = ap (λ (x : Result (Option ℕ) Refusal). cond (is_placing c.task) x (Err Finished)) (ap (reply_of place_told) (answers_alike client_steps tree_steps id w other alike))
+  place_by (Some c) = ap (λ (x : Result (Option ℕ) Refusal). cond (is_placing c.task) x (Err Finished)) (ap (reply_of place_reported) (answers_alike client_steps tree_steps id w other alike))
 
   pub place_alike : place_answer tree_steps w id ≡ place_answer tree_steps other id
   place_alike = place_by (program_of id w.participants) ∙ ap (place_answer_by tree_steps other id) same_program
 
   view_by : (o : Option Client) → view_answer_by tree_steps w id o ≡ view_answer_by tree_steps other id o
   view_by None = refl
-  view_by (Some c) = ap (λ (x : Result (Option (List (ℕ × ℕ))) Refusal). cond (is_collecting c.task) x (Err Finished)) (ap (reply_of view_told) (answers_alike client_steps tree_steps id w other alike))
+  view_by (Some c) = ap (λ (x : Result (Option (List (ℕ × ℕ))) Refusal). cond (is_collecting c.task) x (Err Finished)) (ap (reply_of view_reported) (answers_alike client_steps tree_steps id w other alike))
 
   pub view_alike : view_answer tree_steps w id ≡ view_answer tree_steps other id
   view_alike = view_by (program_of id w.participants) ∙ ap (view_answer_by tree_steps other id) same_program
@@ -131,6 +131,6 @@ module _ (w : TreeWorldState) (id : ℕ) where
       (result ≡ Err NoMemory → may_refuse_step client_steps tree_steps v id ≡ true) → (reply : Result (Unit {0}) Refusal) → reply ≡ reply_of (λ (note : Note TreeReply). tt {0}) result → StoreCall value new reply
   store_call value c e idle v new asked result answer after lacks reply is =
       let never : (why : Refusal) → result ≡ Err why → ⊥ = λ why h. store_goes_well w v id value c (sym e) asked result why h answer lacks in
-      let told : reply_of (λ (note : Note TreeReply). tt {0}) result ≡ Ok tt = (elim result as (λ r. result ≡ r → reply_of (λ (note : Note TreeReply). tt {0}) r ≡ Ok tt) [ Ok note ↦ λ h. refl | Err why ↦ λ h. absurd (never why h) ]) refl in
-      let fine : reply ≡ Ok tt = is ∙ told in
+      let reported : reply_of (λ (note : Note TreeReply). tt {0}) result ≡ Ok tt = (elim result as (λ r. result ≡ r → reply_of (λ (note : Note TreeReply). tt {0}) r ≡ Ok tt) [ Ok note ↦ λ h. refl | Err why ↦ λ h. absurd (never why h) ]) refl in
+      let fine : reply ≡ Ok tt = is ∙ reported in
       record { answer = fine ∙ rw (e, idle) refl; state = after (never NoMemory) ∙ rw (asked, e, idle) refl; refused = rw fine tt }

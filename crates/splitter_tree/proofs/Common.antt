@@ -22,7 +22,7 @@ pub use Rattle.splitter.specs.Stage.{has_entered, went_right, went_down, x_after
 pub use Rattle.splitter_tree.specs.declared.register.TreeRegister.{TreeRegister}
 pub use Rattle.splitter_tree.specs.declared.register.TreeValue.{TreeValue}
 pub use Rattle.splitter_tree.specs.declared.walker.Walker.{Walker}
-pub use Rattle.splitter_tree.specs.Walk.{next_access, walker_after, walker_note, place_of, in_words, place_by, walker_at, walk_of, visit_on, left_child, right_child, told, walked_to}
+pub use Rattle.splitter_tree.specs.Walk.{next_access, walker_after, walker_note, place_of, in_words, place_by, walker_at, walk_of, visit_on, left_child, right_child, reported, walked_to}
 pub use Rattle.splitter_tree.specs.declared.register.TreeRegister.TheVariants.{Mark, X, Y, Contents}
 pub use Rattle.splitter_tree.specs.TreeMemory.{IsTreeMemory, IsEmptyTree, word_in, segment_in, mark_at, IsWithinReach, segment_at, x_at, y_at}
 pub use Rattle.splitter_tree.specs.declared.register.TreeValue.TheVariants.{Word, Contents as Held}

@@ -51,7 +51,7 @@ collects_on : (collect : Collect) (shown : Option (List (ℕ × ℕ))) → is_co
 collects_on collect None = refl
 collects_on collect (Some view) = refl
 
--- only one on its way may be refused for want of memory
+-- only one on its way may be refused because an allocation failed
 write_marks_none : (o : Option ℕ) (x : Record) (k : ℕ) (v : TreeValue) → write_at o x ≡ Write (Mark k) v → ⊥
 write_marks_none None x k v h = cc
 write_marks_none (Some place) x k v h = cc
@@ -136,7 +136,7 @@ module _ {S : Type 0} (memory : MemorySteps S TreeRegister TreeValue) (tree : Is
     -- whether one has its place
     place_as : (v : Participant Client) → participant_of id w.participants ≡ Some v → has_place id r ≡ not (is_placing v.program.task)
     place_as v e =
-        sym (ended_with_outcome id (way_calls r)) ∙ ap is_some (t.tied.told.outcomes id)
+        sym (ended_with_outcome id (way_calls r)) ∙ ap is_some (t.tied.reported.outcomes id)
         ∙ rw e (sym (ap not (t.tied.clients id v e).task ∙ not_not (is_some (place_of v.program.walker))))
 
     -- so the refusals of its calls are due

@@ -5,12 +5,12 @@ use Rattle.std.proofs.lemmas.List.{append-nil}
 use Rattle.step_memory.specs.Calls.{Call, steps_by, outcome_by, outcome_in, begun_in, begun_by}
 use Rattle.step_memory.specs.Calls.Call.{Began, Stepped}
 use Rattle.step_memory.proofs.SetAtLemmas.{set_at-cases, set_at-map, set_at-as_is}
-use Rattle.step_memory.specs.Told.{Tells}
-use Rattle.step_memory.proofs.ToldLemmas.{told_quiet, told_begun, told_stepped}
+use Rattle.step_memory.specs.Reported.{Tells}
+use Rattle.step_memory.proofs.ReportedLemmas.{reported_quiet, reported_begun, reported_stepped}
 use Rattle.step_memory.proofs.WorldKeeps.{begun_in-push, IsLetIn, let_in}
 use Rattle.splitter_tree.proofs.nodes.ConsistentKept.{consistent_new, begun, gone_on, elsewhere}
 use Rattle.splitter_tree.proofs.nodes.TreeLaw.{tree_law, nearer}
-use Rattle.splitter_tree.proofs.nodes.WalkerLemmas.{place_is_told}
+use Rattle.splitter_tree.proofs.nodes.WalkerLemmas.{place_is_reported}
 use Rattle.splitter_tree.proofs.CallCases.{GoesOn, IsStep, got_on, walked_on, read_by, turned, turned_stands, step_cases, store_cases, collect_begin_cases, collect_step_cases}
 
 abbrev pub is_storing : Task → Bool
@@ -89,7 +89,7 @@ module _ {S : Type 0} (memory : MemorySteps S TreeRegister TreeValue) (tree : Is
     pub consistent : IsConsistent memory w.most (length w.participants) w.memory (walkers w.participants)
     pub begun_is : begun_in (way_calls r) ≡ length w.participants
     pub clients : (p : ℕ) (v : Participant Client) → participant_of p w.participants ≡ Some v → IsClient v
-    pub told : Tells place_by (λ _. 0) accesses_by (walkers w.participants) (way_calls r)
+    pub reported : Tells place_by (λ _. 0) accesses_by (walkers w.participants) (way_calls r)
 
   -- a store and a read leave the nodes, but for segments
   pub store_spares : (s : S) (place : Option ℕ) (x : Record) → SparesNodes memory s (memory.after s (write_at place x))
@@ -111,12 +111,12 @@ module _ {S : Type 0} (memory : MemorySteps S TreeRegister TreeValue) (tree : Is
         consistent = t.consistent;
         begun_is = rw way (omega (arith, begun_in-push (way_calls r) k, nobody, t.begun_is));
         clients = t.clients;
-        told = rw way (told_quiet place_by (λ _. 0) accesses_by (walkers w.participants) (way_calls r) t.told k none quiet);
+        reported = rw way (reported_quiet place_by (λ _. 0) accesses_by (walkers w.participants) (way_calls r) t.reported k none quiet);
       }
 
   -- a call of the others that is refused
   refused_other : (w : TreeState S) (r : List TreeCall) (h : TreeCall) → way_calls (h ∷ []) ≡ [] → IsTied w r → IsTied w (r ++ h ∷ [])
-  refused_other w r h none t = record { consistent = t.consistent; begun_is = rw (no_way r h none) t.begun_is; clients = t.clients; told = rw (no_way r h none) t.told }
+  refused_other w r h none t = record { consistent = t.consistent; begun_is = rw (no_way r h none) t.begun_is; clients = t.clients; reported = rw (no_way r h none) t.reported }
 
   -- a call that is no step on the way, of one who has its place
   aside_kept : (w : TreeState S) (s : S) (id : ℕ) (who : Participant Client) (c : Client) → participant_of id w.participants ≡ Some who →
@@ -130,7 +130,7 @@ module _ {S : Type 0} (memory : MemorySteps S TreeRegister TreeValue) (tree : Is
         consistent = rw (walks, many) (aside memory w.most (length w.participants) w.memory (walkers w.participants) t.consistent s spares);
         begun_is = rw way (t.begun_is ∙ sym many);
         clients = clients_turned w s id who c here t.clients (record { goes = refl; task = placing ∙ sym placed ∙ (t.clients id who here).task ∙ ap (λ (u : Walker). not (is_some (place_of u))) (sym walk); stores = stores });
-        told = rw (way, walks) t.told;
+        reported = rw (way, walks) t.reported;
       }
 
   -- one who begins
@@ -148,7 +148,7 @@ module _ {S : Type 0} (memory : MemorySteps S TreeRegister TreeValue) (tree : Is
         begun_is = rw way (omega (arith, begun_in-push (way_calls r) (Began id (Ok tt)), t.begun_is, longer));
         clients = λ p v h. set_at-cases (λ z. participant_of z w.participants) id (Some new) (λ o. o ≡ Some v → IsClient v) p
             (λ _ k. let is : new ≡ v = cc in subst IsClient is (record { goes = refl; task = refl; stores = refl })) (λ _ k. t.clients p v k) (sym (push p) ∙ h);
-        told = rw (way, walks) (told_begun place_by (λ _. 0) accesses_by (walkers w.participants) (way_calls r) t.told id (Some (walk_of id)) (ap place_by absent) (omega arith) (rw absent (omega arith)));
+        reported = rw (way, walks) (reported_begun place_by (λ _. 0) accesses_by (walkers w.participants) (way_calls r) t.reported id (Some (walk_of id)) (ap place_by absent) (omega arith) (rw absent (omega arith)));
       }
 
   -- an accepted step on the way to a place
@@ -161,7 +161,7 @@ module _ {S : Type 0} (memory : MemorySteps S TreeRegister TreeValue) (tree : Is
       let said : Option ℕ = outcome_in (walker_note u got) in
       let is : walkers w.participants id ≡ Some u = ap walker_in x.here in
       let on : place_of u ≡ None = no_place (place_of u) (sym (t.clients id x.who x.here).task ∙ ap is_placing x.task) in
-      let told = place_is_told u got on in
+      let reported = place_is_reported u got on in
       let left = left_on_way (is_placed (walker_note u got)) in
       let way : way_calls (r ++ TreeStepped id (Ok said) ∷ []) ≡ way_calls r ++ Stepped id (Ok said) ∷ [] = way_calls-append r (TreeStepped id (Ok said) ∷ []) in
       let s : S = memory.after w.memory (next_access u) in
@@ -170,9 +170,9 @@ module _ {S : Type 0} (memory : MemorySteps S TreeRegister TreeValue) (tree : Is
       record {
         consistent = rw (many, walks) (gone_on memory w.most (length w.participants) w.memory (walkers w.participants) t.consistent tree id u is);
         begun_is = rw way (omega (arith, begun_in-push (way_calls r) (Stepped id (Ok said)), t.begun_is, many));
-        clients = clients_turned w s id x.who (walked_on memory w id u) x.here t.clients (record { goes = refl; task = left.0 ∙ ap not (placed_by_note (walker_note u got) ∙ ap is_some told); stores = left.1 });
-        told = rw (way, walks) (told_stepped place_by (λ _. 0) accesses_by (walkers w.participants) (way_calls r) t.told id (Some (walker_after u got)) said
-            (ap place_by is ∙ on) told (omega arith) (rw is (nearer memory w.most (length w.participants) w.memory (walkers w.participants) t.consistent id u is on got)));
+        clients = clients_turned w s id x.who (walked_on memory w id u) x.here t.clients (record { goes = refl; task = left.0 ∙ ap not (placed_by_note (walker_note u got) ∙ ap is_some reported); stores = left.1 });
+        reported = rw (way, walks) (reported_stepped place_by (λ _. 0) accesses_by (walkers w.participants) (way_calls r) t.reported id (Some (walker_after u got)) said
+            (ap place_by is ∙ on) reported (omega arith) (rw is (nearer memory w.most (length w.participants) w.memory (walkers w.participants) t.consistent id u is on got)));
       }
 
   -- each call keeps the tie
@@ -210,7 +210,7 @@ module _ {S : Type 0} (memory : MemorySteps S TreeRegister TreeValue) (tree : Is
     consistent = consistent_new memory most first empty few;
     begun_is = refl;
     clients = λ p v h. absurd (cc);
-    told = record { outcomes = λ p. refl; at_least = λ p. omega arith; at_most = λ p. omega arith };
+    reported = record { outcomes = λ p. refl; at_least = λ p. omega arith; at_most = λ p. omega arith };
   }
 
   -- a world that is after these calls is tied to them
@@ -226,9 +226,9 @@ module _ {S : Type 0} (memory : MemorySteps S TreeRegister TreeValue) (tree : Is
   law_of_tied w r t once =
       let law = tree_of_tied w r t in
       record {
-        distinct = λ p q place h k. law.distinct p q place (sym (t.told.outcomes p) ∙ h) (sym (t.told.outcomes q) ∙ k);
-        within = λ p place h. law.within p place (sym (t.told.outcomes p) ∙ h);
-        at_most = λ p. omega (arith, t.told.at_most p, law.at_most p);
-        last_places = λ p some all. rw (t.told.outcomes p) (law.last_places p (omega (arith, t.told.at_most p, some)) (omega (arith, t.told.at_most p, law.at_most p, all)));
+        distinct = λ p q place h k. law.distinct p q place (sym (t.reported.outcomes p) ∙ h) (sym (t.reported.outcomes q) ∙ k);
+        within = λ p place h. law.within p place (sym (t.reported.outcomes p) ∙ h);
+        at_most = λ p. omega (arith, t.reported.at_most p, law.at_most p);
+        last_places = λ p some all. rw (t.reported.outcomes p) (law.last_places p (omega (arith, t.reported.at_most p, some)) (omega (arith, t.reported.at_most p, law.at_most p, all)));
         ends_once = once;
       }

@@ -1,4 +1,4 @@
--- a store is never refused for want of memory, and changes nothing but its participant and the segment at its place
+-- a store is never refused because an allocation failed, and changes nothing but its participant and the segment at its place
 use Rattle.std.proofs.Common.{◌≡◌, ◌≢◌, ℕ, true, false, Option, Some, None, Result, Ok, Err, inl, inr, refl, sym, ap, ◌∙◌, is_some, option_map, option_and_then}
 use Rattle.splitter_tree.proofs.WorldCommon.{Note, Participant, Record, Refusal, NoMemory, participant_of, program_of, beginner, MemorySteps, set_at, participant_of-put, set_at-same, set_at-other, TreeRegister, TreeValue, Client, place_of, client_steps, storing, write_at, record_of, NodeMap, tree_steps, may_refuse}
 use Rattle.step_memory.specs.declared.note.Note.TheVariants.{Said}

@@ -1,6 +1,6 @@
 -- the world of a tree is proved
 use Rattle.std.proofs.Common.{◌≡◌, ◌≢◌, ◌≤◌, ℕ, Bool, true, false, cond, inl, inr, List, [], ◌∷◌, ◌++◌, Option, Some, None, Result, Ok, Err, refl, sym, ap, subst, ◌∙◌, arith, ne_eqb, option_map, option_and_then, is_some, nat_le}
-use Rattle.splitter_tree.proofs.WorldCommon.{nat_tests, PlacesSpec, way_calls, walker_in, TreeCall, Began, Stepped, Stored, CollectBegan, CollectStepped, tree_steps, empty_tree, TreeRegister, TreeValue, TreeRefusesAsDue, place_of, place_by, Client, EndsOnce, client_steps, is_placing, is_collecting, place_told, MemorySteps, Refusal, NoMemory, Finished, participant_of, program_of, Participant}
+use Rattle.splitter_tree.proofs.WorldCommon.{nat_tests, PlacesSpec, way_calls, walker_in, TreeCall, Began, Stepped, Stored, CollectBegan, CollectStepped, tree_steps, empty_tree, TreeRegister, TreeValue, TreeRefusesAsDue, place_of, place_by, Client, EndsOnce, client_steps, is_placing, is_collecting, place_reported, MemorySteps, Refusal, NoMemory, Finished, participant_of, program_of, Participant}
 use Rattle.splitter_tree.specs.Machine.{TreeWorldState, HasLawfulNodes, fresh_over, tree, tree_over}
 use Rattle.splitter_tree.specs.TreeWorld.{TreeState, after_tree_begin, asking_refusal, place_answer, place_answer_by, after_placing, after_placing_by, may_lack_memory, after_store, after_collect_begin, view_answer, after_collecting, after_collecting_by}
 use Rattle.splitter_tree.proofs.CollectSteps.{collect_law}
@@ -50,8 +50,8 @@ tree_begins w new id reply = call_leads_on tree w new (Began id reply)
 
 lacks_no_place : (w : TreeWorldState) (id : ℕ) (o : Option Client) → lacked_memory (place_answer_by tree_steps w id o) ≡ false
 lacks_no_place w id None = refl
-lacks_no_place w id (Some c) = elim (is_placing c.task) as (λ b. lacked_memory (cond b (reply_of place_told (step_answer client_steps tree_steps w id)) (Err Finished)) ≡ false)
-    [ true ↦ lacks_none client_steps tree_steps place_told w id | false ↦ refl ]
+lacks_no_place w id (Some c) = elim (is_placing c.task) as (λ b. lacked_memory (cond b (reply_of place_reported (step_answer client_steps tree_steps w id)) (Err Finished)) ≡ false)
+    [ true ↦ lacks_none client_steps tree_steps place_reported w id | false ↦ refl ]
 
 pub tree_goes_on : (w new : TreeWorldState) (id : ℕ) (reply : Result (Option ℕ) Refusal) → (reply ≢ Err NoMemory → new ≡ after_placing tree_steps w id) → (reply ≢ Err NoMemory → reply ≡ place_answer tree_steps w id) →
     (reply ≡ Err NoMemory → new ≡ w) → (reply ≡ Err NoMemory → may_lack_memory tree_steps w id ≡ true) → Extends tree w new (Stepped id reply)
@@ -117,11 +117,11 @@ place_by_walk (Some p) = refl
 
 -- the place of a participant is the one that was answered
 pub place_answered : (w : TreeWorldState) (id : ℕ) → OnEveryHistory tree (λ first r. option_and_then (λ c. place_of c.walker) (program_of id w.participants) ≡ outcome_of id (way_calls r)) w
-place_answered w id first r a = place_by_walk (participant_of id w.participants) ∙ sym ((tied tree_steps w first r a).told.outcomes id)
+place_answered w id first r a = place_by_walk (participant_of id w.participants) ∙ sym ((tied tree_steps w first r a).reported.outcomes id)
 
 -- nobody is told a second place
-pub one_place_told : (p a b : ℕ) (before between rest : List TreeCall) → PlacesSpec (before ++ Stepped p (Ok (Some a)) ∷ (between ++ Stepped p (Ok (Some b)) ∷ rest)) → ⊥
-one_place_told p a b before between rest law =
+pub one_place_reported : (p a b : ℕ) (before between rest : List TreeCall) → PlacesSpec (before ++ Stepped p (Ok (Some a)) ∷ (between ++ Stepped p (Ok (Some b)) ∷ rest)) → ⊥
+one_place_reported p a b before between rest law =
     let later : TreeCall = Stepped p (Ok (Some b)) in
     let way : way_calls (before ++ Stepped p (Ok (Some a)) ∷ (between ++ later ∷ rest)) ≡ way_calls before ++ WayStepped p (Ok (Some a)) ∷ (way_calls between ++ WayStepped p (Ok (Some b)) ∷ way_calls rest) =
     way_calls-append before (Stepped p (Ok (Some a)) ∷ (between ++ later ∷ rest))

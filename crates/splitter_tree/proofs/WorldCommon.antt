@@ -33,7 +33,7 @@ pub use Rattle.splitter_tree.specs.declared.client.Task.{Task}
 pub use Rattle.splitter_tree.specs.declared.client.Task.TheVariants.{Placing, Nothing, Collecting, Storing}
 pub use Rattle.splitter_tree.specs.declared.walker.Walker.{Walker}
 pub use Rattle.splitter_tree.specs.Walk.{next_access, walker_after, walker_note, place_of, place_by, walk_of}
-pub use Rattle.splitter_tree.specs.Client.{is_placing, is_collecting, is_placed, place_told, collecting_after, storing, collecting, with_task, write_at, record_of, client_of, client_steps, access_for, task_after}
+pub use Rattle.splitter_tree.specs.Client.{is_placing, is_collecting, is_placed, place_reported, collecting_after, storing, collecting, with_task, write_at, record_of, client_of, client_steps, access_for, task_after}
 pub use Rattle.splitter_tree.specs.Collect.{collect_reads, collect_view, collect_after, first_collect, view_with}
 pub use Rattle.splitter_tree.specs.TreeWorld.{TreeState, asking_refusal, after_store, after_collect_begin, view_answer, after_collecting, may_lack_memory}
 pub use Rattle.splitter_tree.specs.TreeCalls.{next, IsReply, TreeCall}

@@ -32,15 +32,15 @@ view_in (Placed place) = None
 view_in Stored = None
 view_in (Collected view) = Some view
 
-abbrev pub place_told : Note TreeReply → Option ℕ
-place_told Quiet = None
-place_told (Said reply) = place_in reply
-place_told (Ended reply) = None
+abbrev pub place_reported : Note TreeReply → Option ℕ
+place_reported Quiet = None
+place_reported (Said reply) = place_in reply
+place_reported (Ended reply) = None
 
-abbrev pub view_told : Note TreeReply → Option (List (ℕ × ℕ))
-view_told Quiet = None
-view_told (Said reply) = view_in reply
-view_told (Ended reply) = None
+abbrev pub view_reported : Note TreeReply → Option (List (ℕ × ℕ))
+view_reported Quiet = None
+view_reported (Said reply) = view_in reply
+view_reported (Ended reply) = None
 
 -- whether it is on the way to its place; has nothing to do; collects
 abbrev pub is_placing : Task → Bool

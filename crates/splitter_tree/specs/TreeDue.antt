@@ -36,7 +36,7 @@ abbrev pub collect_due : List TreeCall → ℕ → Option Refusal
 collect_due r p = if has_begun p (way_calls r) then (if collects p r then None else Some Finished) else Some NotBegun
 
 -- after these calls, a call is refused exactly where a refusal is due, and by that one. A step on the way to a place that
--- is not due to be refused may be refused for want of memory
+-- is not due to be refused may be refused because an allocation failed
 abbrev pub IsTreeRefusedAsDue : ℕ → List TreeCall → TreeCall → Type 0
 IsTreeRefusedAsDue most r (Began p reply) = IsRefusedAsDue is_some most true (way_calls r) (WayBegan p reply)
 IsTreeRefusedAsDue most r (Stepped p reply) = IsRefusedAsDue is_some most true (way_calls r) (WayStepped p reply)

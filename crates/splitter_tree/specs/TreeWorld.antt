@@ -12,7 +12,7 @@ use Rattle.splitter_tree.specs.declared.register.TreeRegister.TheVariants.{Conte
 use Rattle.splitter_tree.specs.declared.register.TreeValue.{TreeValue}
 use Rattle.splitter_tree.specs.declared.client.Client.{Client}
 use Rattle.splitter_tree.specs.Walk.{place_of}
-use Rattle.splitter_tree.specs.Client.{client_of, client_steps, is_placing, is_idle, is_collecting, storing, collecting, place_told, view_told}
+use Rattle.splitter_tree.specs.Client.{client_of, client_steps, is_placing, is_idle, is_collecting, storing, collecting, place_reported, view_reported}
 
 -- a memory of type S, the most participants, and the participants
 abbrev pub TreeState : Type 0 → Type 0
@@ -41,7 +41,7 @@ module _ {S : Type 0} where
 module _ {S : Type 0} (memory : MemorySteps S TreeRegister TreeValue) where
   abbrev pub place_answer_by : TreeState S → ℕ → Option Client → Result (Option ℕ) Refusal
   place_answer_by w id None = Err NotBegun
-  place_answer_by w id (Some c) = if is_placing c.task then reply_of place_told (step_answer client_steps memory w id) else Err Finished
+  place_answer_by w id (Some c) = if is_placing c.task then reply_of place_reported (step_answer client_steps memory w id) else Err Finished
 
   abbrev pub after_placing_by : TreeState S → ℕ → Option Client → TreeState S
   after_placing_by w id None = w
@@ -54,7 +54,7 @@ module _ {S : Type 0} (memory : MemorySteps S TreeRegister TreeValue) where
   abbrev pub after_placing : TreeState S → ℕ → TreeState S
   after_placing w id = after_placing_by w id (program_of id w.participants)
 
-  -- whether a step of the placing may be refused for want of memory
+  -- whether a step of the placing may be refused because an allocation failed
   abbrev pub may_lack_memory : TreeState S → ℕ → Bool
   may_lack_memory w id = may_refuse_step client_steps memory w id
 
@@ -68,7 +68,7 @@ module _ {S : Type 0} (memory : MemorySteps S TreeRegister TreeValue) where
 
   abbrev pub view_answer_by : TreeState S → ℕ → Option Client → Result (Option (List (ℕ × ℕ))) Refusal
   view_answer_by w id None = Err NotBegun
-  view_answer_by w id (Some c) = if is_collecting c.task then reply_of view_told (step_answer client_steps memory w id) else Err Finished
+  view_answer_by w id (Some c) = if is_collecting c.task then reply_of view_reported (step_answer client_steps memory w id) else Err Finished
 
   abbrev pub after_collecting_by : TreeState S → ℕ → Option Client → TreeState S
   after_collecting_by w id None = w

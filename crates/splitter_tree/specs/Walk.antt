@@ -41,11 +41,11 @@ in_words (Clear r) = Clear r
 in_words Nothing = Nothing
 
 -- what a visit learns from an answer: a word. A segment tells it nothing
-abbrev pub told : Answer TreeValue → Answer ℕ
-told (Value (Word word)) = Value word
-told (Value (Held segment)) = Done
-told (WasSet was) = WasSet was
-told Done = Done
+abbrev pub reported : Answer TreeValue → Answer ℕ
+reported (Value (Word word)) = Value word
+reported (Value (Held segment)) = Done
+reported (WasSet was) = WasSet was
+reported Done = Done
 
 -- the access of the next step: the mark's, and then those of the visit
 abbrev pub next_access : Walker → Access TreeRegister TreeValue
@@ -60,11 +60,11 @@ walked_to u s = gone_on (visit_on u) (walker_at u.visitor.identity (right_child 
 
 -- the walk after an answer
 abbrev pub walker_after : Walker → Answer TreeValue → Walker
-walker_after u got = if u.is_marking then record u { is_marking = false } else walked_to u (stage_by u.visitor (told got))
+walker_after u got = if u.is_marking then record u { is_marking = false } else walked_to u (stage_by u.visitor (reported got))
 
 -- what a walk says after an answer
 abbrev pub walker_note : Walker → Answer TreeValue → Note ℕ
-walker_note u got = if u.is_marking then Quiet else note_at_door u.place (stage_by u.visitor (told got))
+walker_note u got = if u.is_marking then Quiet else note_at_door u.place (stage_by u.visitor (reported got))
 
 abbrev pub walker_steps : ProgramSteps Walker TreeRegister TreeValue ℕ
 walker_steps = record { next = next_access; resumed = walker_after; note = walker_note }

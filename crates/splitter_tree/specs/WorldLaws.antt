@@ -59,8 +59,8 @@ NodesAreTree S =
     OnEveryHistory (tree_over memory) (λ first r. IsTree memory (begun_in (way_calls r)) w.memory (walkers w.participants)) w
 
 -- who has a place was told it
-abbrev pub PlacesAreTold : (S : Type 0) → Type 0
-PlacesAreTold S =
+abbrev pub PlacesAreReported : (S : Type 0) → Type 0
+PlacesAreReported S =
     (memory : MemorySteps S TreeRegister TreeValue) (w : TreeState S) (p : ℕ) →
     OnEveryHistory (tree_over memory) (λ first r. place_by (walkers w.participants p) ≡ outcome_of p (way_calls r)) w
 

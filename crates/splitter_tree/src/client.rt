@@ -1,7 +1,7 @@
 //! A participant of a tree.
 
 ghost use Rattle.std.specs.Prelude.{◌≡◌};
-ghost use Rattle.splitter_tree.specs.Client.{place_told, view_told, is_placing, is_idle, is_collecting, client_of, storing, collecting, record_of, client_steps, client_access, client_after, client_note, placing_after, placing_note, collecting_after, collecting_note};
+ghost use Rattle.splitter_tree.specs.Client.{place_reported, view_reported, is_placing, is_idle, is_collecting, client_of, storing, collecting, record_of, client_steps, client_access, client_after, client_note, placing_after, placing_note, collecting_after, collecting_note};
 
 use crate::collect::Collect;
 use crate::{TreeRegister, TreeValue, Walker};
@@ -19,8 +19,8 @@ pub enum TreeReply {
 }
 
 /// The place that a step tells.
-pub(crate) fn place_told(note: &Note<TreeReply>) -> Option<Place>
-    ensures { result ≡ place_told note.now }
+pub(crate) fn place_reported(note: &Note<TreeReply>) -> Option<Place>
+    ensures { result ≡ place_reported note.now }
 {
     match note {
         Note::Said(TreeReply::Placed(place)) => Some(*place),
@@ -32,8 +32,8 @@ pub(crate) fn place_told(note: &Note<TreeReply>) -> Option<Place>
 }
 
 /// The view that a step tells.
-pub(crate) fn view_told(note: &Note<TreeReply>) -> Option<View>
-    ensures { result ≡ view_told note.now }
+pub(crate) fn view_reported(note: &Note<TreeReply>) -> Option<View>
+    ensures { result ≡ view_reported note.now }
 {
     match note {
         Note::Said(TreeReply::Collected(view)) => Some(*view),

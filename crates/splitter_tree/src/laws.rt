@@ -60,11 +60,11 @@ pub fn law_of_nodes_and_walks<S>()
     ensures law { WalksKeepTreeLaw S }
     ensures nearer { ComesNearer S }
     ensures unplaced { HasAccessesLeft S }
-    ensures told { TellsItsPlace }
+    ensures reported { TellsItsPlace }
     ensures ended { EndsAtPlace }
     ensures segments { WalkKeepsSegments S }
     ensures marks { WalkMarksItsNode S }
-    ensures refused { RefusedAtNewNode S }
+    ensures unchanged_on_error { RefusedAtNewNode S }
 {}
 
 /// A law, which runs nothing. A walk surely reads the segment of every node whose path from the root was marked when it

@@ -5,7 +5,7 @@
 //! writes the node's mark, and that access makes the node where it is not there. So the tree is as large as the crowd that
 //! walked down it, whatever the identities are: where `b` participants have begun, at most `2b - 1` nodes were made, none
 //! deeper than `b - 1`, places are distinct, and a place comes within the first `5b` steps of a walk. A node that cannot be
-//! made for want of memory is asked for again by the same step.
+//! made because an allocation failed is asked for again by the same step.
 //!
 //! A *collect walk* (`CollectWalk`) reads, from the root on, a node's mark, and where it is set the node's segment and then
 //! what lies below, left before right: at most `6b - 2` reads. Walks, places and collect walks are laws here, over any memory

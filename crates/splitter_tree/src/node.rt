@@ -115,7 +115,7 @@ fn grow_below<A: Allocator + Clone>(
     requires within { depth < 128 }
     requires number { 0 < place / 2 ^ depth }
     ensures grown { OnOk result (let top = place / 2 ^ depth in IsGrown (registers_below top link.old) (registers_below top link.new) place depth) }
-    ensures refused { OnErr result (link.new ≡ link.old) }
+    ensures unchanged_on_error { OnErr result (link.new ≡ link.old) }
     ensures no_memory { OnErr result (is_lacking (registers_below (place / 2 ^ depth) link.old) place depth ≡ true) }
 {
     match link {
@@ -167,7 +167,7 @@ pub(crate) fn write_from<A: Allocator + Clone>(
     value: WrittenValue,
 ) -> Result<(), NoMemory>
     ensures after { OnOk result (nodes_of root.new ≡ after_write (nodes_of root.old) register (value_of value.entry)) }
-    ensures refused { OnErr result (root.new ≡ root.old) }
+    ensures unchanged_on_error { OnErr result (root.new ≡ root.old) }
     ensures no_memory { OnErr result (makes_node (nodes_of root.old) register (value_of value.entry) ≡ true) }
 {
     let place = register.node();

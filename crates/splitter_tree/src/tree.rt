@@ -5,7 +5,7 @@ ghost use Rattle.std.specs.FinMap as map;
 ghost use Rattle.splitter_tree.specs.TreeSteps.{tree_steps, empty_tree, value_in, answer_of, after_access, may_refuse, number_in};
 ghost use Rattle.splitter_tree.specs.TreeProofs.{others_kept};
 ghost use Rattle.step_memory.specs.declared.access.Access.TheVariants.{Read};
-ghost use Rattle.step_memory.specs.Taken.{told_in};
+ghost use Rattle.step_memory.specs.Taken.{reported_in};
 ghost use Rattle.splitter_tree.specs.declared.register.TreeValue.TheVariants as value;
 ghost use Rattle.splitter_tree.specs.Walk.{next_access, walker_after, walker_note};
 
@@ -99,11 +99,11 @@ impl<A: Allocator + Clone> Tree<A> {
     /// Takes a step of a visit, as `walk_on` does.
     fn visit_on(&mut self, walker: &mut Walker) -> Result<Option<Note<Place>>, NoMemory>
         requires { walker.old.is_marking ≡ false }
-        ensures note { IfSome (told_in result) (λ note. note ≡ walker_note walker.old (answer_of self.old (next_access walker.old))) }
-        ensures after { IfSome (told_in result) (λ _. walker.new ≡ walker_after walker.old (answer_of self.old (next_access walker.old))) }
-        ensures memory { IfSome (told_in result) (λ _. self.new ≡ after_access self.old (next_access walker.old)) }
-        ensures kept { told_in result ≡ None → walker.new ≡ walker.old }
-        ensures memory_kept { told_in result ≡ None → self.new ≡ self.old }
+        ensures note { IfSome (reported_in result) (λ note. note ≡ walker_note walker.old (answer_of self.old (next_access walker.old))) }
+        ensures after { IfSome (reported_in result) (λ _. walker.new ≡ walker_after walker.old (answer_of self.old (next_access walker.old))) }
+        ensures memory { IfSome (reported_in result) (λ _. self.new ≡ after_access self.old (next_access walker.old)) }
+        ensures kept { reported_in result ≡ None → walker.new ≡ walker.old }
+        ensures memory_kept { reported_in result ≡ None → self.new ≡ self.old }
         ensures no_memory { OnErr result (may_refuse self.old (next_access walker.old) ≡ true) }
     {
         match walker.visitor.next() {
@@ -126,11 +126,11 @@ impl<A: Allocator + Clone> Tree<A> {
     /// did not, and an error where the step makes a node and room for that was refused: then nothing has changed, and the step is
     /// still to be taken.
     pub fn walk_on(&mut self, walker: &mut Walker) -> Result<Option<Note<Place>>, NoMemory>
-        ensures note { IfSome (told_in result) (λ note. note ≡ walker_note walker.old (answer_of self.old (next_access walker.old))) }
-        ensures after { IfSome (told_in result) (λ _. walker.new ≡ walker_after walker.old (answer_of self.old (next_access walker.old))) }
-        ensures memory { IfSome (told_in result) (λ _. self.new ≡ after_access self.old (next_access walker.old)) }
-        ensures kept { told_in result ≡ None → walker.new ≡ walker.old }
-        ensures memory_kept { told_in result ≡ None → self.new ≡ self.old }
+        ensures note { IfSome (reported_in result) (λ note. note ≡ walker_note walker.old (answer_of self.old (next_access walker.old))) }
+        ensures after { IfSome (reported_in result) (λ _. walker.new ≡ walker_after walker.old (answer_of self.old (next_access walker.old))) }
+        ensures memory { IfSome (reported_in result) (λ _. self.new ≡ after_access self.old (next_access walker.old)) }
+        ensures kept { reported_in result ≡ None → walker.new ≡ walker.old }
+        ensures memory_kept { reported_in result ≡ None → self.new ≡ self.old }
         ensures no_memory { OnErr result (may_refuse self.old (next_access walker.old) ≡ true) }
     {
         if !walker.is_marking {
@@ -158,7 +158,7 @@ impl<A: Allocator + Clone> StepMemory for Tree<A> {
     fn access(&mut self, a: Access<TreeRegister, TreeValue>) -> Result<Answer<TreeValue>, NoMemory>
         ensures answer { IfOk result (λ got. got ≡ answer_of self.old a) }
         ensures after { OnOk result (self.new ≡ after_access self.old a) }
-        ensures refused { OnErr result (self.new ≡ self.old) }
+        ensures unchanged_on_error { OnErr result (self.new ≡ self.old) }
         ensures no_memory { OnErr result (may_refuse self.old a ≡ true) }
     {
         Ok(match a {

@@ -1,7 +1,7 @@
 //! A walk from node to node.
 
 ghost use Rattle.std.specs.Prelude.{◌≡◌};
-ghost use Rattle.splitter_tree.specs.Walk.{left_child, right_child, in_words, told, walker_at, walk_of, walker_steps, next_access, walker_after, walker_note, walked_to, place_of};
+ghost use Rattle.splitter_tree.specs.Walk.{left_child, right_child, in_words, reported, walker_at, walk_of, walker_steps, next_access, walker_after, walker_note, walked_to, place_of};
 ghost use Rattle.splitter.specs.Visitor.{stage_by};
 ghost use Rattle.splitter.specs.Walk.{note_at_door};
 
@@ -37,8 +37,8 @@ fn in_words(access: Access<TreeRegister, u64>) -> Access<TreeRegister, TreeValue
 }
 
 /// What a visit learns from an answer.
-fn told(got: Answer<TreeValue>) -> Answer<u64>
-    ensures { result ≡ told got }
+fn reported(got: Answer<TreeValue>) -> Answer<u64>
+    ensures { result ≡ reported got }
 {
     match got {
         Answer::Value(TreeValue::Word(word)) => Answer::Value(word),
@@ -135,6 +135,6 @@ impl StepProgram for Walker {
             self.is_marking = false;
             return Note::Quiet;
         }
-        self.resume_visit(told(got))
+        self.resume_visit(reported(got))
     }
 }

@@ -16,7 +16,7 @@ ghost use Rattle.step_memory.specs.Participant.{program_of};
 ghost use Rattle.step_memory.specs.World.{begin_refusal, done_unless};
 
 use crate::Tree;
-use crate::client::{Client, place_told, view_told};
+use crate::client::{Client, place_reported, view_reported};
 use std::alloc::Allocator;
 use std::marker::Model;
 use step_memory::{Place, Refusal, View, World};
@@ -69,7 +69,7 @@ impl<A: Allocator + Clone> TreeWorld<A> {
     pub fn begin(&mut self, id: u64) -> Result<(), Refusal>
         ensures answer { result ≡ done_unless (begin_refusal self.old id) }
         ensures state { self.new ≡ after_tree_begin self.old id }
-        ensures refused { OnErr result (self.new ≡ self.old) }
+        ensures unchanged_on_error { OnErr result (self.new ≡ self.old) }
         ensures after { Extends tree self.old self.new (Began id result) }
 
         // The law, over every list of calls and replies that the world may be after.
@@ -87,7 +87,7 @@ impl<A: Allocator + Clone> TreeWorld<A> {
     pub fn step(&mut self, id: u64) -> Result<Option<Place>, Refusal>
         ensures answer { result ≢ Err Refusal.NoMemory → result ≡ place_answer tree_steps self.old id }
         ensures state { result ≢ Err Refusal.NoMemory → self.new ≡ after_placing tree_steps self.old id }
-        ensures refused { OnErr result (self.new ≡ self.old) }
+        ensures unchanged_on_error { OnErr result (self.new ≡ self.old) }
         ensures no_memory { result ≡ Err Refusal.NoMemory → may_lack_memory tree_steps self.old id ≡ true }
         ensures after { Extends tree self.old self.new (Stepped id result) }
         ensures law { SatisfiesSpec tree self.new }
@@ -107,7 +107,7 @@ impl<A: Allocator + Clone> TreeWorld<A> {
             return Err(Refusal::Finished);
         }
         match self.world.step(id) {
-            Ok(note) => Ok(place_told(&note)),
+            Ok(note) => Ok(place_reported(&note)),
             Err(refusal) => Err(refusal),
         }
     }
@@ -118,7 +118,7 @@ impl<A: Allocator + Clone> TreeWorld<A> {
     pub fn store(&mut self, id: u64, value: u64) -> Result<(), Refusal>
         ensures answer { result ≡ done_unless (asking_refusal self.old id) }
         ensures state { self.new ≡ after_store tree_steps self.old id value }
-        ensures refused { OnErr result (self.new ≡ self.old) }
+        ensures unchanged_on_error { OnErr result (self.new ≡ self.old) }
         ensures after { Extends tree self.old self.new (Stored id value result) }
 
         // The law, over every list of calls and replies that the world may be after.
@@ -149,7 +149,7 @@ impl<A: Allocator + Clone> TreeWorld<A> {
     pub fn collect_begin(&mut self, id: u64) -> Result<(), Refusal>
         ensures answer { result ≡ done_unless (asking_refusal self.old id) }
         ensures state { self.new ≡ after_collect_begin self.old id }
-        ensures refused { OnErr result (self.new ≡ self.old) }
+        ensures unchanged_on_error { OnErr result (self.new ≡ self.old) }
         ensures after { Extends tree self.old self.new (CollectBegan id result) }
         ensures law { SatisfiesSpec tree self.new }
         ensures due { RefusesWhereDue tree self.new }
@@ -170,7 +170,7 @@ impl<A: Allocator + Clone> TreeWorld<A> {
     pub fn collect_step(&mut self, id: u64) -> Result<Option<View>, Refusal>
         ensures answer { result ≡ view_answer tree_steps self.old id }
         ensures state { self.new ≡ after_collecting tree_steps self.old id }
-        ensures refused { OnErr result (self.new ≡ self.old) }
+        ensures unchanged_on_error { OnErr result (self.new ≡ self.old) }
         ensures after { Extends tree self.old self.new (CollectStepped id result) }
         ensures law { SatisfiesSpec tree self.new }
         ensures due { RefusesWhereDue tree self.new }
@@ -185,7 +185,7 @@ impl<A: Allocator + Clone> TreeWorld<A> {
             return Err(Refusal::Finished);
         }
         match self.world.step(id) {
-            Ok(note) => Ok(view_told(&note)),
+            Ok(note) => Ok(view_reported(&note)),
             Err(refusal) => Err(refusal),
         }
     }

@@ -1,7 +1,7 @@
 //! Laws of the calls of a tree's world, which run nothing.
 
 ghost use Rattle.std.specs.Prelude.{ℕ, ◌≤◌, []};
-ghost use Rattle.splitter_tree.specs.WorldLaws.{LetsTheFirstIn, TreesAreProved, CollectHasRead, NodesAgreeWithWalks, NodesAreTree, PlacesAreTold, IsOnTheWay, NeverEnds, MarksWhatWasMade, MakesNodesWithin, TellsOnePlace, WritesOwnSegment, StandsAtItsNode};
+ghost use Rattle.splitter_tree.specs.WorldLaws.{LetsTheFirstIn, TreesAreProved, CollectHasRead, NodesAgreeWithWalks, NodesAreTree, PlacesAreReported, IsOnTheWay, NeverEnds, MarksWhatWasMade, MakesNodesWithin, TellsOnePlace, WritesOwnSegment, StandsAtItsNode};
 ghost use Rattle.splitter_tree.specs.Client.{client_access};
 ghost use Rattle.splitter_tree.specs.Machine.{fresh_over, tree};
 ghost use Rattle.step_memory.specs.Machine.{Reaches, IsProved};
@@ -26,7 +26,7 @@ pub fn law_of_places<S>()
     ensures machine { TreesAreProved S }
     ensures consistent { NodesAgreeWithWalks S }
     ensures tree { NodesAreTree S }
-    ensures places { PlacesAreTold S }
+    ensures places { PlacesAreReported S }
     ensures on_the_way { IsOnTheWay S }
     ensures never_ends { NeverEnds S }
     ensures made { MarksWhatWasMade S }

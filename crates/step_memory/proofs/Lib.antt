@@ -10,7 +10,7 @@ pub mod LocalityLemmas
 pub mod RunLemmas
 pub mod MachineLemmas
 pub mod WorldKeeps
-pub mod ToldLemmas
+pub mod ReportedLemmas
 pub mod DueLemmas
 pub mod WorldMachineLemmas
 pub mod LocalWorldLemmas

@@ -111,14 +111,14 @@ module _ {P V O : Type 0} (program : ProgramSteps P ℕ V O) (parts : LocalParts
         let h : Call (Option O) = Stepped p (Ok said) in
         let x : World = record { memory = after_access w.memory (program.next v.program); most = w.most; participants = with_participant new w.participants } in
         let leaves = going_after program memory_steps w p v there goes in
-        let told = going_answer program memory_steps w p v there goes in
+        let reported = going_answer program memory_steps w p v there goes in
         let here : is_some (participant_of v.identity w.participants) ≡ true = ap (λ i. is_some (participant_of i w.participants)) own ∙ ap is_some there in
         let put : (q : ℕ) → participant_of q x.participants ≡ set_at (λ u. participant_of u w.participants) p (Some new) q =
         (λ q. participant_of-put w.participants new here q ∙ ap (λ i. set_at (λ u. participant_of u w.participants) i (Some new) q) own) in
         record {
           w = x;
           r = r ++ h ∷ [];
-          after = step_leads_on (parts_of_world program parts) w x p (Ok said) (sym leaves) (sym (ap (reply_of outcome_in) told)) most r a;
+          after = step_leads_on (parts_of_world program parts) w x p (Ok said) (sym leaves) (sym (ap (reply_of outcome_in) reported)) most r a;
           memory_is = values_left w.memory (program.next v.program);
           mine = put p ∙ set_at-same (λ u. participant_of u w.participants) p (Some new) ∙ ap (λ (i : ℕ). Some (record { identity = i; program = new.program; ended = new.ended })) own
               ∙ ap (λ (z : Answer V). Some (record { identity = p; program = program.resumed v.program z; ended = ends (program.note v.program z) })) heard;
@@ -144,7 +144,7 @@ module _ {P V O : Type 0} (program : ProgramSteps P ℕ V O) (parts : LocalParts
         let begins = begin_leads_on (parts_of_world program parts) w x p (Ok tt) (ap (λ o. begun_unless o w p (parts.start p)) (sym free)) (ap done_unless (sym free)) most r a in
         let once = world_steps most x (r ++ h ∷ []) begins p b (push p ∙ set_at-same (λ v. participant_of v w.participants) p (Some b)) refl in
         let same : (q : ℕ) → steps_of q (r ++ h ∷ []) ≡ steps_of q r = (λ q. steps_of-push q r h ∙ omega arith) in
-        let untold : (q : ℕ) → outcome_of q (r ++ h ∷ []) ≡ outcome_of q r = (λ q. outcome_of-push q r h ∙ first_of-none (outcome_of q r)) in
+        let unreported : (q : ℕ) → outcome_of q (r ++ h ∷ []) ≡ outcome_of q r = (λ q. outcome_of-push q r h ∙ first_of-none (outcome_of q r)) in
         record {
           w = once.w;
           r = once.r;
@@ -154,8 +154,8 @@ module _ {P V O : Type 0} (program : ProgramSteps P ℕ V O) (parts : LocalParts
           others = λ q ne. once.others q ne ∙ push q ∙ set_at-other (λ v. participant_of v w.participants) p (Some b) q ne;
           own_steps = (let one = once.own_steps in let before = same p in omega arith);
           steps = λ q ne. once.steps q ne ∙ same q;
-          own_outcome_is = λ none. once.own_outcome_is (untold p ∙ none);
-          outcomes = λ q ne. once.outcomes q ne ∙ untold q;
+          own_outcome_is = λ none. once.own_outcome_is (unreported p ∙ none);
+          outcomes = λ q ne. once.outcomes q ne ∙ unreported q;
           begun = (let pushed = begun_in-push r h in let one = once.begun in omega arith);
         }
 
@@ -167,7 +167,7 @@ module _ {P V O : Type 0} (program : ProgramSteps P ℕ V O) (parts : LocalParts
 
   -- and a world that is proved starts as a local machine does
   pub world_fresh : IsProved (world_machine (parts_of_world program parts)) → (most : ℕ) → parts.MayStart most → IsFresh program parts.first (local_world program parts) most
-  world_fresh proved most may = record { after = proved.fresh most may; blank = refl; nobody = λ q. refl; untold = λ q. refl }
+  world_fresh proved most may = record { after = proved.fresh most may; blank = refl; nobody = λ q. refl; unreported = λ q. refl }
 
 pub takes_locally : (P V O : Type 0) → TakesLocally P V O
 takes_locally P V O program registers first start = world_takes program (any_parts registers first start)

@@ -42,8 +42,8 @@ lacks_or_not (Err NoMemory) = inl refl
 lacks_or_not reply = inr (λ h. absurd (cc))
 
 -- what is mapped to the outcome of its note shows the outcome
-pub shows_what_is_mapped : {O : Type 0} (told : Result (Note O) Refusal) (got : Result (Option O) Refusal) →
-    MatchResult told (λ note. IsOkAnd got (λ outcome. outcome ≡ outcome_in note)) (λ refusal. got ≡ Err refusal) → got ≡ reply_of outcome_in told
+pub shows_what_is_mapped : {O : Type 0} (reported : Result (Note O) Refusal) (got : Result (Option O) Refusal) →
+    MatchResult reported (λ note. IsOkAnd got (λ outcome. outcome ≡ outcome_in note)) (λ refusal. got ≡ Err refusal) → got ≡ reply_of outcome_in reported
 shows_what_is_mapped (Ok note) (Ok outcome) is = ap Ok is
 shows_what_is_mapped (Ok note) (Err refusal) is = absurd is
 shows_what_is_mapped (Err refusal) got is = is

@@ -40,7 +40,7 @@ module _ {P S R V O X : Type 0} (parts : WorldParts P S R V O X) where
   new_after most may (Ok w) is = subst (λ (u : WorldState S P). Reaches (world_machine parts) most u []) (sym is) (after_none (world_machine parts) most may)
   new_after most may (Err why) is = tt
 
-  -- a beginning leads on
+  -- a prefix leads on
   pub begin_leads_on : (w new : WorldState S P) (id : ℕ) (reply : Result (Unit {0}) Refusal) → new ≡ after_begin w id (parts.start id) → reply ≡ done_unless (begin_refusal w id) →
       Extends (world_machine parts) w new (Began id reply)
   begin_leads_on w new id reply e is = call_leads_on (world_machine parts) w new (Began id reply) e is

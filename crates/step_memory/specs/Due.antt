@@ -46,7 +46,7 @@ module _ {X : Type 0} (last : X → Bool) where
   step_due r p = if has_begun p r then (if has_ended p r then Some Finished else None) else Some NotBegun
 
   -- after these calls, a call is refused exactly where a refusal is due, and by that one. A step that is not due to be
-  -- refused may be refused for want of memory, where it grows
+  -- refused may be refused because an allocation failed, where it grows
   abbrev pub IsRefusedAsDue : ℕ → Bool → List (Call X) → Call X → Type 0
   IsRefusedAsDue most grows r (Began p reply) = reply ≡ done_unless (begin_due most r p)
   IsRefusedAsDue most grows r (Stepped p (Ok said)) = step_due r p ≡ None

@@ -13,7 +13,7 @@ use Rattle.step_memory.specs.Calls.Call.{Began, Stepped}
 use Rattle.step_memory.specs.Locality.{Indistinguishable, StandAlike}
 use Rattle.step_memory.specs.Machine.{OnEveryHistory, IsProved, Extends}
 use Rattle.step_memory.specs.WorldMachine.{any_world}
-use Rattle.step_memory.specs.Told.{Tells}
+use Rattle.step_memory.specs.Reported.{Tells}
 use Rattle.step_memory.specs.Due.{RefusesAsDue, EndsOnce}
 use Rattle.step_memory.specs.View.{IsRising, value_of, inserted}
 use Rattle.step_memory.specs.declared.note.Note.{Note}
@@ -170,11 +170,11 @@ abbrev pub KeepsTheFirstOutcome : (X : Type 0) → Type 0
 KeepsTheFirstOutcome X =
     (p : ℕ) (r : List (Call (Option X))) (h : Call (Option X)) → outcome_of p (r ++ h ∷ []) ≡ first_of (outcome_of p r) (outcome_by p h)
 
--- a reply to a step, of whose note the outcome alone is handed on, shows the outcome
+-- a reply to a step, of whose note the outcome alone is committed, shows the outcome
 abbrev pub ShowsWhatIsMapped : (O : Type 0) → Type 0
 ShowsWhatIsMapped O =
-    (told : Result (Note O) Refusal) (got : Result (Option O) Refusal) →
-    MatchResult told (λ note. IsOkAnd got (λ outcome. outcome ≡ outcome_in note)) (λ refusal. got ≡ Err refusal) → got ≡ reply_of outcome_in told
+    (reported : Result (Note O) Refusal) (got : Result (Option O) Refusal) →
+    MatchResult reported (λ note. IsOkAnd got (λ outcome. outcome ≡ outcome_in note)) (λ refusal. got ≡ Err refusal) → got ≡ reply_of outcome_in reported
 
 -- after an insertion an identity has the value that was inserted under it, and each other the one that it had
 abbrev pub HasWhatWasInserted : Type 0
@@ -182,8 +182,8 @@ HasWhatWasInserted =
     (q : ℕ) (pairs : List (ℕ × ℕ)) (new : ℕ × ℕ) → value_of q (inserted pairs new) ≡ (if new.0 == q then Some new.1 else value_of q pairs)
 
 -- rising pairs are equal where each identity has the same value in both
-abbrev pub AreToldByValues : Type 0
-AreToldByValues =
+abbrev pub AreReportedByValues : Type 0
+AreReportedByValues =
     (one other : List (ℕ × ℕ)) → IsRising one → IsRising other → ((q : ℕ) → value_of q one ≡ value_of q other) → one ≡ other
 
 -- in two worlds that look alike to a participant it is answered alike

@@ -15,7 +15,7 @@ pub mod SetAt
 pub mod Count
 pub mod Distinct
 pub mod Calls
-pub mod Told
+pub mod Reported
 pub mod Taken
 pub mod Due
 pub mod WorldMachine

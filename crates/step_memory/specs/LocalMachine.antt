@@ -87,7 +87,7 @@ module _ {P V O : Type 0} (program : ProgramSteps P ℕ V O) (first : V) (local 
     pub after : Reaches local.machine (local.start_of most) (local.machine.first (local.start_of most)) []
     pub blank : local.memory (local.machine.first (local.start_of most)) ≡ replicate (local.registers most) first
     pub nobody : (q : ℕ) → local.self (local.machine.first (local.start_of most)) q ≡ None
-    pub untold : (q : ℕ) → local.outcome_of q [] ≡ None
+    pub unreported : (q : ℕ) → local.outcome_of q [] ≡ None
 
   -- What is proved of it. `takes`: who stands somewhere and has not ended makes one access, as its program says, and begins with it where
   -- it has not begun and there is room. `few`: nobody makes more accesses than the bound. `begins`, `own`: each access of who has not

@@ -14,7 +14,7 @@ pub record ProgramSteps (P R V O : Type 0) : Type 0 where
   pub note : P → Answer V → Note O
 
 -- a memory: the value and the bit that stand in a register, what an access leaves, and whether it may be refused for
--- want of memory
+-- an allocation failure
 pub record MemorySteps (S R V : Type 0) : Type 0 where
   pub register : S → R → V × Bool
   pub after : S → Access R V → S

@@ -81,6 +81,6 @@ module _ {P S R V O : Type 0} (program : ProgramSteps P R V O) (memory : MemoryS
   may_refuse_by s None = false
   may_refuse_by s (Some p) = if p.ended then false else memory.may_refuse s (program.next p.program)
 
-  -- whether that step may be refused for want of memory
+  -- whether that step may be refused because an allocation failed
   abbrev pub may_refuse_step : WorldState S P → ℕ → Bool
   may_refuse_step w id = may_refuse_by w.memory (participant_of id w.participants)

@@ -38,8 +38,8 @@ pub use access::{Access, Answer};
 pub use hints::Hints;
 pub use laws::{
     law_of_beginners, law_of_call_counts, law_of_counts, law_of_locality, law_of_one_place,
-    law_of_participants, law_of_refusals, law_of_replies, law_of_rosters, law_of_steps,
-    law_of_told_outcomes, law_of_views, law_of_what_is_seen, law_of_worlds,
+    law_of_participants, law_of_refusals, law_of_replies, law_of_reported_outcomes, law_of_rosters,
+    law_of_steps, law_of_views, law_of_what_is_seen, law_of_worlds,
 };
 pub use local_worlds::law_of_local_worlds;
 pub use memory::{Memory, StepMemory};

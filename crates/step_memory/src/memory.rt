@@ -28,7 +28,7 @@ pub trait StepMemory {
     fn access(&mut self, a: Access<Self::Reg, Self::Value>) -> Result<Answer<Self::Value>, NoMemory>
         ensures answer { IfOk result (λ got. got ≡ answer_from (steps.register self.old) a) }
         ensures after { OnOk result (self.new ≡ steps.after self.old a) }
-        ensures refused { OnErr result (self.new ≡ self.old) }
+        ensures unchanged_on_error { OnErr result (self.new ≡ self.old) }
         ensures no_memory { OnErr result (steps.may_refuse self.old a ≡ true) };
 
     /// The value that stands in a register, where it stands, for a `Read` that copies nothing. `None` where none is lent:

@@ -3,7 +3,7 @@
 ghost use Rattle.std.specs.Prelude.{◌≡◌, true, false, IfSome, OnErr, None};
 ghost use Rattle.step_memory.specs.Participant.{resumed, beginner};
 ghost use Rattle.step_memory.specs.Steps.{answer_got};
-ghost use Rattle.step_memory.specs.Taken.{told_in};
+ghost use Rattle.step_memory.specs.Taken.{reported_in};
 ghost use Rattle.step_memory.specs.declared.access.Answer.TheVariants.{Value};
 ghost use Rattle.step_memory.specs.declared.note.Note.TheVariants.{Quiet};
 
@@ -55,20 +55,20 @@ impl<P: StepProgram> Participant<P> {
     pub fn take<Q: Shortcut<P, S>, S: StepMemory<Reg = P::Reg, Value = P::Value>>(
         &mut self,
         memory: &mut S,
-    ) -> Result<Option<Q::Told>, NoMemory>
-        ensures takes { IfSome (told_in result) (λ _. Q.takes self.old.program) }
-        ensures after { IfSome (told_in result) (λ _. self.new ≡ resumed P.steps self.old (answer_got P.steps S.steps self.old.program memory.old)) }
-        ensures note { IfSome (told_in result) (λ told. P.steps.note self.old.program (answer_got P.steps S.steps self.old.program memory.old) ≡ Q.note told) }
-        ensures memory { IfSome (told_in result) (λ _. memory.new ≡ S.steps.after memory.old (P.steps.next self.old.program)) }
-        ensures kept { told_in result ≡ None → self.new ≡ self.old }
-        ensures memory_kept { told_in result ≡ None → memory.new ≡ memory.old }
+    ) -> Result<Option<Q::Reported>, NoMemory>
+        ensures takes { IfSome (reported_in result) (λ _. Q.takes self.old.program) }
+        ensures after { IfSome (reported_in result) (λ _. self.new ≡ resumed P.steps self.old (answer_got P.steps S.steps self.old.program memory.old)) }
+        ensures note { IfSome (reported_in result) (λ reported. P.steps.note self.old.program (answer_got P.steps S.steps self.old.program memory.old) ≡ Q.note reported) }
+        ensures memory { IfSome (reported_in result) (λ _. memory.new ≡ S.steps.after memory.old (P.steps.next self.old.program)) }
+        ensures kept { reported_in result ≡ None → self.new ≡ self.old }
+        ensures memory_kept { reported_in result ≡ None → memory.new ≡ memory.old }
         ensures no_memory { OnErr result (S.steps.may_refuse memory.old (P.steps.next self.old.program) ≡ true) }
     {
-        let Some(told) = Q::take(&mut self.program, memory)? else {
+        let Some(reported) = Q::take(&mut self.program, memory)? else {
             return Ok(None);
         };
         self.ended = false;
-        Ok(Some(told))
+        Ok(Some(reported))
     }
 }
 

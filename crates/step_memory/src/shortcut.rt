@@ -3,7 +3,7 @@
 ghost use Rattle.std.specs.Prelude.{◌≡◌, true, false, IfSome, OnErr, None};
 ghost use Rattle.step_memory.specs.Note.{ends};
 ghost use Rattle.step_memory.specs.Steps.{answer_got};
-ghost use Rattle.step_memory.specs.Taken.{told_in};
+ghost use Rattle.step_memory.specs.Taken.{reported_in};
 ghost use Rattle.step_memory.specs.declared.note.Note.{Note};
 
 use crate::memory::StepMemory;
@@ -13,23 +13,23 @@ use crate::refusal::NoMemory;
 /// A way to take some steps of a program on a memory where both stand, so that no value is copied.
 pub trait Shortcut<P: StepProgram, S: StepMemory<Reg = P::Reg, Value = P::Value>> {
     /// What it tells of a step.
-    type Told;
+    type Reported;
 
     /// The programs whose step it may take.
     ghost takes: { P → Type 0 };
 
     /// What the program says of a step of which this is told.
-    ghost note: { Self.Told → Note P.Output };
+    ghost note: { Self.Reported → Note P.Output };
 
     /// Takes the program's step, if it is one after which the program goes on, and tells what it says. `None` where it did
     /// not, and an error where a growth was refused: then nothing has changed, and the step is still to be taken.
-    fn take(program: &mut P, memory: &mut S) -> Result<Option<Self::Told>, NoMemory>
-        ensures takes { IfSome (told_in result) (λ _. takes program.old) }
-        ensures after { IfSome (told_in result) (λ _. program.new ≡ P.steps.resumed program.old (answer_got P.steps S.steps program.old memory.old)) }
-        ensures note { IfSome (told_in result) (λ told. P.steps.note program.old (answer_got P.steps S.steps program.old memory.old) ≡ note told) }
-        ensures goes_on { IfSome (told_in result) (λ told. ends (note told) ≡ false) }
-        ensures memory { IfSome (told_in result) (λ _. memory.new ≡ S.steps.after memory.old (P.steps.next program.old)) }
-        ensures kept { told_in result ≡ None → program.new ≡ program.old }
-        ensures memory_kept { told_in result ≡ None → memory.new ≡ memory.old }
+    fn take(program: &mut P, memory: &mut S) -> Result<Option<Self::Reported>, NoMemory>
+        ensures takes { IfSome (reported_in result) (λ _. takes program.old) }
+        ensures after { IfSome (reported_in result) (λ _. program.new ≡ P.steps.resumed program.old (answer_got P.steps S.steps program.old memory.old)) }
+        ensures note { IfSome (reported_in result) (λ reported. P.steps.note program.old (answer_got P.steps S.steps program.old memory.old) ≡ note reported) }
+        ensures goes_on { IfSome (reported_in result) (λ reported. ends (note reported) ≡ false) }
+        ensures memory { IfSome (reported_in result) (λ _. memory.new ≡ S.steps.after memory.old (P.steps.next program.old)) }
+        ensures kept { reported_in result ≡ None → program.new ≡ program.old }
+        ensures memory_kept { reported_in result ≡ None → memory.new ≡ memory.old }
         ensures no_memory { OnErr result (S.steps.may_refuse memory.old (P.steps.next program.old) ≡ true) };
 }

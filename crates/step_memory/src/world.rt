@@ -5,7 +5,7 @@ ghost use Rattle.step_memory.specs.Participant.{participant_of, program_of};
 ghost use Rattle.step_memory.specs.World.{begin_refusal, done_unless, after_begin, step_answer, after_step, may_refuse_step, set_answer, after_set, CanAsk, after_asked};
 ghost use Rattle.step_memory.specs.WorldState.{WorldState};
 ghost use Rattle.step_memory.specs.Locality.{ChangesOnly, IsAnsweredAlike, ReadsNext, IsTaken};
-ghost use Rattle.step_memory.specs.Taken.{told_in};
+ghost use Rattle.step_memory.specs.Taken.{reported_in};
 
 use crate::hints::Hints;
 use crate::memory::StepMemory;
@@ -98,7 +98,7 @@ impl<P, S, A: Allocator> World<P, S, A> {
         requires { CanAsk Q.can_ask request id self.old }
         ensures answer { result ≡ set_answer self.old id }
         ensures after { self.new ≡ after_asked (Q.asked request) self.old id }
-        ensures refused { OnErr result (self.new ≡ self.old) }
+        ensures unchanged_on_error { OnErr result (self.new ≡ self.old) }
     {
         let Some(i) = self.hints.find(&self.participants, id) else {
             return Err(Refusal::NotBegun);
@@ -114,7 +114,7 @@ impl<P: Drop, S, A: Allocator> World<P, S, A> {
     pub fn begin(&mut self, id: u64, program: P) -> Result<(), Refusal>
         ensures answer { result ≡ done_unless (begin_refusal self.old id) }
         ensures after { self.new ≡ after_begin self.old id program }
-        ensures refused { OnErr result (self.new ≡ self.old) }
+        ensures unchanged_on_error { OnErr result (self.new ≡ self.old) }
     {
         if let Some(refusal) = self.begin_refusal(id) {
             return Err(refusal);
@@ -133,7 +133,7 @@ impl<P: Drop, S, A: Allocator> World<P, S, A> {
     pub fn set(&mut self, id: u64, program: P) -> Result<(), Refusal>
         ensures answer { result ≡ set_answer self.old id }
         ensures after { self.new ≡ after_set self.old id program }
-        ensures refused { OnErr result (self.new ≡ self.old) }
+        ensures unchanged_on_error { OnErr result (self.new ≡ self.old) }
     {
         self.ask(id, Replace { program })
     }
@@ -165,7 +165,7 @@ impl<
     pub fn step(&mut self, id: u64) -> Result<Note<P::Output>, Refusal>
         ensures answer { result ≢ Err Refusal.NoMemory → result ≡ step_answer P.steps S.steps self.old id }
         ensures after { result ≢ Err Refusal.NoMemory → self.new ≡ after_step P.steps S.steps self.old id }
-        ensures refused { OnErr result (self.new ≡ self.old) }
+        ensures unchanged_on_error { OnErr result (self.new ≡ self.old) }
         ensures no_memory { result ≡ Err Refusal.NoMemory → may_refuse_step P.steps S.steps self.old id ≡ true }
 
         // Nothing of the world changes but this participant and the register that it names.
@@ -216,12 +216,12 @@ impl<
     /// One step of a participant by a shortcut, if that takes it: nothing is copied. What the shortcut tells; `None` where it
     /// was not made: then nothing has changed, and `step` makes it or refuses it. An error where the memory refused a growth: then
     /// nothing has changed, and the same step may be asked again.
-    pub fn take<Q: Shortcut<P, S>>(&mut self, id: u64) -> Result<Option<Q::Told>, NoMemory>
-        ensures answer { IfSome (told_in result) (λ told. step_answer P.steps S.steps self.old id ≡ Ok (Q.note told)) }
-        ensures takes { IfSome (told_in result) (λ _. IsTaken Q.takes self.old id) }
-        ensures local { IfSome (told_in result) (λ _. ChangesOnly P.steps S.steps id self.old self.new) }
-        ensures after { IfSome (told_in result) (λ _. self.new ≡ after_step P.steps S.steps self.old id) }
-        ensures kept { told_in result ≡ None → self.new ≡ self.old }
+    pub fn take<Q: Shortcut<P, S>>(&mut self, id: u64) -> Result<Option<Q::Reported>, NoMemory>
+        ensures answer { IfSome (reported_in result) (λ reported. step_answer P.steps S.steps self.old id ≡ Ok (Q.note reported)) }
+        ensures takes { IfSome (reported_in result) (λ _. IsTaken Q.takes self.old id) }
+        ensures local { IfSome (reported_in result) (λ _. ChangesOnly P.steps S.steps id self.old self.new) }
+        ensures after { IfSome (reported_in result) (λ _. self.new ≡ after_step P.steps S.steps self.old id) }
+        ensures kept { reported_in result ≡ None → self.new ≡ self.old }
         ensures no_memory { OnErr result (may_refuse_step P.steps S.steps self.old id ≡ true) }
     {
         let Some(i) = self.hints.find(&self.participants, id) else {

@@ -92,7 +92,7 @@ fn drawn_halls_of_all_numbers(rt: HostRuntime) {
 }
 
 /// Whether a hall behind so many stays that leave nothing is compacted, and whether that is due.
-fn told_behind(alloc: Global, stays: usize) -> Option<(bool, bool)> {
+fn reported_behind(alloc: Global, stays: usize) -> Option<(bool, bool)> {
     let old = padded(alloc, WorldKind::Rename, 4, stays)?;
     Some((
         compacted(alloc, &old).is_some(),
@@ -109,6 +109,6 @@ fn it_is_due_where_the_history_is_long(rt: HostRuntime) {
         (150_000, (true, false)),
         (150_001, (true, true)),
     ] {
-        assert!(rt; told_behind(rt.alloc(), stays) == Some(due), "{stays}");
+        assert!(rt; reported_behind(rt.alloc(), stays) == Some(due), "{stays}");
     }
 }

@@ -23,7 +23,7 @@ const COMMITS: [Act; 10] = [
     Act::Has(6),
 ];
 
-/// Whether all of these are so of the journal of a disk, and it then has these bytes, all of them surely there.
+/// Whether all of these are so of the journal of a disk, and it then has these bytes, all of them durable.
 fn has(alloc: Global, disk: MemoryDisk, acts: &[Act], bytes: &[u8]) -> bool {
     match disk_after(alloc, disk, acts) {
         Some(disk) => disk.as_slice() == bytes && disk.synced() == bytes.len(),
@@ -59,7 +59,7 @@ fn a_record_is_torn_at_each_byte(rt: HostRuntime) -> Result<(), Fail> {
     Ok(())
 }
 
-/// Whether a crash that keeps so many bytes leaves a beginning of the record, with at least the events that were committed before the call
+/// Whether a crash that keeps so many bytes leaves a prefix of the record, with at least the events that were committed before the call
 /// that failed: the disk has a header, the call after so many fails, and two events are committed at a time.
 fn keeps_what_was_committed(
     alloc: Global,
@@ -72,10 +72,10 @@ fn keeps_what_was_committed(
     let left = disk.crashed(keep, ALL_CALLS);
     let begins = whole.starts_with(left.as_slice());
     let opened = opened(alloc, left).ok()?;
-    Some(begins && done / 3 * 2 <= opened.chronicle.hall().len())
+    Some(begins && done / 3 * 2 <= opened.write_ahead.hall().len())
 }
 
-/// Crashes that keep nothing, a part, or all of what is not surely there.
+/// Crashes that keep nothing, a part, or all of what is not durable.
 #[test]
 fn a_crash_after_each_fault_keeps_what_was_committed(rt: HostRuntime) -> Result<(), Fail> {
     let whole = record(rt.alloc(), 6, b"")?;
@@ -93,10 +93,10 @@ fn fault(alloc: Global, bytes: Vec<u8>, calls: usize) -> Option<OpenFault> {
 }
 
 #[test]
-fn a_fault_while_it_is_opened_is_told(rt: HostRuntime) -> Result<(), Fail> {
+fn a_fault_while_it_is_opened_is_reported(rt: HostRuntime) -> Result<(), Fail> {
     for calls in 0..OPENING_CALLS {
-        let told = fault(rt.alloc(), HEADER.to_vec(rt.alloc())?, calls);
-        let is_failed = matches!(told, Some(OpenFault::Disk(DiskFault::Failed(_))));
+        let reported = fault(rt.alloc(), HEADER.to_vec(rt.alloc())?, calls);
+        let is_failed = matches!(reported, Some(OpenFault::Disk(DiskFault::Failed(_))));
         assert!(rt; is_failed, "calls {calls}");
     }
     Ok(())
@@ -118,8 +118,8 @@ const OTHERS: [(&[u8], OpenFault); 3] = [
 #[test]
 fn other_files_are_refused(rt: HostRuntime) -> Result<(), Fail> {
     for (row, (bytes, due)) in OTHERS.iter().enumerate() {
-        let told = fault(rt.alloc(), bytes.to_vec(rt.alloc())?, ALL_CALLS);
-        assert!(rt; told == Some(*due), "row {row}");
+        let reported = fault(rt.alloc(), bytes.to_vec(rt.alloc())?, ALL_CALLS);
+        assert!(rt; reported == Some(*due), "row {row}");
     }
     Ok(())
 }
@@ -145,13 +145,13 @@ const BEHIND: [(&[u8], OpenFault); 4] = [
 #[test]
 fn lines_that_no_hall_writes_are_refused(rt: HostRuntime) -> Result<(), Fail> {
     for (row, (bytes, due)) in BEHIND.iter().enumerate() {
-        let told = fault(rt.alloc(), record(rt.alloc(), 2, bytes)?, ALL_CALLS);
-        assert!(rt; told == Some(*due), "row {row}");
+        let reported = fault(rt.alloc(), record(rt.alloc(), 2, bytes)?, ALL_CALLS);
+        assert!(rt; reported == Some(*due), "row {row}");
     }
     Ok(())
 }
 
-/// A chronicle that is full takes an event only once its lines were committed.
+/// A write-ahead hall that is full takes an event only once its lines were committed.
 const IS_BOUNDED: [Act; 6] = [
     Act::Accepts(Event::Enter(8)),
     Act::Accepts(Event::Probe(8)),

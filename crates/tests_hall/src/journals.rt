@@ -2,7 +2,7 @@
 
 use commands::{Config, Event, Reply, WorldKind};
 use hall::{Compactor, compacted};
-use journal::{Chronicle, Journal, MOST_WAITING, MemoryDisk, OpenFault, Opened};
+use journal::{Journal, MOST_WAITING, MemoryDisk, OpenFault, Opened, WriteAhead};
 use schedule_player::Service;
 use std::alloc::{AllocError, Global};
 use step_memory::{Refusal, View};
@@ -37,7 +37,7 @@ pub(crate) fn record(alloc: Global, events: usize, more: &[u8]) -> Result<Vec<u8
     Ok(bytes)
 }
 
-/// What is tried of a journal and its chronicle.
+/// What is tried of a journal and its write-ahead hall.
 #[derive(Drop)]
 pub(crate) enum Act {
     /// An event is accepted.
@@ -64,34 +64,34 @@ pub(crate) fn opened(alloc: Global, disk: MemoryDisk) -> Result<Opened<MemoryDis
     }
 }
 
-/// What a chronicle answers an event.
-fn reply_to(chronicle: &mut Chronicle, event: Event) -> Reply<()> {
+/// What a write-ahead hall answers an event.
+fn reply_to(write_ahead: &mut WriteAhead, event: Event) -> Reply<()> {
     let mut view = View::new();
-    chronicle.apply(&(), event, &mut view)
+    write_ahead.apply(&(), event, &mut view)
 }
 
 /// Whether values are accepted until so many lines wait that no more may, and these are no more than may.
-fn fills(chronicle: &mut Chronicle) -> bool {
+fn fills(write_ahead: &mut WriteAhead) -> bool {
     for value in 0..100_000 {
-        if chronicle.is_full() {
-            return chronicle.waiting().len() <= MOST_WAITING;
+        if write_ahead.is_full() {
+            return write_ahead.waiting().len() <= MOST_WAITING;
         }
-        if reply_to(chronicle, Event::Put(8, value)).is_refusal() {
+        if reply_to(write_ahead, Event::Put(8, value)).is_refusal() {
             return false;
         }
     }
     false
 }
 
-/// Whether a hall that is compacted takes the place of a chronicle's, or fails to, as said.
+/// Whether a hall that is compacted takes the place of a write-ahead hall's, or fails to, as said.
 fn compacts(
     alloc: Global,
     journal: &mut Journal<MemoryDisk>,
-    chronicle: &mut Chronicle,
+    write_ahead: &mut WriteAhead,
     done: bool,
 ) -> bool {
-    match compacted(alloc, chronicle.hall()) {
-        Some(hall) => matches!(journal.compact(alloc, chronicle, hall), Ok(true)) == done,
+    match compacted(alloc, write_ahead.hall()) {
+        Some(hall) => matches!(journal.compact(alloc, write_ahead, hall), Ok(true)) == done,
         None => false,
     }
 }
@@ -100,30 +100,30 @@ fn compacts(
 fn compacts_when_due(
     alloc: Global,
     journal: &mut Journal<MemoryDisk>,
-    chronicle: &mut Chronicle,
+    write_ahead: &mut WriteAhead,
 ) -> bool {
     let mut compactor = Compactor::new();
-    let outcome = journal.compact_when_due(alloc, &mut compactor, chronicle);
+    let outcome = journal.compact_when_due(alloc, &mut compactor, write_ahead);
     outcome.is_ok()
 }
 
-/// Whether something is so of a journal and its chronicle.
+/// Whether something is so of a journal and its write-ahead hall.
 fn is_so(
     alloc: Global,
     journal: &mut Journal<MemoryDisk>,
-    chronicle: &mut Chronicle,
+    write_ahead: &mut WriteAhead,
     act: &Act,
 ) -> bool {
     match act {
-        Act::Accepts(event) => !reply_to(chronicle, *event).is_refusal(),
-        Act::Fills => fills(chronicle),
+        Act::Accepts(event) => !reply_to(write_ahead, *event).is_refusal(),
+        Act::Fills => fills(write_ahead),
         Act::WantsRoom(event) => {
-            reply_to(chronicle, *event) == Reply::Refused(Refusal::NoMemory)
+            reply_to(write_ahead, *event) == Reply::Refused(Refusal::NoMemory)
         }
-        Act::Commits => journal.commit(chronicle).is_ok(),
-        Act::Compacts(done) => compacts(alloc, journal, chronicle, *done),
-        Act::CompactsWhenDue => compacts_when_due(alloc, journal, chronicle),
-        Act::Has(events) => chronicle.hall().len() == *events,
+        Act::Commits => journal.commit(write_ahead).is_ok(),
+        Act::Compacts(done) => compacts(alloc, journal, write_ahead, *done),
+        Act::CompactsWhenDue => compacts_when_due(alloc, journal, write_ahead),
+        Act::Has(events) => write_ahead.hall().len() == *events,
     }
 }
 
@@ -131,12 +131,12 @@ fn is_so(
 fn how_many_are_so(
     alloc: Global,
     journal: &mut Journal<MemoryDisk>,
-    chronicle: &mut Chronicle,
+    write_ahead: &mut WriteAhead,
     acts: &[Act],
 ) -> usize {
     let mut count = 0usize;
     for act in acts {
-        if !is_so(alloc, journal, chronicle, act) {
+        if !is_so(alloc, journal, write_ahead, act) {
             return count;
         }
         count = count.saturating_add(1);
@@ -148,9 +148,9 @@ fn how_many_are_so(
 fn tried_in(alloc: Global, opened: Opened<MemoryDisk>, acts: &[Act]) -> (usize, MemoryDisk) {
     let Opened {
         mut journal,
-        mut chronicle,
+        mut write_ahead,
     } = opened;
-    let count = how_many_are_so(alloc, &mut journal, &mut chronicle, acts);
+    let count = how_many_are_so(alloc, &mut journal, &mut write_ahead, acts);
     (count, journal.into_disk())
 }
 

@@ -53,8 +53,8 @@ fn refused(hall: &mut Hall) -> usize {
 #[test]
 fn a_full_history(rt: HostRuntime) {
     let mut hall = hall(&rt, rt.alloc());
-    let told = (fill(&mut hall), refused(&mut hall), hall.len());
-    assert!(rt; told == (true, 7, 1_000_000), "{told:?}");
+    let reported = (fill(&mut hall), refused(&mut hall), hall.len());
+    assert!(rt; reported == (true, 7, 1_000_000), "{reported:?}");
 }
 
 /// What a session does, with the replies: it takes a number, uses its slot, gives it back, and steps.

@@ -63,7 +63,7 @@ impl<R> Gate<R> for Holding {
 
 impl Holding {
     /// How many lines and replies it was told of, and how often it gave up.
-    fn told(&self) -> (u64, u64, u64) {
+    fn reported(&self) -> (u64, u64, u64) {
         (
             self.read.load(Ordering::SeqCst),
             self.answered.load(Ordering::SeqCst),
@@ -165,5 +165,5 @@ fn a_held_connection_holds_no_other(rt: HostRuntime) {
         &listener,
         address.port(),
     );
-    assert!(rt; is_so && gate.told() == (2, 2, 0));
+    assert!(rt; is_so && gate.reported() == (2, 2, 0));
 }

@@ -133,7 +133,7 @@ const ENDINGS: [Ending; 7] = [
 ];
 
 /// A read fault: the whole lines before it are answered, and stand in the history. An end in its place is the end of a line.
-/// A write fault: what went out is a beginning of the text, and what was answered stands in the history.
+/// A write fault: what went out is a prefix of the text, and what was answered stands in the history.
 #[test]
 fn a_fault_over_a_hall(rt: HostRuntime) {
     for (row, ending) in ENDINGS.iter().enumerate() {

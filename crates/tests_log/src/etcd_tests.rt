@@ -131,7 +131,7 @@ fn got_behind(alloc: Global, text: &[u8]) -> Result<Result<bool, StoreFault>, Al
 }
 
 #[test]
-fn a_log_that_went_back_is_told(rt: HostRuntime) {
+fn a_log_that_went_back_is_reported(rt: HostRuntime) {
     assert!(rt; got_behind(rt.alloc(), FOUND) == Ok(Ok(false)));
     assert!(rt; got_behind(rt.alloc(), FOUND_TWO) == Ok(Ok(true)));
     assert!(rt; got_behind(rt.alloc(), TAKEN) == Ok(Err(StoreFault::WentBack)));
@@ -139,7 +139,7 @@ fn a_log_that_went_back_is_told(rt: HostRuntime) {
 }
 
 #[test]
-fn a_quota_that_is_used_up_is_told(rt: HostRuntime) -> Result<(), AllocError> {
+fn a_quota_that_is_used_up_is_reported(rt: HostRuntime) -> Result<(), AllocError> {
     let texts = [NO_SPACE];
     let mut etcd = store(rt.alloc(), &texts)?;
     assert!(rt; etcd.put(42, b"hi") == Err(StoreFault::NoSpace));

@@ -6,7 +6,7 @@ ghost use Rattle.player.specs.Knows.{Knows};
 use crate::log_doubles::Lossy;
 use commands::{Config, WorldKind};
 use hall::Hall;
-use hall_log::{HallMachine, Tape};
+use hall_log::{HallMachine, ReplyQueue};
 use player::{Service, Tried, play_on};
 use replicated_log::{Cause, MemoryStore, Replica, Step, StoreFault};
 use std::alloc::{AllocError, Global};
@@ -26,7 +26,7 @@ const WORDS: [&[u8]; 10] = [
 
 /// What was answered at a place of the log.
 #[derive(Drop)]
-struct Told {
+struct Reported {
     place: u64,
     answer: Vec<u8>,
 }
@@ -36,7 +36,7 @@ struct Told {
 struct Front {
     hall: Replica<HallMachine>,
     batch: Vec<u8>,
-    tape: Tape,
+    reply_queue: ReplyQueue,
 }
 
 // The next drawn number below 64.
@@ -97,20 +97,24 @@ pub(crate) fn answers<D: Service<()>>(
 }
 
 // Tells what was answered at a place, and tells whether anything was.
-fn tell(told: &mut Vec<Told>, place: u64, answer: Option<Vec<u8>>) -> bool {
+fn tell(reported: &mut Vec<Reported>, place: u64, answer: Option<Vec<u8>>) -> bool {
     match answer {
-        Some(answer) => told.push(Told { place, answer }).is_ok(),
+        Some(answer) => reported.push(Reported { place, answer }).is_ok(),
         None => false,
     }
 }
 
 impl Front {
-    // What it answers to what it was asked, by its tape, which says no more then.
+    // What it answers to what it was asked, by its queue of replies, which says no more then.
     fn answer(&mut self, alloc: Global) -> Option<Vec<u8>> {
         let lines = self.batch.get(HEAD..).unwrap_or(&[]);
-        let answer = answers(alloc, &mut self.tape, lines);
+        let answer = answers(alloc, &mut self.reply_queue, lines);
         self.batch.clear();
-        if self.tape.is_used_up() { answer } else { None }
+        if self.reply_queue.is_used_up() {
+            answer
+        } else {
+            None
+        }
     }
 
     // One step for what it was asked. Where all was answered it is asked for more. Whether it went right, an answer that is lost included.
@@ -119,15 +123,15 @@ impl Front {
         alloc: Global,
         state: &mut u64,
         store: &mut Lossy,
-        told: &mut Vec<Told>,
+        reported: &mut Vec<Reported>,
     ) -> bool {
         if self.batch.is_empty() && draw_batch(state, &mut self.batch).is_err() {
             return false;
         }
-        match self.hall.step(store, &self.batch, &mut self.tape) {
+        match self.hall.step(store, &self.batch, &mut self.reply_queue) {
             Ok(Step::Answered) => {
                 let place = self.hall.place().saturating_sub(1);
-                tell(told, place, self.answer(alloc))
+                tell(reported, place, self.answer(alloc))
             }
             Ok(_) | Err(Cause::Store(StoreFault::Lost)) => true,
             Err(_) => false,
@@ -136,9 +140,9 @@ impl Front {
 }
 
 // How many of the answers that were told at a place are this one.
-fn count_at(told: &[Told], place: u64, due: &[u8]) -> usize {
+fn count_at(reported: &[Reported], place: u64, due: &[u8]) -> usize {
     let mut count = 0usize;
-    for one in told {
+    for one in reported {
         if one.place == place && one.answer.as_slice() == due {
             count = count.saturating_add(1);
         }
@@ -147,23 +151,28 @@ fn count_at(told: &[Told], place: u64, due: &[u8]) -> usize {
 }
 
 // How many of the answers that were told at places of a log are what one hall says there.
-fn count_due(alloc: Global, hall: &mut Hall, log: &MemoryStore, told: &[Told]) -> Option<usize> {
+fn count_due(
+    alloc: Global,
+    hall: &mut Hall,
+    log: &MemoryStore,
+    reported: &[Reported],
+) -> Option<usize> {
     let mut count = 0usize;
     for place in 0..log.len() {
         let lines = log.entry(place).unwrap_or(&[]).get(HEAD..).unwrap_or(&[]);
         let due = answers(alloc, hall, lines)?;
-        count = count.saturating_add(count_at(told, place as u64, &due));
+        count = count.saturating_add(count_at(reported, place as u64, &due));
     }
     Some(count)
 }
 
 // Whether all are.
-fn are_due(alloc: Global, log: &MemoryStore, told: &[Told]) -> bool {
+fn are_due(alloc: Global, log: &MemoryStore, reported: &[Reported]) -> bool {
     let Some(config) = config() else {
         return false;
     };
     match Hall::new(alloc, config) {
-        Ok(mut hall) => count_due(alloc, &mut hall, log, told) == Some(told.len()),
+        Ok(mut hall) => count_due(alloc, &mut hall, log, reported) == Some(reported.len()),
         Err(_) => false,
     }
 }
@@ -174,7 +183,7 @@ fn new_front(alloc: Global) -> Option<Front> {
     Some(Front {
         hall: Replica::new(alloc, machine),
         batch: Vec::new(alloc),
-        tape: Tape::new(alloc),
+        reply_queue: ReplyQueue::new(alloc),
     })
 }
 
@@ -194,11 +203,11 @@ fn one_steps(
     present: usize,
     state: &mut u64,
     store: &mut Lossy,
-    told: &mut Vec<Told>,
+    reported: &mut Vec<Reported>,
 ) -> bool {
     let at = drawn(state) as usize % present.max(1);
     match fronts.get_mut(at) {
-        Some(front) => front.step(alloc, state, store, told),
+        Some(front) => front.step(alloc, state, store, reported),
         None => false,
     }
 }
@@ -209,12 +218,12 @@ fn all_step(
     fronts: &mut [Front],
     late: usize,
     store: &mut Lossy,
-    told: &mut Vec<Told>,
+    reported: &mut Vec<Reported>,
 ) -> bool {
     let mut state = store.every;
     for turn in 0..STEPS {
         let present = if turn < late { 1 } else { fronts.len() };
-        if !one_steps(alloc, fronts, present, &mut state, store, told) {
+        if !one_steps(alloc, fronts, present, &mut state, store, reported) {
             return false;
         }
     }
@@ -223,11 +232,11 @@ fn all_step(
 
 // Whether what they answer is what one hall says at that place of the log, and most places were answered.
 fn tell_one_history(alloc: Global, fronts: &mut [Front], late: usize, store: &mut Lossy) -> bool {
-    let mut told = Vec::new(alloc);
-    let right = all_step(alloc, fronts, late, store, &mut told);
-    let most = told.len() + fronts.len();
-    let due = are_due(alloc, &store.store, &told);
-    right && due && STEPS / 9 < told.len() && store.store.len() <= most
+    let mut reported = Vec::new(alloc);
+    let right = all_step(alloc, fronts, late, store, &mut reported);
+    let most = reported.len() + fronts.len();
+    let due = are_due(alloc, &store.store, &reported);
+    right && due && STEPS / 9 < reported.len() && store.store.len() <= most
 }
 
 // Whether so many halls do, over one store that loses each so many answers, and of which all but the first begin late.
@@ -242,9 +251,9 @@ fn is_one_history(alloc: Global, halls: u8, late: usize, every: u64) -> bool {
 /// Two halls; and three of which two start late, over a store that loses answers.
 #[test]
 fn halls_tell_what_one_tells(rt: HostRuntime) {
-    let told = [
+    let reported = [
         is_one_history(rt.alloc(), 2, 0, 0),
         is_one_history(rt.alloc(), 3, STEPS / 9, 3),
     ];
-    assert!(rt; told == [true, true], "{told:?}");
+    assert!(rt; reported == [true, true], "{reported:?}");
 }

@@ -1,5 +1,5 @@
 //! Trials of one log for several machines, of halls that follow it, and of turns whose answers are learnt before, through public calls:
-//! replicas and halls that a drawn schedule interleaves, stores that fail, etcd's answers cut at each byte; and that what is told to a keeper
+//! replicas and halls that a drawn schedule interleaves, stores that fail, etcd's answers cut at each byte; and that what is told to a persister
 //! is just what is taken then, however bytes are cut, and whatever lines are.
 #![tactic(auto)]
 
@@ -8,9 +8,9 @@ mod etcd_tests;
 #[cfg(test)]
 mod front_tests;
 #[cfg(test)]
-mod keeper_tests;
-#[cfg(test)]
 mod log_doubles;
+#[cfg(test)]
+mod persister_tests;
 #[cfg(test)]
 mod replica_tests;
 #[cfg(test)]

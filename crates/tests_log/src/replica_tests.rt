@@ -42,10 +42,10 @@ fn two_members(alloc: Global) -> Result<(usize, usize), AllocError> {
 
 #[test]
 fn what_a_group_answers_stands_in_its_log(rt: HostRuntime) {
-    let told = two_members(rt.alloc());
+    let reported = two_members(rt.alloc());
     assert!(rt;
-        matches!(told, Ok((answered, stored)) if 20 < answered && answered == stored),
-        "{told:?}"
+        matches!(reported, Ok((answered, stored)) if 20 < answered && answered == stored),
+        "{reported:?}"
     );
 }
 
@@ -54,34 +54,34 @@ fn finds_what_was_lost(alloc: Global) -> bool {
     let mut store = Lossy::new(MemoryStore::new(alloc), 1);
     let mut replies = Vec::new(alloc);
     let mut one = replica(alloc, 0);
-    let told = [
+    let reported = [
         one.serve(&mut store, b"1 a", &mut replies),
         one.serve(&mut store, b"1 a", &mut replies),
     ];
     let lost = ServeFault::Unknown(Cause::Store(StoreFault::Lost));
-    told == [Err(lost), Ok(())]
+    reported == [Err(lost), Ok(())]
         && replies.as_slice() == b"\x001 a".as_slice()
         && store.store.len() == 1
 }
 
 /// Whether a replica whose machine was refused a growth answers nothing any more.
-fn is_spoiled(alloc: Global) -> bool {
+fn is_poisoned(alloc: Global) -> bool {
     let mut store = MemoryStore::new(alloc);
     let mut replies = Vec::new(alloc);
     let mut one = replica(alloc, 1);
-    let told = [
+    let reported = [
         one.serve(&mut store, b"1 a", &mut replies),
         one.serve(&mut store, b"2 a", &mut replies),
     ];
     let due = [
         Err(ServeFault::Unknown(Cause::Memory)),
-        Err(ServeFault::Unknown(Cause::Spoiled)),
+        Err(ServeFault::Unknown(Cause::Poisoned)),
     ];
-    told == due && store.len() == 1 && one.is_spoiled() && replies.is_empty()
+    reported == due && store.len() == 1 && one.is_poisoned() && replies.is_empty()
 }
 
 #[test]
 fn replicas_over_stores_that_fail(rt: HostRuntime) {
-    let told = [finds_what_was_lost(rt.alloc()), is_spoiled(rt.alloc())];
-    assert!(rt; told == [true, true], "{told:?}");
+    let reported = [finds_what_was_lost(rt.alloc()), is_poisoned(rt.alloc())];
+    assert!(rt; reported == [true, true], "{reported:?}");
 }

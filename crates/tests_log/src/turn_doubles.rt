@@ -1,10 +1,10 @@
-//! A stream, a service and its keeper that watch what a turn does.
+//! A stream, a service and its persister that watch what a turn does.
 
 ghost use Rattle.std.specs.Prelude.{None, true, ⊤, []};
 ghost use Rattle.commands.specs.declared.reply.Reply.TheVariants.{Ok as Accepted};
 
 use commands::{Command, Event, Reply, WorldKind};
-use event_server::{Ahead, Keep, Stream, Tally};
+use event_server::{Persist, Prefetch, Stream, Tally};
 use held_lines::HeldQuery;
 use player::{Replies, Service, parse_line};
 use std::alloc::{Allocator, Global};
@@ -69,17 +69,17 @@ impl Stream for Piped {
 
 /// A service that was told what it will be asked, and says `ok` to it. What else it is asked makes it astray.
 #[derive(Drop)]
-pub struct Told {
+pub struct Reported {
     lines: Vec<u8>,
     at: usize,
     kind: WorldKind,
     astray: bool,
 }
 
-impl Told {
+impl Reported {
     /// It was told nothing.
-    pub fn new(alloc: Global, kind: WorldKind) -> Told {
-        Told {
+    pub fn new(alloc: Global, kind: WorldKind) -> Reported {
+        Reported {
             lines: Vec::new(alloc),
             at: 0,
             kind,
@@ -101,12 +101,12 @@ impl Told {
     // It is asked this.
     fn ask(&mut self, command: Command) {
         let kind = self.kind;
-        let is_told = parse_line(self.next_line(), kind) == Ok(command);
-        self.astray = self.astray || !is_told;
+        let is_reported = parse_line(self.next_line(), kind) == Ok(command);
+        self.astray = self.astray || !is_reported;
     }
 }
 
-impl<R> Service<R> for Told {
+impl<R> Service<R> for Reported {
     ghost knows = { λ q. true };
 
     ghost may = { λ w q r u. ⊤ };
@@ -124,37 +124,37 @@ impl<R> Service<R> for Told {
     }
 }
 
-/// A keeper that tells its service the lines, and refuses to keep what is not all of them. It loses some batches.
+/// A persister that tells its service the lines, and refuses to keep what is not all of them. It loses some batches.
 #[derive(Drop)]
 pub struct Teller {
     pub most: usize,
     pub loses: u64,
-    pub told: u64,
+    pub reported: u64,
 }
 
-impl Keep<Told> for Teller {
+impl Persist<Reported> for Teller {
     type Fault = &'static str;
 
-    ghost keeps = { λ k w l u. ⊤ };
+    ghost persists = { λ k w l u. ⊤ };
 
-    ghost learns = { λ k w lines l u. ⊤ };
+    ghost prefetches = { λ k w lines l u. ⊤ };
 
     ghost waits = { λ k w l u. ⊤ };
 
     ghost holds = { λ k w. record { pool = record { size = 0; bits = record { first = tt; values = []; bits = [] }; competitors = [] }; values = [] } };
 
-    fn put_held<B: Allocator>(&self, _service: &Told, query: HeldQuery, out: &mut Replies<B>) {
+    fn put_held<B: Allocator>(&self, _service: &Reported, query: HeldQuery, out: &mut Replies<B>) {
         match query {
             HeldQuery::All => out.put(b"ok\n"),
             HeldQuery::Of(_) => out.put(b"none\n"),
         }
     }
 
-    fn is_full(&self, _service: &Told) -> bool {
+    fn is_full(&self, _service: &Reported) -> bool {
         false
     }
 
-    fn keep(&mut self, service: &mut Told) -> Result<(), &'static str> {
+    fn persist(&mut self, service: &mut Reported) -> Result<(), &'static str> {
         if service.astray {
             return Err("it was asked what it was not told");
         }
@@ -164,24 +164,24 @@ impl Keep<Told> for Teller {
         Ok(())
     }
 
-    fn most_ahead(&self) -> Option<usize> {
+    fn most_prefetched(&self) -> Option<usize> {
         Some(self.most)
     }
 
-    fn learn(&mut self, service: &mut Told, lines: &[u8]) -> Result<Ahead, &'static str> {
-        self.told = self.told.saturating_add(1);
+    fn prefetch(&mut self, service: &mut Reported, lines: &[u8]) -> Result<Prefetch, &'static str> {
+        self.reported = self.reported.saturating_add(1);
         service.at = 0;
         service.lines.clear();
-        if self.told == self.loses {
-            return Ok(Ahead::Lost);
+        if self.reported == self.loses {
+            return Ok(Prefetch::Lost);
         }
         if service.lines.extend_from_slice(lines).is_err() {
             return Err("no memory");
         }
-        Ok(Ahead::Known)
+        Ok(Prefetch::Known)
     }
 
-    fn tick(&mut self, _service: &mut Told) -> Result<(), &'static str> {
+    fn tick(&mut self, _service: &mut Reported) -> Result<(), &'static str> {
         Ok(())
     }
 
@@ -189,7 +189,7 @@ impl Keep<Told> for Teller {
         None
     }
 
-    fn tally(&self, _service: &Told) -> Tally {
+    fn tally(&self, _service: &Reported) -> Tally {
         Tally {
             events: 0,
             bytes: 0,

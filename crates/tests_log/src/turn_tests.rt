@@ -1,8 +1,8 @@
 //! Connections over a service that is told before what it is asked.
 
-use crate::turn_doubles::{Piped, Teller, Told};
+use crate::turn_doubles::{Piped, Reported, Teller};
 use commands::WorldKind;
-use event_server::{Batch, Called, Connection, Room, Stage, Wire, turn_ahead};
+use event_server::{Batch, Buffers, Called, Connection, SharedBuffers, Stage, iterate_prefetched};
 use std::alloc::{AllocError, Global};
 use std::process::Abort;
 
@@ -98,9 +98,9 @@ fn make_due(seats: &mut Seats, ready: &mut Vec<usize>) -> Result<(), &'static st
 
 // Turns until all connections are at their end: how many there were.
 fn run(alloc: Global, teller: &mut Teller, seats: &mut Seats) -> Result<usize, &'static str> {
-    let mut told = Told::new(alloc, WorldKind::Rename);
+    let mut reported = Reported::new(alloc, WorldKind::Rename);
     let mut batch = Batch::new(alloc, WorldKind::Rename, teller.most);
-    let Ok(mut room) = Room::new(alloc) else {
+    let Ok(mut room) = SharedBuffers::new(alloc) else {
         return Err("no memory");
     };
     let mut ready = Vec::new(alloc);
@@ -109,7 +109,15 @@ fn run(alloc: Global, teller: &mut Teller, seats: &mut Seats) -> Result<usize, &
         if ready.is_empty() {
             return Ok(turns);
         }
-        match turn_ahead(&(), &mut told, teller, &mut batch, &mut room, seats, &ready)? {
+        match iterate_prefetched(
+            &(),
+            &mut reported,
+            teller,
+            &mut batch,
+            &mut room,
+            seats,
+            &ready,
+        )? {
             Called::Served(called) | Called::Unserved(called) => {
                 if called == 0 {
                     return Err("nobody was called");
@@ -152,8 +160,8 @@ fn connection(
     let bytes = drawn_lines(alloc, draws, sent.lines, sent.quits).expect(rt, "room for lines");
     let mut piped = Piped::new(alloc, bytes, sent.piece);
     piped.fails = sent.fails;
-    let wire = Wire::new(alloc, WorldKind::Rename).ok();
-    Connection::new(piped, wire.expect(rt, "room for a wire"), 0)
+    let buffers = Buffers::new(alloc, WorldKind::Rename).ok();
+    Connection::new(piped, buffers.expect(rt, "room for a wire"), 0)
 }
 
 // Connections that send so, each with a seat.
@@ -172,24 +180,24 @@ type Answered = (usize, usize, bool);
 
 // What connections are answered that are at their end.
 fn answered(seats: &Seats) -> Answered {
-    let mut told = (usize::MAX, 0, false);
+    let mut reported = (usize::MAX, 0, false);
     for seat in seats {
         if let Some(connection) = seat {
             let lines = count_lines(&connection.stream.taken);
-            let is_broken = told.2 || connection.wire.is_broken();
-            told = (told.0.min(lines), told.1.max(lines), is_broken);
+            let is_broken = reported.2 || connection.buffers.is_broken();
+            reported = (reported.0.min(lines), reported.1.max(lines), is_broken);
         }
     }
-    told
+    reported
 }
 
 // What connections that send so are answered, where a batch has so many bytes, and the batch of this number is lost.
-fn told_of(rt: &impl Abort, alloc: Global, sent: &Sent, most: usize, loses: u64) -> Answered {
+fn reported_of(rt: &impl Abort, alloc: Global, sent: &Sent, most: usize, loses: u64) -> Answered {
     let mut seats = seats_of(rt, alloc, sent);
     let mut teller = Teller {
         most,
         loses,
-        told: 0,
+        reported: 0,
     };
     let fault = run(alloc, &mut teller, &mut seats).err();
     assert!(rt; fault.is_none(), "{fault:?}");
@@ -209,15 +217,18 @@ fn of_three(piece: usize, lines: usize) -> Sent {
 
 /// All that was sent is answered, line by line, where bytes come in pieces and a batch has so many bytes.
 #[test]
-fn what_is_told_is_what_is_asked(rt: HostRuntime) {
+fn what_is_reported_is_what_is_asked(rt: HostRuntime) {
     for piece in [1, 2, 7, 50, 1000, 70_000] {
         for most in [101, 300, 60_000] {
-            let told = told_of(&rt, rt.alloc(), &of_three(piece, 40), most, 0);
-            assert!(rt; told == (41, 41, false), "{piece} {most}: {told:?}");
+            let reported = reported_of(&rt, rt.alloc(), &of_three(piece, 40), most, 0);
+            assert!(rt; reported == (41, 41, false), "{piece} {most}: {reported:?}");
         }
     }
-    let told = told_of(&rt, rt.alloc(), &of_three(70_000, 6_000), 65_000, 0);
-    assert!(rt; told == (6_001, 6_001, false), "many lines: {told:?}");
+    let reported = reported_of(&rt, rt.alloc(), &of_three(70_000, 6_000), 65_000, 0);
+    assert!(rt;
+        reported == (6_001, 6_001, false),
+        "many lines: {reported:?}"
+    );
 }
 
 /// Nothing is answered behind `quit`, nor where the batch is lost; and some where a later one is, or where a stream ends in a fault while
@@ -234,14 +245,14 @@ fn what_is_lost_is_not_answered(rt: HostRuntime) {
         fails: true,
         ..OF_ONE
     };
-    let behind = told_of(&rt, rt.alloc(), &quits, 60_000, 0);
-    let lost = told_of(&rt, rt.alloc(), &OF_ONE, 60_000, 1);
+    let behind = reported_of(&rt, rt.alloc(), &quits, 60_000, 0);
+    let lost = reported_of(&rt, rt.alloc(), &OF_ONE, 60_000, 1);
     assert!(rt;
         [behind, lost] == [(22, 22, false), (0, 0, true)],
         "{behind:?} {lost:?}"
     );
-    let later = told_of(&rt, rt.alloc(), &OF_ONE, 60_000, 3);
-    let cut = told_of(&rt, rt.alloc(), &fails, 101, 0);
+    let later = reported_of(&rt, rt.alloc(), &OF_ONE, 60_000, 3);
+    let cut = reported_of(&rt, rt.alloc(), &fails, 101, 0);
     let are_part = 0 < later.0 && later.1 < 41 && 0 < cut.0 && cut.1 < 41;
     assert!(rt; later.2 && are_part, "{later:?} {cut:?}");
 }

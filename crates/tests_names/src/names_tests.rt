@@ -9,11 +9,11 @@ use step_memory::Refusal;
 use word_names::{Dealer, FreshSeat, Names};
 
 /// What a trial tells of what was made: whether it goes so; or why it was not made.
-pub type Told = Result<bool, Refusal>;
+pub type Reported = Result<bool, Refusal>;
 
 /// Stops a trial unless in this case of it, named by a row or a round, what it tells is what is due.
-pub fn same(rt: &impl Abort, case: usize, told: Told, due: Told) {
-    assert_eq!(rt; told, due, "case {case}");
+pub fn same(rt: &impl Abort, case: usize, reported: Reported, due: Reported) {
+    assert_eq!(rt; reported, due, "case {case}");
 }
 
 /// An identity of 64 bits for a seat: the greatest first.
@@ -128,8 +128,8 @@ fn are_names_of(names: &[Option<u64>], count: u64) -> bool {
 fn have_names<R: Threads + Sync>(rt: &R, alloc: Global, count: u64) -> Result<bool, Refusal> {
     let (names, dealer) = Names::new(alloc, count, 64)?;
     let callers = callers_of(alloc, &names, dealer, count)?;
-    let told = thread::map_vec(rt, callers, &|caller| name_of(caller))?;
-    Ok(are_names_of(&told, count))
+    let reported = thread::map_vec(rt, callers, &|caller| name_of(caller))?;
+    Ok(are_names_of(&reported, count))
 }
 
 #[test]

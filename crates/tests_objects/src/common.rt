@@ -4,16 +4,19 @@ use std::process::Abort;
 use step_memory::{Refusal, View};
 
 /// What a trial tells of what was made: whether it goes so; or why it was not made.
-pub type Told = Result<bool, Refusal>;
+pub type Reported = Result<bool, Refusal>;
 
 /// Stops a trial unless in this case of it, named by a size or a row, what it tells is what is due.
-pub fn same(rt: &impl Abort, case: usize, told: Told, due: Told) {
-    assert_eq!(rt; told, due, "case {case}");
+pub fn same(rt: &impl Abort, case: usize, reported: Reported, due: Reported) {
+    assert_eq!(rt; reported, due, "case {case}");
 }
 
 /// What a trial tells of a world that was made, which is lent to it; or why none was made. Here a world is of any type, so that
 /// nothing is proved again of what it holds.
-pub fn lent<W: Drop, F: FnOnce(&mut W) -> bool + Drop>(made: Result<W, Refusal>, trial: F) -> Told
+pub fn lent<W: Drop, F: FnOnce(&mut W) -> bool + Drop>(
+    made: Result<W, Refusal>,
+    trial: F,
+) -> Reported
     requires { F.IsAlwaysCallable trial }
 {
     let mut world = made?;

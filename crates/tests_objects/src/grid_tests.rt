@@ -57,7 +57,7 @@ fn doors_are_numbered_by_diagonals(rt: HostRuntime) {
 #[test]
 fn a_walk_as_a_program(rt: HostRuntime) {
     let mut walker = Walker::new(9, Door::corner());
-    let told = [
+    let reported = [
         (walker.next(), walker.resume(Answer::Done)),
         (walker.next(), walker.resume(Answer::Value(1))),
     ];
@@ -65,5 +65,9 @@ fn a_walk_as_a_program(rt: HostRuntime) {
         (Access::Write(0, 9), Note::Quiet),
         (Access::Read(1), Note::Quiet),
     ];
-    holds(&rt, 2, told == due && walker.next() == Access::Write(2, 9));
+    holds(
+        &rt,
+        2,
+        reported == due && walker.next() == Access::Write(2, 9),
+    );
 }

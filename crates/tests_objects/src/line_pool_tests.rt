@@ -2,7 +2,7 @@
 
 ghost use Rattle.std.specs.Prelude.{◌≡◌};
 
-use crate::common::{Told, count_set, same};
+use crate::common::{Reported, count_set, same};
 use crate::word_pool_tests::{is_clash, marks_of};
 use std::alloc::Global;
 use std::sync::atomic::AtomicU64;
@@ -63,7 +63,7 @@ fn clashes_of_two<R: Threads + Sync>(
 }
 
 /// Whether two threads have distinct small numbers in a line of so many, and no word is set at the end.
-fn two_stay<R: Threads + Sync>(rt: &R, alloc: Global, numbers: u64) -> Told {
+fn two_stay<R: Threads + Sync>(rt: &R, alloc: Global, numbers: u64) -> Reported {
     let marks = marks_of(alloc, numbers)?;
     let (line, mut tickets) = LinePool::new(alloc, numbers)?;
     let clashes = clashes_of_two(rt, &line, &mut tickets, &marks);

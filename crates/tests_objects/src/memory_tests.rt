@@ -56,11 +56,11 @@ fn two_step(world: &mut Worked) -> bool {
         access: Access::TestAndSet(1),
     };
     let asked = [world.begin(10, write), world.begin(20, read)];
-    let told = [world.step(10), world.step(20)];
+    let reported = [world.step(10), world.step(20)];
     let set = [world.set(10, test), world.begin(10, test)];
     let tested = [world.step(10), world.step(10)];
     asked == [Ok(()), Ok(())]
-        && told
+        && reported
             == [
                 Ok(Note::Ended(Answer::Done)),
                 Ok(Note::Ended(Answer::Value(7))),

@@ -1,7 +1,7 @@
 //! Updates and scans over a grid and a tree.
 
 use crate::common::holds;
-use crate::snapshot_tests::{Call, Row, Told, plays};
+use crate::snapshot_tests::{Call, Reported, Row, plays};
 use snapshot_core::SnapWorld;
 use snapshot_places::{Grid, TreePlaces};
 use std::alloc::Global;
@@ -11,16 +11,16 @@ use step_memory::{Place, Refusal};
 
 /// 20 comes while 10 scans in a grid.
 const TWO_IN_A_GRID: &[Row] = &[
-    (10, Call::Begin, Told::Done),
-    (20, Call::Begin, Told::Done),
-    (10, Call::Scan, Told::Refused(Refusal::AlreadyBegun)),
-    (10, Call::Steps(4), Told::Placed(0)),
-    (20, Call::Steps(6), Told::Placed(1)),
-    (10, Call::Scan, Told::Done),
-    (10, Call::Steps(3), Told::Quiet),
-    (20, Call::Update(5), Told::Done),
-    (20, Call::Steps(7), Told::Written),
-    (10, Call::Steps(6), Told::Shown(&[(20, 5)])),
+    (10, Call::Begin, Reported::Done),
+    (20, Call::Begin, Reported::Done),
+    (10, Call::Scan, Reported::Refused(Refusal::AlreadyBegun)),
+    (10, Call::Steps(4), Reported::Placed(0)),
+    (20, Call::Steps(6), Reported::Placed(1)),
+    (10, Call::Scan, Reported::Done),
+    (10, Call::Steps(3), Reported::Quiet),
+    (20, Call::Update(5), Reported::Done),
+    (20, Call::Steps(7), Reported::Written),
+    (10, Call::Steps(6), Reported::Shown(&[(20, 5)])),
 ];
 
 /// The value that was written at a place of a grid.
@@ -50,15 +50,15 @@ fn two_over_a_grid(rt: HostRuntime) -> Result<(), Fail> {
 
 /// 20 comes while 10 scans in a tree.
 const TWO_IN_A_TREE: &[Row] = &[
-    (10, Call::Begin, Told::Done),
-    (20, Call::Begin, Told::Done),
-    (10, Call::Steps(5), Told::Placed(1)),
-    (10, Call::Scan, Told::Done),
-    (10, Call::Steps(4), Told::Quiet),
-    (20, Call::Steps(8), Told::Placed(3)),
-    (20, Call::Update(5), Told::Done),
-    (20, Call::Steps(15), Told::Written),
-    (10, Call::Steps(14), Told::Shown(&[(20, 5)])),
+    (10, Call::Begin, Reported::Done),
+    (20, Call::Begin, Reported::Done),
+    (10, Call::Steps(5), Reported::Placed(1)),
+    (10, Call::Scan, Reported::Done),
+    (10, Call::Steps(4), Reported::Quiet),
+    (20, Call::Steps(8), Reported::Placed(3)),
+    (20, Call::Update(5), Reported::Done),
+    (20, Call::Steps(15), Reported::Written),
+    (10, Call::Steps(14), Reported::Shown(&[(20, 5)])),
 ];
 
 /// A new world over a tree for two.

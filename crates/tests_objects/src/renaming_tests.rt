@@ -1,7 +1,7 @@
 //! Worlds of every size over segments in a row, and two participants there. Those over a grid and over a tree are tried where they are
 //! played as lines, in `tests_player` and by `tests/program`.
 
-use crate::common::{Told, holds, lent, same, view_of};
+use crate::common::{Reported, holds, lent, same, view_of};
 use commands::{Config, WorldKind};
 use rename_core::{RenameWorld, next_proposal};
 use snapshot_core::Fixed;
@@ -62,8 +62,8 @@ fn worlds_of_every_size(rt: HostRuntime) {
         } else {
             Ok(true)
         };
-        let told = lent(world_for(rt.alloc(), most), |world| world.begin(7).is_ok());
-        same(&rt, most as usize, told, due);
+        let reported = lent(world_for(rt.alloc(), most), |world| world.begin(7).is_ok());
+        same(&rt, most as usize, reported, due);
     }
 }
 
@@ -79,7 +79,7 @@ fn the_next_proposal_of_each_rank(rt: HostRuntime) {
 const MOST_PROPOSALS: [u64; 8] = [3, 18, 93, 468, 2_343, 11_718, 58_593, 292_968];
 
 /// Whether nobody of so many can be spent under a round limit.
-fn cannot_spend(most: u64, limit: u64) -> Told {
+fn cannot_spend(most: u64, limit: u64) -> Reported {
     let config = Config::new(WorldKind::Rename, most, 4, limit)?;
     Ok(config.cannot_spend())
 }

@@ -18,7 +18,7 @@ pub enum Call {
 
 /// What a call answers, of steps the last: of a view its pairs.
 #[derive(Clone, Copy, Drop)]
-pub enum Told {
+pub enum Reported {
     Done,
     Quiet,
     Placed(Place),
@@ -28,40 +28,40 @@ pub enum Told {
 }
 
 /// Whether a call that only asks is told so.
-fn is_asked(answer: Result<(), Refusal>, told: Told) -> bool {
-    match told {
-        Told::Done => answer == Ok(()),
-        Told::Refused(refusal) => answer == Err(refusal),
+fn is_asked(answer: Result<(), Refusal>, reported: Reported) -> bool {
+    match reported {
+        Reported::Done => answer == Ok(()),
+        Reported::Refused(refusal) => answer == Err(refusal),
         _ => false,
     }
 }
 
 /// Whether one is at the place that is told.
-fn is_placed(place: Option<Place>, told: Told) -> bool {
-    matches!(told, Told::Placed(want) if place == Some(want))
+fn is_placed(place: Option<Place>, reported: Reported) -> bool {
+    matches!(reported, Reported::Placed(want) if place == Some(want))
 }
 
 /// Whether a step is told so.
-fn is_stepped(answer: &Result<SnapReply, Refusal>, told: Told) -> bool {
-    match (answer, told) {
-        (Ok(SnapReply::Quiet), Told::Quiet) => true,
-        (Ok(SnapReply::Placed(place)), Told::Placed(want)) => *place == want,
-        (Ok(SnapReply::Written), Told::Written) => true,
-        (Ok(SnapReply::View(view)), Told::Shown(pairs)) => view.pairs() == pairs,
-        (Err(refusal), Told::Refused(want)) => *refusal == want,
+fn is_stepped(answer: &Result<SnapReply, Refusal>, reported: Reported) -> bool {
+    match (answer, reported) {
+        (Ok(SnapReply::Quiet), Reported::Quiet) => true,
+        (Ok(SnapReply::Placed(place)), Reported::Placed(want)) => *place == want,
+        (Ok(SnapReply::Written), Reported::Written) => true,
+        (Ok(SnapReply::View(view)), Reported::Shown(pairs)) => view.pairs() == pairs,
+        (Err(refusal), Reported::Refused(want)) => *refusal == want,
         _ => false,
     }
 }
 
 /// Who makes a call, and what it answers.
-pub type Row = (u64, Call, Told);
+pub type Row = (u64, Call, Reported);
 
 /// Whether the last of so many steps is told so, and those before it are quiet.
 fn are_stepped<W: Places + Drop, A: Allocator>(
     world: &mut SnapWorld<W, A>,
     id: u64,
     count: usize,
-    told: Told,
+    reported: Reported,
 ) -> bool
 where
     W::Walker: Copy,
@@ -69,11 +69,11 @@ where
     W::Value: Drop,
 {
     for _ in 1..count {
-        if !is_stepped(&world.step(id), Told::Quiet) {
+        if !is_stepped(&world.step(id), Reported::Quiet) {
             return false;
         }
     }
-    is_stepped(&world.step(id), told)
+    is_stepped(&world.step(id), reported)
 }
 
 /// Whether a call of a participant is told so, over any places.
@@ -83,13 +83,13 @@ where
     W::Walk: Copy,
     W::Value: Drop,
 {
-    let (id, call, told) = *row;
+    let (id, call, reported) = *row;
     match call {
-        Call::Begin => is_asked(world.begin(id), told),
-        Call::Update(value) => is_asked(world.update(id, value), told),
-        Call::Scan => is_asked(world.scan(id), told),
-        Call::Place => is_placed(world.place_of(id), told),
-        Call::Steps(count) => are_stepped(world, id, count, told),
+        Call::Begin => is_asked(world.begin(id), reported),
+        Call::Update(value) => is_asked(world.update(id, value), reported),
+        Call::Scan => is_asked(world.scan(id), reported),
+        Call::Place => is_placed(world.place_of(id), reported),
+        Call::Steps(count) => are_stepped(world, id, count, reported),
     }
 }
 
@@ -125,15 +125,19 @@ const SCHEDULES: &[Schedule] = &[
     Schedule {
         most: 2,
         rows: &[
-            (10, Call::Begin, Told::Done),
-            (20, Call::Begin, Told::Done),
-            (10, Call::Update(5), Told::Done),
-            (10, Call::Steps(5), Told::Written),
-            (20, Call::Scan, Told::Done),
-            (20, Call::Steps(4), Told::Shown(&[(10, 5)])),
-            (20, Call::Steps(1), Told::Refused(Refusal::Finished)),
-            (20, Call::Scan, Told::Done),
-            (20, Call::Update(1), Told::Refused(Refusal::AlreadyBegun)),
+            (10, Call::Begin, Reported::Done),
+            (20, Call::Begin, Reported::Done),
+            (10, Call::Update(5), Reported::Done),
+            (10, Call::Steps(5), Reported::Written),
+            (20, Call::Scan, Reported::Done),
+            (20, Call::Steps(4), Reported::Shown(&[(10, 5)])),
+            (20, Call::Steps(1), Reported::Refused(Refusal::Finished)),
+            (20, Call::Scan, Reported::Done),
+            (
+                20,
+                Call::Update(1),
+                Reported::Refused(Refusal::AlreadyBegun),
+            ),
         ],
         record: Some((10, 5, 1, 0)),
     },
@@ -141,16 +145,16 @@ const SCHEDULES: &[Schedule] = &[
     Schedule {
         most: 2,
         rows: &[
-            (10, Call::Begin, Told::Done),
-            (20, Call::Begin, Told::Done),
-            (10, Call::Update(5), Told::Done),
-            (10, Call::Steps(4), Told::Quiet),
-            (20, Call::Update(9), Told::Done),
-            (20, Call::Steps(5), Told::Written),
-            (20, Call::Scan, Told::Done),
-            (20, Call::Steps(2), Told::Quiet),
-            (10, Call::Steps(1), Told::Written),
-            (20, Call::Steps(4), Told::Shown(&[(10, 5), (20, 9)])),
+            (10, Call::Begin, Reported::Done),
+            (20, Call::Begin, Reported::Done),
+            (10, Call::Update(5), Reported::Done),
+            (10, Call::Steps(4), Reported::Quiet),
+            (20, Call::Update(9), Reported::Done),
+            (20, Call::Steps(5), Reported::Written),
+            (20, Call::Scan, Reported::Done),
+            (20, Call::Steps(2), Reported::Quiet),
+            (10, Call::Steps(1), Reported::Written),
+            (20, Call::Steps(4), Reported::Shown(&[(10, 5), (20, 9)])),
         ],
         record: Some((10, 5, 1, 0)),
     },
@@ -158,18 +162,18 @@ const SCHEDULES: &[Schedule] = &[
     Schedule {
         most: 2,
         rows: &[
-            (10, Call::Begin, Told::Done),
-            (20, Call::Begin, Told::Done),
-            (10, Call::Update(5), Told::Done),
-            (10, Call::Steps(5), Told::Written),
-            (20, Call::Scan, Told::Done),
-            (20, Call::Steps(2), Told::Quiet),
-            (10, Call::Update(6), Told::Done),
-            (10, Call::Steps(5), Told::Written),
-            (20, Call::Steps(2), Told::Quiet),
-            (10, Call::Update(7), Told::Done),
-            (10, Call::Steps(5), Told::Written),
-            (20, Call::Steps(1), Told::Shown(&[(10, 6)])),
+            (10, Call::Begin, Reported::Done),
+            (20, Call::Begin, Reported::Done),
+            (10, Call::Update(5), Reported::Done),
+            (10, Call::Steps(5), Reported::Written),
+            (20, Call::Scan, Reported::Done),
+            (20, Call::Steps(2), Reported::Quiet),
+            (10, Call::Update(6), Reported::Done),
+            (10, Call::Steps(5), Reported::Written),
+            (20, Call::Steps(2), Reported::Quiet),
+            (10, Call::Update(7), Reported::Done),
+            (10, Call::Steps(5), Reported::Written),
+            (20, Call::Steps(1), Reported::Shown(&[(10, 6)])),
         ],
         record: Some((10, 7, 3, 1)),
     },
@@ -177,16 +181,16 @@ const SCHEDULES: &[Schedule] = &[
     Schedule {
         most: 2,
         rows: &[
-            (10, Call::Begin, Told::Done),
-            (20, Call::Begin, Told::Done),
-            (0, Call::Begin, Told::Refused(Refusal::ZeroIdentity)),
-            (10, Call::Begin, Told::Refused(Refusal::AlreadyBegun)),
-            (30, Call::Begin, Told::Refused(Refusal::Full)),
-            (30, Call::Scan, Told::Refused(Refusal::NotBegun)),
-            (30, Call::Update(1), Told::Refused(Refusal::NotBegun)),
-            (30, Call::Steps(1), Told::Refused(Refusal::NotBegun)),
-            (10, Call::Steps(1), Told::Refused(Refusal::Finished)),
-            (20, Call::Place, Told::Placed(1)),
+            (10, Call::Begin, Reported::Done),
+            (20, Call::Begin, Reported::Done),
+            (0, Call::Begin, Reported::Refused(Refusal::ZeroIdentity)),
+            (10, Call::Begin, Reported::Refused(Refusal::AlreadyBegun)),
+            (30, Call::Begin, Reported::Refused(Refusal::Full)),
+            (30, Call::Scan, Reported::Refused(Refusal::NotBegun)),
+            (30, Call::Update(1), Reported::Refused(Refusal::NotBegun)),
+            (30, Call::Steps(1), Reported::Refused(Refusal::NotBegun)),
+            (10, Call::Steps(1), Reported::Refused(Refusal::Finished)),
+            (20, Call::Place, Reported::Placed(1)),
         ],
         record: None,
     },
@@ -194,13 +198,13 @@ const SCHEDULES: &[Schedule] = &[
     Schedule {
         most: 16,
         rows: &[
-            (7, Call::Begin, Told::Done),
-            (7, Call::Update(3), Told::Done),
-            (7, Call::Steps(33), Told::Written),
-            (7, Call::Scan, Told::Done),
-            (7, Call::Steps(32), Told::Shown(&[(7, 3)])),
-            (7, Call::Scan, Told::Done),
-            (7, Call::Steps(32), Told::Shown(&[(7, 3)])),
+            (7, Call::Begin, Reported::Done),
+            (7, Call::Update(3), Reported::Done),
+            (7, Call::Steps(33), Reported::Written),
+            (7, Call::Scan, Reported::Done),
+            (7, Call::Steps(32), Reported::Shown(&[(7, 3)])),
+            (7, Call::Scan, Reported::Done),
+            (7, Call::Steps(32), Reported::Shown(&[(7, 3)])),
         ],
         record: Some((7, 3, 1, 0)),
     },

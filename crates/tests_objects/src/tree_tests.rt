@@ -84,8 +84,8 @@ fn go_right(world: &mut TreeWorld<Global>) -> bool {
         let id = passed.saturating_add(1);
         let _ = world.begin(id);
         let place = Place::from(u64::MAX >> (63 - passed));
-        let told = walked(world, id, passed.saturating_mul(3).saturating_add(5));
-        if told != Ok(Some(place)) || world.step(id) != Err(Refusal::Finished) {
+        let reported = walked(world, id, passed.saturating_mul(3).saturating_add(5));
+        if reported != Ok(Some(place)) || world.step(id) != Err(Refusal::Finished) {
             return false;
         }
     }

@@ -1,6 +1,6 @@
 //! Stays in a pool of words, one after another and by threads at once.
 
-use crate::common::{Told, count_set, holds, same};
+use crate::common::{Reported, count_set, holds, same};
 use std::alloc::{AllocError, Global};
 use std::sync::atomic::AtomicU64;
 use std::sync::atomic::Ordering::SeqCst;
@@ -45,7 +45,7 @@ fn words_at_end(alloc: Global, pool: WordPool<Global>) -> Result<(usize, usize),
 }
 
 /// Whether a pool for so many has as many numbers: as it says, as it gives them, and as its words are set then.
-fn has_numbers(alloc: Global, numbers: u64) -> Told {
+fn has_numbers(alloc: Global, numbers: u64) -> Reported {
     let pool = WordPool::new(alloc, numbers)?;
     let are_given = pool.numbers() == numbers && given_in_turn(&pool) == numbers;
     let ended = words_at_end(alloc, pool)?;
@@ -63,14 +63,18 @@ fn each_number_is_given_in_turn(rt: HostRuntime) {
 #[test]
 fn a_hint_is_tried_first(rt: HostRuntime) -> Result<(), Fail> {
     let pool = WordPool::new(rt.alloc(), 4)?;
-    let told = [
+    let reported = [
         number_in(pool.acquire_near(3)),
         number_in(pool.acquire_near(3)),
         number_in(pool.acquire_near(0)),
         number_in(pool.acquire_near(5)),
         number_in(pool.acquire_near(2)),
     ];
-    holds(&rt, 4, told == [Some(3), Some(1), Some(2), Some(4), None]);
+    holds(
+        &rt,
+        4,
+        reported == [Some(3), Some(1), Some(2), Some(4), None],
+    );
     Ok(())
 }
 
@@ -134,7 +138,7 @@ const STAYS: [(u64, bool); 6] = [
 ];
 
 /// Whether eight threads have distinct numbers in a pool of so many, and give them back.
-fn eight_stay<R: Threads + Sync>(rt: &R, alloc: Global, numbers: u64, near: bool) -> Told {
+fn eight_stay<R: Threads + Sync>(rt: &R, alloc: Global, numbers: u64, near: bool) -> Reported {
     let pool = WordPool::new(alloc, numbers)?;
     let clashes = clashes_of_eight(rt, alloc, &pool, near)?;
     Ok(words_at_end(alloc, pool)? == (numbers as usize, 0) && clashes == 0)

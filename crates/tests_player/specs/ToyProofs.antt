@@ -4,14 +4,14 @@ use Rattle.step_memory.specs.declared.refusal.Refusal.TheVariants as refusal
 use Rattle.commands.specs.declared.event.Event.{Event}
 use Rattle.commands.specs.Replies.{ShownReply}
 use Rattle.commands.specs.declared.reply.Reply.TheVariants as reply
-use Rattle.schedule_player.specs.Talks.{AreOwnersTold}
+use Rattle.schedule_player.specs.Transcripts.{AreOwnersReported}
 use Rattle.commands.specs.Requests.{Request}
 use Rattle.commands.specs.Requests.Request.{Take, OwnerOf}
 use Rattle.player.specs.Runs.{Runs}
 use Rattle.player.specs.RunProofs.{runs-cut}
 use Rattle.tests_player.specs.Toys.{ShelfMay, IsShelfRun}
 use Rattle.player.specs.Turns.{Turn, exchanges}
-use Rattle.player.specs.Turns.Turn.{Answered, Told, Ended, Misread}
+use Rattle.player.specs.Turns.Turn.{Answered, Reported, Ended, Misread}
 use Rattle.schedule_player.specs.Visits.{knows_visits}
 use Rattle.schedule_player.specs.VisitProofs.{no_name, no_name_right, one_no_name}
 
@@ -26,13 +26,13 @@ either w u e r (inr lacked) = inr lacked.0
 pub shelf_lawful : (w u : ℕ) (ts : List Turn) → Runs ShelfMay w ts u → IsShelfRun (exchanges ts)
 shelf_lawful w u [] run = tt
 shelf_lawful w u (Answered x ∷ ts) run = (either w run.0 x.event x.reply run.1, shelf_lawful run.0 u ts run.2)
-shelf_lawful w u (Told n r ∷ ts) run = shelf_lawful run.0 u ts run.2
+shelf_lawful w u (Reported n r ∷ ts) run = shelf_lawful run.0 u ts run.2
 shelf_lawful w u (Ended ∷ ts) run = shelf_lawful w u ts run
 shelf_lawful w u (Misread bad ∷ ts) run = shelf_lawful w u ts run
 
-pub shelf_tells : (most : ℕ) (w u : ℕ) (ts : List Turn) → Runs ShelfMay w ts u → AreOwnersTold most ts
+pub shelf_tells : (most : ℕ) (w u : ℕ) (ts : List Turn) → Runs ShelfMay w ts u → AreOwnersReported most ts
 shelf_tells most w u ts run = λ front back n r is.
-    let cut = runs-cut ShelfMay w u front (Told n r ∷ back) (subst (λ (l : List Turn). Runs ShelfMay w l u) is run) in
+    let cut = runs-cut ShelfMay w u front (Reported n r ∷ back) (subst (λ (l : List Turn). Runs ShelfMay w l u) is run) in
     no_name_right most (exchanges front) cut.0 cut.2.0 n r cut.2.1
 
 pub one_shelf_fresh : (w v : ℕ) → w ≡ 0 → v ≡ 0 → w ≡ v

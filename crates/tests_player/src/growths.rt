@@ -41,15 +41,15 @@ fn refusing(alloc: Global, case: &Case<'_>, growth: u64) -> Played {
 
 /// The line that tells that a line is refused memory.
 fn refused_line(rt: &impl Abort, alloc: Global, line: &[u8], is_kept: bool) -> Vec<u8> {
-    let mut told = Vec::new(alloc);
+    let mut reported = Vec::new(alloc);
     let put = if is_kept {
         let event = line.strip_suffix(b"\n").unwrap_or(line);
-        put_line(&mut told, event, b"refused 12", None)
+        put_line(&mut reported, event, b"refused 12", None)
     } else {
-        told.extend_from_slice(b"refused 12\n")
+        reported.extend_from_slice(b"refused 12\n")
     };
     put.expect(rt, "room for a line");
-    told
+    reported
 }
 
 /// Whether a run writes its text without a fault where the growth of this number is refused.

@@ -2,23 +2,23 @@
 //! have no views but those that are well spelled.
 
 use commands::{Config, Event, WorldKind};
-use run_checker::{Line, Pairs, Reason, Told, first_fault};
+use run_checker::{Line, Pairs, Reason, Reported, first_fault};
 use std::alloc::Global;
 
 /// What a step answers that saw a view of these pairs.
-fn seen(alloc: Global, pairs: &[(u64, u64)]) -> Option<Told> {
+fn seen(alloc: Global, pairs: &[(u64, u64)]) -> Option<Reported> {
     let mut view = Pairs::new(alloc);
     for (id, number) in pairs {
         view.push(*id, *number).ok()?;
     }
-    Some(Told::Saw(view))
+    Some(Reported::Saw(view))
 }
 
 /// A line of a step.
-fn step(id: u64, told: Told) -> Line {
+fn step(id: u64, reported: Reported) -> Line {
     Line {
         event: Event::Step(id),
-        told,
+        reported,
     }
 }
 
@@ -26,7 +26,7 @@ fn step(id: u64, told: Told) -> Line {
 fn begin(id: u64) -> Line {
     Line {
         event: Event::Begin(id),
-        told: Told::Ok,
+        reported: Reported::Ok,
     }
 }
 
@@ -45,8 +45,8 @@ fn fault_of_view(alloc: Global, pairs: &[(u64, u64)]) -> Option<Option<(usize, R
     let lines = [
         begin(10),
         begin(20),
-        step(20, Told::Proposed(1)),
-        step(10, Told::Proposed(1)),
+        step(20, Reported::Proposed(1)),
+        step(10, Reported::Proposed(1)),
         step(10, last),
     ];
     fault_of(alloc, &lines)

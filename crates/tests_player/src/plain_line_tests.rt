@@ -52,9 +52,9 @@ fn read(alloc: Global, lines: &[&[u8]], want: bool) -> usize {
 
 #[test]
 fn lines_as_they_are_written_are_read(rt: HostRuntime) {
-    let told = (
+    let reported = (
         read(rt.alloc(), &READ, true),
         read(rt.alloc(), &OTHERS, false),
     );
-    assert!(rt; told == (13, 6), "{told:?}");
+    assert!(rt; reported == (13, 6), "{reported:?}");
 }

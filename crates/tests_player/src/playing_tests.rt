@@ -140,7 +140,7 @@ fn is_left_by_read(case: &Case<'_>, text: &[u8], at: u64) -> bool {
     text == first_lines(case.text, lines)
 }
 
-/// Whether this is left where the write of this number fails: a beginning of the text, before a read where it is less than the
+/// Whether this is left where the write of this number fails: a prefix of the text, before a read where it is less than the
 /// header of a record.
 fn is_left_by_write(case: &Case<'_>, p: &Played, at: u64) -> bool {
     let header = if case.is_kept { 1 } else { 0 };

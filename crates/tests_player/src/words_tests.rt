@@ -113,7 +113,7 @@ fn drawings_and_servings_are_read(rt: HostRuntime) {
     let drawn = drawing(rt.alloc(), line);
     assert!(rt; drawn == Some((u64::MAX, 64, 1_000_000, 1_000, 64, WorldKind::Tree)));
     let line = "slotctl serve --count 1000000 --workers 16 --port 65535 --world tree";
-    let told = [
+    let reported = [
         serving(rt.alloc(), "slotctl serve"),
         serving(rt.alloc(), line),
     ];
@@ -121,7 +121,7 @@ fn drawings_and_servings_are_read(rt: HostRuntime) {
         Some((WorldKind::Rename, 0, 2, 1)),
         Some((WorldKind::Tree, 65_535, 16, 1_000_000)),
     ];
-    assert!(rt; told == due);
+    assert!(rt; reported == due);
     // No word at all is refused, which no shell can give.
     let none: [&str; 0] = [];
     assert!(rt; matches!(ask(rt.alloc(), &none), Err(Misuse::Words(_))));
@@ -130,7 +130,7 @@ fn drawings_and_servings_are_read(rt: HostRuntime) {
 #[test]
 fn races_are_read(rt: HostRuntime) {
     let most = "slotctl race --threads 16 --rounds 1000000 --seed 18446744073709551615";
-    let told = [
+    let reported = [
         racing(rt.alloc(), "slotctl race"),
         racing(rt.alloc(), most),
         racing(rt.alloc(), "slotctl race --threads 0"),
@@ -144,7 +144,7 @@ fn races_are_read(rt: HostRuntime) {
         None,
         None,
     ];
-    assert!(rt; told == due);
+    assert!(rt; reported == due);
 }
 
 // A line with no option of a hosting, one with each, and what it is kept in.
@@ -153,7 +153,7 @@ fn hostings_are_read(rt: HostRuntime) {
     let line =
         "slotctl host --verbose --idle 31536000 --clients 1000000 --port 65535 --address ::1 --world tree";
     let log = "slotctl host --etcd 10.0.0.1:1,10.0.0.2:1 --prefix a/ --patience 3600 --export";
-    let told = [
+    let reported = [
         hosting(rt.alloc(), "slotctl host", ""),
         hosting(rt.alloc(), line, ""),
         hosting(rt.alloc(), "slotctl host --journal a/b", "a/b"),
@@ -163,5 +163,5 @@ fn hostings_are_read(rt: HostRuntime) {
     let loopback = IpAddr::V6(Ipv6Addr::new(0, 0, 0, 0, 0, 0, 0, 1));
     let plain = Some((here, 0, 10_000, 600, false));
     let verbose = Some((loopback, 65_535, 1_000_000, 31_536_000, true));
-    assert!(rt; told == [plain, verbose, plain, plain]);
+    assert!(rt; reported == [plain, verbose, plain, plain]);
 }

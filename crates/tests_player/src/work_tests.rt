@@ -25,7 +25,7 @@ struct Ending {
     writes: (usize, u64),
     status: u8,
     text: &'static [u8],
-    told: &'static [u8],
+    reported: &'static [u8],
 }
 
 // The status of the program for these words, over any reader and any writer that were not called too often.
@@ -58,8 +58,8 @@ fn ends<T: Threads + Sync>(threads: &T, alloc: Global, ending: &Ending) -> bool 
         &mut writer,
         &mut errors,
     );
-    let is_told = errors.as_slice() == ending.told;
-    writer.into_inner().taken.as_slice() == ending.text && is_told && status == ending.status
+    let is_reported = errors.as_slice() == ending.reported;
+    writer.into_inner().taken.as_slice() == ending.text && is_reported && status == ending.status
 }
 
 // The status of an outcome, or 100 where the caller is left to race, to serve or to host.
@@ -90,7 +90,7 @@ const ENDINGS: [Ending; 11] = [
         writes: ALL,
         status: 0,
         text: b"ok\nquiet\n",
-        told: b"",
+        reported: b"",
     },
     Ending {
         words: &[
@@ -101,7 +101,7 @@ const ENDINGS: [Ending; 11] = [
         writes: ALL,
         status: 0,
         text: b"begin 1\nstep 1\n",
-        told: b"",
+        reported: b"",
     },
     Ending {
         words: &["slotctl", "check"],
@@ -110,7 +110,7 @@ const ENDINGS: [Ending; 11] = [
         writes: ALL,
         status: 0,
         text: b"yes\n",
-        told: b"",
+        reported: b"",
     },
     Ending {
         words: &["slotctl", "show"],
@@ -119,7 +119,7 @@ const ENDINGS: [Ending; 11] = [
         writes: (7, 2),
         status: 3,
         text: b"<!docty",
-        told: WRITE_FAULT,
+        reported: WRITE_FAULT,
     },
     Ending {
         words: &["slotctl", "serve", "--m", "1"],
@@ -128,7 +128,7 @@ const ENDINGS: [Ending; 11] = [
         writes: ALL,
         status: 100,
         text: b"",
-        told: b"",
+        reported: b"",
     },
     Ending {
         words: &["slotctl", "host", "--journal", "a"],
@@ -137,7 +137,7 @@ const ENDINGS: [Ending; 11] = [
         writes: ALL,
         status: 100,
         text: b"",
-        told: b"",
+        reported: b"",
     },
     Ending {
         words: &["slotctl", "play", "--world", "splitter"],
@@ -146,7 +146,7 @@ const ENDINGS: [Ending; 11] = [
         writes: ALL,
         status: 3,
         text: b"ok\nquiet\n",
-        told: READ_FAULT,
+        reported: READ_FAULT,
     },
     Ending {
         words: &["slotctl", "play", "--world", "splitter"],
@@ -155,7 +155,7 @@ const ENDINGS: [Ending; 11] = [
         writes: (7, 2),
         status: 3,
         text: b"ok\nquie",
-        told: WRITE_FAULT,
+        reported: WRITE_FAULT,
     },
     Ending {
         words: &["slotctl", "--help"],
@@ -164,7 +164,7 @@ const ENDINGS: [Ending; 11] = [
         writes: (7, 2),
         status: 3,
         text: b"Plays s",
-        told: WRITE_FAULT,
+        reported: WRITE_FAULT,
     },
     Ending {
         words: &["slotctl", "check"],
@@ -173,7 +173,7 @@ const ENDINGS: [Ending; 11] = [
         writes: (7, 0),
         status: 3,
         text: b"",
-        told: READ_FAULT,
+        reported: READ_FAULT,
     },
     Ending {
         words: &["slotctl", "migrate"],
@@ -182,7 +182,7 @@ const ENDINGS: [Ending; 11] = [
         writes: (7, 3),
         status: 3,
         text: b"{\"format\":\"slo",
-        told: WRITE_FAULT,
+        reported: WRITE_FAULT,
     },
 ];
 
@@ -217,7 +217,7 @@ impl Clock for Work {
 }
 
 // What is told while work takes so many sleeps.
-fn told_of(alloc: Global, sleeps: u64) -> Vec<u8> {
+fn reported_of(alloc: Global, sleeps: u64) -> Vec<u8> {
     let work = Work {
         left: AtomicU64::new(sleeps),
         done: AtomicBool::new(false),
@@ -239,8 +239,8 @@ const TOLD: [(u64, &[u8]); 5] = [
 #[test]
 fn long_work_shows_that_it_goes_on(rt: HostRuntime) {
     for (sleeps, text) in &TOLD {
-        let told = told_of(rt.alloc(), *sleeps);
-        assert!(rt; told.as_slice() == *text, "after {sleeps}");
+        let reported = reported_of(rt.alloc(), *sleeps);
+        assert!(rt; reported.as_slice() == *text, "after {sleeps}");
     }
 }
 

@@ -351,7 +351,7 @@ fn rows() -> &'static [Row] {
 }
 
 #[test]
-fn ways_places_names_numbers_and_values_are_told(rt: HostRuntime) {
+fn ways_places_names_numbers_and_values_are_reported(rt: HostRuntime) {
     for row in rows() {
         row_is_run(&rt, rt.alloc(), row, false);
     }

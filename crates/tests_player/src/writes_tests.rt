@@ -51,7 +51,7 @@ fn written(
     (outcome, writer.into_inner().taken)
 }
 
-/// One write fails, by an error or by taking nothing: all that was taken before is a beginning of the whole.
+/// One write fails, by an error or by taking nothing: all that was taken before is a prefix of the whole.
 fn one_write_fails(
     rt: &impl Abort,
     alloc: Global,

@@ -10,7 +10,7 @@ use Rattle.splitter_grid.specs.Walk.{place_of, place_by}
 use Rattle.splitter_grid.proofs.GridTied.{grid_proved, tied_always, place_always}
 use Rattle.splitter_grid.proofs.Numbers.{number_low}
 use Rattle.word_machine.specs.SeatViews.{own}
-use Rattle.word_machine.specs.Ids.{EndedRun, ClaimId, HasRun, HaveRun, HaveTold}
+use Rattle.word_machine.specs.Ids.{EndedRun, ClaimId, HasRun, HaveRun, HaveReported}
 use Rattle.word_machine.specs.Walks.{walk_law as walks}
 use Rattle.word_grid.specs.Seats as seats
 use Rattle.word_grid.specs.Seats.{EndedWalk, walk_of_run}
@@ -69,8 +69,8 @@ distinct_places a b one other both same =
     both.apart (omega arith)
 
 -- two claims of one place are of one seat
-pub one_seat : (a b : ClaimId ℕ) → HaveTold walks a b → a.outcome ≡ b.outcome → a.number ≡ b.number
-one_seat a b told same =
-    let law = grid_proved.law told.w a.words.size.most told.r told.after in
-    let identity = law.distinct (own a.number) (own b.number) a.outcome told.one (told.other ∙ ap Some (sym same)) in
+pub one_seat : (a b : ClaimId ℕ) → HaveReported walks a b → a.outcome ≡ b.outcome → a.number ≡ b.number
+one_seat a b reported same =
+    let law = grid_proved.law reported.w a.words.size.most reported.r reported.after in
+    let identity = law.distinct (own a.number) (own b.number) a.outcome reported.one (reported.other ∙ ap Some (sym same)) in
     omega arith

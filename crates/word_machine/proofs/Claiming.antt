@@ -7,7 +7,7 @@ use Rattle.atomic_table.proofs.Lists.{at_set}
 use Rattle.atomic_table.specs.Seated.{TableId}
 use Rattle.word_machine.specs.declared.seat_view.Ending.{Ending}
 use Rattle.word_machine.specs.SeatViews.{ending_at, endings_at, endings_of}
-use Rattle.word_machine.specs.Ids.{ClaimId, claim_at, size_in, HaveTold}
+use Rattle.word_machine.specs.Ids.{ClaimId, claim_at, size_in, HaveReported}
 
 module _ {P R V O : Type 0} (law : WordLaw P R V O) where
   -- the rule with other views, each of which is so
@@ -54,8 +54,8 @@ module _ {P R V O : Type 0} (law : WordLaw P R V O) where
           (tells n (length (set s.views seat (view_of m [] (b ∷ [])))) m s.words h.out h.w h.r h.seat_of (a ∷ []) (own.0, tt)))
 
   -- after one list of calls both were told what the claims say
-  pub have_told : ((size : Size) (w : law.State) (r : List (Call law.X)) → law.Holds size w r → Reaches law.machine (law.start_of size) w r) → (m : Size) (a b : ClaimId O) → a.words.size ≡ m → IsUnderRule law (view_of m [] (ending_at a.number a.outcome ∷ ending_at b.number b.outcome ∷ [])) → HaveTold law a b
-  have_told known m a b same u =
+  pub have_reported : ((size : Size) (w : law.State) (r : List (Call law.X)) → law.Holds size w r → Reaches law.machine (law.start_of size) w r) → (m : Size) (a b : ClaimId O) → a.words.size ≡ m → IsUnderRule law (view_of m [] (ending_at a.number a.outcome ∷ ending_at b.number b.outcome ∷ [])) → HaveReported law a b
+  have_reported known m a b same u =
       let all = (u.kept.shown u.seat _ u.there).endings in
       let holds = subst (λ (n : Size). law.Holds n u.kept.w u.kept.r) (sym same) u.kept.holds in
       record {

@@ -31,7 +31,7 @@ module _ {P R V O : Type 0} (program : ProgramSteps P R V O) (law : WordLaw P R 
           in_range = x.below;
           seat_is = refl;
           participant_is = fresh.nobody (own s.number) ∙ sym (ap (λ (t : Stand P O). t.participant) same);
-          outcome_is = fresh.untold (own s.number) ∙ sym (ap (λ (t : Stand P O). t.outcome) same);
+          outcome_is = fresh.unreported (own s.number) ∙ sym (ap (λ (t : Stand P O). t.outcome) same);
           accesses_are = ap (λ (t : Stand P O). t.accesses) same;
           entered_are = (let a = ap (λ (t : Stand P O). t.entered) same in omega arith);
           written_are = ap (λ (t : Stand P O). t.written) same ∙ sym (fresh.unwritten (own s.number));

@@ -13,9 +13,9 @@ module _ {P R V O : Type 0} (law : WordLaw P R V O) where
       (recalls law key m seat slots at.stand st word is)
 
   pub recalled : {S : Type 0} (m : Size) (s i found : ℕ) (st : Step S) (me after : Me S (SeatView P O)) (at : HasRead law m s me) → st.word ≡ slot_start law m s + i → i < law.length → Recalls law st me found after → (after ≡ me) × (found ≡ slice_index (read_in me) i)
-  recalled {S} m s i found st me after at is l told =
+  recalled {S} m s i found st me after at is l reported =
       let long = at.long in
-      (told.0, told.1 at.stand m i (ap (λ (x : Me S (SeatView P O)). x.0) at.me_is) (is ∙ ap (λ (k : ℕ). slot_start law m k + i) (sym at.slot_is)) (omega arith) ∙ ap (λ (x : Me S (SeatView P O)). slice_index (read_in x) i) (sym at.me_is))
+      (reported.0, reported.1 at.stand m i (ap (λ (x : Me S (SeatView P O)). x.0) at.me_is) (is ∙ ap (λ (k : ℕ). slot_start law m k + i) (sym at.slot_is)) (omega arith) ∙ ap (λ (x : Me S (SeatView P O)). slice_index (read_in x) i) (sym at.me_is))
 
 module _ {P R V O : Type 0} (program : ProgramSteps P R V O) (law : WordLaw P R V O) where
   module _ {S : Type 0} (sound : IsSound program law) (key m : Size) (same : m ≡ key) (number written : ℕ) (u : P) (me : Me S (SeatView P O)) (at : Stands program law {S = S} m number written u [] me) where
@@ -48,7 +48,7 @@ module _ {P R V O : Type 0} (program : ProgramSteps P R V O) (law : WordLaw P R 
         (stores program law sound m seat slots number at.accesses at.entered written at.slot at.read at.participant at.goes_on st private value room few)))
 
     pub stored : (st : Step S) (private : List ℕ) (value : ℕ) (x after : Me S (SeatView P O)) → x ≡ prepared private me → Stores st x value after → after ≡ prepared (private ++ value ∷ []) me
-    stored st private value x after is told = told ∙ ap (λ (y : Me S (SeatView P O)). (view_of y.0.size (map (with_word value) y.0.stands) y.0.endings, y.1)) (now_is private x is) ∙ sym (ap (prepared (private ++ value ∷ [])) at.me_is)
+    stored st private value x after is reported = reported ∙ ap (λ (y : Me S (SeatView P O)). (view_of y.0.size (map (with_word value) y.0.stands) y.0.endings, y.1)) (now_is private x is) ∙ sym (ap (prepared (private ++ value ∷ [])) at.me_is)
 
     -- a write of a word
     pub may_put : (seat slots : ℕ) (st : Step S) (x : R) (word stored : ℕ) (value : V) → stored ≡ law.to_word value → word ≡ law.place m x → law.IsRegister m x → law.is_word x ≡ true → law.of_word (law.to_word value) ≡ value → program.next u ≡ Write x value
@@ -68,13 +68,13 @@ module _ {P R V O : Type 0} (program : ProgramSteps P R V O) (law : WordLaw P R 
 
     -- it has written
     pub wrote : (st : Step S) (more named : ℕ) (private : List ℕ) (x after : Me S (SeatView P O)) → x ≡ prepared private me → Writes program law more st x named after → HasGot program law {S = S} Done more me after
-    wrote st more named private x after is told = record {
-      begun = told.begun;
+    wrote st more named private x after is reported = record {
+      begun = reported.begun;
       slot = at.slot;
       read = at.read;
-      is = told.is ∙ ap (λ (y : Me S (SeatView P O)). (view_of y.0.size (map (written_on program law y.0.size more told.begun) y.0.stands) y.0.endings, y.1)) (now_is private x is)
-          ∙ sym (ap (stepped program law Done told.begun more at.slot at.read) at.me_is);
-      under = told.under;
+      is = reported.is ∙ ap (λ (y : Me S (SeatView P O)). (view_of y.0.size (map (written_on program law y.0.size more reported.begun) y.0.stands) y.0.endings, y.1)) (now_is private x is)
+          ∙ sym (ap (stepped program law Done reported.begun more at.slot at.read) at.me_is);
+      under = reported.under;
     }
 
     -- a view with nothing prepared
@@ -83,31 +83,31 @@ module _ {P R V O : Type 0} (program : ProgramSteps P R V O) (law : WordLaw P R 
 
     -- where its register is one word it has heard what the word says
     pub heard_word : (st : Step S) (found : ℕ) (got : V) (after : Me S (SeatView P O)) → Reads program law true st me found after → got ≡ law.of_word found → HasGot program law {S = S} (Value got) 0 me after
-    heard_word st found got after told is = record { begun = told.begun; slot = told.slot; read = told.read; is = subst (λ (v : V). after ≡ stepped program law (Value v) told.begun 0 told.slot told.read me) (told.named.0 ∙ sym is) told.is; under = told.under }
+    heard_word st found got after reported is = record { begun = reported.begun; slot = reported.slot; read = reported.read; is = subst (λ (v : V). after ≡ stepped program law (Value v) reported.begun 0 reported.slot reported.read me) (reported.named.0 ∙ sym is) reported.is; under = reported.under }
 
     -- where its register's word was 0 it has heard what nobody wrote
     pub heard_first : (st : Step S) (found : ℕ) (got : V) (after : Me S (SeatView P O)) → Reads program law false st me found after → found ≡ 0 → got ≡ law.first → HasGot program law {S = S} (Value got) 0 me after
-    heard_first st found got after told none is =
-        let named : Named program law false me.0.size 0 told.value told.slot told.read = subst (λ (k : ℕ). Named program law false me.0.size k told.value told.slot told.read) none told.named in
-        record { begun = told.begun; slot = told.slot; read = told.read; is = subst (λ (v : V). after ≡ stepped program law (Value v) told.begun 0 told.slot told.read me) (named.0 ∙ sym is) told.is; under = told.under }
+    heard_first st found got after reported none is =
+        let named : Named program law false me.0.size 0 reported.value reported.slot reported.read = subst (λ (k : ℕ). Named program law false me.0.size k reported.value reported.slot reported.read) none reported.named in
+        record { begun = reported.begun; slot = reported.slot; read = reported.read; is = subst (λ (v : V). after ≡ stepped program law (Value v) reported.begun 0 reported.slot reported.read me) (named.0 ∙ sym is) reported.is; under = reported.under }
 
     -- elsewhere it may recall a record
     pub has_read : (st : Step S) (s : ℕ) (after : Me S (SeatView P O)) → Reads program law false st me (suc s) after → HasRead law m s after
-    has_read st s after told = record {
-      stand = stand_after program law m (Value told.value) told.begun 0 told.slot told.read (here []);
-      slot_is = told.named.0;
-      within = (let low = told.named.1 in let slot_same = told.named.0 in let seats = ap (λ (x : Me S (SeatView P O)). x.0.size.most * x.0.size.limit) at.me_is in omega arith);
-      long = told.named.2;
-      me_is = told.is ∙ ap (stepped program law (Value told.value) told.begun 0 told.slot told.read) at.me_is;
+    has_read st s after reported = record {
+      stand = stand_after program law m (Value reported.value) reported.begun 0 reported.slot reported.read (here []);
+      slot_is = reported.named.0;
+      within = (let low = reported.named.1 in let slot_same = reported.named.0 in let seats = ap (λ (x : Me S (SeatView P O)). x.0.size.most * x.0.size.limit) at.me_is in omega arith);
+      long = reported.named.2;
+      me_is = reported.is ∙ ap (stepped program law (Value reported.value) reported.begun 0 reported.slot reported.read) at.me_is;
     }
 
     -- and then it has heard that
     pub heard_record : (st : Step S) (s : ℕ) (got : V) (after last : Me S (SeatView P O)) → Reads program law false st me (suc s) after → last ≡ after → got ≡ law.decode (read_in after) → HasGot program law {S = S} (Value got) 0 me last
     unfolding has_read
-    heard_record st s got after last told last_is is =
-        let read_is : read_in after ≡ told.read = ap read_in (has_read st s after told).me_is in
+    heard_record st s got after last reported last_is is =
+        let read_is : read_in after ≡ reported.read = ap read_in (has_read st s after reported).me_is in
         subst (λ (x : Me S (SeatView P O)). HasGot program law {S = S} (Value got) 0 me x) (sym last_is)
-        (record { begun = told.begun; slot = told.slot; read = told.read; is = subst (λ (v : V). after ≡ stepped program law (Value v) told.begun 0 told.slot told.read me) (told.named.3 ∙ ap law.decode (sym read_is) ∙ sym is) told.is; under = told.under })
+        (record { begun = reported.begun; slot = reported.slot; read = reported.read; is = subst (λ (v : V). after ≡ stepped program law (Value v) reported.begun 0 reported.slot reported.read me) (reported.named.3 ∙ ap law.decode (sym read_is) ∙ sym is) reported.is; under = reported.under })
 
     -- a step: what it got, and what its program makes of it
     pub has_stepped : (got answer : Answer V) (more many : ℕ) (new : P) (note : Note O) (after : Me S (SeatView P O)) → HasGot program law {S = S} got more me after → answer ≡ got → many ≡ written + more → new ≡ program.resumed u answer → note ≡ program.note u answer → HasStepped program law {S = S} m number many new note me after

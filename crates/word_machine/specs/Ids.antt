@@ -151,7 +151,7 @@ module _ {P R V O : Type 0} (law : WordLaw P R V O) where
     pub other : law.outcome_of (own b.number) r ≡ Some b.outcome
 
   -- there is one after which both that these claims name were told what they say
-  pub record HaveTold (a b : ClaimId O) : Type 0 where
+  pub record HaveReported (a b : ClaimId O) : Type 0 where
     pub w : law.State
     pub r : List (Call law.X)
     pub holds : law.Holds a.words.size w r

@@ -131,7 +131,7 @@ module _ {P O : Type 0} (program : ProgramSteps P ℕ ℕ O) (local : LocalMachi
           holds = record { may = may; after = new.after; many = ap length new.blank ∙ length-replicate (local.registers size.most) 0 };
           blank = λ x low. ap (λ (values : List ℕ). slice_index_or values x 0) new.blank ∙ get_or-replicate (local.registers size.most) x 0 0 low;
           nobody = new.nobody;
-          untold = new.untold;
+          unreported = new.unreported;
           unwritten = λ q. refl;
         }
 

@@ -106,7 +106,7 @@ module _ {P R V O : Type 0} (program : ProgramSteps P R V O) (law : WordLaw P R 
     pub holds : law.Holds size (law.machine.first (law.start_of size)) []
     pub blank : (x : R) → law.IsRegister size x → law.memory (law.machine.first (law.start_of size)) x ≡ (if law.is_word x then law.of_word 0 else law.first)
     pub nobody : (q : ℕ) → law.self (law.machine.first (law.start_of size)) q ≡ None
-    pub untold : (q : ℕ) → law.outcome_of q [] ≡ None
+    pub unreported : (q : ℕ) → law.outcome_of q [] ≡ None
     pub unwritten : (q : ℕ) → law.written q [] ≡ 0
 
   -- What is proved of it. `takes`: who stands somewhere and has not ended makes one access, as its program says, and begins with it where

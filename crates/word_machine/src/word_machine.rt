@@ -1,7 +1,7 @@
 //! A machine over words, whose registers are words and records.
 
 ghost use Rattle.std.specs.Prelude.{◌≡◌, ◌≢◌, ◌<◌, ◌≤◌, ◌+◌, IfOk, IfErr, IfSome, IfNone, IsSome, ◌↔◌};
-ghost use Rattle.word_machine.specs.Ids.{dealer_of, seat_of, claim_of, running_of, HasRun, HaveRun, HaveTold};
+ghost use Rattle.word_machine.specs.Ids.{dealer_of, seat_of, claim_of, running_of, HasRun, HaveRun, HaveReported};
 ghost use Rattle.word_machine.specs.SeatViews.{own};
 
 use crate::program::WordProgram;
@@ -202,12 +202,12 @@ where
         let number = entered.number;
         let outcome = entered.outcome;
         let mut seat = mem::replace(&mut entered.badge, Badge::blank()).into_seat::<u8>();
-        let told = self.words.tell(&mut seat);
+        let reported = self.words.tell(&mut seat);
         entered.badge = seat.into_badge();
         Claim {
             number,
             outcome,
-            badge: told.into_badge(),
+            badge: reported.into_badge(),
         }
     }
 }
@@ -222,7 +222,7 @@ where
         requires one { one.old.words ≡ self.now }
         requires other { other.old.words ≡ self.now }
         ensures same { (one.new ≡ one.old) × (other.new ≡ other.old) }
-        ensures told { HaveTold P.law one.old other.old }
+        ensures reported { HaveReported P.law one.old other.old }
     {
         let left = mem::replace(&mut one.badge, Badge::blank()).into_seat::<u8>();
         let right = mem::replace(&mut other.badge, Badge::blank()).into_seat::<u8>();

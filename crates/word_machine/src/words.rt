@@ -242,7 +242,7 @@ impl<P: WordProgram, A: Allocator> Words<P, A> {
         requires lone { (s : Stand P P.Output) × (seat.old.me ≡ (lone_view self.now.size s, [])) }
         ensures ours { (seat.new.table_id ≡ self.now.table) × (result.table_id ≡ self.now.table) }
         ensures same { seat.new.me ≡ seat.old.me }
-        ensures told { result.me ≡ (view_of self.now.size [] (endings_of seat.old.me.0.stands), []) }
+        ensures reported { result.me ≡ (view_of self.now.size [] (endings_of seat.old.me.0.stands), []) }
     {
         self.table.shared.split_seat::<Tell>(seat)
     }

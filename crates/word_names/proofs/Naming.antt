@@ -18,12 +18,12 @@ use Rattle.rename_core.specs.RenameObject.{new_object}
 use Rattle.rename_core.specs.Round.{stage_refusal}
 use Rattle.word_machine.specs.declared.size.Size.{Size}
 use Rattle.word_machine.specs.SeatViews.{own}
-use Rattle.word_machine.specs.Ids.{EndedRun, ClaimId, WordsId, HasRun, HaveRun, HaveTold}
+use Rattle.word_machine.specs.Ids.{EndedRun, ClaimId, WordsId, HasRun, HaveRun, HaveReported}
 use Rattle.word_names.specs.NameMachine.{World, Walking, Naming, IsKnown, IsAtStage, names_law, naming_of, start_of}
 use Rattle.word_names.specs.NameLaw.{NameSpec}
 use Rattle.word_names.specs.Seats.{renamed_by, place_or_first, name_or, name_of}
 use Rattle.word_names.specs.Accesses.{place_low}
-use Rattle.word_names.specs.Counting.{law_after, many_run, told_run, told_spent, spent_full, few_proposals}
+use Rattle.word_names.specs.Counting.{law_after, many_run, reported_run, reported_spent, spent_full, few_proposals}
 use Rattle.word_names.specs.Sound.{IsFound, found}
 
 -- who has ended has a place
@@ -68,7 +68,7 @@ module _ (e : EndedRun Naming (Option ℕ)) (h : HasRun names_law e) where
 
   sure : (o : Option ℕ) → e.outcome ≡ o → most_proposals size.most < size.limit → IsSome o
   sure (Some n) is enough = refl
-  sure None is enough = absurd (let spent = told_spent size (own e.number) h.r new_object law.object law.run (h.outcome_is ∙ ap Some is) in let unspent = law.ends.unspent size.most (own e.number) law.ends.roomy enough in cc)
+  sure None is enough = absurd (let spent = reported_spent size (own e.number) h.r new_object law.object law.run (h.outcome_is ∙ ap Some is) in let unspent = law.ends.unspent size.most (own e.number) law.ends.roomy enough in cc)
 
   -- one that is spent has made as many proposals as it may
   full : e.outcome ≡ None → e.records ≡ size.limit
@@ -83,7 +83,7 @@ module _ (e : EndedRun Naming (Option ℕ)) (h : HasRun names_law e) where
   name_law identity = record {
     counted = h.counted;
     spent = full;
-    named = λ n is. (let range = law.in_range (own e.number) n (told_run size (own e.number) n h.r new_object law.object law.run (h.outcome_is ∙ ap Some is)) in let all = many in (range.0, (let high = range.1 in omega arith)));
+    named = λ n is. (let range = law.in_range (own e.number) n (reported_run size (own e.number) n h.r new_object law.object law.run (h.outcome_is ∙ ap Some is)) in let all = many in (range.0, (let high = range.1 in omega arith)));
     placed = low_place size h.w h.r h.holds (own e.number) e.program h.stands;
     sure = sure e.outcome refl;
     at_most = (let few = h.holds.few (own e.number) in let made = h.accesses_are in omega arith);
@@ -94,8 +94,8 @@ module _ (a b : EndedRun Naming (Option ℕ)) (one : HasRun names_law a) (other 
   both_named : (n : ℕ) → a.outcome ≡ Some n → b.outcome ≡ Some n → ⊥
   both_named n x y =
       let all = law_after a.words.size both.w both.r both.after in
-      let p = told_run a.words.size (own a.number) n both.r new_object all.object all.run (both.one ∙ ap Some x) in
-      let q = told_run a.words.size (own b.number) n both.r new_object all.object all.run (both.other ∙ ap Some y) in
+      let p = reported_run a.words.size (own a.number) n both.r new_object all.object all.run (both.one ∙ ap Some x) in
+      let q = reported_run a.words.size (own b.number) n both.r new_object all.object all.run (both.other ∙ ap Some y) in
       let identity = all.one_to_one (own a.number) (own b.number) n p q in
       both.apart (omega arith)
 
@@ -119,11 +119,11 @@ module _ (a b : EndedRun Naming (Option ℕ)) (one : HasRun names_law a) (other 
   distinct_names x y = distinct_at a.outcome b.outcome refl refl
 
 -- two claims of one name are of one seat
-pub one_seat : (a b : ClaimId (Option ℕ)) → HaveTold names_law a b → (n : ℕ) → a.outcome ≡ Some n → b.outcome ≡ Some n → a.number ≡ b.number
-one_seat a b told n x y =
-    let law = law_after a.words.size told.w told.r told.after in
-    let p = told_run a.words.size (own a.number) n told.r new_object law.object law.run (told.one ∙ ap Some x) in
-    let q = told_run a.words.size (own b.number) n told.r new_object law.object law.run (told.other ∙ ap Some y) in
+pub one_seat : (a b : ClaimId (Option ℕ)) → HaveReported names_law a b → (n : ℕ) → a.outcome ≡ Some n → b.outcome ≡ Some n → a.number ≡ b.number
+one_seat a b reported n x y =
+    let law = law_after a.words.size reported.w reported.r reported.after in
+    let p = reported_run a.words.size (own a.number) n reported.r new_object law.object law.run (reported.one ∙ ap Some x) in
+    let q = reported_run a.words.size (own b.number) n reported.r new_object law.object law.run (reported.other ∙ ap Some y) in
     let identity = law.one_to_one (own a.number) (own b.number) n p q in
     omega arith
 

@@ -20,7 +20,7 @@ use Rattle.snapshot_core.specs.declared.client.Pending.{Pending}
 use Rattle.snapshot_core.specs.declared.client.Pending.TheVariants.{Placing as OnWay, Write as Writing}
 use Rattle.snapshot_core.specs.Client.{access_for, note_for, placed_note, note_after}
 use Rattle.snapshot_core.specs.Scan.{scan_view}
-use Rattle.snapshot_core.specs.SnapWorld.{told}
+use Rattle.snapshot_core.specs.SnapWorld.{reported}
 use Rattle.snapshot_places.specs.declared.grid_register.GridRegister.{GridRegister}
 use Rattle.snapshot_places.specs.declared.grid_register.GridRegister.TheVariants.{Door, Segment}
 use Rattle.snapshot_places.specs.declared.grid_register.GridValue.{GridValue}
@@ -119,7 +119,7 @@ module _ (size : Size) where
   -- a record is written just where a proposal is told
   module _ (c : Walking) (r : Round) (p limit : ℕ) where
     abbrev Matches : Answer GridValue → Pending → Type 0
-    Matches got z = is_proposal (followed r p (told (note_for grid_places.walker grid_places.walks c z got)) limit).reply ≡ records_in naming_steps names_law (access_for grid_places.walker grid_places.place_of grid_places.walks c z)
+    Matches got z = is_proposal (followed r p (reported (note_for grid_places.walker grid_places.walks c z got)) limit).reply ≡ records_in naming_steps names_law (access_for grid_places.walker grid_places.place_of grid_places.walks c z)
 
     no_record : (a : Access ℕ ℕ) → records_in naming_steps names_law (door_access a) ≡ 0
     no_record (Read x) = refl
@@ -128,7 +128,7 @@ module _ (size : Size) where
     no_record (Clear x) = refl
     no_record Idle = refl
 
-    no_proposal : (n : Note ℕ) → is_proposal (followed r p (told (placed_note n)) limit).reply ≡ 0
+    no_proposal : (n : Note ℕ) → is_proposal (followed r p (reported (placed_note n)) limit).reply ≡ 0
     no_proposal Quiet = refl
     no_proposal (Said s) = refl
     no_proposal (Ended s) = refl
@@ -139,11 +139,11 @@ module _ (size : Size) where
       | true ↦ elim (nat_le limit r.count) as (λ b. let f : Follow = cond b (spent_by r) (saw_by r p view) in is_proposal f.reply ≡ 0) [ true ↦ refl | false ↦ refl ]
     ]
 
-    scans_none : (v : Option (List (ℕ × ℕ))) → is_proposal (followed r p (told (note_after v None)) limit).reply ≡ 0
+    scans_none : (v : Option (List (ℕ × ℕ))) → is_proposal (followed r p (reported (note_after v None)) limit).reply ≡ 0
     scans_none None = refl
     scans_none (Some view) = seen_none view
 
-    updates_none : (n : ℕ) (v : Option (List (ℕ × ℕ))) → is_proposal (followed r p (told (note_after v (Some n))) limit).reply ≡ 0
+    updates_none : (n : ℕ) (v : Option (List (ℕ × ℕ))) → is_proposal (followed r p (reported (note_after v (Some n))) limit).reply ≡ 0
     updates_none n None = refl
     updates_none n (Some view) = refl
 

@@ -155,27 +155,27 @@ module _ (size : Size) where
     kept_run (h ∷ r) o end run has = kept_run r (after o h) end run.1 (kept_call o h run.0 has)
 
     -- whoever was told a name has it
-    told_own : (o : RenameObject) (q : ℕ) (reply : StepReply) → q ≡ p → outcome_in (note_of reply) ≡ Some (Some n) → (after_step o q reply).name p ≡ Some n
-    told_own o q Quiet same e = absurd (cc)
-    told_own o q (Placed place) same e = absurd (cc)
-    told_own o q (Proposed m) same e = absurd (cc)
-    told_own o q (Saw view) same e = absurd (cc)
-    told_own o q (Named m view) same e = ap (set_at o.name q (Some m)) (sym same) ∙ set_at-same o.name q (Some m) ∙ (let both : m ≡ n = cc in ap Some both)
-    told_own o q Spent same e = absurd (cc)
+    reported_own : (o : RenameObject) (q : ℕ) (reply : StepReply) → q ≡ p → outcome_in (note_of reply) ≡ Some (Some n) → (after_step o q reply).name p ≡ Some n
+    reported_own o q Quiet same e = absurd (cc)
+    reported_own o q (Placed place) same e = absurd (cc)
+    reported_own o q (Proposed m) same e = absurd (cc)
+    reported_own o q (Saw view) same e = absurd (cc)
+    reported_own o q (Named m view) same e = ap (set_at o.name q (Some m)) (sym same) ∙ set_at-same o.name q (Some m) ∙ (let both : m ≡ n = cc in ap Some both)
+    reported_own o q Spent same e = absurd (cc)
 
-    told_call : (o : RenameObject) (h : Call StepReply) → outcome_by p h ≡ Some (Some n) → (after o h).name p ≡ Some n
-    told_call o (Began q reply) e = absurd (cc)
-    told_call o (Stepped q (Err why)) e = absurd (cc)
-    told_call o (Stepped q (Ok reply)) e = elim (eqb_tells q p) [
-      | inl same ↦ told_own o q reply same.1 (rw same.0 at e)
+    reported_call : (o : RenameObject) (h : Call StepReply) → outcome_by p h ≡ Some (Some n) → (after o h).name p ≡ Some n
+    reported_call o (Began q reply) e = absurd (cc)
+    reported_call o (Stepped q (Err why)) e = absurd (cc)
+    reported_call o (Stepped q (Ok reply)) e = elim (eqb_tells q p) [
+      | inl same ↦ reported_own o q reply same.1 (rw same.0 at e)
       | inr other ↦ absurd (let never : None ≡ Some (Some n) = rw other.0 at e in cc)
     ]
 
-    pub told_run : (r : List (Call StepReply)) (o end : RenameObject) → Run after (Allows terms) o r end → outcome_of p r ≡ Some (Some n) → end.name p ≡ Some n
-    told_run [] o end run e = absurd (cc)
-    told_run (h ∷ r) o end run e = elim (outcome_by p h) as (λ x. outcome_by p h ≡ x → first_of x (outcome_of p r) ≡ Some (Some n) → end.name p ≡ Some n) [
-      | None ↦ λ _ later. told_run r (after o h) end run.1 later
-      | Some y ↦ λ is now. kept_run r (after o h) end run.1 (told_call o h (is ∙ now))
+    pub reported_run : (r : List (Call StepReply)) (o end : RenameObject) → Run after (Allows terms) o r end → outcome_of p r ≡ Some (Some n) → end.name p ≡ Some n
+    reported_run [] o end run e = absurd (cc)
+    reported_run (h ∷ r) o end run e = elim (outcome_by p h) as (λ x. outcome_by p h ≡ x → first_of x (outcome_of p r) ≡ Some (Some n) → end.name p ≡ Some n) [
+      | None ↦ λ _ later. reported_run r (after o h) end run.1 later
+      | Some y ↦ λ is now. kept_run r (after o h) end run.1 (reported_call o h (is ∙ now))
     ] refl e
 
   -- as many have begun as calls let in
@@ -217,25 +217,25 @@ module _ (size : Size) where
     spent_run [] o end run is = ap (λ (x : RenameObject). x.spent p) run ∙ is
     spent_run (h ∷ r) o end run is = spent_run r (after o h) end run.1 (spent_call o h is)
 
-    told_spent_own : (o : RenameObject) (q : ℕ) (reply : StepReply) → q ≡ p → outcome_in (note_of reply) ≡ Some None → (after_step o q reply).spent p ≡ true
-    told_spent_own o q Quiet same e = absurd (cc)
-    told_spent_own o q (Placed place) same e = absurd (cc)
-    told_spent_own o q (Proposed m) same e = absurd (cc)
-    told_spent_own o q (Saw view) same e = absurd (cc)
-    told_spent_own o q (Named m view) same e = absurd (cc)
-    told_spent_own o q Spent same e = ap (set_at o.spent q true) (sym same) ∙ set_at-same o.spent q true
+    reported_spent_own : (o : RenameObject) (q : ℕ) (reply : StepReply) → q ≡ p → outcome_in (note_of reply) ≡ Some None → (after_step o q reply).spent p ≡ true
+    reported_spent_own o q Quiet same e = absurd (cc)
+    reported_spent_own o q (Placed place) same e = absurd (cc)
+    reported_spent_own o q (Proposed m) same e = absurd (cc)
+    reported_spent_own o q (Saw view) same e = absurd (cc)
+    reported_spent_own o q (Named m view) same e = absurd (cc)
+    reported_spent_own o q Spent same e = ap (set_at o.spent q true) (sym same) ∙ set_at-same o.spent q true
 
-    told_spent_call : (o : RenameObject) (h : Call StepReply) → outcome_by p h ≡ Some None → (after o h).spent p ≡ true
-    told_spent_call o (Began q reply) e = absurd (cc)
-    told_spent_call o (Stepped q (Err why)) e = absurd (cc)
-    told_spent_call o (Stepped q (Ok reply)) e = elim (eqb_tells q p) [
-      | inl same ↦ told_spent_own o q reply same.1 (rw same.0 at e)
+    reported_spent_call : (o : RenameObject) (h : Call StepReply) → outcome_by p h ≡ Some None → (after o h).spent p ≡ true
+    reported_spent_call o (Began q reply) e = absurd (cc)
+    reported_spent_call o (Stepped q (Err why)) e = absurd (cc)
+    reported_spent_call o (Stepped q (Ok reply)) e = elim (eqb_tells q p) [
+      | inl same ↦ reported_spent_own o q reply same.1 (rw same.0 at e)
       | inr other ↦ absurd (let never : None ≡ Some None = rw other.0 at e in cc)
     ]
 
-    pub told_spent : (r : List (Call StepReply)) (o end : RenameObject) → Run after (Allows terms) o r end → outcome_of p r ≡ Some None → end.spent p ≡ true
-    told_spent [] o end run e = absurd (cc)
-    told_spent (h ∷ r) o end run e = elim (outcome_by p h) as (λ x. outcome_by p h ≡ x → first_of x (outcome_of p r) ≡ Some None → end.spent p ≡ true) [
-      | None ↦ λ _ later. told_spent r (after o h) end run.1 later
-      | Some y ↦ λ is now. spent_run r (after o h) end run.1 (told_spent_call o h (is ∙ now))
+    pub reported_spent : (r : List (Call StepReply)) (o end : RenameObject) → Run after (Allows terms) o r end → outcome_of p r ≡ Some None → end.spent p ≡ true
+    reported_spent [] o end run e = absurd (cc)
+    reported_spent (h ∷ r) o end run e = elim (outcome_by p h) as (λ x. outcome_by p h ≡ x → first_of x (outcome_of p r) ≡ Some None → end.spent p ≡ true) [
+      | None ↦ λ _ later. reported_spent r (after o h) end run.1 later
+      | Some y ↦ λ is now. spent_run r (after o h) end run.1 (reported_spent_call o h (is ∙ now))
     ] refl e

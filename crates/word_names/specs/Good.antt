@@ -10,7 +10,7 @@ use Rattle.snapshot_core.specs.declared.client.SnapReply.TheVariants.{Quiet as S
 use Rattle.snapshot_core.specs.declared.scan.Scan.{Scan}
 use Rattle.snapshot_core.specs.Client.{is_placed, placed_note, scan_resumed, scan_note, pending_after, note_after, updating, scanning}
 use Rattle.snapshot_core.specs.Scan.{scan_from, met, met_at, view_at, is_second_change, is_clean, walked_on, ended_collect, goes_after, goes_view, scan_after, scan_view}
-use Rattle.snapshot_core.specs.SnapWorld.{told}
+use Rattle.snapshot_core.specs.SnapWorld.{reported}
 use Rattle.snapshot_places.specs.declared.grid_register.GridValue.{GridValue}
 use Rattle.snapshot_places.specs.declared.grid_walk.GridWalk.{GridWalk}
 use Rattle.snapshot_places.specs.declared.grid_walker.GridWalker.{GridWalker}
@@ -110,22 +110,22 @@ module _ (size : Size) (may : MayStart size) where
 
   -- a read of a scan that goes on, or ends
   pub scan_step : (c : Walking) (r : Round) (p : ℕ) (got : GridValue) → r.stage ≡ Looking → c.walk ≡ first_walk size → c.pending ≡ Scans → IsScanning size c → is_some (grid_place c.walker) ≡ true → c.updates ≡ r.count → r.count ≤ size.limit
-      → Comes (scan_resumed grid_walks c got None) r p (told (scan_note grid_walks c got None))
-  scan_step c r p got stage walk pending i at updates few = elim (scan_view grid_walks c.scan got) as (λ v. scan_view grid_walks c.scan got ≡ v → Comes (record c { scan = scan_after grid_walks c.scan got c.walk; pending = pending_after v None c.pending }) r p (told (note_after v None))) [
+      → Comes (scan_resumed grid_walks c got None) r p (reported (scan_note grid_walks c got None))
+  scan_step c r p got stage walk pending i at updates few = elim (scan_view grid_walks c.scan got) as (λ v. scan_view grid_walks c.scan got ≡ v → Comes (record c { scan = scan_after grid_walks c.scan got c.walk; pending = pending_after v None c.pending }) r p (reported (note_after v None))) [
     | None ↦ λ e. record { walk = walk; few = few; at = rw stage (pending, subst (λ (k : GridWalk). IsIn (scan_after grid_walks c.scan got k).walk) (sym walk) (scan_in c.scan got i e), at, updates) }
     | Some view ↦ λ _. seen (record c { scan = scan_after grid_walks c.scan got c.walk; pending = Nothing }) r p view walk refl at updates few
   ] refl
 
   pub update_step : (c : Walking) (r : Round) (p n : ℕ) (got : GridValue) → r.stage ≡ Proposing n → c.walk ≡ first_walk size → c.pending ≡ Update n → IsScanning size c → is_some (grid_place c.walker) ≡ true → c.updates ≡ r.count + 1 → r.count < size.limit
-      → Comes (scan_resumed grid_walks c got (Some n)) r p (told (scan_note grid_walks c got (Some n)))
-  update_step c r p n got stage walk pending i at updates room = elim (scan_view grid_walks c.scan got) as (λ v. scan_view grid_walks c.scan got ≡ v → Comes (record c { scan = scan_after grid_walks c.scan got c.walk; pending = pending_after v (Some n) c.pending }) r p (told (note_after v (Some n)))) [
+      → Comes (scan_resumed grid_walks c got (Some n)) r p (reported (scan_note grid_walks c got (Some n)))
+  update_step c r p n got stage walk pending i at updates room = elim (scan_view grid_walks c.scan got) as (λ v. scan_view grid_walks c.scan got ≡ v → Comes (record c { scan = scan_after grid_walks c.scan got c.walk; pending = pending_after v (Some n) c.pending }) r p (reported (note_after v (Some n)))) [
     | None ↦ λ e. record { walk = walk; few = omega arith; at = rw stage (inl (pending, subst (λ (k : GridWalk). IsIn (scan_after grid_walks c.scan got k).walk) (sym walk) (scan_in c.scan got i e)), at, updates, room) }
     | Some view ↦ λ _. record { walk = walk; few = omega arith; at = rw stage (inr (view, refl), at, updates, room) }
   ] refl
 
   -- a step on the way to its place
   pub way_step : (c : Walking) (r : Round) (p : ℕ) (u : GridWalker) (note : Note ℕ) → ((x : ℕ) → (note ≡ Ended x) ↔ (grid_place u ≡ Some x)) → r.stage ≡ Placing → c.walk ≡ first_walk size → c.pending ≡ OnWay → c.updates ≡ 0 → r.count ≡ 0
-      → Comes (record c { walker = u; pending = cond (is_placed note) Nothing c.pending }) r p (told (placed_note note))
+      → Comes (record c { walker = u; pending = cond (is_placed note) Nothing c.pending }) r p (reported (placed_note note))
   way_step c r p u Quiet ended stage walk pending updates zero = record { walk = walk; few = omega arith; at = rw stage (pending, nowhere (grid_place u) refl, updates, zero) } where
     nowhere : (o : Option ℕ) → grid_place u ≡ o → grid_place u ≡ None
     nowhere None e = e

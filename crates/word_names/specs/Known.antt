@@ -8,7 +8,7 @@ use Rattle.step_memory.proofs.SetAtLemmas.{set_at-as_is}
 use Rattle.snapshot_core.specs.declared.client.Pending.{Pending}
 use Rattle.snapshot_core.specs.declared.client.Pending.TheVariants.{Nothing, Write as Writing}
 use Rattle.snapshot_core.specs.Client.{is_idle, is_placed, placed_note, access_for, after_for, note_for, record_of}
-use Rattle.snapshot_core.specs.SnapWorld.{told, clients_over, ways_of, way_now}
+use Rattle.snapshot_core.specs.SnapWorld.{reported, clients_over, ways_of, way_now}
 use Rattle.snapshot_places.specs.declared.grid_register.GridRegister.{GridRegister}
 use Rattle.snapshot_places.specs.declared.grid_register.GridValue.{GridValue}
 use Rattle.snapshot_places.specs.declared.grid_walk.GridWalk.{GridWalk}
@@ -33,8 +33,8 @@ W = grid_places
 -- an answer to its next access leaves a client and a round that go together so
 module _ (size : Size) (may : MayStart size) (c : Walking) (r : Round) (p : ℕ) (k : IsPaired size c r) (m : GridState) where
   abbrev Answered : Pending → Type 0
-  Answered z = IsPaired size (wished (followed r p (told (note_for W.walker W.walks c z (answer_from (register_of m) (access_for W.walker W.place_of W.walks c z)))) size.limit).wish (after_for W.walker W.walks c z (answer_from (register_of m) (access_for W.walker W.place_of W.walks c z))))
-      (followed r p (told (note_for W.walker W.walks c z (answer_from (register_of m) (access_for W.walker W.place_of W.walks c z)))) size.limit).round
+  Answered z = IsPaired size (wished (followed r p (reported (note_for W.walker W.walks c z (answer_from (register_of m) (access_for W.walker W.place_of W.walks c z)))) size.limit).wish (after_for W.walker W.walks c z (answer_from (register_of m) (access_for W.walker W.place_of W.walks c z))))
+      (followed r p (reported (note_for W.walker W.walks c z (answer_from (register_of m) (access_for W.walker W.place_of W.walks c z)))) size.limit).round
 
   pub answered_at : (s : Stage) → r.stage ≡ s → stage_refusal s ≡ None → IsAtStage size c r.count s → Answered c.pending
   answered_at Placing stage goes at = subst Answered (sym at.0) (way_step size may c r p (record { walker = _ }) (Rattle.splitter_grid.specs.Walk.walker_note c.walker.walker (word_answer (answer_from (register_of m) (door_access (Rattle.splitter_grid.specs.Walk.next_access c.walker.walker))))) (ended_at_place c.walker.walker (word_answer (answer_from (register_of m) (door_access (Rattle.splitter_grid.specs.Walk.next_access c.walker.walker))))) stage k.walk at.0 at.2 at.3)

@@ -6,7 +6,7 @@ use Rattle.step_memory.specs.declared.note.Note.TheVariants.{Quiet as Silent, En
 use Rattle.step_memory.specs.Steps.{ProgramSteps}
 use Rattle.snapshot_core.specs.declared.client.Client.{Client}
 use Rattle.snapshot_core.specs.declared.client.SnapReply.{SnapReply}
-use Rattle.snapshot_core.specs.SnapWorld.{told}
+use Rattle.snapshot_core.specs.SnapWorld.{reported}
 use Rattle.rename_core.specs.declared.reply.Reply.TheVariants.{Quiet, Placed, Proposed, Saw, Named, Spent}
 use Rattle.rename_core.specs.declared.round.Follow.{Follow}
 use Rattle.rename_core.specs.Locality.{wished}
@@ -26,7 +26,7 @@ note_of Spent = Ended None
 module _ {U K R V : Type 0} (clients : ProgramSteps (Client U K) R V SnapReply) where
   -- what follows the answer to its access
   abbrev pub follow_on : Renamer U K → Answer V → Follow
-  follow_on x got = followed x.round x.identity (told (clients.note x.client got)) x.limit
+  follow_on x got = followed x.round x.identity (reported (clients.note x.client got)) x.limit
 
   abbrev pub resumed_on : Renamer U K → Answer V → Renamer U K
   resumed_on x got = record {

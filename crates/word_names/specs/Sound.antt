@@ -10,7 +10,7 @@ use Rattle.step_memory.specs.Calls.Call.{Began}
 use Rattle.step_memory.specs.Participant.{participant_of, beginner}
 use Rattle.step_memory.proofs.MachineLemmas.{after_none}
 use Rattle.step_memory.proofs.WorldKeeps.{steps_of-push, begun_in-push, first_of-none}
-use Rattle.snapshot_core.specs.SnapWorld.{told, clients_over, ways_of, way_now}
+use Rattle.snapshot_core.specs.SnapWorld.{reported, clients_over, ways_of, way_now}
 use Rattle.snapshot_places.specs.declared.grid_register.GridRegister.{GridRegister}
 use Rattle.snapshot_places.specs.declared.grid_register.GridRegister.TheVariants.{Door, Segment}
 use Rattle.snapshot_places.specs.declared.grid_register.GridValue.{GridValue}
@@ -99,7 +99,7 @@ module _ (size : Size) (w : World) (r : List (Call StepReply)) (h : IsKnown size
             ∙ served_wrote size w.snap.memory (h.consistent.doors.registers ∙ ap (λ (n : ℕ). n * (n + 1)) h.grid_most) (h.consistent.segments ∙ ap segments_for h.grid_most) y value (subst (IsServed size) is served);
         spared = λ y s. ap (λ (m : GridState). (register_of m y).0) done.memory ∙ ap (λ (z : GridValue × Bool). z.0) (others_kept w.snap.memory (access_of grid_places v.program) y s);
         mine = (λ i. naming_at p (done.limit i) (option_map (λ z. z.program) (done.client i)) (option_map (λ z. z.program) (done.round_now i))) ∙ ap (λ (c : Walking). naming_at p w.limit (Some c) (Some (follow size w r h p v u here round goes).round)) done.program_is
-            ∙ ap (λ (b : Bool). Some (record { identity = p; program = resumed_on (clients_over grid_places) x (got_in grid_places w.snap.memory v.program); ended = b })) (ends_so u.program p w.limit (told ((clients_over grid_places).note v.program (got_in grid_places w.snap.memory v.program))) goes)
+            ∙ ap (λ (b : Bool). Some (record { identity = p; program = resumed_on (clients_over grid_places) x (got_in grid_places w.snap.memory v.program); ended = b })) (ends_so u.program p w.limit (reported ((clients_over grid_places).note v.program (got_in grid_places w.snap.memory v.program))) goes)
             ∙ ap (λ (g : Answer GridValue). Some (moved naming_steps names_law p x g)) (sym same_answer);
         others = λ q n. (λ i. naming_at q (done.limit i) (option_map (λ z. z.program) ((done.others q n).0 i)) (option_map (λ z. z.program) ((done.others q n).1 i)));
         own_steps = (let push = steps_of-push p r said in let one : steps_by p said ≡ 1 = rw itself refl in omega arith);
@@ -144,7 +144,7 @@ module _ (size : Size) (w : World) (r : List (Call StepReply)) (h : IsKnown size
         others = λ q n. o.others q n ∙ (λ i. naming_at q w.limit (option_map (λ z. z.program) ((other q n).0 i)) (option_map (λ z. z.program) ((other q n).1 i)));
         own_steps = (let push = steps_of-push p r began in let more = o.own_steps in omega arith);
         steps = λ q n. (let push = steps_of-push q r began in let more = o.steps q n in omega arith);
-        own_outcome_is = λ untold. o.own_outcome_is (outcome_pushed p r began ∙ first_of-none (outcome_of p r) ∙ untold);
+        own_outcome_is = λ unreported. o.own_outcome_is (outcome_pushed p r began ∙ first_of-none (outcome_of p r) ∙ unreported);
         outcomes = λ q n. o.outcomes q n ∙ outcome_pushed q r began ∙ first_of-none (outcome_of q r);
         own_written = (let push = proposals_pushed p r began in let more = o.own_written in omega arith);
         written = λ q n. (let push = proposals_pushed q r began in let more = o.written q n in omega arith);
@@ -191,7 +191,7 @@ fresh size may = record {
   };
   blank = λ x there. blank size x;
   nobody = λ q. refl;
-  untold = λ q. refl;
+  unreported = λ q. refl;
   unwritten = λ q. refl;
 }
 

@@ -20,7 +20,7 @@ use Rattle.snapshot_core.specs.declared.client.Pending.{Pending}
 use Rattle.snapshot_core.specs.declared.client.SnapReply.{SnapReply}
 use Rattle.snapshot_core.specs.declared.client.SnapReply.TheVariants.{Quiet as Silent, Placed as HasPlace, Written, View as Viewed}
 use Rattle.snapshot_core.specs.Client.{is_idle}
-use Rattle.snapshot_core.specs.SnapWorld.{told, clients_over, ways_of, way_now}
+use Rattle.snapshot_core.specs.SnapWorld.{reported, clients_over, ways_of, way_now}
 use Rattle.snapshot_places.specs.declared.grid_register.GridValue.{GridValue}
 use Rattle.snapshot_places.specs.GridState.{GridState}
 use Rattle.snapshot_places.specs.GridTies.{IsGridFor, grid_places}
@@ -83,7 +83,7 @@ module _ (size : Size) (w : World) (r : List (Call StepReply)) (h : IsKnown size
   awake = h.awake p v u here round (ap is_some goes)
 
   abbrev pub follow : Follow
-  follow = followed u.program p (told ((clients_over grid_places).note v.program (got_in grid_places w.snap.memory v.program))) w.limit
+  follow = followed u.program p (reported ((clients_over grid_places).note v.program (got_in grid_places w.snap.memory v.program))) w.limit
 
   abbrev pub new : World
   new = after_follow grid_places w p follow
@@ -105,7 +105,7 @@ module _ (size : Size) (w : World) (r : List (Call StepReply)) (h : IsKnown size
   paired_now =
       let k = h.paired p v u here round in
       let now = answered_at size h.may v.program u.program p k w.snap.memory u.program.stage refl goes k.at in
-      subst (λ (c : Walking). IsPaired size c follow.round) (sym step.program_is) (subst (λ (l : ℕ). let f : Follow = followed u.program p (told ((clients_over grid_places).note v.program (got_in grid_places w.snap.memory v.program))) l in IsPaired size (wished f.wish ((clients_over grid_places).resumed v.program (got_in grid_places w.snap.memory v.program))) f.round) (sym h.limit) now)
+      subst (λ (c : Walking). IsPaired size c follow.round) (sym step.program_is) (subst (λ (l : ℕ). let f : Follow = followed u.program p (reported ((clients_over grid_places).note v.program (got_in grid_places w.snap.memory v.program))) l in IsPaired size (wished f.wish ((clients_over grid_places).resumed v.program (got_in grid_places w.snap.memory v.program))) f.round) (sym h.limit) now)
 
   ways_now : ways_of new.snap.participants ≡ set_at (ways_of w.snap.participants) p (Some ((clients_over grid_places).resumed v.program (got_in grid_places w.snap.memory v.program)).walker)
   ways_now = fun_ext (λ q. elim (eqb_tells q p) [

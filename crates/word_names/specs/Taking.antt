@@ -13,7 +13,7 @@ use Rattle.snapshot_core.specs.declared.client.Client.{Client}
 use Rattle.snapshot_core.specs.declared.client.SnapReply.{SnapReply}
 use Rattle.snapshot_core.specs.Client.{is_idle, scanning, updating}
 use Rattle.snapshot_core.specs.Places.{KnownPlaces}
-use Rattle.snapshot_core.specs.SnapWorld.{SnapState, asked, clients_over, told, scan_refusal_by, update_refusal_by, snap_answer, after_snap_step}
+use Rattle.snapshot_core.specs.SnapWorld.{SnapState, asked, clients_over, reported, scan_refusal_by, update_refusal_by, snap_answer, after_snap_step}
 use Rattle.snapshot_core.proofs.SnapWorldLemmas.{busy_answer, busy_state}
 use Rattle.rename_core.specs.declared.round.Follow.{Follow}
 use Rattle.rename_core.specs.declared.round.Round.{Round}
@@ -76,7 +76,7 @@ module _ {S R V U K : Type 0} (W : KnownPlaces S R V U K) (w : RenameState S U K
   got = got_in W w.snap.memory c
 
   abbrev reply : SnapReply
-  reply = told ((clients_over W).note c got)
+  reply = reported ((clients_over W).note c got)
 
   abbrev follow : Follow
   follow = followed u.program p reply w.limit
@@ -87,8 +87,8 @@ module _ {S R V U K : Type 0} (W : KnownPlaces S R V U K) (w : RenameState S U K
   round_is : program_of p w.rounds ≡ Some u.program
   round_is = ap (option_map (λ z. z.program)) round
 
-  told_is : snap_answer W w.snap p ≡ Ok reply
-  told_is = busy_answer W w.snap p c (sym client_is) busy ∙ ap (reply_of told) (going_answer (clients_over W) W.memory w.snap p v here awake)
+  reported_is : snap_answer W w.snap p ≡ Ok reply
+  reported_is = busy_answer W w.snap p c (sym client_is) busy ∙ ap (reply_of reported) (going_answer (clients_over W) W.memory w.snap p v here awake)
 
   abbrev next_who : Participant (Client U K)
   next_who = resumed (clients_over W) v got
@@ -97,10 +97,10 @@ module _ {S R V U K : Type 0} (W : KnownPlaces S R V U K) (w : RenameState S U K
   stepped_is = busy_state W w.snap p c (sym client_is) busy ∙ going_after (clients_over W) W.memory w.snap p v here awake
 
   pub answer_is : rename_answer W w p ≡ Ok follow.reply
-  answer_is = rw (round_is, unclosed, told_is) refl
+  answer_is = rw (round_is, unclosed, reported_is) refl
 
   pub after_is : after_rename_step W w p ≡ after_follow W w p follow
-  after_is = rw (round_is, unclosed, told_is) refl
+  after_is = rw (round_is, unclosed, reported_is) refl
 
   own_identity : v.identity ≡ p
   own_identity = identity_of p w.snap.participants v here

@@ -83,8 +83,8 @@ where
         ensures after { self.new ≡ resumed_on (client_steps U.steps U.place_of K.walks) self.old got }
         ensures note { result ≡ note_of (reply_on (client_steps U.steps U.place_of K.walks) self.old got) }
     {
-        let told = SnapReply::of_step(self.client.resume(got));
-        let follow = self.round.followed(self.identity, told, self.limit);
+        let reported = SnapReply::of_step(self.client.resume(got));
+        let follow = self.round.followed(self.identity, reported, self.limit);
         ask(&mut self.client, follow.wish);
         self.round = follow.round;
         note_of_reply(follow.reply)

@@ -8,5 +8,5 @@ abbrev pub IsNextOf : DealerId → DealerId → SeatId → Type 0
 IsNextOf before after s = (s ≡ seat_of before.grid before.dealt) × (after ≡ dealer_of before.grid (before.dealt + 1))
 
 -- a walk has ended in this grid at the place of which this is the number, from 1, as its law says
-abbrev pub IsToldAs : ℕ → GridId → EndedWalk → Type 0
-IsToldAs number grid e = (place_of e + 1 ≡ number) × (e.grid ≡ grid) × WalkSpec e
+abbrev pub IsReportedAs : ℕ → GridId → EndedWalk → Type 0
+IsReportedAs number grid e = (place_of e + 1 ≡ number) × (e.grid ≡ grid) × WalkSpec e

@@ -2,8 +2,8 @@
 
 ghost use Rattle.std.specs.Prelude.{◌≡◌, ◌≢◌, ◌≤◌, IfSome, IsSome, IsSomeAnd, None, Some, true, false};
 ghost use Rattle.std.specs.Arc.{arc_value};
-ghost use Rattle.word_pool_c.specs.Grids.{IsToldAs};
-ghost use Rattle.word_pool_c.specs.Told.{DealtNext};
+ghost use Rattle.word_pool_c.specs.Grids.{IsReportedAs};
+ghost use Rattle.word_pool_c.specs.Reported.{DealtNext};
 ghost use Rattle.word_pool_c.specs.declared.grid_member.GridMember.{GridMember};
 
 use crate::grid_handle::GridHandle;
@@ -112,7 +112,7 @@ pub extern "C" fn word_grid_join(
 pub extern "C" fn word_grid_enter(alloc: Global, handle: &mut GridHandle) -> u64
     ghost grid: { GridMember }
     requires held { handle.old.grid ≡ Some grid }
-    ensures place { result ≢ 0 → IsSomeAnd handle.new.grid (λ m. IsSomeAnd m.entered (IsToldAs result (arc_value grid.grid))) }
+    ensures place { result ≢ 0 → IsSomeAnd handle.new.grid (λ m. IsSomeAnd m.entered (IsReportedAs result (arc_value grid.grid))) }
     ensures some { result ≢ 0 → IsSome grid.seat }
     ensures spent { IsSomeAnd handle.new.grid (λ m. m.seat ≡ None) }
     ensures none { result ≡ 0 → grid.seat ≡ None }

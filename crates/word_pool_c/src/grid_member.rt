@@ -3,7 +3,7 @@
 ghost use Rattle.std.specs.Prelude.{◌≡◌, ◌≢◌, ◌≤◌, ◌⊎◌, IfNone, IfSome, IsSome, IsSomeAnd, None};
 ghost use Rattle.std.specs.Arc.{arc_value};
 ghost use Rattle.std.proofs.Props.{props};
-ghost use Rattle.word_pool_c.specs.Grids.{IsNextOf, IsToldAs};
+ghost use Rattle.word_pool_c.specs.Grids.{IsNextOf, IsReportedAs};
 
 use std::alloc::Global;
 use std::sync::Arc;
@@ -42,7 +42,7 @@ impl GridMember {
     pub fn enter(&mut self) -> u64
         ensures grid { arc_value self.new.grid ≡ arc_value self.old.grid }
         ensures spent { self.new.seat ≡ None }
-        ensures place { result ≢ 0 → IsSomeAnd self.new.entered (IsToldAs result (arc_value self.new.grid)) }
+        ensures place { result ≢ 0 → IsSomeAnd self.new.entered (IsReportedAs result (arc_value self.new.grid)) }
         ensures some { result ≢ 0 → IsSomeAnd self.old.seat (λ s. IsSomeAnd self.new.entered (λ e. e.number ≡ s.number)) }
         ensures none { result ≡ 0 → (self.old.seat ≡ None) × (self.new.entered ≡ self.old.entered) }
     {

@@ -21,7 +21,7 @@
 
 ghost use Rattle.std.specs.Prelude.{◌≡◌, ◌≢◌, ◌≤◌, ◌⊎◌, IfSome, IsSome, IsSomeAnd, None, Some, true, false};
 ghost use Rattle.std.specs.Arc.{arc_value};
-ghost use Rattle.word_pool_c.specs.Told.{HasReceiptOf, HoldsNumber, WasRefused};
+ghost use Rattle.word_pool_c.specs.Reported.{HasReceiptOf, HoldsNumber, WasRefused};
 ghost use Rattle.word_pool_c.specs.declared.member.Member.{Member};
 
 pub mod grid;

@@ -2,7 +2,7 @@
 
 ghost use Rattle.std.specs.Prelude.{◌≡◌, ◌≢◌, ◌≤◌, ◌⊎◌, IfSome, IsSome, IsSomeAnd, None, Some, true, false};
 ghost use Rattle.std.specs.Arc.{arc_value};
-ghost use Rattle.word_pool_c.specs.Told.{HasTicketOf, HoldsInLine};
+ghost use Rattle.word_pool_c.specs.Reported.{HasTicketOf, HoldsInLine};
 ghost use Rattle.word_pool_c.specs.declared.line_member.LineMember.{LineMember};
 
 use crate::line_handle::LineHandle;

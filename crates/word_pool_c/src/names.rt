@@ -2,7 +2,7 @@
 
 ghost use Rattle.std.specs.Prelude.{◌≡◌, ◌≢◌, ◌≤◌, IfSome, IsSome, IsSomeAnd, None, Some, true, false};
 ghost use Rattle.std.specs.Arc.{arc_value};
-ghost use Rattle.word_pool_c.specs.Named.{IsToldName};
+ghost use Rattle.word_pool_c.specs.Named.{IsReportedName};
 ghost use Rattle.word_pool_c.specs.declared.names_member.NamesMember.{NamesMember};
 ghost use Rattle.word_names.specs.Seats.{IsSize};
 
@@ -121,7 +121,7 @@ pub extern "C" fn word_names_name(alloc: Global, handle: &mut NamesHandle) -> u6
     ghost names: { NamesMember }
     requires held { handle.old.names ≡ Some names }
     ensures names { IsSomeAnd handle.new.names (λ m. arc_value m.names ≡ arc_value names.names) }
-    ensures name { result ≢ 0 → IsSomeAnd handle.new.names (λ m. IsSomeAnd m.renamed (IsToldName result (arc_value names.names))) }
+    ensures name { result ≢ 0 → IsSomeAnd handle.new.names (λ m. IsSomeAnd m.renamed (IsReportedName result (arc_value names.names))) }
     ensures own { IfSome names.seat (λ s. IsSomeAnd handle.new.names (λ m. IsSomeAnd m.renamed (λ e. (e.number ≡ s.number) × (e.identity ≡ s.identity)))) }
     ensures same { names.seat ≡ None → IsSomeAnd handle.new.names (λ m. m.renamed ≡ names.renamed) }
     ensures none { result ≡ 0 → (names.seat ≡ None) × (names.renamed ≡ None) }

@@ -3,7 +3,7 @@
 ghost use Rattle.std.specs.Prelude.{◌≡◌, ◌≢◌, ◌≤◌, IfSome, IsSome, IsSomeAnd, None};
 ghost use Rattle.std.specs.Arc.{arc_value};
 ghost use Rattle.std.proofs.Props.{props};
-ghost use Rattle.word_pool_c.specs.Named.{IsToldName};
+ghost use Rattle.word_pool_c.specs.Named.{IsReportedName};
 ghost use Rattle.word_names.specs.Seats.{is_known};
 
 use std::alloc::Global;
@@ -43,7 +43,7 @@ impl NamesMember {
     pub fn name(&mut self) -> u64
         ensures names { arc_value self.new.names ≡ arc_value self.old.names }
         ensures spent { self.new.seat ≡ None }
-        ensures name { result ≢ 0 → IsSomeAnd self.new.renamed (IsToldName result (arc_value self.new.names)) }
+        ensures name { result ≢ 0 → IsSomeAnd self.new.renamed (IsReportedName result (arc_value self.new.names)) }
         ensures same { self.old.seat ≡ None → self.new.renamed ≡ self.old.renamed }
         ensures own { IfSome self.old.seat (λ s. IsSomeAnd self.new.renamed (λ e. (e.number ≡ s.number) × (e.identity ≡ s.identity))) }
         ensures none { result ≡ 0 → (self.old.seat ≡ None) × (self.old.renamed ≡ None) }

@@ -1,6 +1,6 @@
 -- a record, as it is written, is a header and a line for each exchange, which says it
 use Rattle.std.proofs.Common.{◌≡◌, ℕ, ◌+◌, ◌^◌, ◌<◌, ◌≤◌, true, List, [], ◌∷◌, ◌++◌, length, map, flat_map, Option, Some, None, option_and_then, codes, decimal, IsUtf8, refl, ap, ◌∙◌, arith, append_assoc, length-append}
-use Rattle.record_lines.proofs.Common.{list_all, nat_tests, IsUtf8-append, are_ascii, IsUtf8-are_ascii, WorldKind, ShownReply, event_words, has_no_lf, with_ends, reply_words, Two, told_with, SaysSizes, is_plain, IsEventLine, IsHeaderLine, IsPlainView}
+use Rattle.record_lines.proofs.Common.{list_all, nat_tests, IsUtf8-append, are_ascii, IsUtf8-are_ascii, WorldKind, ShownReply, event_words, has_no_lf, with_ends, reply_words, Two, reported_with, SaysSizes, is_plain, IsEventLine, IsHeaderLine, IsPlainView}
 use Rattle.commands.specs.declared.config.Config.{Config}
 use Rattle.commands.specs.ConfigProofs.{few_take_part}
 use Rattle.commands.specs.declared.exchange.Exchange.{Exchange}
@@ -9,8 +9,8 @@ use Rattle.commands.specs.Config.{facts_of, gives_names, world_name}
 use Rattle.commands.specs.KindProofs.{name_has}
 use Rattle.player.specs.Records.{header_line, name_view, exchange_line, turn_record, record_of}
 use Rattle.player.specs.Turns.{Turn, exchanges}
-use Rattle.player.specs.Turns.Turn.{Answered, Told, Ended, Misread}
-use Rattle.record_lines.specs.declared.told.Told.{Told as Words}
+use Rattle.player.specs.Turns.Turn.{Answered, Reported, Ended, Misread}
+use Rattle.record_lines.specs.declared.reported.Reported.{Reported as Words}
 use Rattle.record_lines.specs.Lines.{line_of}
 use Rattle.record_lines.specs.Records.{IsRecordOf, record_lines, AreRead}
 use Rattle.record_lines.proofs.Pieces.{lines_cut}
@@ -75,19 +75,19 @@ module _ (kind : WorldKind) (desk : gives_names kind ≡ true) where
       let replied = reply_words x.reply in
       let shown = shown_of x.reply in
       let plain = event_plain x.event e in
-      let told = reply_plain x.reply r in
+      let reported = reply_plain x.reply r in
       let beside = shown_plain x.reply r in
       record {
         short = omega (arith, line_length asked replied shown, event_short x.event e, reply_short x.reply r, shown_short x.reply r);
         value = line_data asked replied shown;
-        json = record { utf8 = line_holds IsUtf8 IsUtf8-append (λ xs a n. IsUtf8-are_ascii xs a) plain_utf8 asked replied shown plain told beside; reads = read_line_text asked replied shown plain told beside };
+        json = record { utf8 = line_holds IsUtf8 IsUtf8-append (λ xs a n. IsUtf8-are_ascii xs a) plain_utf8 asked replied shown plain reported beside; reads = read_line_text asked replied shown plain reported beside };
         says = record {
           asked = asked;
           replied = replied;
           shown = shown;
           texts = texts_are asked replied shown;
           event_is = event_means kind desk x.event e;
-          told_is = ap (λ (o : Option Words). option_and_then (λ t. told_with Two t shown) o) (reply_tells x.reply r) ∙ shown_tells x.reply r;
+          reported_is = ap (λ (o : Option Words). option_and_then (λ t. reported_with Two t shown) o) (reply_tells x.reply r) ∙ shown_tells x.reply r;
         };
       }
 
@@ -150,7 +150,7 @@ line_ended x rest =
 rows_ended : (ts : List Turn) → flat_map turn_record ts ≡ with_ends (map row_of (exchanges ts))
 rows_ended [] = refl
 rows_ended (Answered x ∷ ts) = ap (λ (l : List ℕ). exchange_line x ++ l) (rows_ended ts) ∙ line_ended x (with_ends (map row_of (exchanges ts)))
-rows_ended (Told n r ∷ ts) = rows_ended ts
+rows_ended (Reported n r ∷ ts) = rows_ended ts
 rows_ended (Ended ∷ ts) = rows_ended ts
 rows_ended (Misread bad ∷ ts) = rows_ended ts
 

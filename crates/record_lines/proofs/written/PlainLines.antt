@@ -1,11 +1,11 @@
 -- lines that are spelled as records are written are objects of their texts
 use Rattle.std.proofs.Common.{◌≡◌, ℕ, true, List, [], ◌++◌, Option, Some, None, Result, Ok, Err, refl, sym, ap, ◌∙◌, append_assoc, codes, IsUtf8, MatchOption}
-use Rattle.record_lines.proofs.Common.{IfOk, list_all, AllocError, IsUtf8-append, IsUtf8-are_ascii, Data, WorldKind, Version, Line, Told, Event}
+use Rattle.record_lines.proofs.Common.{IfOk, list_all, AllocError, IsUtf8-append, IsUtf8-are_ascii, Data, WorldKind, Version, Line, Reported, Event}
 use Rattle.serde_json.specs.Read.{read}
 use Rattle.record_lines.specs.Json.{is_plain, AreTexts, HasViewText, text_count}
 use Rattle.record_lines.specs.RecordLine.{SaysByTexts, SaysLine}
 use Rattle.record_lines.specs.Lines.{line}
-use Rattle.record_lines.specs.PlainLine.{SpellsLine, SpellsEvent, ending, IsPlainView, SpellsTold, SpellsReply}
+use Rattle.record_lines.specs.PlainLine.{SpellsLine, SpellsEvent, ending, IsPlainView, SpellsReported, SpellsReply}
 use Rattle.record_lines.proofs.written.Texts.{line_data, line_text, read_line_text, plain_utf8}
 
 abbrev pub front : List ℕ
@@ -47,8 +47,8 @@ texts_are c r None = record { keys = refl; command_is = refl; reply_is = refl; v
 texts_are c r (Some v) = record { keys = refl; command_is = refl; reply_is = refl; view_is = refl }
 
 -- a line that begins and ends so says its event and what it ends with tells
-module _ (kind : WorldKind) (version : Version) (bytes : List ℕ) (e : Event) (text : List ℕ) (t : Told) (a : SpellsEvent kind bytes e text) where
-  pub line_spelled : SpellsTold version text t → SpellsLine kind version bytes (line e t)
+module _ (kind : WorldKind) (version : Version) (bytes : List ℕ) (e : Event) (text : List ℕ) (t : Reported) (a : SpellsEvent kind bytes e text) where
+  pub line_spelled : SpellsReported version text t → SpellsLine kind version bytes (line e t)
   line_spelled b =
       let c = a.asked in
       let r = b.replied in
@@ -60,7 +60,7 @@ module _ (kind : WorldKind) (version : Version) (bytes : List ℕ) (e : Event) (
           utf8 = rw whole (between front c (to_reply ++ (r ++ ending shown)) a.plain (IsUtf8-are_ascii front refl) (between to_reply r (ending shown) b.end.plain (IsUtf8-are_ascii to_reply refl) (ending_utf8 shown b.end.plain_view)));
           reads = ap read (whole ∙ spelled c r shown) ∙ read_line_text c r shown a.plain b.end.plain b.end.plain_view;
         };
-        says = record { asked = c; replied = r; shown = shown; texts = texts_are c r shown; event_is = a.means; told_is = b.tells };
+        says = record { asked = c; replied = r; shown = shown; texts = texts_are c r shown; event_is = a.means; reported_is = b.tells };
       }
 
   pub line_replied : SpellsReply text t → SpellsLine kind version bytes (line e t)
@@ -82,11 +82,11 @@ module _ (kind : WorldKind) (version : Version) (d : Data) (c r : List ℕ) (v :
       let asked : s.asked ≡ c = some_text _ _ (sym s.texts.command_is ∙ texts.command_is) in
       let replied : s.replied ≡ r = some_text _ _ (sym s.texts.reply_is ∙ texts.reply_is) in
       let shown : s.shown ≡ v = one_view d s.shown v (sym s.texts.keys ∙ texts.keys) s.texts.view_is texts.view_is in
-      record { event_is = rw (← asked) s.event_is; told_is = rw (← replied, ← shown) s.told_is }
+      record { event_is = rw (← asked) s.event_is; reported_is = rw (← replied, ← shown) s.reported_is }
 
   -- a value says what its texts do
   pub value_said : (x : Result (Option Line) AllocError) → IfOk x (λ o. MatchOption o ((l : Line) → SaysByTexts kind version c r v l → ⊥) (λ l. SaysByTexts kind version c r v l)) →
       IfOk x (λ o. MatchOption o ((l : Line) → SaysLine kind version d l → ⊥) (λ l. SaysLine kind version d l))
   value_said (Ok None) h = λ l s. h l (by_texts l s)
-  value_said (Ok (Some l)) h = record { asked = c; replied = r; shown = v; texts = texts; event_is = h.event_is; told_is = h.told_is }
+  value_said (Ok (Some l)) h = record { asked = c; replied = r; shown = v; texts = texts; event_is = h.event_is; reported_is = h.reported_is }
   value_said (Err e) h = tt

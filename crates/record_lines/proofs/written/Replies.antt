@@ -1,14 +1,14 @@
 -- the words of replies, as they are written, tell them
 use Rattle.std.proofs.Common.{◌≡◌, ℕ, ◌*◌, ◌^◌, ◌<◌, ◌≤◌, true, false, List, [], ◌∷◌, ◌++◌, length, map, Option, Some, None, option_map, codes, decimal, refl, ap, ◌∙◌, arith, append_assoc, length-append}
-use Rattle.record_lines.proofs.Common.{list_all, lt-ltb, length-decimal-le_wide, ShownReply, pieces_from, told_of, Two, is_plain, IsPlainView}
+use Rattle.record_lines.proofs.Common.{list_all, lt-ltb, length-decimal-le_wide, ShownReply, pieces_from, reported_of, Two, is_plain, IsPlainView}
 use Rattle.step_memory.specs.View.{IsAbove, IsRising}
 use Rattle.step_memory.specs.Refusal.{refusal_number}
 use Rattle.step_memory.specs.declared.refusal.Refusal.{Refusal}
 use Rattle.step_memory.specs.declared.refusal.Refusal.TheVariants.{ZeroIdentity}
 use Rattle.commands.specs.declared.reply.Reply.TheVariants as reply
 use Rattle.command_lines.specs.Replies.{pair_word, pair_words, view_words, reply_words}
-use Rattle.record_lines.specs.declared.told.Told.TheVariants as told
-use Rattle.record_lines.specs.ReplyText.{pair_in, pair_of, pairs_after, pairs_in, told_in, told_of_words, told_with, saw_of}
+use Rattle.record_lines.specs.declared.reported.Reported.TheVariants as reported
+use Rattle.record_lines.specs.ReplyText.{pair_in, pair_of, pairs_after, pairs_in, reported_in, reported_of_words, reported_with, saw_of}
 use Rattle.command_lines.specs.PieceProofs.{lacks, pieces-pass, pieces-last, pieces-cut}
 use Rattle.record_lines.proofs.written.Numbers.{read_decimal, number_in-decimal}
 use Rattle.record_lines.proofs.written.Texts.{shown_text}
@@ -38,29 +38,29 @@ read_pairs : (above : ℕ) (view : List (ℕ × ℕ)) → AreNarrow view → IsA
 read_pairs above [] n a r = refl
 read_pairs above (pair ∷ more) n a r = rw (pair_read pair n.0 n.1, lt-ltb above pair.0 a, read_pairs pair.0 more n.2 r.0 r.1) refl
 
-saw_read : (view : List (ℕ × ℕ)) → IsShort view → saw_of (map pair_word view) ≡ Some (told.Saw view)
+saw_read : (view : List (ℕ × ℕ)) → IsShort view → saw_of (map pair_word view) ≡ Some (reported.Saw view)
 saw_read [] s = absurd (s.some refl)
-saw_read (pair ∷ more) s = ap (option_map told.Saw) (read_pairs 0 (pair ∷ more) s.narrow s.above s.rising)
+saw_read (pair ∷ more) s = ap (option_map reported.Saw) (read_pairs 0 (pair ∷ more) s.narrow s.above s.rising)
 
 refusal_small : (why : Refusal) → refusal_number why < 15
 refusal_small ZeroIdentity = omega arith
 refusal_small why = omega arith
 
 -- the words of a reply tell it, without the view by which a name was given
-pub reply_tells : (r : ShownReply) → IsNarrowReply r → told_in (reply_words r) ≡ Some (told_of false r)
-reply_tells (reply.Place place) h = ap (λ (l : List (List ℕ)). told_of_words (codes "place" ∷ l)) (number_word [] place (omega arith)) ∙ rw (read_decimal (2 ^ 128) place h (omega arith)) refl
-reply_tells (reply.Proposed number) h = ap (λ (l : List (List ℕ)). told_of_words (codes "proposed" ∷ l)) (number_word [] number (omega arith)) ∙ rw (number_in-decimal number h) refl
-reply_tells (reply.Saw view) h = ap told_of_words (pieces_of_pairs (codes "saw") view h.narrow) ∙ saw_read view h
+pub reply_tells : (r : ShownReply) → IsNarrowReply r → reported_in (reply_words r) ≡ Some (reported_of false r)
+reply_tells (reply.Place place) h = ap (λ (l : List (List ℕ)). reported_of_words (codes "place" ∷ l)) (number_word [] place (omega arith)) ∙ rw (read_decimal (2 ^ 128) place h (omega arith)) refl
+reply_tells (reply.Proposed number) h = ap (λ (l : List (List ℕ)). reported_of_words (codes "proposed" ∷ l)) (number_word [] number (omega arith)) ∙ rw (number_in-decimal number h) refl
+reply_tells (reply.Saw view) h = ap reported_of_words (pieces_of_pairs (codes "saw") view h.narrow) ∙ saw_read view h
 reply_tells (reply.Named name view) h =
     let small = h.0 in
-    ap (λ (l : List (List ℕ)). told_of_words (codes "named" ∷ l)) (number_word [] name (omega arith)) ∙ rw (number_in-decimal name h.0) refl
-reply_tells (reply.Got number) h = ap (λ (l : List (List ℕ)). told_of_words (codes "got" ∷ l)) (number_word [] number (omega arith)) ∙ rw (number_in-decimal number h) refl
-reply_tells (reply.Left number) h = ap (λ (l : List (List ℕ)). told_of_words (codes "left" ∷ l)) (number_word [] number (omega arith)) ∙ rw (number_in-decimal number h) refl
-reply_tells (reply.Value value) h = ap (λ (l : List (List ℕ)). told_of_words (codes "value" ∷ l)) (number_word [] value (omega arith)) ∙ rw (number_in-decimal value h) refl
+    ap (λ (l : List (List ℕ)). reported_of_words (codes "named" ∷ l)) (number_word [] name (omega arith)) ∙ rw (number_in-decimal name h.0) refl
+reply_tells (reply.Got number) h = ap (λ (l : List (List ℕ)). reported_of_words (codes "got" ∷ l)) (number_word [] number (omega arith)) ∙ rw (number_in-decimal number h) refl
+reply_tells (reply.Left number) h = ap (λ (l : List (List ℕ)). reported_of_words (codes "left" ∷ l)) (number_word [] number (omega arith)) ∙ rw (number_in-decimal number h) refl
+reply_tells (reply.Value value) h = ap (λ (l : List (List ℕ)). reported_of_words (codes "value" ∷ l)) (number_word [] value (omega arith)) ∙ rw (number_in-decimal value h) refl
 reply_tells (reply.Owner owner) h = absurd h
 reply_tells (reply.Refused why) h =
     let small = refusal_small why in
-    ap (λ (l : List (List ℕ)). told_of_words (codes "refused" ∷ l)) (number_word [] (refusal_number why) (omega arith)) ∙ rw (number_in-decimal (refusal_number why) (omega arith)) refl
+    ap (λ (l : List (List ℕ)). reported_of_words (codes "refused" ∷ l)) (number_word [] (refusal_number why) (omega arith)) ∙ rw (number_in-decimal (refusal_number why) (omega arith)) refl
 reply_tells r h = refl
 
 pairs_plain : (view : List (ℕ × ℕ)) → AreNarrow view → list_all is_plain (pair_words view) ≡ true
@@ -123,8 +123,8 @@ view_read (pair ∷ more) s =
     ap (pairs_after 0) cut ∙ read_pairs 0 (pair ∷ more) s.narrow s.above s.rising
 
 -- with it the reply is told in full
-pub shown_tells : (r : ShownReply) → IsNarrowReply r → told_with Two (told_of false r) (shown_of r) ≡ Some (told_of true r)
-shown_tells (reply.Named name view) h = ap (λ (o : Option (List (ℕ × ℕ))). option_map (λ pairs. told.Named name (Some pairs)) o) (view_read view h.1)
+pub shown_tells : (r : ShownReply) → IsNarrowReply r → reported_with Two (reported_of false r) (shown_of r) ≡ Some (reported_of true r)
+shown_tells (reply.Named name view) h = ap (λ (o : Option (List (ℕ × ℕ))). option_map (λ pairs. reported.Named name (Some pairs)) o) (view_read view h.1)
 shown_tells (reply.Owner owner) h = absurd h
 shown_tells r h = refl
 

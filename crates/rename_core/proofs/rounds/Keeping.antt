@@ -7,7 +7,7 @@ use Rattle.snapshot_core.specs.Snapshot.{SnapObject, SnapBounds, observed, has_b
 use Rattle.rename_core.proofs.rounds.Tied.{IsAtStage, IsTied}
 use Rattle.rename_core.proofs.rounds.Stepping.{HasGone, placing_gone, proposing_gone, looking_gone}
 
--- want of memory is never due
+-- an allocation failure is never due
 not_due : (bounds : SnapBounds) (s : SnapObject) (p : ℕ) → step_due bounds s p ≢ Some NoMemory
 not_due bounds s p e = elim (has_begun (s.task p)) as (λ a. cond a (cond (has_nothing_pending bounds s p) (Some Finished) None) (Some NotBegun) ≢ Some NoMemory) [
   | false ↦ λ f. absurd (cc)

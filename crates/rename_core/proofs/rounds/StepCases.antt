@@ -8,7 +8,7 @@ use Rattle.step_memory.proofs.Found.{Found, found, none-index_of, index_of-below
 use Rattle.std.proofs.lemmas.List.{length-map, length-append, length-set, get_or_default, set-get_or}
 use Rattle.rename_core.specs.Round.{first_wish, first_round}
 use Rattle.rename_core.specs.RenameState.{RenameState, HasRoom}
-use Rattle.rename_core.specs.RenameWorld.{after_wish, snap_step, snap_told, after_follow, begun_snap, has_place, after_rename_begin, refusal_by, step_refusal, answer_told, answer_open, answer_by, after_told, after_open, after_by, rename_answer, after_rename_step, may_lack, LacksMemory}
+use Rattle.rename_core.specs.RenameWorld.{after_wish, snap_step, snap_reported, after_follow, begun_snap, has_place, after_rename_begin, refusal_by, step_refusal, answer_reported, answer_open, answer_by, after_reported, after_open, after_by, rename_answer, after_rename_step, may_lack, LacksMemory}
 use Rattle.rename_core.proofs.Large.{IsAsLarge, both_large, scan_large, update_large, snap_large}
 
 pub wish_large : {S U K : Type 0} (w : SnapState S U K) (p : ℕ) (wish : Wish) → IsAsLarge w (after_wish w p wish)
@@ -84,12 +84,12 @@ no_err x why e = cc
 
 -- a step that is refused changes nothing
 module _ {S R V U K : Type 0} (W : KnownPlaces S R V U K) (w : RenameState S U K) (p : ℕ) (why : Refusal) where
-  told_refused : (r : Round) (told : _) → answer_told W w p r told ≡ Err why → after_told W w p r told ≡ w
-  told_refused r (Ok reply) e = absurd (cc)
-  told_refused r (Err other) e = refl
+  reported_refused : (r : Round) (reported : _) → answer_reported W w p r reported ≡ Err why → after_reported W w p r reported ≡ w
+  reported_refused r (Ok reply) e = absurd (cc)
+  reported_refused r (Err other) e = refl
 
   open_refused : (r : Round) (z : Option Refusal) → answer_open W w p r z ≡ Err why → after_open W w p r z ≡ w
-  open_refused r None e = told_refused r (snap_told W w p) e
+  open_refused r None e = reported_refused r (snap_reported W w p) e
   open_refused r (Some other) e = refl
 
   by_refused : (z : Option Round) → answer_by W w p z ≡ Err why → after_by W w p z ≡ w
@@ -107,12 +107,12 @@ module _ {S R V U K : Type 0} (W : KnownPlaces S R V U K) (w : RenameState S U K
   pub closed_answer : (why : Refusal) → step_refusal w p ≡ Some why → Err why ≡ rename_answer W w p
   closed_answer = closed_answer_by (program_of p w.rounds)
 
-  refused_answer_by : (r : Option Round) (why : Refusal) → refusal_by r ≡ None → Err why ≡ snap_told W w p → Err why ≡ answer_by W w p r
+  refused_answer_by : (r : Option Round) (why : Refusal) → refusal_by r ≡ None → Err why ≡ snap_reported W w p → Err why ≡ answer_by W w p r
   refused_answer_by None why e k = absurd (cc)
   refused_answer_by (Some r) why e k = let a = sym k in rw (e, a) refl
 
   -- the snapshot object refuses the step
-  pub refused_answer : (why : Refusal) → step_refusal w p ≡ None → Err why ≡ snap_told W w p → Err why ≡ rename_answer W w p
+  pub refused_answer : (why : Refusal) → step_refusal w p ≡ None → Err why ≡ snap_reported W w p → Err why ≡ rename_answer W w p
   refused_answer = refused_answer_by (program_of p w.rounds)
 
   -- all of such a step
@@ -121,9 +121,9 @@ module _ {S R V U K : Type 0} (W : KnownPlaces S R V U K) (w : RenameState S U K
     pub state : why ≢ NoMemory → w ≡ after_rename_step W w p
     pub no_memory : why ≡ NoMemory → LacksMemory W w p
 
-  pub snap_refuses : (why : Refusal) → step_refusal w p ≡ None → (snap_err why ≢ snap_err NoMemory → snap_err why ≡ snap_told W w p) → (snap_err why ≡ snap_err NoMemory → may_lack W w p ≡ true) → RefusedStep why
-  snap_refuses why ready told lacks =
-      let answer : why ≢ NoMemory → Err why ≡ rename_answer W w p = λ goes. refused_answer why ready (told (λ e. goes (same_err why NoMemory e))) in
+  pub snap_refuses : (why : Refusal) → step_refusal w p ≡ None → (snap_err why ≢ snap_err NoMemory → snap_err why ≡ snap_reported W w p) → (snap_err why ≡ snap_err NoMemory → may_lack W w p ≡ true) → RefusedStep why
+  snap_refuses why ready reported lacks =
+      let answer : why ≢ NoMemory → Err why ≡ rename_answer W w p = λ goes. refused_answer why ready (reported (λ e. goes (same_err why NoMemory e))) in
       record { answer = answer; state = λ goes. sym (step_refused W w p why (sym (answer goes))); no_memory = λ e. (ready, lacks (ap snap_err e)) }
 
   -- as many take part after the step and what is asked for after it
@@ -134,30 +134,30 @@ module _ {S R V U K : Type 0} (W : KnownPlaces S R V U K) (w : RenameState S U K
     there : program_of p w.rounds ≡ Some v.program
     there = ap (option_map (λ u. u.program)) here
 
-    pub told_answer : (reply : SnapReply) → stage_refusal v.program.stage ≡ None → Ok reply ≡ snap_told W w p → Ok (followed v.program p reply w.limit).reply ≡ rename_answer W w p
-    told_answer reply e k = let a = sym k in rw (there, e, a) refl
+    pub reported_answer : (reply : SnapReply) → stage_refusal v.program.stage ≡ None → Ok reply ≡ snap_reported W w p → Ok (followed v.program p reply w.limit).reply ≡ rename_answer W w p
+    reported_answer reply e k = let a = sym k in rw (there, e, a) refl
 
-    pub told_state : (reply : SnapReply) → stage_refusal v.program.stage ≡ None → Ok reply ≡ snap_told W w p → after_follow W w p (followed v.program p reply w.limit) ≡ after_rename_step W w p
-    told_state reply e k = let a = sym k in rw (there, e, a) refl
+    pub reported_state : (reply : SnapReply) → stage_refusal v.program.stage ≡ None → Ok reply ≡ snap_reported W w p → after_follow W w p (followed v.program p reply w.limit) ≡ after_rename_step W w p
+    reported_state reply e k = let a = sym k in rw (there, e, a) refl
 
   -- a round that may go on, by its place among the rounds
   module _ (i : ℕ) (v other : Participant Round) (at : Some i ≡ index_of p w.rounds) (is : v ≡ get_or w.rounds i other) where
     stands : Found p w.rounds i v
     stands = found p w.rounds i v at (is ∙ get_or_default w.rounds i other v (index_of-below p w.rounds i at))
 
-    pub followed_answer : (reply : SnapReply) → step_refusal w p ≡ None → Ok reply ≡ snap_told W w p → Ok (followed v.program v.identity reply w.limit).reply ≡ rename_answer W w p
+    pub followed_answer : (reply : SnapReply) → step_refusal w p ≡ None → Ok reply ≡ snap_reported W w p → Ok (followed v.program v.identity reply w.limit).reply ≡ rename_answer W w p
     followed_answer reply ready k =
         let own = stands.identity in
-        rw own (told_answer v stands.is reply (sym (refusal_here w p v stands.is) ∙ ready) k)
+        rw own (reported_answer v stands.is reply (sym (refusal_here w p v stands.is) ∙ ready) k)
 
     -- what follows what the snapshot object told is asked for, and the round that follows is put in its place
-    pub followed_state : (reply : SnapReply) (snap : SnapState S U K) (new : Participant Round) → step_refusal w p ≡ None → Ok reply ≡ snap_told W w p →
+    pub followed_state : (reply : SnapReply) (snap : SnapState S U K) (new : Participant Round) → step_refusal w p ≡ None → Ok reply ≡ snap_reported W w p →
         snap ≡ after_wish (snap_step W w p) v.identity (followed v.program v.identity reply w.limit).wish → new ≡ beginner v.identity (followed v.program v.identity reply w.limit).round →
         record { snap = snap; rounds = set w.rounds i new; limit = w.limit } ≡ after_rename_step W w p
     followed_state reply snap new ready k asked round =
         let own = stands.identity in
         let put = stands.put (beginner p (followed v.program p reply w.limit).round) refl in
-        rw (asked, round, own) (rw (← put) (told_state v stands.is reply (sym (refusal_here w p v stands.is) ∙ ready) k))
+        rw (asked, round, own) (rw (← put) (reported_state v stands.is reply (sym (refusal_here w p v stands.is) ∙ ready) k))
 
     pub followed_room : (capacity : ℕ) (wish : Wish) (snap : SnapState S U K) (new : Participant Round) → snap ≡ after_wish (snap_step W w p) v.identity wish → new.identity ≡ v.identity →
         HasRoom capacity w.snap w.rounds → HasRoom capacity snap (set w.rounds i new)
@@ -197,7 +197,7 @@ module _ {S R V U K : Type 0} (W : KnownPlaces S R V U K) (w : RenameState S U K
       pub taken_step : step_refusal w p ≡ None → TakenStep
       taken_step ready = elim taken [
         | inl f ↦
-            let k : Ok f.0 ≡ snap_told W w p = subst (λ (x : ℕ). Ok f.0 ≡ snap_told W w x) stands.identity f.1.is_told in
+            let k : Ok f.0 ≡ snap_reported W w p = subst (λ (x : ℕ). Ok f.0 ≡ snap_reported W w x) stands.identity f.1.is_reported in
             let asked = f.1.asked ∙ ap (λ (x : ℕ). after_wish (snap_step W w x) v.identity (followed v.program v.identity f.0 w.limit).wish) stands.identity in
             record {
               answer = λ _. rw f.1.result_is (ap Ok f.1.reply_is ∙ followed_answer f.0 ready k);
@@ -207,7 +207,7 @@ module _ {S R V U K : Type 0} (W : KnownPlaces S R V U K) (w : RenameState S U K
             }
         | inr f ↦
             let same = untouched f.1.kept f.1.same in
-            let h = snap_refuses f.0 ready (subst (λ (x : ℕ). snap_err f.0 ≢ snap_err NoMemory → snap_err f.0 ≡ snap_told W w x) stands.identity f.1.is_told) (subst (λ (x : ℕ). snap_err f.0 ≡ snap_err NoMemory → may_lack W w x ≡ true) stands.identity f.1.lacks) in
+            let h = snap_refuses f.0 ready (subst (λ (x : ℕ). snap_err f.0 ≢ snap_err NoMemory → snap_err f.0 ≡ snap_reported W w x) stands.identity f.1.is_reported) (subst (λ (x : ℕ). snap_err f.0 ≡ snap_err NoMemory → may_lack W w x ≡ true) stands.identity f.1.lacks) in
             record {
               answer = λ goes. rw f.1.result_is (h.answer (λ e. goes (f.1.result_is ∙ ap Err e)));
               state = λ goes. same ∙ h.state (λ e. goes (f.1.result_is ∙ ap Err e));

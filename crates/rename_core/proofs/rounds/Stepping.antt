@@ -1,6 +1,6 @@
 -- a step of a renaming world, by what its snapshot object answers
 use Rattle.std.proofs.Common.{◌≡◌, ◌≢◌, ℕ, ◌+◌, ◌-◌, ◌*◌, ◌<◌, ◌≤◌, Bool, true, false, not, cond, List, length, Option, Some, Ok, inl, inr, refl, sym, ap, subst, ◌∙◌, arith, is_some, nat_lt, nat_le}
-use Rattle.rename_core.proofs.Common.{eqb_tells, leb_tells, set_at, value_of, set_at-same, Participant, participant_of, done_unless, KnownPlaces, SnapReply, Silent, HasPlace, Written, Viewed, SnapState, after_scan, after_update, SnapCall, snap_next, IsSnapReply, ToPlace, ToScan, ToUpdate, Idle, Saw, Quiet, Placed, Proposed, Named, Spent, Round, Follow, Nothing, Update, Scan, Stage, Placing, Proposing, Looking, Settled, Over, is_taken, next_proposal, RenameState, after_wish, world_with, snap_step, snap_told, ToGo, ToPropose, ToLook, StandsAt, GoesBusy, is_quiet, goes_idle}
+use Rattle.rename_core.proofs.Common.{eqb_tells, leb_tells, set_at, value_of, set_at-same, Participant, participant_of, done_unless, KnownPlaces, SnapReply, Silent, HasPlace, Written, Viewed, SnapState, after_scan, after_update, SnapCall, snap_next, IsSnapReply, ToPlace, ToScan, ToUpdate, Idle, Saw, Quiet, Placed, Proposed, Named, Spent, Round, Follow, Nothing, Update, Scan, Stage, Placing, Proposing, Looking, Settled, Over, is_taken, next_proposal, RenameState, after_wish, world_with, snap_step, snap_reported, ToGo, ToPropose, ToLook, StandsAt, GoesBusy, is_quiet, goes_idle}
 use Rattle.std.proofs.lemmas.Bool.{lt-ltb}
 use Rattle.step_memory.proofs.ParticipantLemmas.{some_begun}
 use Rattle.snapshot_core.specs.SnapCalls.SnapCall.{Updated, Scanned, Stepped as SnapStepped}
@@ -50,14 +50,14 @@ module _ {S R V U K : Type 0} (W : KnownPlaces S R V U K) (terms : RenameTerms) 
   counted = i.counts p v here
 
   -- the snapshot object may answer so
-  tie_stepped : (reply : SnapReply) → snap_told W w p ≡ Ok reply → Tie snap' (observed_step s p reply) × SnapAllowsStep bounds s p reply
+  tie_stepped : (reply : SnapReply) → snap_reported W w p ≡ Ok reply → Tie snap' (observed_step s p reply) × SnapAllowsStep bounds s p reply
   tie_stepped reply answer = tie_goes w.snap s (SnapStepped p (Ok reply)) i.tie (inl (sym answer))
 
   abbrev Others : Type 0
   Others = (q : ℕ) → q ≢ p → participant_of q snap'.participants ≡ participant_of q w.snap.participants
 
   -- nothing more is asked for
-  stepped_by : (reply : SnapReply) (idle : Bool) (n : ℕ) → snap_told W w p ≡ Ok reply → StandsAt snap' p idle n → Others → (observed_step s p reply).begun ≡ s.begun → IsStepped terms Tie w o t i p v here snap' (observed_step s p reply)
+  stepped_by : (reply : SnapReply) (idle : Bool) (n : ℕ) → snap_reported W w p ≡ Ok reply → StandsAt snap' p idle n → Others → (observed_step s p reply).begun ≡ s.begun → IsStepped terms Tie w o t i p v here snap' (observed_step s p reply)
   stepped_by reply idle n answer stands others many = record {
     tie = (tie_stepped reply answer).0;
     snap_many = many;
@@ -81,7 +81,7 @@ module _ {S R V U K : Type 0} (W : KnownPlaces S R V U K) (terms : RenameTerms) 
       omega arith
 
   -- quiet
-  module _ (n : ℕ) (answer : snap_told W w p ≡ Ok Silent) (stands : StandsAt snap' p false n) (others : Others) where
+  module _ (n : ℕ) (answer : snap_reported W w p ≡ Ok Silent) (stands : StandsAt snap' p false n) (others : Others) where
     abbrev quiet_s : SnapObject
     quiet_s = stepped_to s p (s.task p)
 
@@ -116,7 +116,7 @@ module _ {S R V U K : Type 0} (W : KnownPlaces S R V U K) (terms : RenameTerms) 
     }
 
   -- asked for an update, with these moments
-  module _ (reply : SnapReply) (n value : ℕ) (answer : snap_told W w p ≡ Ok reply) (stands : StandsAt snap' p true n) (others : Others) (few : n < 1000000) where
+  module _ (reply : SnapReply) (n value : ℕ) (answer : snap_reported W w p ≡ Ok reply) (stands : StandsAt snap' p true n) (others : Others) (few : n < 1000000) where
     abbrev update_s : SnapObject
     update_s = with_update (asked_for (observed_step s p reply) p (ToUpdate value)) p
 
@@ -137,7 +137,7 @@ module _ {S R V U K : Type 0} (W : KnownPlaces S R V U K) (terms : RenameTerms) 
     update_task = set_at-same (observed_step s p reply).task p (ToUpdate value)
 
   -- placed
-  module _ (x : ℕ) (answer : snap_told W w p ≡ Ok (HasPlace x)) (stands : StandsAt snap' p true 0) (others : Others) (h : IsPlacing o t s w.snap p r) where
+  module _ (x : ℕ) (answer : snap_reported W w p ≡ Ok (HasPlace x)) (stands : StandsAt snap' p true 0) (others : Others) (h : IsPlacing o t s w.snap p r) where
     placed_few : 0 < 1000000
     placed_few = omega arith
 
@@ -172,7 +172,7 @@ module _ {S R V U K : Type 0} (W : KnownPlaces S R V U K) (terms : RenameTerms) 
         }
 
   -- written
-  module _ (number : ℕ) (answer : snap_told W w p ≡ Ok Written) (stands : StandsAt snap' p true (r.count + 1)) (others : Others) (h : IsProposing terms o t s w.snap p number r) (at : r.stage ≡ Proposing number) where
+  module _ (number : ℕ) (answer : snap_reported W w p ≡ Ok Written) (stands : StandsAt snap' p true (r.count + 1)) (others : Others) (h : IsProposing terms o t s w.snap p number r) (at : r.stage ≡ Proposing number) where
     abbrev written_s : SnapObject
     written_s = asked_for (observed_step s p Written) p ToScan
 
@@ -258,7 +258,7 @@ module _ {S R V U K : Type 0} (W : KnownPlaces S R V U K) (terms : RenameTerms) 
         subst HasGone (sym is) written_next
 
   -- a view
-  module _ (view : List (ℕ × ℕ)) (answer : snap_told W w p ≡ Ok (Viewed view)) (stands : StandsAt snap' p true r.count) (others : Others) (h : IsLooking terms o t s w.snap p r) where
+  module _ (view : List (ℕ × ℕ)) (answer : snap_reported W w p ≡ Ok (Viewed view)) (stands : StandsAt snap' p true r.count) (others : Others) (h : IsLooking terms o t s w.snap p r) where
     abbrev viewed_s : SnapObject
     viewed_s = observed_step s p (Viewed view)
 
@@ -392,7 +392,7 @@ module _ {S R V U K : Type 0} (W : KnownPlaces S R V U K) (terms : RenameTerms) 
 
   pub placing_gone : IsPlacing o t s w.snap p r → r.stage ≡ Placing → (k : GoesBusy W w.snap p 0) → HasGone (followed r p k.reply w.limit)
   placing_gone h stage k = gone k.reply k.answer k.comes.stands k.comes.others where
-    gone : (reply : SnapReply) → snap_told W w p ≡ Ok reply → StandsAt snap' p (not (is_quiet reply)) 0 → Others → HasGone (followed r p reply w.limit)
+    gone : (reply : SnapReply) → snap_reported W w p ≡ Ok reply → StandsAt snap' p (not (is_quiet reply)) 0 → Others → HasGone (followed r p reply w.limit)
     gone Silent answer stands others = quiet_gone 0 answer stands others (goes_on ToGo ToPlace h.phase h.task h.pace refl (tie_stepped Silent answer).1) (subst AtQuiet (sym stage) (record { going = h.going; none = h.none; unplaced = h.unplaced; task = quiet_task 0 answer stands others ∙ h.task; stands = stands; phase = h.phase; pace = quiet_pace h.pace }))
     gone (HasPlace x) answer stands others = placed_gone x answer stands others h
     gone Written answer stands others = absurd (rw h.task at (tie_stepped Written answer).1.0)
@@ -400,7 +400,7 @@ module _ {S R V U K : Type 0} (W : KnownPlaces S R V U K) (terms : RenameTerms) 
 
   pub proposing_gone : (number : ℕ) → IsProposing terms o t s w.snap p number r → r.stage ≡ Proposing number → (k : GoesBusy W w.snap p (r.count + 1)) → HasGone (followed r p k.reply w.limit)
   proposing_gone number h stage k = gone k.reply k.answer k.comes.stands k.comes.others where
-    gone : (reply : SnapReply) → snap_told W w p ≡ Ok reply → StandsAt snap' p (not (is_quiet reply)) (r.count + 1) → Others → HasGone (followed r p reply w.limit)
+    gone : (reply : SnapReply) → snap_reported W w p ≡ Ok reply → StandsAt snap' p (not (is_quiet reply)) (r.count + 1) → Others → HasGone (followed r p reply w.limit)
     gone Silent answer stands others = quiet_gone (r.count + 1) answer stands others (goes_on (ToPropose number) (ToUpdate number) h.phase h.task h.pace refl (tie_stepped Silent answer).1) (subst AtQuiet (sym stage) (record { going = h.going; rounds = h.rounds; positive = h.positive; small = h.small; task = quiet_task (r.count + 1) answer stands others ∙ h.task; stands = stands; phase = h.phase; pace = quiet_pace h.pace }))
     gone (HasPlace x) answer stands others = absurd (let e : ToUpdate number ≡ ToPlace = sym h.task ∙ (tie_stepped (HasPlace x) answer).1.0 in cc)
     gone Written answer stands others = written_gone number answer stands others h stage
@@ -408,7 +408,7 @@ module _ {S R V U K : Type 0} (W : KnownPlaces S R V U K) (terms : RenameTerms) 
 
   pub looking_gone : IsLooking terms o t s w.snap p r → r.stage ≡ Looking → (k : GoesBusy W w.snap p r.count) → HasGone (followed r p k.reply w.limit)
   looking_gone h stage k = gone k.reply k.answer k.comes.stands k.comes.others where
-    gone : (reply : SnapReply) → snap_told W w p ≡ Ok reply → StandsAt snap' p (not (is_quiet reply)) r.count → Others → HasGone (followed r p reply w.limit)
+    gone : (reply : SnapReply) → snap_reported W w p ≡ Ok reply → StandsAt snap' p (not (is_quiet reply)) r.count → Others → HasGone (followed r p reply w.limit)
     gone Silent answer stands others = quiet_gone r.count answer stands others (goes_on ToLook ToScan h.phase h.task h.pace refl (tie_stepped Silent answer).1) (subst AtQuiet (sym stage) (record { going = h.going; some = h.some; rounds = h.rounds; task = quiet_task r.count answer stands others ∙ h.task; later = (let a = h.later in let b = quiet_since r.count answer stands others in omega arith); stands = stands; phase = h.phase; pace = quiet_pace h.pace }))
     gone (HasPlace x) answer stands others = absurd (let e : ToScan ≡ ToPlace = sym h.task ∙ (tie_stepped (HasPlace x) answer).1.0 in cc)
     gone Written answer stands others = absurd (rw h.task at (tie_stepped Written answer).1.0)

@@ -1,12 +1,12 @@
 -- to what a record is migrated is a record of a run
 use Rattle.std.proofs.Common.{◌≡◌, inl, ℕ, ◌≤◌, Bool, List, [], ◌∷◌, ◌++◌, length, map, flat_map, refl, sym, ap, ◌∙◌, subst, arith}
-use Rattle.run_checker.proofs.Common.{length-map, Run, RenameTerms, Config, WorldKind, Exchange, ShownReply, exchange_of, Answered, Header, Version, Line, Migration, Yes, terms_of, told_of, IsLineOf, Telling, IsTelling, after_telling, exchanges_in, IsMigratedTo, HasMigrated, AreGathered, DeskObject, fresh_desk_object, AllowsCall, after_call, IsObjectRun, IsHeaderLine, IsRecordOf, record_lines, AreRead, IsSaid, few_take_part, record_is}
+use Rattle.run_checker.proofs.Common.{length-map, Run, RenameTerms, Config, WorldKind, Exchange, ShownReply, exchange_of, Answered, Header, Version, Line, Migration, Yes, terms_of, reported_of, IsLineOf, Telling, IsTelling, after_telling, exchanges_in, IsMigratedTo, HasMigrated, AreGathered, DeskObject, fresh_desk_object, AllowsCall, after_call, IsObjectRun, IsHeaderLine, IsRecordOf, record_lines, AreRead, IsSaid, few_take_part, record_is}
 use Rattle.commands.specs.declared.reply.Reply.TheVariants as reply
 use Rattle.player.specs.Records.{exchange_line, turn_record, record_of, header_line}
 use Rattle.player.specs.Turns.{exchanges}
 use Rattle.run_checker.specs.Recorded.{IsYes}
 use Rattle.run_checker.proofs.NarrowRuns.{FitsPlace, AreWritable, run_narrow}
-use Rattle.record_lines.specs.Narrow.{FitsTold, IsNarrowEvent}
+use Rattle.record_lines.specs.Narrow.{FitsReported, IsNarrowEvent}
 use Rattle.record_lines.proofs.Narrow.{line_fits}
 use Rattle.record_lines.proofs.Headers.{header_named}
 use Rattle.run_checker.proofs.records.Recording.{yes_by, record_said}
@@ -14,13 +14,13 @@ use Rattle.run_checker.proofs.records.Rows.{read_length}
 
 -- ---- what is written is a record of a run
 
-reply_fits : (b : Bool) (r : ShownReply) → FitsTold (told_of b r) → FitsPlace r
+reply_fits : (b : Bool) (r : ShownReply) → FitsReported (reported_of b r) → FitsPlace r
 reply_fits b (reply.Place place) h = h
 reply_fits b r h = tt
 
-telling_fits : (x : Exchange) (l : Line) → IsLineOf x l → IsNarrowEvent l.event × FitsTold l.told → IsNarrowEvent x.event × FitsPlace x.reply
+telling_fits : (x : Exchange) (l : Line) → IsLineOf x l → IsNarrowEvent l.event × FitsReported l.reported → IsNarrowEvent x.event × FitsPlace x.reply
 telling_fits x l w h =
-    let k : IsNarrowEvent x.event × FitsTold (told_of w.shows x.reply) = subst (λ (y : Line). IsNarrowEvent y.event × FitsTold y.told) (sym w.spelled) h in
+    let k : IsNarrowEvent x.event × FitsReported (reported_of w.shows x.reply) = subst (λ (y : Line). IsNarrowEvent y.event × FitsReported y.reported) (sym w.spelled) h in
     (k.0, reply_fits w.shows x.reply k.1)
 
 tellings_fit : (kind : WorldKind) (v : Version) (terms : RenameTerms) (o end : DeskObject) (rows : List (List ℕ)) (ts : List Telling) → AreRead kind v rows (map (λ t. t.line) ts) → Run after_telling (IsTelling terms) o ts end →

@@ -1,6 +1,6 @@
 -- lines are migrated, one after the other
 use Rattle.std.proofs.Common.{◌≡◌, ℕ, Bool, true, false, List, [], ◌∷◌, ◌++◌, map, flat_map, Option, Some, None, Ok, Err, refl, sym, ap, ◌∙◌, subst, append_assoc}
-use Rattle.run_checker.proofs.Common.{Began, Stepped, Run, run_more, run_one, run_splits, Config, RenameTerms, RenameObject, IsRecent, ShowsSole, Entered, Probed, Left, Widened, Pooled, Stored, Fetched, Extended, Exchange, DeskCall, exchange_of, Renamed, Slotted, header_line, exchange_line, Firsts, Line, Migration, terms_of, IsShown, told_of, line_of, IsLineOf, CanFollow, after_line, Gathers, DeskObject, fresh_desk_object, AllowsCall, after_call}
+use Rattle.run_checker.proofs.Common.{Began, Stepped, Run, run_more, run_one, run_splits, Config, RenameTerms, RenameObject, IsRecent, ShowsSole, Entered, Probed, Left, Widened, Pooled, Stored, Fetched, Extended, Exchange, DeskCall, exchange_of, Renamed, Slotted, header_line, exchange_line, Firsts, Line, Migration, terms_of, IsShown, reported_of, line_of, IsLineOf, CanFollow, after_line, Gathers, DeskObject, fresh_desk_object, AllowsCall, after_call}
 use Rattle.std.specs.Prelude.{MatchOption, unwrap_or}
 use Rattle.std.proofs.lemmas.List.{map-append, append-nil}
 use Rattle.std.proofs.lemmas.Grind.{flat_map-append}
@@ -16,7 +16,7 @@ use Rattle.run_checker.proofs.Runs.{after_is}
 record Chosen (terms : RenameTerms) (o : DeskObject) (f : Firsts) (l : Line) : Type 0 where
   call : DeskCall
   telling : IsTelling terms o (record { line = l; call = call })
-  shown : IsShown (exchange_of call).reply (shown_in f l.event l.told)
+  shown : IsShown (exchange_of call).reply (shown_in f l.event l.reported)
 
 -- the first view of a name that may be given
 first_view : (o : RenameObject) (f : Firsts) (p n : ℕ) (view : List (ℕ × ℕ)) → HoldsFirsts f o → ShowsSole o p n view → (w : List (ℕ × ℕ)) × (view_at f p ≡ Some w) × IsFirstSole o p n w
@@ -29,8 +29,8 @@ first_view o f p n view h s = elim (view_at f p) as (λ x. view_at f p ≡ x →
 ] refl (h.found p)
 
 module _ (terms : RenameTerms) (o : DeskObject) (f : Firsts) (h : HoldsFirsts f o.names) where
-  plain : (c : DeskCall) (b : Bool) → AllowsCall terms o c → ShowsFirst o.names (exchange_of c).event (exchange_of c).reply (told_of b (exchange_of c).reply) →
-      IsShown (exchange_of c).reply (shown_in f (exchange_of c).event (told_of b (exchange_of c).reply)) → Chosen terms o f (line_of b (exchange_of c))
+  plain : (c : DeskCall) (b : Bool) → AllowsCall terms o c → ShowsFirst o.names (exchange_of c).event (exchange_of c).reply (reported_of b (exchange_of c).reply) →
+      IsShown (exchange_of c).reply (shown_in f (exchange_of c).event (reported_of b (exchange_of c).reply)) → Chosen terms o f (line_of b (exchange_of c))
   plain c b a first shown = record {
     call = c;
     telling = record { allowed = a; spelled = record { shows = b; spelled = refl }; first = first };
@@ -91,7 +91,7 @@ module _ (f : Firsts) (o : RenameObject) (begun : ℕ → Bool) (many : ℕ) (pl
 unchanged : (f f' : Firsts) (o : RenameObject) → f' ≡ f → HoldsFirsts f o → HoldsFirsts f' o
 unchanged f f' o e h = subst (λ (x : Firsts). HoldsFirsts x o) (sym e) h
 
-firsts_after : (f f' : Firsts) (o : DeskObject) (c : DeskCall) (b : Bool) → HoldsFirsts f o.names → GoesOn (proposal_of (exchange_of c).event (told_of b (exchange_of c).reply)) f f' → HoldsFirsts f' (after_call o c).names
+firsts_after : (f f' : Firsts) (o : DeskObject) (c : DeskCall) (b : Bool) → HoldsFirsts f o.names → GoesOn (proposal_of (exchange_of c).event (reported_of b (exchange_of c).reply)) f f' → HoldsFirsts f' (after_call o c).names
 firsts_after f f' o (Renamed (Began p (Ok done))) b h g = unchanged f f' _ g (elsewhere f o.names _ _ _ _ _ _ h)
 firsts_after f f' o (Renamed (Stepped p (Ok (step.Placed x)))) b h g = unchanged f f' _ g (elsewhere f o.names _ _ _ _ _ _ h)
 firsts_after f f' o (Renamed (Stepped p (Ok (step.Proposed n)))) b h g = g o.names h
@@ -100,8 +100,8 @@ firsts_after f f' o (Renamed (Stepped p (Ok step.Spent))) b h g = unchanged f f'
 firsts_after f f' o (Slotted (Pooled (Entered p answer))) b h g = unchanged f f' _ g h
 firsts_after f f' o c b h g = unchanged f f' _ g h
 
-pub firsts_next : (f f' : Firsts) (o : DeskObject) (c : DeskCall) (l : Line) → IsLineOf (exchange_of c) l → HoldsFirsts f o.names → GoesOn (proposal_of l.event l.told) f f' → HoldsFirsts f' (after_call o c).names
-firsts_next f f' o c l w h g = firsts_after f f' o c w.shows h (subst (λ (x : Line). GoesOn (proposal_of x.event x.told) f f') (sym w.spelled) g)
+pub firsts_next : (f f' : Firsts) (o : DeskObject) (c : DeskCall) (l : Line) → IsLineOf (exchange_of c) l → HoldsFirsts f o.names → GoesOn (proposal_of l.event l.reported) f f' → HoldsFirsts f' (after_call o c).names
+firsts_next f f' o c l w h g = firsts_after f f' o c w.shows h (subst (λ (x : Line). GoesOn (proposal_of x.event x.reported) f f') (sym w.spelled) g)
 
 -- ---- one more line
 
@@ -124,7 +124,7 @@ text_more c ts t text is =
     ∙ ap (λ (l : List ℕ). header_line c ++ l) (sym (flat_map-append exchange_line xs (exchange_of t.call ∷ [])))
     ∙ ap (record_text c) (sym more)
 
-pub gathers_more : (l : Line) (m m' : Migration) → ((x : Exchange) → IsLineOf x l → IsShown x.reply (shown_in m.firsts l.event l.told) → m'.text ≡ m.text ++ exchange_line x) → GoesOn (proposal_of l.event l.told) m.firsts m'.firsts →
+pub gathers_more : (l : Line) (m m' : Migration) → ((x : Exchange) → IsLineOf x l → IsShown x.reply (shown_in m.firsts l.event l.reported) → m'.text ≡ m.text ++ exchange_line x) → GoesOn (proposal_of l.event l.reported) m.firsts m'.firsts →
     Gathers HasMigrated l m m'
 gathers_more l m m' text goes c lines o h follows =
     let s = h.so_far in

@@ -1,6 +1,6 @@
 -- a number is crowded in a row exactly where it stands at two seats
 use Rattle.std.proofs.Common.{◌≡◌, ℕ, zero, suc, ◌+◌, ◌<◌, ◌≤◌, ◌==◌, ◌↔◌, inl, inr, true, false, cond, List, [], ◌∷◌, length, get_or, refl, sym, ap, ◌∙◌, arith, Some, None, Option, count_by, slice_index, slice_set, nat_lt}
-use Rattle.run_judges.proofs.Common.{cases_Bool, ltb-true, ltb-false, lt-ltb, ne_eqb, eq-eqb, false≢true, eqb_tells, get_or-set_same, get_or-set_other, length-set, IsConflict, IsSole, Moments, Turn, crowded, number_told, told_in, HoldsTurns}
+use Rattle.run_judges.proofs.Common.{cases_Bool, ltb-true, ltb-false, lt-ltb, ne_eqb, eq-eqb, false≢true, eqb_tells, get_or-set_same, get_or-set_other, length-set, IsConflict, IsSole, Moments, Turn, crowded, number_reported, reported_in, HoldsTurns}
 use Rattle.std.proofs.lemmas.List.Sums.{sum_by-cons, sum_by-set}
 
 count-cons : (n x : ℕ) (xs : List ℕ) → count_by (λ y. y == n) (x ∷ xs) ≡ cond {A = ℕ} (x == n) 1 0 + count_by (λ y. y == n) xs
@@ -48,10 +48,10 @@ another xs n j l e c =
     let other : k.at ≡ j → ⊥ = λ same. absurd (let both : suc n ≡ n = sym (get_or-set_same xs j (suc n) 0 l) ∙ ap (λ i. get_or (slice_set xs j (suc n)) i 0) (sym same) ∙ k.is in omega arith) in
     (record { at = k.at; inside = omega arith; is = sym (get_or-set_other xs j k.at (suc n) 0 other) ∙ k.is }, other)
 
-pub number_some : (n : ℕ) → 1 ≤ n → number_told n ≡ Some n
+pub number_some : (n : ℕ) → 1 ≤ n → number_reported n ≡ Some n
 number_some n l = rw (ne_eqb n 0 (λ e. absurd (omega arith))) refl
 
-pub some_number : (k n : ℕ) → number_told k ≡ Some n → (k ≡ n) × (1 ≤ n)
+pub some_number : (k n : ℕ) → number_reported k ≡ Some n → (k ≡ n) × (1 ≤ n)
 some_number k n h = elim (eqb_tells k 0) [
   | inl y ↦ absurd (let e : None ≡ Some n = rw y.0 at h in cc)
   | inr y ↦
@@ -68,7 +68,7 @@ pub record HasSeat (turns : ℕ → Option Turn) (row : List ℕ) (q n : ℕ) : 
   pub at : slice_index row turn.seat ≡ n
   pub positive : 1 ≤ n
 
-pub has_seat : (turns : ℕ → Option Turn) (row : List ℕ) (q n : ℕ) (o : Option Turn) → turns q ≡ o → told_in row o ≡ Some n → HasSeat turns row q n
+pub has_seat : (turns : ℕ → Option Turn) (row : List ℕ) (q n : ℕ) (o : Option Turn) → turns q ≡ o → reported_in row o ≡ Some n → HasSeat turns row q n
 has_seat turns row q n None e h = absurd (cc)
 has_seat turns row q n (Some t) e h = (let k = some_number (slice_index row t.seat) n h in record { turn = t; is = e; at = k.0; positive = k.1 })
 
@@ -83,7 +83,7 @@ module _ (turns : ℕ → Option Turn) (many limit : ℕ) (m : Moments) (last : 
 
   -- it is what p proposes
   pub own : moment i p ≡ Some n
-  own = h.shown i l p ∙ ap (told_in row) is ∙ ap number_told at ∙ number_some n positive
+  own = h.shown i l p ∙ ap (reported_in row) is ∙ ap number_reported at ∙ number_some n positive
 
   crowd_of : (q : ℕ) → (q ≡ p → ⊥) → moment i q ≡ Some n → crowded n row ≡ true
   crowd_of q d says =
@@ -111,7 +111,7 @@ module _ (turns : ℕ → Option Turn) (many limit : ℕ) (m : Moments) (last : 
           contested = record {
             other = who.who;
             not_own = (λ e. k.1 (let f : Some who.turn ≡ Some t = sym who.is ∙ ap turns e ∙ is in let g : who.turn ≡ t = cc in sym who.at ∙ ap (λ x. x.seat) g));
-            proposes = h.shown i l who.who ∙ ap (told_in row) who.is ∙ ap number_told seat ∙ number_some n positive;
+            proposes = h.shown i l who.who ∙ ap (reported_in row) who.is ∙ ap number_reported seat ∙ number_some n positive;
           };
         }),
     (λ c.

@@ -1,6 +1,6 @@
 -- rows of views
 use Rattle.std.proofs.Common.{◌≡◌, ℕ, zero, suc, ◌<◌, ◌≤◌, ◌↔◌, inl, inr, true, false, List, [], ◌∷◌, length, get_or, refl, sym, ap, ◌∙◌, subst, arith, Some, None, Option, slice_index, slice_set, replicate, nat_lt}
-use Rattle.run_judges.proofs.Common.{cases_Bool, ltb-true, ltb-false, eqb_tells, get_or-set_same, get_or-set_other, length-set, program_of, IsRising, value_of, IsMoment, RenameTerms, RenameObject, IsRecent, ShowsConflict, ShowsSole, Names, Standing, Turn, crowded, SomeSince, HasPair, LacksPair, IsRowOf, TellsMoments, TellsSince, number_told, told_in, HoldsNames, turns_in}
+use Rattle.run_judges.proofs.Common.{cases_Bool, ltb-true, ltb-false, eqb_tells, get_or-set_same, get_or-set_other, length-set, program_of, IsRising, value_of, IsMoment, RenameTerms, RenameObject, IsRecent, ShowsConflict, ShowsSole, Names, Standing, Turn, crowded, SomeSince, HasPair, LacksPair, IsRowOf, TellsMoments, TellsSince, number_reported, reported_in, HoldsNames, turns_in}
 use Rattle.std.proofs.lemmas.Grind.{same_number_lists}
 use Rattle.run_judges.proofs.seats.Turned.{zero_at}
 use Rattle.run_judges.proofs.seats.Crowds.{number_some, some_number, has_seat}
@@ -19,19 +19,19 @@ pub no_moment : (terms : RenameTerms) (s : Names) (o : RenameObject) (view : Lis
 no_moment terms s o view j d i h l r inside lacks is =
     let p : ℕ = (get_or view j d).0 in
     let n : ℕ = (get_or view j d).1 in
-    let says : told_in (h.turns.rows i) (turns_in s.participants.items p) ≡ Some n = sym (h.turns.shown i l p) ∙ sym (is.values p) ∙ value_at view j d r inside in
+    let says : reported_in (h.turns.rows i) (turns_in s.participants.items p) ≡ Some n = sym (h.turns.shown i l p) ∙ sym (is.values p) ∙ value_at view j d r inside in
     let t = has_seat (turns_in s.participants.items) (h.turns.rows i) p n (turns_in s.participants.items p) refl says in
     let small = h.turns.small i l t.turn.seat in
     let at = t.at in
     lacks t.turn t.is t.positive (omega arith)
 
-told_zero : (o : Option Turn) → told_in (replicate 64 0) o ≡ None
-told_zero None = refl
-told_zero (Some t) = ap number_told (zero_at 64 t.seat)
+reported_zero : (o : Option Turn) → reported_in (replicate 64 0) o ≡ None
+reported_zero None = refl
+reported_zero (Some t) = ap number_reported (zero_at 64 t.seat)
 
 -- the row of no pair
 pub no_pair : (turns : ℕ → Option Turn) (many : ℕ) → IsRowOf turns many [] (replicate 64 0)
-no_pair turns many = record { wide = refl; says = (λ q. sym (told_zero (turns q))); unused = (λ seat far. zero_at 64 seat) }
+no_pair turns many = record { wide = refl; says = (λ q. sym (reported_zero (turns q))); unused = (λ seat far. zero_at 64 seat) }
 
 -- the row with one more pair, which comes first
 pub one_pair : (terms : RenameTerms) (s : Names) (o : RenameObject) (h : HoldsNames terms s o) (xs : List (ℕ × ℕ)) (x : ℕ × ℕ) (row : List ℕ) (seat : ℕ) →
@@ -48,17 +48,17 @@ one_pair terms s o h xs x row seat r k =
       wide = length-set row seat x.1 ∙ r.wide;
       says = (λ q. elim (eqb_tells x.0 q) [
         | inl y ↦ rw y.0 (sym (
-            ap (told_in (slice_set row seat x.1)) (ap (turns_in s.participants.items) (sym y.1) ∙ k.is) ∙ ap number_told (ap (slice_index (slice_set row seat x.1)) k.at ∙ get_or-set_same row seat x.1 0 inside) ∙ number_some x.1 k.positive))
-        | inr y ↦ rw y.0 (r.says q ∙ elim (turns_in s.participants.items q) as (λ z. turns_in s.participants.items q ≡ z → told_in row z ≡ told_in (slice_set row seat x.1) z) [
+            ap (reported_in (slice_set row seat x.1)) (ap (turns_in s.participants.items) (sym y.1) ∙ k.is) ∙ ap number_reported (ap (slice_index (slice_set row seat x.1)) k.at ∙ get_or-set_same row seat x.1 0 inside) ∙ number_some x.1 k.positive))
+        | inr y ↦ rw y.0 (r.says q ∙ elim (turns_in s.participants.items q) as (λ z. turns_in s.participants.items q ≡ z → reported_in row z ≡ reported_in (slice_set row seat x.1) z) [
           | None ↦ λ e. refl
-          | Some u ↦ λ e. ap number_told (sym (get_or-set_other row seat u.seat x.1 0 (λ same. y.1 (sym (h.turns.apart q x.0 u k.turn e k.is (same ∙ sym k.at))))))
+          | Some u ↦ λ e. ap number_reported (sym (get_or-set_other row seat u.seat x.1 0 (λ same. y.1 (sym (h.turns.apart q x.0 u k.turn e k.is (same ∙ sym k.at))))))
         ] refl)
       ]);
       unused = (λ other far. get_or-set_other row seat other x.1 0 (λ same. absurd (omega arith)) ∙ r.unused other far);
     }
 
-number_told_one : (a b : ℕ) → number_told a ≡ number_told b → a ≡ b
-number_told_one a b e = elim (eqb_tells a 0) [
+number_reported_one : (a b : ℕ) → number_reported a ≡ number_reported b → a ≡ b
+number_reported_one a b e = elim (eqb_tells a 0) [
   | inl y ↦ elim (eqb_tells b 0) [ inl z ↦ y.1 ∙ sym z.1 | inr z ↦ (let some = z.1 in (some_number a b (e ∙ number_some b (omega arith))).0) ]
   | inr y ↦ (let some = y.1 in sym (some_number b a (sym e ∙ number_some a (omega arith))).0)
 ]
@@ -70,12 +70,12 @@ row_tells terms s o h view row r i l rises = (
   (λ is. same_number_lists (h.turns.rows i) row (h.turns.held.wide i l ∙ sym r.wide) (λ seat inside. elim (cases_Bool (nat_lt seat (length s.participants.items))) [
     | inl y ↦
         let k = h.turns.taken seat (ltb-true _ _ y) in
-        let e : number_told (slice_index (h.turns.rows i) k.turn.seat) ≡ number_told (slice_index row k.turn.seat) =
-        sym (ap (told_in (h.turns.rows i)) k.is) ∙ sym (h.turns.shown i l k.who) ∙ sym (is.values k.who) ∙ r.says k.who ∙ ap (told_in row) k.is in
-        subst (λ x. slice_index (h.turns.rows i) x ≡ slice_index row x) k.at (number_told_one _ _ e)
+        let e : number_reported (slice_index (h.turns.rows i) k.turn.seat) ≡ number_reported (slice_index row k.turn.seat) =
+        sym (ap (reported_in (h.turns.rows i)) k.is) ∙ sym (h.turns.shown i l k.who) ∙ sym (is.values k.who) ∙ r.says k.who ∙ ap (reported_in row) k.is in
+        subst (λ x. slice_index (h.turns.rows i) x ≡ slice_index row x) k.at (number_reported_one _ _ e)
     | inr y ↦ h.turns.unused i l seat (ltb-false _ _ y) ∙ sym (r.unused seat (ltb-false _ _ y))
   ])),
-  (λ e. record { rising = rises; values = (λ q. r.says q ∙ ap (λ x. told_in x (turns_in s.participants.items q)) (sym e) ∙ sym (h.turns.shown i l q)) }),
+  (λ e. record { rising = rises; values = (λ q. r.says q ∙ ap (λ x. reported_in x (turns_in s.participants.items q)) (sym e) ∙ sym (h.turns.shown i l q)) }),
 )
 
 -- what a row that is found of a view tells of one who has begun and proposed

@@ -120,7 +120,7 @@ proposed m new last rows seat s at h a l p t g =
     let row : List ℕ = slice_set (rows last) seat s in
     let before : ℕ = slice_index (rows last) seat in
     let now = set_at-same rows (last + 1) row in
-    let told : new.turned ≡ turned_at (turned_at m.turned (rows last) row s (last + 1)) (rows last) row before (last + 1) =
+    let reported : new.turned ≡ turned_at (turned_at m.turned (rows last) row s (last + 1)) (rows last) row before (last + 1) =
     t ∙ (λ i. turned_at (turned_at m.turned (h.present_is i) (slice_set (h.present_is i) seat s) s (at_is i)) (h.present_is i) (slice_set (h.present_is i) seat s) (slice_index (h.present_is i) seat) (at_is i)) in
     let seen : (r : List ℕ) → get (pointwise nat_eq) new.seen r ≡ cond (pointwise nat_eq row r) (Some (last + 1 + 1)) (get (pointwise nat_eq) m.seen r) =
     (λ r. g r ∙ (λ i. cond (pointwise nat_eq (slice_set (h.present_is i) seat s) r) (Some (at_is i + 1)) (get (pointwise nat_eq) m.seen r))) in
@@ -128,9 +128,9 @@ proposed m new last rows seat s at h a l p t g =
       last_is = l ∙ at_is;
       present_is = p ∙ ap (λ (x : List ℕ). slice_set x seat s) h.present_is ∙ sym now;
       wide = λ i k. by_moment rows last row (λ r. length r ≡ 64) i k (h.wide i) (λ e. length-set (rows last) seat s ∙ h.wide last (omega arith));
-      numbers = ap length told ∙ noted-length _ (rows last) row before (last + 1) ∙ noted-length m.turned (rows last) row s (last + 1) ∙ h.numbers;
+      numbers = ap length reported ∙ noted-length _ (rows last) row before (last + 1) ∙ noted-length m.turned (rows last) row s (last + 1) ∙ h.numbers;
       turned = λ n k. subst (λ (r : List ℕ). IsPast (λ i. crowded n (set_at rows (last + 1) row i) ≢ crowded n r) (last + 1) (slice_index new.turned n)) (sym now)
-          (subst (IsPast (λ i. crowded n (set_at rows (last + 1) row i) ≢ crowded n row) (last + 1)) (sym (ap (λ (x : List ℕ). slice_index x n) told ∙ noted_twice m.turned (rows last) seat s (last + 1) n (rw h.numbers k)))
+          (subst (IsPast (λ i. crowded n (set_at rows (last + 1) row i) ≢ crowded n row) (last + 1)) (sym (ap (λ (x : List ℕ). slice_index x n) reported ∙ noted_twice m.turned (rows last) seat s (last + 1) n (rw h.numbers k)))
           (turned_next rows last row n (slice_index m.turned n) (h.turned n k)));
       seen = λ r. subst (λ (o : Option ℕ). IsPast (λ i. set_at rows (last + 1) row i ≡ r) (last + 1) (unwrap_or o 0)) (sym (seen r)) (seen_next rows last row r (get (pointwise nat_eq) m.seen r) (h.seen r));
     }

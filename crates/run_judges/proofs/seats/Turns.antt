@@ -1,6 +1,6 @@
 -- who has a seat, and what rows say of seats
 use Rattle.std.proofs.Common.{◌≡◌, ◌≢◌, ℕ, ◌+◌, ◌<◌, ◌≤◌, ◌==◌, inl, inr, true, false, cond, List, length, refl, sym, ap, ◌∙◌, subst, arith, Some, None, Option, slice_index, slice_set}
-use Rattle.run_judges.proofs.Common.{eqb_tells, get_or-set_same, get_or-set_other, set_at, set_at-same, set_at-other, set_at-is, Moments, Turn, HoldsMoments, count_of, since_of, number_told, told_in, Stands, HoldsTurns}
+use Rattle.run_judges.proofs.Common.{eqb_tells, get_or-set_same, get_or-set_other, set_at, set_at-same, set_at-other, set_at-is, Moments, Turn, HoldsMoments, count_of, since_of, number_reported, reported_in, Stands, HoldsTurns}
 use Rattle.run_judges.proofs.seats.Crowds.{number_some}
 use Rattle.run_judges.proofs.seats.People.{seen_kept, seen_set}
 use Rattle.run_judges.proofs.seats.Turned.{by_moment, earlier}
@@ -42,7 +42,7 @@ turns_begun turns many limit m last moment counts sinces p h none =
             let k = h.taken seat (omega arith) in
             record { who = k.who; turn = k.turn; is = set_at-other turns p (Some new) k.who (λ e. absurd (let z : None ≡ Some k.turn = sym none ∙ ap turns (sym e) ∙ k.is in cc)) ∙ k.is; at = k.at }
       ];
-      shown = λ i l. seen_kept (told_in (h.rows i)) (moment i) turns p (Some new) (h.shown i l) (ap (told_in (h.rows i)) none ∙ sym (ap number_told (h.unused i l many (omega arith))));
+      shown = λ i l. seen_kept (reported_in (h.rows i)) (moment i) turns p (Some new) (h.shown i l) (ap (reported_in (h.rows i)) none ∙ sym (ap number_reported (h.unused i l many (omega arith))));
       unused = λ i l seat k. h.unused i l seat (omega arith);
       small = h.small;
       stands = each (λ q t. 1 ≤ t.count → Stands h.rows last t) (λ some. absurd (omega arith)) (λ q t other is. h.stands q t is);
@@ -81,12 +81,12 @@ module _ (turns : ℕ → Option Turn) (many limit : ℕ) (m m' : Moments) (last
   other_than q u other there same = other (h.apart q p u t there is same)
 
   -- what the new row says of each
-  new_row : (q : ℕ) (o : Option Turn) → turns q ≡ o → set_at (moment last) p (Some n) q ≡ told_in row (set_at turns p (Some turn) q)
+  new_row : (q : ℕ) (o : Option Turn) → turns q ≡ o → set_at (moment last) p (Some n) q ≡ reported_in row (set_at turns p (Some turn) q)
   new_row q o there = elim (eqb_tells q p) [
-    | inl y ↦ rw y.0 (sym (ap number_told own_seat ∙ number_some n positive))
-    | inr y ↦ rw y.0 (h.shown last (omega arith) q ∙ elim o as (λ x. turns q ≡ x → told_in (h.rows last) (turns q) ≡ told_in row (turns q)) [
+    | inl y ↦ rw y.0 (sym (ap number_reported own_seat ∙ number_some n positive))
+    | inr y ↦ rw y.0 (h.shown last (omega arith) q ∙ elim o as (λ x. turns q ≡ x → reported_in (h.rows last) (turns q) ≡ reported_in row (turns q)) [
       | None ↦ λ e. rw e refl
-      | Some u ↦ λ e. rw e (ap number_told (sym (other_seat u.seat (other_than q u y.1 e))))
+      | Some u ↦ λ e. rw e (ap number_reported (sym (other_seat u.seat (other_than q u y.1 e))))
     ] there)
   ]
 
@@ -94,9 +94,9 @@ module _ (turns : ℕ → Option Turn) (many limit : ℕ) (m m' : Moments) (last
   in_row : (P : List ℕ → Type 0) (i : ℕ) → i ≤ last + 1 → (i ≤ last → P (h.rows i)) → (i ≡ last + 1 → P row) → P (rows' i)
   in_row = by_moment h.rows last row
 
-  shown' : (i : ℕ) → i ≤ last + 1 → (q : ℕ) → set_at moment (last + 1) (set_at (moment last) p (Some n)) i q ≡ told_in (rows' i) (set_at turns p (Some turn) q)
-  shown' i l q = in_row (λ r. set_at moment (last + 1) (set_at (moment last) p (Some n)) i q ≡ told_in r (set_at turns p (Some turn) q)) i l
-      (λ k. ap (λ f. f q) (earlier moment last (set_at (moment last) p (Some n)) i k) ∙ seen_kept (told_in (h.rows i)) (moment i) turns p (Some turn) (h.shown i k) (ap (told_in (h.rows i)) is) q)
+  shown' : (i : ℕ) → i ≤ last + 1 → (q : ℕ) → set_at moment (last + 1) (set_at (moment last) p (Some n)) i q ≡ reported_in (rows' i) (set_at turns p (Some turn) q)
+  shown' i l q = in_row (λ r. set_at moment (last + 1) (set_at (moment last) p (Some n)) i q ≡ reported_in r (set_at turns p (Some turn) q)) i l
+      (λ k. ap (λ f. f q) (earlier moment last (set_at (moment last) p (Some n)) i k) ∙ seen_kept (reported_in (h.rows i)) (moment i) turns p (Some turn) (h.shown i k) (ap (reported_in (h.rows i)) is) q)
       (λ k. ap (λ j. set_at moment (last + 1) (set_at (moment last) p (Some n)) j q) k ∙ ap (λ f. f q) (set_at-same moment (last + 1) (set_at (moment last) p (Some n))) ∙ new_row q (turns q) refl)
 
   small_seat : (seat : ℕ) → slice_index row seat < 128

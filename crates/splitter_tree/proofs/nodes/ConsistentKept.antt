@@ -1,6 +1,6 @@
 -- nodes and walks that agree: what keeps them so in a memory of a tree
 use Rattle.std.proofs.Common.{◌≡◌, ◌≢◌, ℕ, suc, ◌+◌, ◌*◌, ◌/◌, ◌<◌, ◌≤◌, Bool, true, false, cond, ◌⊎◌, inl, inr, Option, Some, None, refl, sym, ap, subst, ◌∙◌, arith, ◌↔◌}
-use Rattle.splitter_tree.proofs.Common.{fun_ext, eqb_tells, Access, Write, MemorySteps, Spares, answer_from, set_at, set_at-other, set_at-as_is, Right, Down, Stage, went_right, went_down, x_after, y_after, stage_after, access_at, stage_by, TreeRegister, Mark, X, Y, Contents, TreeValue, Word, Walker, word_in, segment_in, mark_at, x_at, y_at, segment_at, IsWithinReach, IsTreeMemory, IsEmptyTree, left_child, right_child, walker_at, walk_of, in_words, told, next_access, visit_on, walked_to, walker_after, NodesAgree, IsConsistent, cases_Bool}
+use Rattle.splitter_tree.proofs.Common.{fun_ext, eqb_tells, Access, Write, MemorySteps, Spares, answer_from, set_at, set_at-other, set_at-as_is, Right, Down, Stage, went_right, went_down, x_after, y_after, stage_after, access_at, stage_by, TreeRegister, Mark, X, Y, Contents, TreeValue, Word, Walker, word_in, segment_in, mark_at, x_at, y_at, segment_at, IsWithinReach, IsTreeMemory, IsEmptyTree, left_child, right_child, walker_at, walk_of, in_words, reported, next_access, visit_on, walked_to, walker_after, NodesAgree, IsConsistent, cases_Bool}
 use Rattle.splitter.specs.declared.stage.Stage.TheVariants.{Outside, WroteX, SawClear, WroteY, Gone}
 use Rattle.splitter.specs.declared.visitor.Visitor.{Visitor}
 use Rattle.splitter.proofs.WalkLemmas.{goes_on}
@@ -118,7 +118,7 @@ module _ {S : Type 0} (memory : MemorySteps S TreeRegister TreeValue) (tree : Is
 
     -- the words that a visit reads are those in its node's registers
     pub visit_reaches : (v : Visitor TreeRegister) → v.identity ≡ p → v.x ≡ X k → v.y ≡ Y k → (stage : Stage) → v.stage ≡ stage →
-        stage_by v (told (answer_from (memory.register s) (visiting stage))) ≡ stage_after p stage (x_at memory s k) (y_at memory s k)
+        stage_by v (reported (answer_from (memory.register s) (visiting stage))) ≡ stage_after p stage (x_at memory s k) (y_at memory s k)
     visit_reaches v own x_of y_of WroteX e = rw (e, tree.ys s k) refl
     visit_reaches v own x_of y_of WroteY e = rw (e, tree.xs s k, own) refl
     visit_reaches v own x_of y_of stage e = rw e refl
@@ -168,7 +168,7 @@ module _ {S : Type 0} (memory : MemorySteps S TreeRegister TreeValue) (most b : 
         let few : b ≤ 64 = (let f = c.few in let r = c.room in omega arith) in
         let a : Access TreeRegister TreeValue = in_words (access_at p (X u.place) (Y u.place) u.visitor.stage) in
         let stage = visit_reaches memory tree s p u.place marked u.visitor walk.identity walk.x walk.y u.visitor.stage refl in
-        let reached : Stage = stage_by u.visitor (told (answer_from (memory.register s) a)) in
+        let reached : Stage = stage_by u.visitor (reported (answer_from (memory.register s) a)) in
         let next = agrees_next b few (mark_at memory s) (x_at memory s) (y_at memory s) walker c.agree p u is m reached (sym stage) in
         let after_is : walker_after u (answer_from (memory.register s) a) ≡ walked_to u reached = ap (λ (t : Bool). cond t (record u { is_marking = false }) (walked_to u reached)) m in
         record {

@@ -1,6 +1,6 @@
 use Rattle.std.proofs.Common.{◌≡◌, [], refl, arith}
 use Rattle.drawn_schedules.proofs.Common.{on_ok_weaker, on_err_weaker, Appends, IsUnderWay, HasPartOf}
-use Rattle.drawn_schedules.proofs.RunLemmas.{no_run_yet, one_run_more, told_otherwise}
+use Rattle.drawn_schedules.proofs.RunLemmas.{no_run_yet, one_run_more, reported_otherwise}
 use Rattle.drawn_schedules.proofs.ResultLemmas.{handed_on, on_ok_both}
 use Rattle.drawn_schedules.proofs.UnderWayLemmas.{at_last, part_written}
 use Rattle.drawn_schedules.proofs.runs.play_schedules.Goals as goal
@@ -21,7 +21,7 @@ returns-in_err-tally-clause-part g c =
     rw fault (
       c.loop-run.run,
       omega (arith, c.loop-run-test.true),
-      told_otherwise c.args.config c.args.plan.seed c.args.plan.ids c.args.plan.steps c.loop-run.run (λ text. IsUnderWay text old now held []) (HasPartOf old now) c.loop-run.invariant.drawn (λ text way. part_written text old now held [] way),
+      reported_otherwise c.args.config c.args.plan.seed c.args.plan.ids c.args.plan.steps c.loop-run.run (λ text. IsUnderWay text old now held []) (HasPartOf old now) c.loop-run.invariant.drawn (λ text way. part_written text old now held [] way),
     )
 
 pub returns-in_err-make_room-clause-part : goal.returns-in_err-make_room-clause-part
@@ -34,7 +34,7 @@ returns-in_err-make_room-clause-part g c =
     rw fault (
       c.loop-run.run,
       omega (arith, c.loop-run-test.true),
-      told_otherwise c.args.config c.args.plan.seed c.args.plan.ids c.args.plan.steps c.loop-run.run (λ text. IsUnderWay text old mid held []) (HasPartOf old now) c.loop-run.invariant.drawn
+      reported_otherwise c.args.config c.args.plan.seed c.args.plan.ids c.args.plan.steps c.loop-run.run (λ text. IsUnderWay text old mid held []) (HasPartOf old now) c.loop-run.invariant.drawn
           (λ text way. c.in_err-make_room.ensures.within text [] old way),
     )
 
@@ -46,7 +46,7 @@ loop-run-preserved g c =
     let e = c.in_ok-make_room.ensures in
     let i = c.loop-run.invariant in
     let made = c.in_ok-tally.ensures.drawn in
-    let so_far = told_otherwise c.args.config c.args.plan.seed c.args.plan.ids c.args.plan.steps c.loop-run.run (λ text. IsUnderWay text old mid c.loop-run.held []) (λ text. IsUnderWay text old now c.make_room.new.self []) i.drawn
+    let so_far = reported_otherwise c.args.config c.args.plan.seed c.args.plan.ids c.args.plan.steps c.loop-run.run (λ text. IsUnderWay text old mid c.loop-run.held []) (λ text. IsUnderWay text old now c.make_room.new.self []) i.drawn
     (λ text way. e.on text [] old way) in
     record {
       drawn = one_run_more c.args.config c.args.plan.seed c.args.plan.ids c.args.plan.steps c.loop-run.run old now c.make_room.new.self c.put_run.new.held made.0 c.in_ok-tally.tally so_far made.1 made.2 c.put_run.ensures.text;
@@ -62,7 +62,7 @@ returns-clause-ok g c =
     let all : c.loop-run.run ≡ c.args.runs = omega arith in
     let drawn = rw all at c.loop-run.invariant.drawn in
     on_ok_weaker c.send.result
-    (λ both. told_otherwise c.args.config c.args.plan.seed c.args.plan.ids c.args.plan.steps c.args.runs (λ text. IsUnderWay text old mid c.loop-run.held []) (Appends old now) drawn
+    (λ both. reported_otherwise c.args.config c.args.plan.seed c.args.plan.ids c.args.plan.steps c.args.runs (λ text. IsUnderWay text old mid c.loop-run.held []) (Appends old now) drawn
     (λ text way. at_last text old now (rw both.1 at (both.0 text [] old way))))
     (on_ok_both _ _ c.send.result c.send.ensures.on c.send.ensures.empty)
 
@@ -75,7 +75,7 @@ returns-clause-part g c =
     (λ within. (
       c.loop-run.run,
       omega arith,
-      told_otherwise c.args.config c.args.plan.seed c.args.plan.ids c.args.plan.steps c.loop-run.run (λ text. IsUnderWay text old mid c.loop-run.held []) (HasPartOf old now) c.loop-run.invariant.drawn
+      reported_otherwise c.args.config c.args.plan.seed c.args.plan.ids c.args.plan.steps c.loop-run.run (λ text. IsUnderWay text old mid c.loop-run.held []) (HasPartOf old now) c.loop-run.invariant.drawn
           (λ text way. within text [] old way),
     ))
     c.send.ensures.within

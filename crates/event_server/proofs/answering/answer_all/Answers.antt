@@ -6,14 +6,14 @@ use Rattle.event_server.proofs.answering.answer_all.Goals as goal
 
 pub loop-key-init : goal.loop-key-init
 loop-key-init g c = record {
-  so = answering_none (seats_of g.S.Stream.left g.S.Stream.gone) (g.K.Keep.holds c.args.keep.now c.args.service.now) (λ x. x.stage ≡ stage.Idle) c.args.seats.now;
+  so = answering_none (seats_of g.S.Stream.left g.S.Stream.gone) (g.K.Persist.holds c.args.persister.now c.args.service.now) (λ x. x.stage ≡ stage.Idle) c.args.seats.now;
   room = c.requires;
 }
 
 pub loop-key-preserved : goal.loop-key-preserved
 loop-key-preserved g c =
     let on = seats_of g.S.Stream.left g.S.Stream.gone in
-    let slots = g.K.Keep.holds c.args.keep.now c.args.service.now in
+    let slots = g.K.Persist.holds c.args.persister.now c.args.service.now in
     record {
       so = elim c.answer_at.ensures.answered as (λ _. Answering on slots (λ x. x.stage ≡ stage.Idle) c.args.seats.now c.answer_at.new.seats) [
         | inl same ↦ rw same c.loop-key.invariant.so

@@ -9,7 +9,7 @@ use Rattle.event_server.proofs.answering.answer_at.Goals as goal
 pub returns-in-Idle-clause-answered : goal.returns-in-Idle-clause-answered
 returns-in-Idle-clause-answered g c =
     let below = c.if-key-seats.true in
-    inr (seat_answered (seats_of g.S.Stream.left g.S.Stream.gone) (g.K.Keep.holds c.args.keep.now c.args.service.now) (λ x. x.stage ≡ stage.Idle)
+    inr (seat_answered (seats_of g.S.Stream.left g.S.Stream.gone) (g.K.Persist.holds c.args.persister.now c.args.service.now) (λ x. x.stage ≡ stage.Idle)
     c.args.key c.args.seats.now c.in-Some.connection c.answer.new.self below (get_or_default c.args.seats.now c.args.key None c.index-seats-key.result below ∙ c.in-Some.is) c.in-Idle.is
     (λ again. (let e : stage.Taken ≡ stage.Idle = sym c.answer.ensures.stage ∙ again in absurd cc)) c.answer.ensures.answers
     (ap (λ s. g.S.Stream.left s) c.answer.ensures.stream) (ap (λ s. g.S.Stream.gone s) c.answer.ensures.stream))

@@ -1,5 +1,5 @@
 use Rattle.std.proofs.Common.{refl}
-use Rattle.event_server.proofs.LookLemmas.{no_lf_in}
+use Rattle.event_server.proofs.PeekLemmas.{no_lf_in}
 use Rattle.event_server.proofs.asking.lacks_end.Goals as goal
 
 pub returns-in-None : goal.returns-in-None

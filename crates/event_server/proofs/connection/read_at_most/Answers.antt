@@ -1,6 +1,6 @@
 use Rattle.std.proofs.Common.{◌≤◌, arith, length}
 use Rattle.std.proofs.lemmas.List.{length-take-le}
-use Rattle.event_server.proofs.WireLemmas.{consumes_more, reads_more}
+use Rattle.event_server.proofs.BuffersLemmas.{consumes_more, reads_more}
 use Rattle.event_server.proofs.connection.read_at_most.Goals as goal
 
 pub returns-clause-bound : goal.returns-clause-bound

@@ -5,7 +5,7 @@ use Rattle.event_server.proofs.connection.read_into.Goals as goal
 pub returns : goal.returns
 returns g c =
     let read = c.read_at_most.new.chunk in
-    let chunk = c.args.room.now.chunk in
+    let chunk = c.args.shared.now.chunk in
     let whole : length read ≡ length chunk.items = c.read_at_most.ensures.size ∙ ap length c.deref_mut.ensures.value in
     let same : take chunk.len (read ++ drop (length read) chunk.items) ≡ read = take_at read (drop (length read) chunk.items) chunk.len (omega (arith, whole, chunk.ok.0)) in
     record {

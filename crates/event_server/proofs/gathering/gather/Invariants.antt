@@ -1,19 +1,19 @@
 use Rattle.std.proofs.Common.{◌≡◌, ◌≤◌, ◌-◌, [], length}
-use Rattle.event_server.proofs.Common.{with_ends, IsRoom, seats_of, Gathered, SeatLines, all_lines}
+use Rattle.event_server.proofs.Common.{with_ends, AreShared, seats_of, Gathered, SeatLines, all_lines}
 use Rattle.event_server.specs.declared.connection.Stage.TheVariants as stage
-use Rattle.event_server.proofs.ToldLemmas.{Telling}
+use Rattle.event_server.proofs.ReportedLemmas.{Telling}
 use Rattle.event_server.proofs.gathering.gather.Given as goal
 
-abbrev pub invariant-loop-looked : goal.invariant-loop-looked
-invariant-loop-looked g l = record {
+abbrev pub invariant-loop-peeked : goal.invariant-loop-peeked
+invariant-loop-peeked g l = record {
   gathered : Gathered (seats_of g.S.Stream.left g.S.Stream.gone) l.fn.seats l.seats;
-  told : (told : SeatLines) × (l.batch.lines.items ≡ with_ends (all_lines told)) ×
-      Telling (seats_of g.S.Stream.left g.S.Stream.gone) (λ c. c.look) (λ c. c.stage ≡ stage.Queued) l.fn.batch.kind l.ready l.looked told l.seats;
+  reported : (reported : SeatLines) × (l.batch.lines.items ≡ with_ends (all_lines reported)) ×
+      Telling (seats_of g.S.Stream.left g.S.Stream.gone) (λ c. c.peek) (λ c. c.stage ≡ stage.Queued) l.fn.batch.kind l.ready l.peeked reported l.seats;
   kind : l.batch.kind ≡ l.fn.batch.kind;
-  room : IsRoom l.room;
-  first : l.looked ≡ 0 → l.batch.lines.items ≡ [];
-  inside : l.looked ≤ length l.ready;
+  room : AreShared l.shared;
+  first : l.peeked ≡ 0 → l.batch.lines.items ≡ [];
+  inside : l.peeked ≤ length l.ready;
 }
 
-abbrev pub decreases-loop-looked : goal.decreases-loop-looked
-decreases-loop-looked g l = length l.ready - l.looked
+abbrev pub decreases-loop-peeked : goal.decreases-loop-peeked
+decreases-loop-peeked g l = length l.ready - l.peeked

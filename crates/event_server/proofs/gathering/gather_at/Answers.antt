@@ -3,7 +3,7 @@ use Rattle.std.proofs.lemmas.List.{set-get_or, get_or_past}
 use Rattle.std.proofs.Common.{◌≡◌, ◌∙◌, inl, inr, None, refl, sym, subst}
 use Rattle.event_server.proofs.Common.{get_or_default, Consumes-nil, seats_of, SeatIdle, requests_seen, Gathered}
 use Rattle.event_server.proofs.GatherLemmas.{gathered_at, gathers_none, gathered_none}
-use Rattle.event_server.proofs.ToldLemmas.{seat_looked, set_same}
+use Rattle.event_server.proofs.ReportedLemmas.{seat_peeked, set_same}
 use Rattle.event_server.specs.declared.connection.Stage.TheVariants as stage
 use Rattle.event_server.proofs.gathering.gather_at.Goals as goal
 
@@ -13,7 +13,7 @@ returns-in_default-stage-clause-gathered g c =
     let was = c.in-Some.connection in
     let left = g.S.Stream.left was.stream in
     gathered_at (seats_of g.S.Stream.left g.S.Stream.gone) c.args.key c.args.seats.now was was below
-    (get_or_default c.args.seats.now c.args.key None c.index-seats-key.result below ∙ c.in-Some.is) (gathers_none left left was.wire was.wire (Consumes-nil left) refl refl refl (λ h. (refl, h))) refl
+    (get_or_default c.args.seats.now c.args.key None c.index-seats-key.result below ∙ c.in-Some.is) (gathers_none left left was.buffers was.buffers (Consumes-nil left) refl refl refl (λ h. (refl, h))) refl
 
 pub returns-in-Queued-clause-gathered : goal.returns-in-Queued-clause-gathered
 returns-in-Queued-clause-gathered g c =
@@ -21,23 +21,23 @@ returns-in-Queued-clause-gathered g c =
     gathered_at (seats_of g.S.Stream.left g.S.Stream.gone) c.args.key c.args.seats.now c.in-Some.connection c.gather.new.self below
     (get_or_default c.args.seats.now c.args.key None c.index-seats-key.result below ∙ c.in-Some.is) c.gather.ensures.gathers c.gather.ensures.unsent
 
-pub returns-in_default-stage-clause-looked : goal.returns-in_default-stage-clause-looked
-returns-in_default-stage-clause-looked g c =
+pub returns-in_default-stage-clause-peeked : goal.returns-in_default-stage-clause-peeked
+returns-in_default-stage-clause-peeked g c =
     let below = c.if-key-seats.true in
     let was = c.in-Some.connection in
     let there = get_or_default c.args.seats.now c.args.key None c.index-seats-key.result below ∙ c.in-Some.is in
     inl (refl, set_same c.args.seats.now c.args.key was below there, subst (λ x. SeatIdle (λ q. q.stage ≡ stage.Queued) x) (sym there) c.in_default-stage.not-Queued)
 
-pub returns-in-Queued-clause-looked : goal.returns-in-Queued-clause-looked
-returns-in-Queued-clause-looked g c =
+pub returns-in-Queued-clause-peeked : goal.returns-in-Queued-clause-peeked
+returns-in-Queued-clause-peeked g c =
     let below = c.if-key-seats.true in
     let was = c.in-Some.connection in
     let is = c.gather.new.self in
     let there = get_or_default c.args.seats.now c.args.key None c.index-seats-key.result below ∙ c.in-Some.is in
     inr (
-      requests_seen c.args.batch.now.kind is.wire is.look,
-      c.gather.ensures.told,
-      seat_looked (seats_of g.S.Stream.left g.S.Stream.gone) (λ q. q.look) (λ q. q.stage ≡ stage.Queued) c.args.batch.now.kind c.args.key c.args.seats.now was is (requests_seen c.args.batch.now.kind is.wire is.look) below there
+      requests_seen c.args.batch.now.kind is.buffers is.peek,
+      c.gather.ensures.reported,
+      seat_peeked (seats_of g.S.Stream.left g.S.Stream.gone) (λ q. q.peek) (λ q. q.stage ≡ stage.Queued) c.args.batch.now.kind c.args.key c.args.seats.now was is (requests_seen c.args.batch.now.kind is.buffers is.peek) below there
           (c.gather.ensures.stage ∙ c.in-Queued.is) refl c.gather.ensures.asks,
     )
 
@@ -65,7 +65,7 @@ returns-in_default-stage-clause-room g c = c.requires
 pub returns-else-key-seats : goal.returns-else-key-seats
 returns-else-key-seats g c = record {
   gathered = gathered_none (seats_of g.S.Stream.left g.S.Stream.gone) c.args.seats.now;
-  looked = inl (refl, refl, subst (λ x. SeatIdle (λ q. q.stage ≡ stage.Queued) x) (sym (get_or_past c.args.seats.now c.args.key None c.if-key-seats.false)) tt);
+  peeked = inl (refl, refl, subst (λ x. SeatIdle (λ q. q.stage ≡ stage.Queued) x) (sym (get_or_past c.args.seats.now c.args.key None c.if-key-seats.false)) tt);
   kind = refl;
   room = c.requires;
 }
@@ -77,7 +77,7 @@ returns-in_default g c =
     let there = get_or_default c.args.seats.now c.args.key None c.index-seats-key.result c.if-key-seats.true ∙ c.in_default.is in
     record {
       gathered = subst (λ x. Gathered on c.args.seats.now x) (sym back) (gathered_none on c.args.seats.now);
-      looked = inl (refl, back, subst (λ x. SeatIdle (λ q. q.stage ≡ stage.Queued) x) (sym there) tt);
+      peeked = inl (refl, back, subst (λ x. SeatIdle (λ q. q.stage ≡ stage.Queued) x) (sym there) tt);
       kind = refl;
       room = c.requires;
     }

@@ -1,7 +1,7 @@
 use borrow.Author.Rules.{scaled_Fits}
 use Rattle.std.proofs.lemmas.List.{set-get_or, get_or_past}
 use Rattle.std.proofs.Common.{◌≡◌, ◌∙◌, [], Some, None, ap, subst, sym, get_or, refl}
-use Rattle.event_server.proofs.Common.{get_or_default, get_or-set_same, get_or-set_other, Consumes, Consumes-nil, SeatAsks, SeatBroken, SeatIs, seats_of, WireState, Gathered}
+use Rattle.event_server.proofs.Common.{get_or_default, get_or-set_same, get_or-set_other, Consumes, Consumes-nil, SeatAsks, SeatBroken, SeatIs, seats_of, BuffersState, Gathered}
 use Rattle.event_server.specs.declared.connection.Stage.TheVariants as stage
 use Rattle.event_server.proofs.GatherLemmas.{gathered_at, gathers_none, gathered_none}
 use Rattle.event_server.proofs.gathering.give_up_at.Goals as goal
@@ -12,15 +12,15 @@ returns-in-Some g c =
     let below = c.if-key-seats.true in
     let was = c.in-Some.connection in
     let is = c.give_up.new.self in
-    let wire = c.give_up.ensures.wire in
+    let buffers = c.give_up.ensures.buffers in
     let there = get_or_default c.args.seats.now c.args.key None c.index-seats-key.result below ∙ c.in-Some.is in
     let none : Consumes (g.S.Stream.left was.stream) (g.S.Stream.left is.stream) [] = rw c.give_up.ensures.stream (Consumes-nil (g.S.Stream.left was.stream)) in
     record {
       gathered = gathered_at on c.args.key c.args.seats.now was is below there
-          (gathers_none (g.S.Stream.left was.stream) (g.S.Stream.left is.stream) was.wire is.wire none (ap (λ (q : WireState). q.talker) wire) (ap (λ (q : WireState). q.outbox) wire) (ap (λ (q : WireState). q.ended) wire)
-          (λ h. (ap (λ (q : WireState). q.inbox) wire, c.give_up.ensures.whole h)))
+          (gathers_none (g.S.Stream.left was.stream) (g.S.Stream.left is.stream) was.buffers is.buffers none (ap (λ (q : BuffersState). q.responder) buffers) (ap (λ (q : BuffersState). q.outbox) buffers) (ap (λ (q : BuffersState). q.ended) buffers)
+          (λ h. (ap (λ (q : BuffersState). q.inbox) buffers, c.give_up.ensures.whole h)))
           (ap (λ s. g.S.Stream.gone s) c.give_up.ensures.stream);
-      told = λ asks. subst (λ x. SeatBroken on x) (sym (get_or-set_same c.args.seats.now c.args.key (Some is) None below)) (c.give_up.ensures.told (subst (λ x. SeatAsks (λ q. q.look) x) there asks));
+      reported = λ asks. subst (λ x. SeatBroken on x) (sym (get_or-set_same c.args.seats.now c.args.key (Some is) None below)) (c.give_up.ensures.reported (subst (λ x. SeatAsks (λ q. q.peek) x) there asks));
       rests = subst (λ x. SeatIs (λ q. q.stage ≡ stage.Idle) x) (sym (get_or-set_same c.args.seats.now c.args.key (Some is) None below)) c.give_up.ensures.stage;
       others = λ i other. get_or-set_other c.args.seats.now c.args.key i (Some is) None other;
     }
@@ -34,7 +34,7 @@ bounds-seats-key g c = c.if-key-seats.true
 pub returns-else-key-seats : goal.returns-else-key-seats
 returns-else-key-seats g c = record {
   gathered = gathered_none (seats_of g.S.Stream.left g.S.Stream.gone) c.args.seats.now;
-  told = λ asks. absurd (subst (λ x. SeatAsks (λ q. q.look) x) (get_or_past c.args.seats.now c.args.key None c.if-key-seats.false) asks);
+  reported = λ asks. absurd (subst (λ x. SeatAsks (λ q. q.peek) x) (get_or_past c.args.seats.now c.args.key None c.if-key-seats.false) asks);
   rests = subst (λ x. SeatIs (λ q. q.stage ≡ stage.Idle) x) (sym (get_or_past c.args.seats.now c.args.key None c.if-key-seats.false)) tt;
   others = λ i other. refl;
 }
@@ -46,7 +46,7 @@ returns-in_default g c =
     let there = get_or_default c.args.seats.now c.args.key None c.index-seats-key.result c.if-key-seats.true ∙ c.in_default.is in
     record {
       gathered = subst (λ x. Gathered on c.args.seats.now x) (sym back) (gathered_none on c.args.seats.now);
-      told = λ asks. absurd (subst (λ x. SeatAsks (λ q. q.look) x) there asks);
+      reported = λ asks. absurd (subst (λ x. SeatAsks (λ q. q.peek) x) there asks);
       rests = subst (λ x. SeatIs (λ q. q.stage ≡ stage.Idle) x) (sym (ap (λ x. get_or x c.args.key None) back ∙ there)) tt;
       others = λ i other. ap (λ x. get_or x i None) back;
     }

@@ -16,23 +16,23 @@ into_iter-iterator-requires g c κs = λ within.
 pub loop-init : goal.loop-init
 loop-init g c = record {
   room = c.in_ok-room.ensures;
-  served = served_none g.D.Service.may g.K.Keep.learns g.K.Keep.keeps g.K.Keep.waits c.args.keep.now c.args.service.now;
+  served = served_none g.D.Service.may g.K.Persist.prefetches g.K.Persist.persists g.K.Persist.waits c.args.persister.now c.args.service.now;
 }
 
 pub loop-preserved : goal.loop-preserved
 loop-preserved g c = record {
   room = c.go_round.ensures.room;
-  served = served_then g.D.Service.may g.K.Keep.learns g.K.Keep.keeps g.K.Keep.waits _ _ _ _ _ _ c.loop.invariant.served c.in_ok-go_round.ensures.served;
+  served = served_then g.D.Service.may g.K.Persist.prefetches g.K.Persist.persists g.K.Persist.waits _ _ _ _ _ _ c.loop.invariant.served c.in_ok-go_round.ensures.served;
 }
 
 pub returns : goal.returns
 returns g c =
     let may = g.D.Service.may in
-    let learns = g.K.Keep.learns in
-    let keeps = g.K.Keep.keeps in
-    let waits = g.K.Keep.waits in
-    always c.tell_end.result (WasServed may learns keeps waits c.args.keep.now c.args.service.now c.match-next.keep c.match-next.service)
-    (elim c.match-next.branch as (λ _. WasServed may learns keeps waits c.args.keep.now c.args.service.now c.match-next.keep c.match-next.service) [
-      | in-None w ↦ rw (w.keep-is, w.service-is) c.loop.invariant.served
-      | in-Some+in_ok-go_round+then-is_over w ↦ rw (w.keep-is, w.service-is) (served_then may learns keeps waits _ _ _ _ _ _ c.loop.invariant.served w.in_ok-go_round.ensures.served)
+    let prefetches = g.K.Persist.prefetches in
+    let persists = g.K.Persist.persists in
+    let waits = g.K.Persist.waits in
+    always c.tell_end.result (WasServed may prefetches persists waits c.args.persister.now c.args.service.now c.match-next.persister c.match-next.service)
+    (elim c.match-next.branch as (λ _. WasServed may prefetches persists waits c.args.persister.now c.args.service.now c.match-next.persister c.match-next.service) [
+      | in-None w ↦ rw (w.persister-is, w.service-is) c.loop.invariant.served
+      | in-Some+in_ok-go_round+then-is_over w ↦ rw (w.persister-is, w.service-is) (served_then may prefetches persists waits _ _ _ _ _ _ c.loop.invariant.served w.in_ok-go_round.ensures.served)
     ])

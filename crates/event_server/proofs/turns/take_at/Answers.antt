@@ -4,7 +4,7 @@ use Rattle.std.proofs.Common.{◌≡◌, ◌∙◌, inr, Some, None, sym, inl, r
 use Rattle.event_server.proofs.Common.{get_or_default, get_or-set_same, get_or-set_other, SeatIs, seats_of}
 use Rattle.event_server.specs.declared.connection.Stage.TheVariants as stage
 use Rattle.event_server.proofs.SeatLemmas.{seat_took}
-use Rattle.event_server.specs.Wires.{HasTakenAll}
+use Rattle.event_server.specs.ConnectionBuffers.{HasTakenAll}
 use Rattle.event_server.proofs.turns.take_at.Goals as goal
 
 pub returns-in-Queued-clause-took : goal.returns-in-Queued-clause-took
@@ -21,7 +21,7 @@ returns-in-Queued-clause-done g c =
 
 pub returns-in-Queued-clause-all : goal.returns-in-Queued-clause-all
 returns-in-Queued-clause-all g c =
-    inr (subst (λ x. SeatIs (λ q. HasTakenAll q.wire) x) (sym (get_or-set_same c.args.seats.now c.args.key (Some c.take.new.self) None c.if-key-seats.true)) c.take.ensures.all)
+    inr (subst (λ x. SeatIs (λ q. HasTakenAll q.buffers) x) (sym (get_or-set_same c.args.seats.now c.args.key (Some c.take.new.self) None c.if-key-seats.true)) c.take.ensures.all)
 
 pub returns-in-Queued-clause-others : goal.returns-in-Queued-clause-others
 returns-in-Queued-clause-others g c = λ i other. get_or-set_other c.args.seats.now c.args.key i (Some c.take.new.self) None other

@@ -4,7 +4,7 @@ use Rattle.event_server.proofs.Common.{TurnLog, tagged, seats_of}
 use Rattle.event_server.specs.declared.connection.Stage.TheVariants as stage
 use Rattle.event_server.proofs.SeatLemmas.{Going, going_none, going_on}
 use Rattle.event_server.proofs.CallLemmas.{first_none, first_on, first_called, same_on, same_served}
-use Rattle.event_server.specs.Wires.{HasTakenAll}
+use Rattle.event_server.specs.ConnectionBuffers.{HasTakenAll}
 use Rattle.event_server.proofs.turns.take_turns.Goals as goal
 
 pub loop-called-init : goal.loop-called-init
@@ -26,7 +26,7 @@ loop-called-preserved g c =
         | inr turn ↦ (log ++ tagged _ turn.turns, going_on (seats_of g.S.Stream.left g.S.Stream.gone) g.D.Service.may (λ x. x.stage ≡ stage.Queued) c.args.service.now c.args.seats.now log c.loop-called.service c.take_at.new.service c.loop-called.seats c.take_at.new.seats _ i.so.1 turn)
       ];
       done = first_on (λ x. x.stage ≡ stage.Queued → ⊥) c.loop-called.called c.args.ready.now c.loop-called.seats c.take_at.new.seats i.done c.take_at.ensures.done c.take_at.ensures.others;
-      all = same_on (λ x. HasTakenAll x.wire) (get_or c.args.ready.now c.loop-called.called 0) c.args.seats.now c.loop-called.seats c.take_at.new.seats i.all c.take_at.ensures.all c.take_at.ensures.others;
+      all = same_on (λ x. HasTakenAll x.buffers) (get_or c.args.ready.now c.loop-called.called 0) c.args.seats.now c.loop-called.seats c.take_at.new.seats i.all c.take_at.ensures.all c.take_at.ensures.others;
       room = c.take_at.ensures.room;
       inside = omega (arith, c.loop-called-test.true);
     }

@@ -1,17 +1,17 @@
 use Rattle.std.proofs.Common.{◌≡◌, ◌≤◌, ◌-◌, length}
-use Rattle.event_server.proofs.Common.{TurnLog, IsRoom, seats_of}
+use Rattle.event_server.proofs.Common.{TurnLog, AreShared, seats_of}
 use Rattle.event_server.specs.declared.connection.Stage.TheVariants as stage
 use Rattle.event_server.proofs.SeatLemmas.{Going}
 use Rattle.event_server.proofs.CallLemmas.{FirstAre, SameOrIs}
-use Rattle.event_server.specs.Wires.{HasTakenAll}
+use Rattle.event_server.specs.ConnectionBuffers.{HasTakenAll}
 use Rattle.event_server.proofs.turns.take_turns.Given as goal
 
 abbrev pub invariant-loop-called : goal.invariant-loop-called
 invariant-loop-called g l = record {
   so : (log : TurnLog) × Going (seats_of g.S.Stream.left g.S.Stream.gone) g.D.Service.may (λ c. c.stage ≡ stage.Queued) l.fn.service l.fn.seats log l.service l.seats;
   done : FirstAre (λ c. c.stage ≡ stage.Queued → ⊥) l.called l.ready l.seats;
-  all : SameOrIs (λ c. HasTakenAll c.wire) l.fn.seats l.seats;
-  room : IsRoom l.room;
+  all : SameOrIs (λ c. HasTakenAll c.buffers) l.fn.seats l.seats;
+  room : AreShared l.shared;
   inside : l.called ≤ length l.ready;
 }
 

@@ -1,4 +1,4 @@
-use Rattle.hall_log.proofs.Tapes.{hosted}
+use Rattle.hall_log.proofs.ReplyQueues.{hosted}
 use Rattle.hall_log.proofs.laws.law_of_log_hosting.Goals as goal
 
 pub returns : goal.returns

@@ -10,7 +10,7 @@ loop-at-init c = record {
   inside = omega arith;
   counted = (let none = c.requires in omega (arith, none));
   kind = refl;
-  takes = takes_none NotingSays c.args.noting.now c.args.talker.now;
+  takes = takes_none NotingSays c.args.noting.now c.args.responder.now;
 }
 
 pub loop-at-preserved : goal.loop-at-preserved
@@ -26,12 +26,12 @@ loop-at-preserved c =
           let some = c.take-at.ensures.line.some in
           omega arith);
       kind = c.take-at.ensures.line.kept ∙ c.loop-at.invariant.kind;
-      takes = subst (λ (l : List ℕ). TakesBytes NotingSays c.args.noting.now c.args.talker.now l c.take-at.new.service c.take-at.new.self) (take_pieces bytes at n)
-          (takes_then NotingSays turn_reply c.args.noting.now c.loop-at.noting c.take-at.new.service c.args.talker.now c.loop-at.talker c.take-at.new.self c.clear.new.self c.take-at.new.out
+      takes = subst (λ (l : List ℕ). TakesBytes NotingSays c.args.noting.now c.args.responder.now l c.take-at.new.service c.take-at.new.self) (take_pieces bytes at n)
+          (takes_then NotingSays turn_reply c.args.noting.now c.loop-at.noting c.take-at.new.service c.args.responder.now c.loop-at.responder c.take-at.new.self c.clear.new.self c.take-at.new.out
           (take at bytes) (take n (take (length bytes - at) (drop at bytes))) c.loop-at.invariant.kind c.loop-at.invariant.takes c.take-at.ensures.says);
     }
 
 pub returns : goal.returns
 returns c =
     let done = c.loop-at-test.false in
-    subst (λ (l : List ℕ). TakesBytes NotingSays c.args.noting.now c.args.talker.now l c.loop-at.noting c.loop-at.talker) (take_all c.loop-at.at c.args.lines.now done) c.loop-at.invariant.takes
+    subst (λ (l : List ℕ). TakesBytes NotingSays c.args.noting.now c.args.responder.now l c.loop-at.noting c.loop-at.responder) (take_all c.loop-at.at c.args.lines.now done) c.loop-at.invariant.takes

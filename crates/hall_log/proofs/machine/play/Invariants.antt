@@ -6,9 +6,9 @@ use Rattle.hall_log.proofs.machine.play.Given as goal
 abbrev pub invariant-loop-at : goal.invariant-loop-at
 invariant-loop-at l = record {
   inside : l.at ≤ length l.lines;
-  counted : l.talker.summary.lines ≤ l.at;
-  kind : l.talker.kind ≡ l.fn.talker.kind;
-  takes : TakesBytes NotingSays l.fn.noting l.fn.talker (take l.at l.lines) l.noting l.talker;
+  counted : l.responder.summary.lines ≤ l.at;
+  kind : l.responder.kind ≡ l.fn.responder.kind;
+  takes : TakesBytes NotingSays l.fn.noting l.fn.responder (take l.at l.lines) l.noting l.responder;
 }
 
 abbrev pub decreases-loop-at : goal.decreases-loop-at

@@ -3,5 +3,5 @@ use Rattle.journal.specs.declared.opening.OpenFault.TheVariants.{NoMemory}
 use Rattle.journal.proofs.FaultLemmas.{on_err}
 use Rattle.journal.proofs.opening.follow.Goals as goal
 
-pub returns-in_err-event-clause-refused : goal.returns-in_err-event-clause-refused
-returns-in_err-event-clause-refused c = on_err (λ f. f ≡ NoMemory) _ c.from_residual.result c.from_residual.ensures.1 (λ e is. inl is)
+pub returns-in_err-event-clause-errors : goal.returns-in_err-event-clause-errors
+returns-in_err-event-clause-errors c = on_err (λ f. f ≡ NoMemory) _ c.from_residual.result c.from_residual.ensures.1 (λ e is. inl is)

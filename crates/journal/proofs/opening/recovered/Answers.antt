@@ -4,8 +4,8 @@ use Rattle.run_checker.specs.Verdict.{IsVerdict}
 use Rattle.journal.proofs.Common.{Config, exchange_line, header_line}
 use Rattle.journal.proofs.opening.recovered.Goals as goal
 
-pub returns-then-contains-clause-refused : goal.returns-then-contains-clause-refused
-returns-then-contains-clause-refused c =
+pub returns-then-contains-clause-errors : goal.returns-then-contains-clause-errors
+returns-then-contains-clause-errors c =
     let whole = c.whole_length-end.ensures.whole in
     let hall = c.in_ok-hall.ensures.hall in
     let rest = flat_map exchange_line c.in_ok-hall.hall.history in

@@ -10,5 +10,5 @@ loop-left-preserved c =
     let on = c.in_ok-left.ensures.on in
     (ap (λ (h : HallState). h.config) on.after ∙ c.loop-left.invariant.0, one_more c.loop-left.hall c.follow.new.hall c.args.lines.now c.loop-left.left.now c.in_ok-left.left.now c.loop-left.invariant.1 on)
 
-pub returns-in_err-line-clause-refused : goal.returns-in_err-line-clause-refused
-returns-in_err-line-clause-refused c = on_err (λ f. f ≡ NoMemory) _ c.from_residual.result c.from_residual.ensures.1 (λ e is. inl is)
+pub returns-in_err-line-clause-errors : goal.returns-in_err-line-clause-errors
+returns-in_err-line-clause-errors c = on_err (λ f. f ≡ NoMemory) _ c.from_residual.result c.from_residual.ensures.1 (λ e is. inl is)

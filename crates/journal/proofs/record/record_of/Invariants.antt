@@ -1,5 +1,5 @@
 use Rattle.std.proofs.Common.{◌≡◌}
-use Rattle.journal.specs.Chronicles.{record_of_hall, hall_after_first}
+use Rattle.journal.specs.WriteAheads.{record_of_hall, hall_after_first}
 use Rattle.journal.proofs.record.record_of.Given as goal
 
 abbrev pub invariant-loop-place : goal.invariant-loop-place

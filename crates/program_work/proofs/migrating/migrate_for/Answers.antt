@@ -2,7 +2,7 @@ use Rattle.std.proofs.lemmas.Result.{err_from_is_err_and}
 use Rattle.std.proofs.Common.{rules, ap, ◌∙◌, ◌≡◌, ◌≢◌, ◌+◌, ◌^◌, ◌<◌, ◌≤◌, inr, refl, sym, subst, length, List, ℕ, Ok, Err}
 use Rattle.program_work.proofs.Common.{Appends, IsMigrated, Verdict, Yes, NoMemory, reading, writing, HasPartOf, Memory}
 use Rattle.program_work.specs.Checked.{verdict_text, IsRecordText}
-use Rattle.program_work.proofs.CheckLemmas.{all_told, half_told, memory_is_no_read, unread}
+use Rattle.program_work.proofs.CheckLemmas.{all_reported, half_reported, memory_is_no_read, unread}
 use Rattle.program_work.proofs.MigrateLemmas.{unwritten, line_tells, status_one, yes_says}
 use Rattle.program_work.proofs.migrating.migrate_for.Goals as goal
 
@@ -18,7 +18,7 @@ returns-in_err-verdict g c =
     let writes = writing g.W.Write.contents g.W.Sink.failed c.args.writer.now c.migrate.new.writer in
     let fault = err_from_is_err_and c.from_residual-in_err-verdict.result c.from_residual-in_err-verdict.ensures.1 in
     let k = subst (λ (b : List ℕ). IsMigrated writes b (Err c.in_err-verdict.field-0.0)) c.as_slice.ensures.value c.in_err-verdict.ensures in
-    half_told IsRecordText (reading g.R.Read.remaining g.R.Source.calls g.R.Source.failed c.args.reader.now c.read_whole.new.reader) writes c.read_whole.ensures.reads
+    half_reported IsRecordText (reading g.R.Read.remaining g.R.Source.calls g.R.Source.failed c.args.reader.now c.read_whole.new.reader) writes c.read_whole.ensures.reads
     c.from_residual-in_err-verdict.result c.in_err-verdict.field-0.0 (fault.1 ∙ ap Err fault.2) k.0 k.1 Yes
     (record {
       input = c.in_ok-bytes.bytes.items;
@@ -37,7 +37,7 @@ returns-then-eq g c =
     let k = subst (λ (v : Verdict). IsMigrated writes c.in_ok-bytes.bytes.items (Ok v)) yes
     (subst (λ (b : List ℕ). IsMigrated writes b (Ok c.in_ok-verdict.verdict)) c.as_slice.ensures.value c.in_ok-verdict.ensures) in
     let reads = reading g.R.Read.remaining g.R.Source.calls g.R.Source.failed c.args.reader.now c.read_whole.new.reader in
-    all_told IsRecordText reads writes c.read_whole.ensures.reads 0 Yes refl (record {
+    all_reported IsRecordText reads writes c.read_whole.ensures.reads 0 Yes refl (record {
       input = c.in_ok-bytes.bytes.items;
       whole = c.in_ok-bytes.ensures.whole;
       verdict = k.1.1.said;
@@ -72,7 +72,7 @@ returns-in_err-put_all g c =
     let text = c.as_slice-2.ensures ∙ c.put_verdict.ensures in
     let k = unwritten writes c.in_ok-bytes.bytes.items c.in_ok-verdict.verdict other
     (subst (λ (b : List ℕ). IsMigrated writes b (Ok c.in_ok-verdict.verdict)) c.as_slice.ensures.value c.in_ok-verdict.ensures) in
-    half_told IsRecordText (reading g.R.Read.remaining g.R.Source.calls g.R.Source.failed c.args.reader.now c.read_whole.new.reader) (writing g.W.Write.contents g.W.Sink.failed c.args.writer.now c.put_all.new.writer) c.read_whole.ensures.reads
+    half_reported IsRecordText (reading g.R.Read.remaining g.R.Source.calls g.R.Source.failed c.args.reader.now c.read_whole.new.reader) (writing g.W.Write.contents g.W.Sink.failed c.args.writer.now c.put_all.new.writer) c.read_whole.ensures.reads
     c.from_residual-in_err-put_all.result c.in_err-put_all.field-0.0 (fault.1 ∙ ap Err fault.2) c.in_err-put_all.ensures.only
     (subst (λ w. g.W.Sink.failed w < g.W.Sink.failed c.put_all.new.writer) k.1 c.in_err-put_all.ensures.failed) c.in_ok-verdict.verdict
     (record {
@@ -96,7 +96,7 @@ returns g c =
     let text = c.as_slice-2.ensures ∙ c.put_verdict.ensures in
     let k = unwritten writes c.in_ok-bytes.bytes.items c.in_ok-verdict.verdict other
     (subst (λ (b : List ℕ). IsMigrated writes b (Ok c.in_ok-verdict.verdict)) c.as_slice.ensures.value c.in_ok-verdict.ensures) in
-    all_told IsRecordText reads writes' c.read_whole.ensures.reads 1 c.in_ok-verdict.verdict (status_one c.in_ok-verdict.verdict other) (record {
+    all_reported IsRecordText reads writes' c.read_whole.ensures.reads 1 c.in_ok-verdict.verdict (status_one c.in_ok-verdict.verdict other) (record {
       input = c.in_ok-bytes.bytes.items;
       whole = c.in_ok-bytes.ensures.whole;
       verdict = k.0;

@@ -1,7 +1,7 @@
 use Rattle.std.proofs.Common.{codes, Some, None, ◌≡◌, ◌∙◌}
 use Rattle.program_work.proofs.Common.{first_of, found_of, rows_of, first_value-rows}
 use Rattle.program_work.proofs.ConfigLemmas.{unless_some}
-use Rattle.program_work.proofs.HostLemmas.{no_address, address_told}
+use Rattle.program_work.proofs.HostLemmas.{no_address, address_reported}
 use Rattle.program_work.proofs.words.address_given.Goals as goal
 
 pub returns-in_err-get_str : goal.returns-in_err-get_str
@@ -14,4 +14,4 @@ pub returns : goal.returns
 returns c =
     let rows = rows_of (found_of c.args.matches.now) in
     let matched : Some c.in_ok-get_str.field-0.now ≡ first_of (codes "address") rows = rw c.in_ok-get_str.was at c.get_str.ensures ∙ first_value-rows (found_of c.args.matches.now) (codes "address") in
-    rw c.ok.ensures.value (address_told rows _ c.parse.result matched c.parse.ensures.value)
+    rw c.ok.ensures.value (address_reported rows _ c.parse.result matched c.parse.ensures.value)

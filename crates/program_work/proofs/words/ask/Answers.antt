@@ -4,14 +4,14 @@ use Rattle.clap.specs.Words.{App, HasMatchesOf, kind_of}
 use Rattle.clap.specs.Kinds.{HasKind}
 use Rattle.clap.specs.Faults.{fault_of, is_simple_and_free}
 use Rattle.program_work.specs.Asked.{IsAsked}
-use Rattle.program_work.proofs.AskLemmas.{app_is_free, app_is_simple, refused, told}
+use Rattle.program_work.proofs.AskLemmas.{app_is_free, app_is_simple, refused, reported}
 use Rattle.program_work.proofs.words.ask.Goals as goal
 
 pub returns-in-Err : goal.returns-in-Err
 returns-in-Err g c =
     let words = map g.S.AsStr.text c.args.words.now in
     let fails = subst (λ (a : App). is_simple_and_free a ≡ true → HasKind (fault_of a words) c.in-Err.error) c.in_ok-command.ensures c.in-Err.ensures.kinds app_is_free in
-    told words (fault_of slotctl_app words) (kind_of c.in-Err.error) c.misuse_of.result fails c.misuse_of.ensures
+    reported words (fault_of slotctl_app words) (kind_of c.in-Err.error) c.misuse_of.result fails c.misuse_of.ensures
 
 pub returns-in-Some : goal.returns-in-Some
 returns-in-Some g c =

@@ -1,6 +1,6 @@
 use Rattle.std.proofs.Common.{codes, Some, None, ◌≡◌, ◌∙◌}
 use Rattle.program_work.proofs.Common.{first_of, found_of, rows_of, first_value-rows}
-use Rattle.program_work.proofs.ConfigLemmas.{unless_some, no_world, world_told}
+use Rattle.program_work.proofs.ConfigLemmas.{unless_some, no_world, world_reported}
 use Rattle.program_work.proofs.words.world_given.Goals as goal
 
 pub returns-in_err-get_str : goal.returns-in_err-get_str
@@ -13,4 +13,4 @@ pub returns : goal.returns
 returns c =
     let rows = rows_of (found_of c.args.matches.now) in
     let matched : Some c.in_ok-get_str.field-0.now ≡ first_of (codes "world") rows = rw c.in_ok-get_str.was at c.get_str.ensures ∙ first_value-rows (found_of c.args.matches.now) (codes "world") in
-    world_told rows _ c.named.result matched c.named.ensures.some c.named.ensures.none
+    world_reported rows _ c.named.result matched c.named.ensures.some c.named.ensures.none

@@ -1,4 +1,4 @@
--- What was played in the config's world is a talk of the config.
+-- What was played in the config's world is a transcript of the config.
 use Rattle.std.proofs.Common.{Bool, false, Ok, sym, subst, ap}
 use Rattle.player.specs.Played.{reading, writing}
 use Rattle.program_work.specs.Done.{IsPlayedBy}

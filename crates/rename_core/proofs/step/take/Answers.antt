@@ -15,4 +15,4 @@ pub returns : goal.returns
 returns g c =
     let read = c.if-not-read_on.false in
     let is : snap_answer (known g) c.args.snap.now c.args.participant.now.identity ≡ Ok Silent = c.read_on.ensures.answer read in
-    inl (Silent, record { is_told = sym is; reply = Quiet; result_is = refl; reply_is = refl; asked = c.read_on.ensures.state read; round = refl })
+    inl (Silent, record { is_reported = sym is; reply = Quiet; result_is = refl; reply_is = refl; asked = c.read_on.ensures.state read; round = refl })

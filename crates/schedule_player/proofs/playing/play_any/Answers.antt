@@ -1,5 +1,5 @@
 use Rattle.player.specs.Played.{reading, writing}
-use Rattle.schedule_player.specs.IsTalkProofs.{played_by_kind}
+use Rattle.schedule_player.specs.IsTranscriptProofs.{played_by_kind}
 use Rattle.schedule_player.proofs.playing.play_any.Goals as goal
 
 pub returns : goal.returns

@@ -2,8 +2,8 @@ use Rattle.player.specs.Played.{reading, writing}
 use Rattle.player.specs.PlayedProofs.{played_weaker}
 use Rattle.player.specs.Runs.{IsRunTo, CanRun}
 use Rattle.player.specs.Texts.{replies_of}
-use Rattle.schedule_player.specs.Talks.{IsTalkOf}
-use Rattle.schedule_player.proofs.TalkLemmas.{talk_of_run}
+use Rattle.schedule_player.specs.Transcripts.{IsTranscriptOf}
+use Rattle.schedule_player.proofs.TranscriptLemmas.{transcript_of_run}
 use Rattle.schedule_player.proofs.playing.play_in.Goals as goal
 
 pub play_on-requires-clause-knows : goal.play_on-requires-clause-knows
@@ -15,10 +15,10 @@ returns g c =
     let may = g.D.Service.may in
     let world = c.args.world.now in
     let fresh = c.requires.fresh in
-    let IsTalk = IsTalkOf (g.D.World.IsRunIn config) config.m (g.D.World.fresh config) may in
-    let talk = talk_of_run (g.D.World.IsRunIn config) config.m (g.D.World.fresh config) may (g.met.D.World.lawful config) (g.met.D.World.tells config) in
-    played_weaker replies_of (IsRunTo may world c.play_on.new.world) (CanRun may world) IsTalk IsTalk
-    (λ ts run. talk world c.play_on.new.world ts fresh run)
-    (λ ts run. talk world run.0 ts fresh run.1)
+    let IsTranscript = IsTranscriptOf (g.D.World.IsRunIn config) config.m (g.D.World.fresh config) may in
+    let transcript = transcript_of_run (g.D.World.IsRunIn config) config.m (g.D.World.fresh config) may (g.met.D.World.lawful config) (g.met.D.World.tells config) in
+    played_weaker replies_of (IsRunTo may world c.play_on.new.world) (CanRun may world) IsTranscript IsTranscript
+    (λ ts run. transcript world c.play_on.new.world ts fresh run)
+    (λ ts run. transcript world run.0 ts fresh run.1)
     config.world (reading g.R.Read.remaining g.R.Source.calls g.R.Source.failed c.args.reader.now c.play_on.new.reader) (writing g.W.Write.contents g.W.Sink.failed c.args.writer.now c.play_on.new.writer)
     c.play_on.result c.play_on.ensures.played

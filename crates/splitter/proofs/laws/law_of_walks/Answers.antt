@@ -4,8 +4,8 @@ use Rattle.splitter.proofs.laws.law_of_walks.Goals as goal
 pub returns-clause-on : goal.returns-clause-on
 returns-clause-on g c = goes_on
 
-pub returns-clause-told : goal.returns-clause-told
-returns-clause-told g c = tells_place
+pub returns-clause-reported : goal.returns-clause-reported
+returns-clause-reported g c = tells_place
 
 pub returns-clause-ended : goal.returns-clause-ended
 returns-clause-ended g c = ended_is

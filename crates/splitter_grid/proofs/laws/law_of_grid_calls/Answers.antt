@@ -1,4 +1,4 @@
-use Rattle.splitter_grid.proofs.GridTied.{grid_proved, place_always, one_place_told}
+use Rattle.splitter_grid.proofs.GridTied.{grid_proved, place_always, one_place_reported}
 use Rattle.std.specs.Prelude.{is_some, false}
 use Rattle.step_memory.proofs.DueLemmas.{not_first_refused}
 use Rattle.splitter.proofs.VisitorAccess.{own_access}
@@ -11,7 +11,7 @@ pub returns-clause-places : goal.returns-clause-places
 returns-clause-places c = place_always
 
 pub returns-clause-one_place : goal.returns-clause-one_place
-returns-clause-one_place c = one_place_told
+returns-clause-one_place c = one_place_reported
 
 pub returns-clause-not_refused : goal.returns-clause-not_refused
 returns-clause-not_refused c = λ most p why rest. not_first_refused is_some most false p why rest

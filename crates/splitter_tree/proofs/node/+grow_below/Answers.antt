@@ -14,9 +14,9 @@ pub returns-then-goes_right-clause-grown : goal.returns-then-goes_right-clause-g
 returns-then-goes_right-clause-grown g t c =
     on_ok c.grow_below.result (λ h. put_right g.row.A.Denot c.args.link.now c.in-Some.node _ c.in-Some.is c.deref_mut.ensures.value c.args.place c.args.depth (omega arith) c.requires.number (sym c.if-goes_right.ensures) _ _ _ (grown_right g.row.A.Denot c.args.link.now c.in-Some.node _ c.in-Some.is c.deref_mut.ensures.value c.args.place c.args.depth (omega arith) c.requires.number (sym c.if-goes_right.ensures)) h) c.grow_below.ensures.grown
 
-pub returns-then-goes_right-clause-refused : goal.returns-then-goes_right-clause-refused
-returns-then-goes_right-clause-refused g t c =
-    on_err c.grow_below.result (kept_right g.row.A.Denot c.args.link.now c.in-Some.node _ c.in-Some.is c.deref_mut.ensures.value c.grow_below.new.link) c.grow_below.ensures.refused
+pub returns-then-goes_right-clause-unchanged_on_error : goal.returns-then-goes_right-clause-unchanged_on_error
+returns-then-goes_right-clause-unchanged_on_error g t c =
+    on_err c.grow_below.result (kept_right g.row.A.Denot c.args.link.now c.in-Some.node _ c.in-Some.is c.deref_mut.ensures.value c.grow_below.new.link) c.grow_below.ensures.unchanged_on_error
 
 pub returns-then-goes_right-clause-no_memory : goal.returns-then-goes_right-clause-no_memory
 returns-then-goes_right-clause-no_memory g t c =
@@ -26,9 +26,9 @@ pub returns-else-goes_right-clause-grown : goal.returns-else-goes_right-clause-g
 returns-else-goes_right-clause-grown g t c =
     on_ok c.grow_below-else-goes_right.result (λ h. put_left g.row.A.Denot c.args.link.now c.in-Some.node _ c.in-Some.is c.deref_mut-else-goes_right.ensures.value c.args.place c.args.depth (omega arith) c.requires.number (sym c.if-goes_right.ensures) _ _ _ (grown_left g.row.A.Denot c.args.link.now c.in-Some.node _ c.in-Some.is c.deref_mut-else-goes_right.ensures.value c.args.place c.args.depth (omega arith) c.requires.number (sym c.if-goes_right.ensures)) h) c.grow_below-else-goes_right.ensures.grown
 
-pub returns-else-goes_right-clause-refused : goal.returns-else-goes_right-clause-refused
-returns-else-goes_right-clause-refused g t c =
-    on_err c.grow_below-else-goes_right.result (kept_left g.row.A.Denot c.args.link.now c.in-Some.node _ c.in-Some.is c.deref_mut-else-goes_right.ensures.value c.grow_below-else-goes_right.new.link) c.grow_below-else-goes_right.ensures.refused
+pub returns-else-goes_right-clause-unchanged_on_error : goal.returns-else-goes_right-clause-unchanged_on_error
+returns-else-goes_right-clause-unchanged_on_error g t c =
+    on_err c.grow_below-else-goes_right.result (kept_left g.row.A.Denot c.args.link.now c.in-Some.node _ c.in-Some.is c.deref_mut-else-goes_right.ensures.value c.grow_below-else-goes_right.new.link) c.grow_below-else-goes_right.ensures.unchanged_on_error
 
 pub returns-else-goes_right-clause-no_memory : goal.returns-else-goes_right-clause-no_memory
 returns-else-goes_right-clause-no_memory g t c =

@@ -1,12 +1,12 @@
 use Rattle.std.proofs.Common.{refl}
 use Rattle.splitter_tree.specs.TreeSteps.{tree_steps}
-use Rattle.splitter_tree.proofs.TreeProved.{trees_proved, tree_starts, one_place_told, not_first_refused}
+use Rattle.splitter_tree.proofs.TreeProved.{trees_proved, tree_starts, one_place_reported, not_first_refused}
 use Rattle.splitter_tree.proofs.world_laws.law_of_tree_calls.Goals as goal
 
 pub returns : goal.returns
 returns c = record {
   fresh = λ most few. tree_starts most _ refl few;
   machine = trees_proved tree_steps;
-  one_place = one_place_told;
+  one_place = one_place_reported;
   not_refused = not_first_refused;
 }

@@ -8,8 +8,8 @@ returns-clause-once g c = ends_once
 pub returns-clause-outcome : goal.returns-clause-outcome
 returns-clause-outcome g c = λ p r. sym (ended_with_outcome p r)
 
-pub returns-clause-told : goal.returns-clause-told
-returns-clause-told g c = outcomes_tell
+pub returns-clause-reported : goal.returns-clause-reported
+returns-clause-reported g c = outcomes_tell
 
 pub returns-clause-never : goal.returns-clause-never
 returns-clause-never g c = never_grows

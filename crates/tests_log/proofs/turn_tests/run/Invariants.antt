@@ -1,5 +1,5 @@
-use Rattle.event_server.specs.Rooms.{IsRoom}
+use Rattle.event_server.specs.Rooms.{AreShared}
 use Rattle.tests_log.proofs.turn_tests.run.Given as goal
 
 abbrev pub invariant-loop-turns : goal.invariant-loop-turns
-invariant-loop-turns l = IsRoom l.room
+invariant-loop-turns l = AreShared l.room

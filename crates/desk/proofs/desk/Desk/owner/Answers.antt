@@ -5,12 +5,12 @@ use Rattle.desk.specs.Laws.{TellsOwners}
 use Rattle.desk.proofs.DeskLaws as desk
 use Rattle.desk.proofs.desk.Desk.owner.Goals as goal
 
-pub returns-in-Grid-clause-told : goal.returns-in-Grid-clause-told
-returns-in-Grid-clause-told g c =
+pub returns-in-Grid-clause-reported : goal.returns-in-Grid-clause-reported
+returns-in-Grid-clause-reported g c =
     let is : owner_reply c.args.self.now c.args.number ≡ c.owner.result = rw (← c.self.view_is, c.in-Grid.is) (sym c.owner.ensures) in
-    subst (λ (told : ShownReply). TellsOwners c.args.self.now c.args.number told) is (desk.owner c.args.self.now c.args.number)
+    subst (λ (reported : ShownReply). TellsOwners c.args.self.now c.args.number reported) is (desk.owner c.args.self.now c.args.number)
 
-pub returns-in-Tree-clause-told : goal.returns-in-Tree-clause-told
-returns-in-Tree-clause-told g c =
+pub returns-in-Tree-clause-reported : goal.returns-in-Tree-clause-reported
+returns-in-Tree-clause-reported g c =
     let is : owner_reply c.args.self.now c.args.number ≡ c.owner-in-Tree.result = rw (← c.self.view_is, c.in-Tree.is) (sym c.owner-in-Tree.ensures) in
-    subst (λ (told : ShownReply). TellsOwners c.args.self.now c.args.number told) is (desk.owner c.args.self.now c.args.number)
+    subst (λ (reported : ShownReply). TellsOwners c.args.self.now c.args.number reported) is (desk.owner c.args.self.now c.args.number)

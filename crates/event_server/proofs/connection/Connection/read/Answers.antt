@@ -1,13 +1,13 @@
 use Rattle.std.proofs.Common.{◌≡◌, rules, ◌≤◌, ◌<◌, ℕ, List, [], inr, length, take, refl, ap, sym, subst, ◌∙◌}
 use Rattle.std.specs.Io.KnownBytes.{Consumes, IsAtEnd}
 use Rattle.event_server.specs.Asking.{MayAsk}
-use Rattle.event_server.specs.WireState.{WireState}
-use Rattle.event_server.proofs.WireLemmas.{full_or_asks, takes_last, takes_none, takes_some, consumes_kept}
+use Rattle.event_server.specs.BuffersState.{BuffersState}
+use Rattle.event_server.proofs.BuffersLemmas.{full_or_asks, takes_last, takes_none, takes_some, consumes_kept}
 use Rattle.event_server.proofs.connection.Connection.read.Goals as goal
 
 pub returns-in-Err-clause-all : goal.returns-in-Err-clause-all
 returns-in-Err-clause-all g c = λ whole on some.
-    let same : c.note_fault.new.wire.inbox ≡ c.args.self.now.wire.inbox = ap (λ (q : WireState). q.inbox) c.note_fault.ensures.wire in
+    let same : c.note_fault.new.buffers.inbox ≡ c.args.self.now.buffers.inbox = ap (λ (q : BuffersState). q.inbox) c.note_fault.ensures.buffers in
     inr (subst MayAsk (sym same) (c.requires.none (subst (λ (l : List ℕ). 0 < length l) same some)))
 
 pub returns-after-self-clause-all : goal.returns-after-self-clause-all
@@ -20,11 +20,11 @@ pub returns-in-Err-clause-takes : goal.returns-in-Err-clause-takes
 returns-in-Err-clause-takes g c =
     let left = g.S.Stream.left c.args.self.now.stream in
     let left' = g.S.Stream.left c.read_into.new.stream in
-    let is = c.note_fault.ensures.wire in (
+    let is = c.note_fault.ensures.buffers in (
       [],
       refl,
-      takes_none left left' c.args.self.now.wire c.note_fault.new.wire (consumes_kept left left' c.in-Err.ensures.bytes) (ap (λ (q : WireState). q.talker) is) (ap (λ (q : WireState). q.ended) is)
-          (λ h. (ap (λ (q : WireState). q.inbox) is, ap (λ (q : WireState). q.outbox) is, c.note_fault.ensures.whole h)),
+      takes_none left left' c.args.self.now.buffers c.note_fault.new.buffers (consumes_kept left left' c.in-Err.ensures.bytes) (ap (λ (q : BuffersState). q.responder) is) (ap (λ (q : BuffersState). q.ended) is)
+          (λ h. (ap (λ (q : BuffersState). q.inbox) is, ap (λ (q : BuffersState). q.outbox) is, c.note_fault.ensures.whole h)),
     )
 
 pub returns-after-self-clause-takes : goal.returns-after-self-clause-takes
@@ -35,7 +35,7 @@ returns-after-self-clause-takes g c =
     let few : length came ≤ 65536 = search rules in
     let gave : Consumes left left' came = rw c.deref.ensures.value c.in-Ok.ensures.bytes.0 in
     let t = c.take.ensures.takes in
-    (t.0, t.1, takes_some t.0 left left' came c.args.self.now.wire c.take.new.self few gave t.2)
+    (t.0, t.1, takes_some t.0 left left' came c.args.self.now.buffers c.take.new.self few gave t.2)
 
 pub returns-in-Ok-eq0-clause-takes : goal.returns-in-Ok-eq0-clause-takes
 returns-in-Ok-eq0-clause-takes g c =
@@ -44,8 +44,8 @@ returns-in-Ok-eq0-clause-takes g c =
     let gave : Consumes left left' [] = search rules in
     let end : IsAtEnd left' = search rules in
     let t = c.take_last.ensures.takes in
-    let s = c.args.self.now.wire in
-    let s' = c.take_last.new.self.wire in
+    let s = c.args.self.now.buffers in
+    let s' = c.take_last.new.self.buffers in
     let stream : g.S.Stream.left c.take_last.new.self.stream ≡ left' = ap (λ x. g.S.Stream.left x) c.take_last.ensures.stream in
     (t.0, t.1, rw stream (takes_last t.0 left left' s s' gave end t.2))
 

@@ -9,14 +9,14 @@ use Rattle.event_server.proofs.hosting.Hosting.serve.Goals as goal
 pub returns-in-Ok-clause-served : goal.returns-in-Ok-clause-served
 returns-in-Ok-clause-served g c =
     let may = g.D.Service.may in
-    let learns = g.K.Keep.learns in
-    let keeps = g.K.Keep.keeps in
-    let waits = g.K.Keep.waits in
-    always c.settle.result (WasServed may learns keeps waits c.args.keep.now c.args.service.now c.match-self.keep c.match-self.service)
-    (elim c.match-self.branch as (λ _. WasServed may learns keeps waits c.args.keep.now c.args.service.now c.match-self.keep c.match-self.service) [
-      | in-None w ↦ rw (w.keep-is, w.service-is)
-          (served_turned may learns keeps waits _ (λ x. x.stage ≡ stage.Queued) w.turn.result _ _ _ _ _ _ _ (sym w.map-called.ensures.variant ∙ ap is_ok (sym w.called-is ∙ c.in-Ok.is)) w.turn.ensures.turned)
-      | in-Some w ↦ rw (w.keep-is, w.service-is)
-          (served_called may learns keeps waits _ (λ x. x.look) (λ x. x.stage ≡ stage.Queued) _ w.turn_ahead-called.result _ _ _ _ _ _ _ (ap is_ok (sym w.called-is ∙ c.in-Ok.is))
-          w.turn_ahead-called.ensures.served w.turn_ahead-called.ensures.lost)
+    let prefetches = g.K.Persist.prefetches in
+    let persists = g.K.Persist.persists in
+    let waits = g.K.Persist.waits in
+    always c.settle.result (WasServed may prefetches persists waits c.args.persister.now c.args.service.now c.match-self.persister c.match-self.service)
+    (elim c.match-self.branch as (λ _. WasServed may prefetches persists waits c.args.persister.now c.args.service.now c.match-self.persister c.match-self.service) [
+      | in-None w ↦ rw (w.persister-is, w.service-is)
+          (served_turned may prefetches persists waits _ (λ x. x.stage ≡ stage.Queued) w.iterate.result _ _ _ _ _ _ _ (sym w.map-called.ensures.variant ∙ ap is_ok (sym w.called-is ∙ c.in-Ok.is)) w.iterate.ensures.turned)
+      | in-Some w ↦ rw (w.persister-is, w.service-is)
+          (served_called may prefetches persists waits _ (λ x. x.peek) (λ x. x.stage ≡ stage.Queued) _ w.iterate_prefetched-called.result _ _ _ _ _ _ _ (ap is_ok (sym w.called-is ∙ c.in-Ok.is))
+          w.iterate_prefetched-called.ensures.served w.iterate_prefetched-called.ensures.lost)
     ])

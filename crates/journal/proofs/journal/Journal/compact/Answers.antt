@@ -1,5 +1,5 @@
 use Rattle.std.proofs.Common.{◌≡◌, ◌⊎◌, ◌∙◌, List, ℕ, inl, inr, refl, sym, subst}
-use Rattle.journal.proofs.Common.{replaced_by, ChronicleState, record_of_hall, HasSynced}
+use Rattle.journal.proofs.Common.{replaced_by, WriteAheadState, record_of_hall, HasSynced}
 use Rattle.journal.proofs.Commits.{known_before}
 use Rattle.journal.proofs.Compacts.{leaves_either, replaced_synced}
 use Rattle.journal.proofs.journal.Journal.compact.Goals as goal
@@ -11,7 +11,7 @@ returns-in_default-clause-any_moment g c = λ stands. (
     is,
     record {
       is = inl refl;
-      leaves = leaves_either c.law_of_lines.ensures.once c.args.chronicle.now c.args.hall s (stands.known s is) c.waiting.ensures.few;
+      leaves = leaves_either c.law_of_lines.ensures.once c.args.write_ahead.now c.args.hall s (stands.known s is) c.waiting.ensures.few;
     },
   ),
   λ none. none,
@@ -24,7 +24,7 @@ returns-then-not-can_replace-clause-any_moment g c = λ stands. (
     is,
     record {
       is = inl refl;
-      leaves = leaves_either c.law_of_lines.ensures.once c.args.chronicle.now c.args.hall s (stands.known s is) c.waiting.ensures.few;
+      leaves = leaves_either c.law_of_lines.ensures.once c.args.write_ahead.now c.args.hall s (stands.known s is) c.waiting.ensures.few;
     },
   ),
   λ none. none,
@@ -36,7 +36,7 @@ returns-in-Ok-replace-clause-stands g c = λ stands. record {
   known = λ t is.
       let before = known_before _ _ t c.in-Ok-replace.ensures is in
       let record_is : c.deref-2.result.now ≡ record_of_hall c.args.hall = c.deref-2.ensures.value ∙ c.in-Ok.ensures in
-      subst (λ (x : ChronicleState). HasSynced x t) (sym c.replace_hall.ensures)
+      subst (λ (x : WriteAheadState). HasSynced x t) (sym c.replace_hall.ensures)
       (replaced_synced c.args.hall before.0 t (subst (λ (l : List ℕ). t ≡ replaced_by before.0 l) record_is before.2));
 }
 
@@ -49,7 +49,7 @@ returns-in-Ok-replace-clause-any_moment g c = λ stands. (
         after.1,
         record {
           is = inr (subst (λ (l : List ℕ). after.0 ≡ replaced_by s l) record_is after.2);
-          leaves = leaves_either c.law_of_lines.ensures.once c.args.chronicle.now c.args.hall s (stands.known s is) c.waiting.ensures.few;
+          leaves = leaves_either c.law_of_lines.ensures.once c.args.write_ahead.now c.args.hall s (stands.known s is) c.waiting.ensures.few;
         },
       ),
   c.in-Ok-replace.ensures.1,
@@ -64,7 +64,7 @@ returns-in-Err-clause-any_moment g c = λ stands. (
         after.1,
         record {
           is = subst (λ (l : List ℕ). (after.0 ≡ s) ⊎ (after.0 ≡ replaced_by s l)) record_is after.2;
-          leaves = leaves_either c.law_of_lines.ensures.once c.args.chronicle.now c.args.hall s (stands.known s is) c.waiting.ensures.few;
+          leaves = leaves_either c.law_of_lines.ensures.once c.args.write_ahead.now c.args.hall s (stands.known s is) c.waiting.ensures.few;
         },
       ),
   c.in-Err.ensures.1,

@@ -5,7 +5,7 @@ use Rattle.journal.proofs.journal.Journal.compact_when_due.Goals as goal
 
 pub returns-clause-compacted : goal.returns-clause-compacted
 returns-clause-compacted g c =
-    may_compact _ c.in-Some.hall c.args.chronicle.now c.compact.new.chronicle (subst (λ (h : HallState). IsCompacted h c.in-Some.hall) c.hall-2.ensures c.in-Some.ensures.compacted) c.in_ok-done.ensures.taken
+    may_compact _ c.in-Some.hall c.args.write_ahead.now c.compact.new.write_ahead (subst (λ (h : HallState). IsCompacted h c.in-Some.hall) c.hall-2.ensures c.in-Some.ensures.compacted) c.in_ok-done.ensures.taken
 
 pub returns-clause-stands : goal.returns-clause-stands
 returns-clause-stands g c = c.in_ok-done.ensures.stands

@@ -64,7 +64,7 @@ invariant_of-clerk-2 g c =
     let longer : IsPrefix k.seen h.history = subst (λ (l : List Exchange). IsPrefix k.seen l) c.args.self.now.whole c.show.ensures.begins in
     let s = stands_kept g.L.LockName.config h k.seen k.kept.items k.next c.args.self.now.config c.len-place.ensures.lawful longer inv.4 inv.3 c.args.event r c.apply_short-reply.new.self c.apply_short-reply.ensures accepted in
     let items : c.push_reserved.new.self.items ≡ k.kept.items ++ one ∷ [] = one_more k.kept.items c.refusal_of.new.kept.items c.push_reserved.new.self.items one c.refusal_of.ensures.items c.push_reserved.ensures in
-    let seen : c.tell.new.seen ≡ h.history ++ x ∷ [] = c.tell.ensures.seen ∙ one_more h.history c.args.self.now.front c.tell.new.front x c.args.self.now.whole c.tell.ensures.told in
+    let seen : c.tell.new.seen ≡ h.history ++ x ∷ [] = c.tell.ensures.seen ∙ one_more h.history c.args.self.now.front c.tell.new.front x c.args.self.now.whole c.tell.ensures.reported in
     let below : k.next ≤ place = omega (arith, at, inv.3, prefix_length k.seen h.history longer) in
     rw (items, seen) (
       search rules,
@@ -84,7 +84,7 @@ returns-clause-taken g c =
     let accepted : is_refusal r ≡ false = sym (c.is_refusal.ensures c.apply_short-reply.new.view) ∙ c.if-is_refusal.false in
     let longer : IsPrefix c.args.clerk.now.seen h.history = subst (λ (v : CallerState). IsPrefix v.seen h.history) c.clerk.view_is (subst (λ (l : List Exchange). IsPrefix c.clerk.inside.seen l) c.args.self.now.whole c.show.ensures.begins) in
     let fits = subst (λ (v : CallerState). Fits v.seen v.kept) c.clerk.view_is c.clerk.invariant.4 in
-    let seen : c.tell.new.seen ≡ h.history ++ x ∷ [] = c.tell.ensures.seen ∙ one_more h.history c.args.self.now.front c.tell.new.front x c.args.self.now.whole c.tell.ensures.told in
+    let seen : c.tell.new.seen ≡ h.history ++ x ∷ [] = c.tell.ensures.seen ∙ one_more h.history c.args.self.now.front c.tell.new.front x c.args.self.now.whole c.tell.ensures.reported in
     let kept : c.push_reserved.new.self.items ≡ c.args.clerk.now.kept ++ kept_of c.len-place.result x ∷ [] = one_more c.args.clerk.now.kept c.refusal_of.new.kept.items c.push_reserved.new.self.items (kept_of c.len-place.result x) (c.refusal_of.ensures.items ∙ ap (λ (v : CallerState). v.kept) c.clerk.view_is) c.push_reserved.ensures in
     taken_accepted g.L.LockName.config h c.args.event r u c.args.clerk.now (caller_of c.push_reserved.new.self.items c.tell.new.seen) c.args.self.now.config c.len-place.ensures.lawful longer fits c.apply_short-reply.ensures accepted
     (seen ∙ sym (goes_by h c.args.event r u c.len-place.ensures.lawful c.apply_short-reply.ensures accepted))
@@ -156,5 +156,5 @@ invariant_of-self-2 g c =
       few = old.few;
       none = old.none;
       config = stays.config ∙ old.config;
-      whole = one_more h.history old.front c.tell.new.front x old.whole c.tell.ensures.told ∙ sym longer;
+      whole = one_more h.history old.front c.tell.new.front x old.whole c.tell.ensures.reported ∙ sym longer;
     }

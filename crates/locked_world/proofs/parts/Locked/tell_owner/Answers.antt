@@ -2,7 +2,7 @@ use Rattle.std.proofs.Common.{◌≡◌, ap, refl, subst, sym, ◌∙◌}
 use mathlib.Core.List.{IsPrefix}
 use Rattle.locked_world.proofs.Common.{CallerState, Config, HallState, hall_of, desk_of, owner_reply}
 use Rattle.locked_world.specs.CallerState.{caller_of}
-use Rattle.locked_world.specs.Kepts.{IsTold}
+use Rattle.locked_world.specs.Kepts.{IsReported}
 use Rattle.locked_world.proofs.Standing.{stands_answered}
 use Rattle.locked_world.proofs.parts.Locked.tell_owner.Goals as goal
 
@@ -22,7 +22,7 @@ returns g c =
     let d = g.L.LockName.config in
     let s = stands_answered d old.hall k.seen old.front c.show.new.seen k.kept.items k.next old.config c.len.ensures.lawful old.whole c.show.ensures.begins c.show.ensures.seen inv.4 inv.3 in
     let same : hall_of d c.show.new.seen ≡ old.hall = ap (hall_of d) (c.show.ensures.seen ∙ old.whole) ∙ ap (λ (e : Config). hall_of e old.hall.history) (sym old.config) in
-    subst (λ (v : CallerState). IsTold d v c.args.number c.owner.result (caller_of k.kept.items c.show.new.seen)) c.clerk.view_is (record {
+    subst (λ (v : CallerState). IsReported d v c.args.number c.owner.result (caller_of k.kept.items c.show.new.seen)) c.clerk.view_is (record {
       lawful = s.lawful;
       longer = subst (IsPrefix k.seen) (sym c.show.ensures.seen) c.show.ensures.begins;
       answer = c.owner.ensures.value ∙ ap (λ (h : HallState). owner_reply (desk_of h) c.args.number) (sym same);

@@ -12,18 +12,18 @@ known g = places_by g.W.Walker.StepProgram.steps g.W.Walker.PlaceWalker.place_of
 
 pub returns : goal.returns
 returns g c =
-    let told = outcome_with c.take_step.result c.take_step.new.view in
+    let reported = outcome_with c.take_step.result c.take_step.new.view in
     let short = refused_short c.take_step.result c.take_step.new.view NoMemory in
     let goes = accepted_short c.take_step.result c.take_step.new.view NoMemory in
-    let kept : told ≡ Err NoMemory → c.take_step.new.self ≡ c.args.self.now = λ e. let is = short e in search rules in
+    let kept : reported ≡ Err NoMemory → c.take_step.new.self ≡ c.args.self.now = λ e. let is = short e in search rules in
     record {
       answer = c.take_step.ensures.answer;
       state = c.take_step.ensures.state;
-      refused = c.take_step.ensures.refused;
+      refused = c.take_step.ensures.unchanged_on_error;
       no_memory = c.take_step.ensures.no_memory;
-      after = step_leads_on (known g) g.W.RenamePlaces.world c.args.self.now c.take_step.new.self c.args.id told
+      after = step_leads_on (known g) g.W.RenamePlaces.world c.args.self.now c.take_step.new.self c.args.id reported
           (λ e. c.take_step.ensures.state (goes e)) (λ e. c.take_step.ensures.answer (goes e)) (λ e. let m = c.take_step.ensures.no_memory (short e) in (kept e, m.0, m.1));
       law = law_always (known g) g.met.W.Places.laws g.W.RenamePlaces.world g.met.W.RenamePlaces.may_grow g.met.W.RenamePlaces.at_once c.take_step.new.self;
-      local = local_call (known g) g.met.W.StepMemory.others c.args.self.now c.take_step.new.self c.args.id told (λ e. c.take_step.ensures.state (goes e)) (λ e. c.take_step.ensures.answer (goes e)) kept;
+      local = local_call (known g) g.met.W.StepMemory.others c.args.self.now c.take_step.new.self c.args.id reported (λ e. c.take_step.ensures.state (goes e)) (λ e. c.take_step.ensures.answer (goes e)) kept;
       own = own_access (known g) g.met.W.Places.laws g.W.RenamePlaces.world g.met.W.RenamePlaces.may_grow g.met.W.RenamePlaces.at_once c.args.self.now c.args.id;
     }

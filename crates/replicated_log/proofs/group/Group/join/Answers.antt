@@ -2,7 +2,7 @@
 use Rattle.std.proofs.Common.{List, subst}
 use Rattle.std.specs.Prelude.{is_ok}
 use Rattle.replicated_log.specs.GroupState.{GroupState}
-use Rattle.replicated_log.specs.Groups.{IsOneHistory, Told}
+use Rattle.replicated_log.specs.Groups.{IsOneHistory, Reported}
 use Rattle.replicated_log.proofs.Shared.{pushed}
 use Rattle.replicated_log.proofs.group.Group.join.Goals as goal
 
@@ -12,5 +12,5 @@ returns-clause-history g c =
     let now = c.push.new.self.items in
     let applies = g.M.Machine.applies in
     let start = c.args.machine in
-    subst (λ (s : GroupState g.row.M.Denot). (told : List (Told g.row.M-Replies.Denot)) → IsOneHistory applies start s.log s.replicas told → IsOneHistory applies start log now told) c.self.view_is
+    subst (λ (s : GroupState g.row.M.Denot). (reported : List (Reported g.row.M-Replies.Denot)) → IsOneHistory applies start s.log s.replicas reported → IsOneHistory applies start log now reported) c.self.view_is
     (pushed applies start (is_ok c.push.result) log c.self.inside.replicas.items now c.new.result c.new.ensures c.push.ensures.items)

@@ -6,9 +6,9 @@ use Rattle.replicated_log.specs.GroupState.{GroupState}
 use Rattle.replicated_log.specs.Places.{stands_in}
 use Rattle.replicated_log.specs.Replicas.{HasApplied, IsAnswered, IsReplica}
 use Rattle.replicated_log.specs.ReplicaState.{ReplicaState}
-use Rattle.replicated_log.specs.Groups.{IsOneHistory, Told}
+use Rattle.replicated_log.specs.Groups.{IsOneHistory, Reported}
 use Rattle.replicated_log.proofs.Chains.{still}
-use Rattle.replicated_log.proofs.Shared.{added_log, due_there, history_after, history_told, others_stay}
+use Rattle.replicated_log.proofs.Shared.{added_log, due_there, history_after, history_reported, others_stay}
 use Rattle.replicated_log.proofs.group.Group.serve.Goals as goal
 
 -- the replica that took a step was led from the start, as all were
@@ -20,10 +20,10 @@ was_led g c start all =
     subst P (sym c.index_mut.ensures.value) (all c.args.at was within)
 
 -- so the group stays one history
-stays : (g : _) (c : goal.After-self-1 g) (start : g.row.M.Denot) (told : List (Told g.row.M-Replies.Denot)) → IsOneHistory g.M.Machine.applies start c.self.inside.store c.self.inside.replicas.items told → IsOneHistory g.M.Machine.applies start c.serve.new.store (slice_set c.self.inside.replicas.items c.args.at c.serve.new.self) told
-stays g c start told h =
+stays : (g : _) (c : goal.After-self-1 g) (start : g.row.M.Denot) (reported : List (Reported g.row.M-Replies.Denot)) → IsOneHistory g.M.Machine.applies start c.self.inside.store c.self.inside.replicas.items reported → IsOneHistory g.M.Machine.applies start c.serve.new.store (slice_set c.self.inside.replicas.items c.args.at c.serve.new.self) reported
+stays g c start reported h =
     history_after g.M.Machine.applies start c.self.inside.store c.serve.new.store c.serve.ensures.once.adds.keeps c.self.inside.replicas.items c.args.at c.serve.new.self
-    (c.serve.ensures.follows start (was_led g c start h.prefixes)) told h
+    (c.serve.ensures.follows start (was_led g c start h.prefixes)) reported h
 
 pub returns-clause-log : goal.returns-clause-log
 returns-clause-log g c =
@@ -39,17 +39,17 @@ pub returns-clause-history : goal.returns-clause-history
 returns-clause-history g c = λ start.
     let items = c.self.inside.replicas.items in
     let applies = g.M.Machine.applies in
-    subst (λ (s : GroupState g.row.M.Denot). (told : List (Told g.row.M-Replies.Denot)) → IsOneHistory applies start s.log s.replicas told → IsOneHistory applies start c.serve.new.store (slice_set items c.args.at c.serve.new.self) told) c.self.view_is
+    subst (λ (s : GroupState g.row.M.Denot). (reported : List (Reported g.row.M-Replies.Denot)) → IsOneHistory applies start s.log s.replicas reported → IsOneHistory applies start c.serve.new.store (slice_set items c.args.at c.serve.new.self) reported) c.self.view_is
     (stays g c start)
 
 -- and is one with these replies
-tells : (g : _) (c : goal.After-self-1 g) → IsAnswered g.M.Machine.applies (stands_in c.serve.new.store) c.index_mut.result.now c.args.batch.now c.serve.new.self c.serve.new.replies → (start : g.row.M.Denot) (told : List (Told g.row.M-Replies.Denot)) → IsOneHistory g.M.Machine.applies start c.self.inside.store c.self.inside.replicas.items told → IsOneHistory g.M.Machine.applies start c.serve.new.store (slice_set c.self.inside.replicas.items c.args.at c.serve.new.self) (told ++ record { batch = c.args.batch.now; replies = c.serve.new.replies } ∷ [])
-tells g c so start told h =
+tells : (g : _) (c : goal.After-self-1 g) → IsAnswered g.M.Machine.applies (stands_in c.serve.new.store) c.index_mut.result.now c.args.batch.now c.serve.new.self c.serve.new.replies → (start : g.row.M.Denot) (reported : List (Reported g.row.M-Replies.Denot)) → IsOneHistory g.M.Machine.applies start c.self.inside.store c.self.inside.replicas.items reported → IsOneHistory g.M.Machine.applies start c.serve.new.store (slice_set c.self.inside.replicas.items c.args.at c.serve.new.self) (reported ++ record { batch = c.args.batch.now; replies = c.serve.new.replies } ∷ [])
+tells g c so start reported h =
     let applies = g.M.Machine.applies in
     let was = c.index_mut.result.now in
     let store = c.serve.new.store in
     let had : HasApplied applies (stands_in store) start was = still applies (stands_in c.self.inside.store) (stands_in store) c.serve.ensures.once.adds.keeps start was (was_led g c start h.prefixes) so.was_well in
-    history_told applies start store (slice_set c.self.inside.replicas.items c.args.at c.serve.new.self) told (record { batch = c.args.batch.now; replies = c.serve.new.replies }) (stays g c start told h)
+    history_reported applies start store (slice_set c.self.inside.replicas.items c.args.at c.serve.new.self) reported (record { batch = c.args.batch.now; replies = c.serve.new.replies }) (stays g c start reported h)
     (due_there applies start store was c.serve.new.self c.args.batch.now c.serve.new.replies had so)
 
 pub returns-clause-answered : goal.returns-clause-answered
@@ -57,5 +57,5 @@ returns-clause-answered g c =
     let items = c.self.inside.replicas.items in
     let applies = g.M.Machine.applies in
     on_ok_weaker c.serve.result (λ so start.
-    subst (λ (s : GroupState g.row.M.Denot). (before : List (Told g.row.M-Replies.Denot)) → IsOneHistory applies start s.log s.replicas before → IsOneHistory applies start c.serve.new.store (slice_set items c.args.at c.serve.new.self) (before ++ record { batch = c.args.batch.now; replies = c.serve.new.replies } ∷ [])) c.self.view_is
+    subst (λ (s : GroupState g.row.M.Denot). (before : List (Reported g.row.M-Replies.Denot)) → IsOneHistory applies start s.log s.replicas before → IsOneHistory applies start c.serve.new.store (slice_set items c.args.at c.serve.new.self) (before ++ record { batch = c.args.batch.now; replies = c.serve.new.replies } ∷ [])) c.self.view_is
     (tells g c so start)) c.serve.ensures.answered

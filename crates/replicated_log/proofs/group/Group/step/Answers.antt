@@ -5,9 +5,9 @@ use Rattle.replicated_log.specs.GroupState.{GroupState}
 use Rattle.replicated_log.specs.Places.{stands_in}
 use Rattle.replicated_log.specs.Replicas.{HasApplied, IsApplied, IsReplica}
 use Rattle.replicated_log.specs.ReplicaState.{ReplicaState}
-use Rattle.replicated_log.specs.Groups.{IsOneHistory, Told}
+use Rattle.replicated_log.specs.Groups.{IsOneHistory, Reported}
 use Rattle.replicated_log.proofs.Chains.{answered, none_goes_on, still}
-use Rattle.replicated_log.proofs.Shared.{added_log, due_there, history_after, history_told, others_stay}
+use Rattle.replicated_log.proofs.Shared.{added_log, due_there, history_after, history_reported, others_stay}
 use Rattle.replicated_log.proofs.group.Group.step.Goals as goal
 
 -- the replica that took a step was led from the start, as all were
@@ -19,10 +19,10 @@ was_led g c start all =
     subst P (sym c.index_mut.ensures.value) (all c.args.at was within)
 
 -- so the group stays one history
-stays : (g : _) (c : goal.After-self-1 g) (start : g.row.M.Denot) (told : List (Told g.row.M-Replies.Denot)) → IsOneHistory g.M.Machine.applies start c.self.inside.store c.self.inside.replicas.items told → IsOneHistory g.M.Machine.applies start c.step.new.store (slice_set c.self.inside.replicas.items c.args.at c.step.new.self) told
-stays g c start told h =
+stays : (g : _) (c : goal.After-self-1 g) (start : g.row.M.Denot) (reported : List (Reported g.row.M-Replies.Denot)) → IsOneHistory g.M.Machine.applies start c.self.inside.store c.self.inside.replicas.items reported → IsOneHistory g.M.Machine.applies start c.step.new.store (slice_set c.self.inside.replicas.items c.args.at c.step.new.self) reported
+stays g c start reported h =
     history_after g.M.Machine.applies start c.self.inside.store c.step.new.store c.step.ensures.adds.keeps c.self.inside.replicas.items c.args.at c.step.new.self
-    (c.step.ensures.follows start (was_led g c start h.prefixes)) told h
+    (c.step.ensures.follows start (was_led g c start h.prefixes)) reported h
 
 pub returns-clause-log : goal.returns-clause-log
 returns-clause-log g c =
@@ -38,17 +38,17 @@ pub returns-clause-history : goal.returns-clause-history
 returns-clause-history g c = λ start.
     let items = c.self.inside.replicas.items in
     let applies = g.M.Machine.applies in
-    subst (λ (s : GroupState g.row.M.Denot). (told : List (Told g.row.M-Replies.Denot)) → IsOneHistory applies start s.log s.replicas told → IsOneHistory applies start c.step.new.store (slice_set items c.args.at c.step.new.self) told) c.self.view_is
+    subst (λ (s : GroupState g.row.M.Denot). (reported : List (Reported g.row.M-Replies.Denot)) → IsOneHistory applies start s.log s.replicas reported → IsOneHistory applies start c.step.new.store (slice_set items c.args.at c.step.new.self) reported) c.self.view_is
     (stays g c start)
 
 -- and is one with these replies
-tells : (g : _) (c : goal.After-self-1 g) → IsApplied g.M.Machine.applies (stands_in c.step.new.store) c.index_mut.result.now c.args.batch.now c.step.new.replies c.step.new.self → (start : g.row.M.Denot) (told : List (Told g.row.M-Replies.Denot)) → IsOneHistory g.M.Machine.applies start c.self.inside.store c.self.inside.replicas.items told → IsOneHistory g.M.Machine.applies start c.step.new.store (slice_set c.self.inside.replicas.items c.args.at c.step.new.self) (told ++ record { batch = c.args.batch.now; replies = c.step.new.replies } ∷ [])
-tells g c so start told h =
+tells : (g : _) (c : goal.After-self-1 g) → IsApplied g.M.Machine.applies (stands_in c.step.new.store) c.index_mut.result.now c.args.batch.now c.step.new.replies c.step.new.self → (start : g.row.M.Denot) (reported : List (Reported g.row.M-Replies.Denot)) → IsOneHistory g.M.Machine.applies start c.self.inside.store c.self.inside.replicas.items reported → IsOneHistory g.M.Machine.applies start c.step.new.store (slice_set c.self.inside.replicas.items c.args.at c.step.new.self) (reported ++ record { batch = c.args.batch.now; replies = c.step.new.replies } ∷ [])
+tells g c so start reported h =
     let applies = g.M.Machine.applies in
     let was = c.index_mut.result.now in
     let store = c.step.new.store in
     let had : HasApplied applies (stands_in store) start was = still applies (stands_in c.self.inside.store) (stands_in store) c.step.ensures.adds.keeps start was (was_led g c start h.prefixes) so.was_well in
-    history_told applies start store (slice_set c.self.inside.replicas.items c.args.at c.step.new.self) told (record { batch = c.args.batch.now; replies = c.step.new.replies }) (stays g c start told h)
+    history_reported applies start store (slice_set c.self.inside.replicas.items c.args.at c.step.new.self) reported (record { batch = c.args.batch.now; replies = c.step.new.replies }) (stays g c start reported h)
     (due_there applies start store was c.step.new.self c.args.batch.now c.step.new.replies had (answered applies (stands_in store) (stands_in store) (λ place entry h. h) was was c.step.new.self c.args.batch.now c.step.new.replies (none_goes_on applies (stands_in store) was so.was_well) so))
 
 pub returns-clause-answered : goal.returns-clause-answered
@@ -56,5 +56,5 @@ returns-clause-answered g c =
     let items = c.self.inside.replicas.items in
     let applies = g.M.Machine.applies in
     λ is start.
-    subst (λ (s : GroupState g.row.M.Denot). (before : List (Told g.row.M-Replies.Denot)) → IsOneHistory applies start s.log s.replicas before → IsOneHistory applies start c.step.new.store (slice_set items c.args.at c.step.new.self) (before ++ record { batch = c.args.batch.now; replies = c.step.new.replies } ∷ [])) c.self.view_is
+    subst (λ (s : GroupState g.row.M.Denot). (before : List (Reported g.row.M-Replies.Denot)) → IsOneHistory applies start s.log s.replicas before → IsOneHistory applies start c.step.new.store (slice_set items c.args.at c.step.new.self) (before ++ record { batch = c.args.batch.now; replies = c.step.new.replies } ∷ [])) c.self.view_is
     (tells g c (c.step.ensures.answered is) start)

@@ -1,4 +1,4 @@
--- A step is one of the two, and neither is taken where it is spoiled or full.
+-- A step is one of the two, and neither is taken where it is poisoned or full.
 use Rattle.std.proofs.Common.{◌≡◌, ap, sym, refl, ◌∙◌, false, true}
 use mathlib.Core.Bool.{false≢true}
 use Rattle.replicated_log.specs.Places.{Same}
@@ -6,7 +6,7 @@ use Rattle.replicated_log.proofs.Chains.{adds_none, offered_unwritten, read_unwr
 use Rattle.replicated_log.proofs.replica.Replica.advance.Goals as goal
 
 pub returns-then-self-clause-fault : goal.returns-then-self-clause-fault
-returns-then-self-clause-fault g c = (ap (λ r. r.spoiled) (sym c.self.view_is) ∙ c.if-self.true, refl)
+returns-then-self-clause-fault g c = (ap (λ r. r.poisoned) (sym c.self.view_is) ∙ c.if-self.true, refl)
 
 pub returns-then-self-clause-reads : goal.returns-then-self-clause-reads
 returns-then-self-clause-reads g c = λ behind. same_self (g.S.Store.stands c.args.store.now)
@@ -24,9 +24,9 @@ returns-then-self-ge-MOST_PLACES-clause-adds g c =
     let stands = g.S.Store.stands c.args.store.now in
     adds_none stands stands c.args.self.now.place c.args.batch.now (same_self stands)
 
-pub returns-then-self-ge-MOST_PLACES-clause-spoiled : goal.returns-then-self-ge-MOST_PLACES-clause-spoiled
-returns-then-self-ge-MOST_PLACES-clause-spoiled g c =
-    let well : c.args.self.now.spoiled ≡ false = ap (λ r. r.spoiled) (sym c.self.view_is) ∙ c.if-self.false in
+pub returns-then-self-ge-MOST_PLACES-clause-poisoned : goal.returns-then-self-ge-MOST_PLACES-clause-poisoned
+returns-then-self-ge-MOST_PLACES-clause-poisoned g c =
+    let well : c.args.self.now.poisoned ≡ false = ap (λ r. r.poisoned) (sym c.self.view_is) ∙ c.if-self.false in
     λ was. absurd (false≢true (sym well ∙ was))
 
 pub returns-then-self-2-clause-answered : goal.returns-then-self-2-clause-answered
@@ -38,7 +38,7 @@ returns-then-self-2-clause-passed g c = c.follow.ensures.passed
 pub returns-then-self-2-clause-nothing : goal.returns-then-self-2-clause-nothing
 returns-then-self-2-clause-nothing g c =
     let was : c.args.self.now.behind ≡ true = ap (λ r. r.behind) (sym c.self.view_is) ∙ c.if-self-2.true in
-    λ none. (turned c.args.self.now c.follow.new.self true was (c.follow.ensures.nothing none), ap (λ r. r.spoiled) (sym c.self.view_is) ∙ c.if-self.false)
+    λ none. (turned c.args.self.now c.follow.new.self true was (c.follow.ensures.nothing none), ap (λ r. r.poisoned) (sym c.self.view_is) ∙ c.if-self.false)
 
 pub returns-then-self-2-clause-missed : goal.returns-then-self-2-clause-missed
 returns-then-self-2-clause-missed g c = λ none behind. c.follow.ensures.missed none
@@ -67,9 +67,9 @@ returns-then-self-2-clause-fault g c = c.follow.ensures.fault
 pub returns-then-self-2-clause-cause : goal.returns-then-self-2-clause-cause
 returns-then-self-2-clause-cause g c = c.follow.ensures.cause
 
-pub returns-then-self-2-clause-spoiled : goal.returns-then-self-2-clause-spoiled
-returns-then-self-2-clause-spoiled g c =
-    let well : c.args.self.now.spoiled ≡ false = ap (λ r. r.spoiled) (sym c.self.view_is) ∙ c.if-self.false in
+pub returns-then-self-2-clause-poisoned : goal.returns-then-self-2-clause-poisoned
+returns-then-self-2-clause-poisoned g c =
+    let well : c.args.self.now.poisoned ≡ false = ap (λ r. r.poisoned) (sym c.self.view_is) ∙ c.if-self.false in
     λ was. absurd (false≢true (sym well ∙ was))
 
 pub returns-then-self-2-clause-adds : goal.returns-then-self-2-clause-adds
@@ -86,7 +86,7 @@ returns-else-self-2-clause-passed g c = λ passed. absurd (c.offer.ensures.passe
 pub returns-else-self-2-clause-nothing : goal.returns-else-self-2-clause-nothing
 returns-else-self-2-clause-nothing g c =
     let was : c.args.self.now.behind ≡ false = ap (λ r. r.behind) (sym c.self.view_is) ∙ c.if-self-2.false in
-    λ none. (turned c.args.self.now c.offer.new.self false was (c.offer.ensures.nothing none).0, ap (λ r. r.spoiled) (sym c.self.view_is) ∙ c.if-self.false)
+    λ none. (turned c.args.self.now c.offer.new.self false was (c.offer.ensures.nothing none).0, ap (λ r. r.poisoned) (sym c.self.view_is) ∙ c.if-self.false)
 
 pub returns-else-self-2-clause-stood : goal.returns-else-self-2-clause-stood
 returns-else-self-2-clause-stood g c = λ none not_behind. c.offer.ensures.stood none
@@ -115,9 +115,9 @@ returns-else-self-2-clause-fault g c = c.offer.ensures.fault
 pub returns-else-self-2-clause-cause : goal.returns-else-self-2-clause-cause
 returns-else-self-2-clause-cause g c = c.offer.ensures.cause
 
-pub returns-else-self-2-clause-spoiled : goal.returns-else-self-2-clause-spoiled
-returns-else-self-2-clause-spoiled g c =
-    let well : c.args.self.now.spoiled ≡ false = ap (λ r. r.spoiled) (sym c.self.view_is) ∙ c.if-self.false in
+pub returns-else-self-2-clause-poisoned : goal.returns-else-self-2-clause-poisoned
+returns-else-self-2-clause-poisoned g c =
+    let well : c.args.self.now.poisoned ≡ false = ap (λ r. r.poisoned) (sym c.self.view_is) ∙ c.if-self.false in
     λ was. absurd (false≢true (sym well ∙ was))
 
 pub returns-else-self-2-clause-adds : goal.returns-else-self-2-clause-adds

@@ -3,7 +3,7 @@ use Rattle.std.proofs.Common.{◌≡◌, ◌≤◌, ap, arith, rules, sym, ◌�
 use mathlib.Core.Bool.{false≢true}
 use Rattle.replicated_log.proofs.Chains.{adds_none, adds_once, answered, follows, goes_on_trans, later_follows, none_goes_on, not_done, not_long, same_self, same_trans, step_is_well}
 use Rattle.replicated_log.proofs.Paces.{got_on, paced_step}
-use Rattle.replicated_log.specs.declared.serve_fault.Cause.TheVariants.{Busy, Spoiled}
+use Rattle.replicated_log.specs.declared.serve_fault.Cause.TheVariants.{Busy, Poisoned}
 use Rattle.replicated_log.proofs.replica.Replica.serve.Goals as goal
 
 pub loop-preserved : goal.loop-preserved
@@ -66,8 +66,8 @@ returns-clause-follows g c =
     let stands = g.S.Store.stands in
     follows g.M.Machine.applies (stands c.args.store.now) (stands c.loop.store) c.loop.invariant.same.keeps c.args.self.now c.loop.self (λ well. c.loop.invariant.goes_on)
 
-pub returns-then-batch-gt-MOST_BATCH-clause-spoiled : goal.returns-then-batch-gt-MOST_BATCH-clause-spoiled
-returns-then-batch-gt-MOST_BATCH-clause-spoiled g c = λ was short. absurd (omega (arith, c.if-batch-gt-MOST_BATCH.true, short))
+pub returns-then-batch-gt-MOST_BATCH-clause-poisoned : goal.returns-then-batch-gt-MOST_BATCH-clause-poisoned
+returns-then-batch-gt-MOST_BATCH-clause-poisoned g c = λ was short. absurd (omega (arith, c.if-batch-gt-MOST_BATCH.true, short))
 
 pub returns-then-batch-gt-MOST_BATCH-clause-goes_on : goal.returns-then-batch-gt-MOST_BATCH-clause-goes_on
 returns-then-batch-gt-MOST_BATCH-clause-goes_on g c = none_goes_on g.M.Machine.applies (g.S.Store.stands c.args.store.now) c.args.self.now
@@ -94,14 +94,14 @@ returns-then-self-clause-once g c =
 pub returns-clause-goes_on : goal.returns-clause-goes_on
 returns-clause-goes_on g c = λ well. c.loop.invariant.goes_on
 
-pub returns-in-Ok-Answered-clause-spoiled : goal.returns-in-Ok-Answered-clause-spoiled
-returns-in-Ok-Answered-clause-spoiled g c =
-    let well : c.args.self.now.spoiled ≡ false = ap (λ r. r.spoiled) (sym c.self.view_is) ∙ c.if-self.false in
+pub returns-in-Ok-Answered-clause-poisoned : goal.returns-in-Ok-Answered-clause-poisoned
+returns-in-Ok-Answered-clause-poisoned g c =
+    let well : c.args.self.now.poisoned ≡ false = ap (λ r. r.poisoned) (sym c.self.view_is) ∙ c.if-self.false in
     λ was. absurd (false≢true (sym well ∙ was))
 
-pub returns-in-Err-clause-spoiled : goal.returns-in-Err-clause-spoiled
-returns-in-Err-clause-spoiled g c =
-    let well : c.args.self.now.spoiled ≡ false = ap (λ r. r.spoiled) (sym c.self.view_is) ∙ c.if-self.false in
+pub returns-in-Err-clause-poisoned : goal.returns-in-Err-clause-poisoned
+returns-in-Err-clause-poisoned g c =
+    let well : c.args.self.now.poisoned ≡ false = ap (λ r. r.poisoned) (sym c.self.view_is) ∙ c.if-self.false in
     λ was. absurd (false≢true (sym well ∙ was))
 
 pub returns-in-Err-clause-unanswered : goal.returns-in-Err-clause-unanswered
@@ -120,7 +120,7 @@ pub returns-clause-too_long : goal.returns-clause-too_long
 returns-clause-too_long g c = λ long. absurd (omega (arith, c.if-batch-gt-MOST_BATCH.false, long))
 
 pub returns-then-self-clause-refused : goal.returns-then-self-clause-refused
-returns-then-self-clause-refused g c = λ e. absurd (not_long Spoiled e)
+returns-then-self-clause-refused g c = λ e. absurd (not_long Poisoned e)
 
 pub returns-in-Err-clause-refused : goal.returns-in-Err-clause-refused
 returns-in-Err-clause-refused g c = λ e. absurd (not_long c.in-Err.cause e)

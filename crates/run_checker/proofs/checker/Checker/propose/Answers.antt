@@ -1,6 +1,6 @@
 use Rattle.std.proofs.Common.{refl}
 use Rattle.commands.specs.declared.event.Event.TheVariants as event
-use Rattle.record_lines.specs.declared.told.Told.TheVariants as told
+use Rattle.record_lines.specs.declared.reported.Reported.TheVariants as reported
 use Rattle.run_checker.specs.Reasons.{Keeps}
 use Rattle.run_checker.proofs.Judging.{for_all, none_due}
 use Rattle.run_checker.proofs.checker.Checker.propose.Goals as goal
@@ -9,6 +9,6 @@ pub returns : goal.returns
 returns c = λ terms o h none few.
     let may = (c.may_propose.ensures terms o.names h.names none).0 c.if-not-may_propose.false in
     record {
-      keeps = for_all (Keeps terms o (event.Step c.args.id) (told.Proposed c.args.number)) refl (none_due _ none) tt may tt tt tt;
+      keeps = for_all (Keeps terms o (event.Step c.args.id) (reported.Proposed c.args.number)) refl (none_due _ none) tt may tt tt tt;
       after = record { names = c.in_ok-propose.ensures terms o.names h.names none few may; slots = h.slots; grows_is = h.grows_is };
     }

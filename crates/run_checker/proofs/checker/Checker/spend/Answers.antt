@@ -1,7 +1,7 @@
 use Rattle.std.proofs.Common.{◌∙◌, refl, sym, arith}
 use Rattle.run_checker.proofs.Common.{false≢true, Keeps}
 use Rattle.commands.specs.declared.event.Event.TheVariants as event
-use Rattle.record_lines.specs.declared.told.Told.TheVariants as told
+use Rattle.record_lines.specs.declared.reported.Reported.TheVariants as reported
 use Rattle.run_checker.proofs.Judging.{for_all, below_view, none_due}
 use Rattle.run_checker.proofs.checker.Checker.spend.Goals as goal
 
@@ -12,7 +12,7 @@ returns-then-not-has_conflict c = λ terms o h none.
     let w = c.has_conflict.ensures terms o.names h.names (omega arith) in
     record {
       fits = (λ k. absurd (false≢true (sym c.if-not-has_conflict.true ∙ w.1 k)));
-      least = below_view (Keeps terms o (event.Step c.args.id) told.Spent) refl (none_due _ none) tt last;
+      least = below_view (Keeps terms o (event.Step c.args.id) reported.Spent) refl (none_due _ none) tt last;
     }
 
 pub returns : goal.returns
@@ -21,6 +21,6 @@ returns c = λ terms o h none.
     let low = h.names.low in
     let w = c.has_conflict.ensures terms o.names h.names (omega arith) in
     record {
-      keeps = for_all (Keeps terms o (event.Step c.args.id) told.Spent) refl (none_due _ none) tt last (w.0 c.if-not-has_conflict.false) tt tt;
+      keeps = for_all (Keeps terms o (event.Step c.args.id) reported.Spent) refl (none_due _ none) tt last (w.0 c.if-not-has_conflict.false) tt tt;
       after = record { names = c.spend.ensures terms o.names h.names none; slots = h.slots; grows_is = h.grows_is };
     }

@@ -1,6 +1,6 @@
 use Rattle.std.proofs.Common.{◌≡◌, ◌∙◌, ℕ, ◌≤◌, ◌↔◌, List, Option, Some, None, refl, sym, ap, IsTrue, arith, subst}
 use Rattle.run_judges.proofs.Common.{list_any, option_copied, IsFreeName, ShowsSole, MayBeNamed, is_held}
-use Rattle.run_judges.proofs.Deciding.{count_is, stand, sole_told}
+use Rattle.run_judges.proofs.Deciding.{count_is, stand, sole_reported}
 use Rattle.run_judges.proofs.seats.Names.{free_name}
 use Rattle.run_judges.proofs.seats.People.{there, somebody_has}
 use Rattle.run_judges.proofs.names.Names.may_name.Goals as goal
@@ -19,11 +19,11 @@ returns-in-Some-shown c = λ terms o h none.
     let below = c.if-many-name.false in
     let free = free_name c.args.self.now.participants.items o c.args.name c.len-many.result h.people (c.len-many.ensures ∙ c.args.self.now.participants.ok.0) (omega arith) unnamed in
     let w = subst (λ (v : List (ℕ × ℕ)). IsTrue c.shows_sole.result ↔ ShowsSole o c.args.id c.args.name v) c.as_slice.ensures (c.shows_sole.ensures terms o h some) in
-    let told : IsTrue c.shows_sole.result ↔ MayBeNamed o c.args.id c.args.name (Some c.in-Some-shown.view.now) = (
+    let reported : IsTrue c.shows_sole.result ↔ MayBeNamed o c.args.id c.args.name (Some c.in-Some-shown.view.now) = (
       (λ y. record { view = c.in-Some-shown.view.now; written = refl; some = some; shows = w.0 y; free = free }),
       (λ k. w.1 (subst (λ (v : List (ℕ × ℕ)). ShowsSole o c.args.id c.args.name v) k.written k.shows)),
     ) in
-    subst (λ (v : Option (List (ℕ × ℕ))). IsTrue c.shows_sole.result ↔ MayBeNamed o c.args.id c.args.name v) (sym (ap (λ v. option_copied v) c.in-Some-shown.is)) told
+    subst (λ (v : Option (List (ℕ × ℕ))). IsTrue c.shows_sole.result ↔ MayBeNamed o c.args.id c.args.name v) (sym (ap (λ v. option_copied v) c.in-Some-shown.is)) reported
 
 pub returns-in-None : goal.returns-in-None
 returns-in-None c = λ terms o h none.
@@ -37,6 +37,6 @@ returns-in-None c = λ terms o h none.
     let s = stand terms c.args.self.now o c.args.id c.in-Some.standing h is some in
     let w = c.was_quiet.ensures o.last h.turns.rows h.turns.held s.since s.small in
     let same : c.in-Some.standing.turn.number ≡ c.args.name = sym c.from.ensures ∙ c.if-from-name.false in
-    let told = sole_told terms c.args.self.now o c.args.id c.in-Some.standing h is some c.was_quiet.result w (subst (λ (n : ℕ). IsFreeName o n) (sym same) free) in
+    let reported = sole_reported terms c.args.self.now o c.args.id c.in-Some.standing h is some c.was_quiet.result w (subst (λ (n : ℕ). IsFreeName o n) (sym same) free) in
     subst (λ (v : Option (List (ℕ × ℕ))). IsTrue c.was_quiet.result ↔ MayBeNamed o c.args.id c.args.name v) (sym (ap (λ v. option_copied v) c.in-None.is))
-    (subst (λ (n : ℕ). IsTrue c.was_quiet.result ↔ MayBeNamed o c.args.id n None) same told)
+    (subst (λ (n : ℕ). IsTrue c.was_quiet.result ↔ MayBeNamed o c.args.id n None) same reported)

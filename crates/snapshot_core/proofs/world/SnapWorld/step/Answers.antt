@@ -1,5 +1,5 @@
 use Rattle.std.proofs.Common.{rules, ◌≡◌, Ok, Err, refl, sym, ap, ◌∙◌}
-use Rattle.snapshot_core.proofs.WorldCommon.{NoMemory, clients_over, snap_answer, after_snap_step, told_of_way, KnownPlaces, places_by}
+use Rattle.snapshot_core.proofs.WorldCommon.{NoMemory, clients_over, snap_answer, after_snap_step, reported_of_way, KnownPlaces, places_by}
 use Rattle.snapshot_core.specs.declared.client.SnapReply.TheVariants.{Quiet}
 use Rattle.snapshot_core.proofs.SnapWorldLemmas.{stays_alike, snap_alike}
 use Rattle.snapshot_core.proofs.CallLemmas.{after_step_call, no_lack, kept_at}
@@ -59,7 +59,7 @@ returns-in_err-note g c =
 pub returns-in-Some : goal.returns-in-Some
 returns-in-Some g c =
     let still = not_read g (goal.at.returns-in-Some g c).After-walk_on in
-    let answer : snap_answer (known g) c.args.self.now c.args.id ≡ Ok (told_of_way c.in-Some.note) = rw (c.in-Some.is, still) at c.in_ok-note.ensures.answer in
+    let answer : snap_answer (known g) c.args.self.now c.args.id ≡ Ok (reported_of_way c.in-Some.note) = rw (c.in-Some.is, still) at c.in_ok-note.ensures.answer in
     let state : c.walk_on.new.self ≡ after_snap_step (known g) c.args.self.now c.args.id = rw (c.in-Some.is, still) at c.in_ok-note.ensures.state in
     record {
       answer = λ _. ap Ok c.of_way.ensures ∙ sym answer;
@@ -79,14 +79,14 @@ returns-in-Some g c =
 pub returns : goal.returns
 returns g c =
     let kept : c.walk_on.new.self ≡ c.args.self.now = c.in_ok-note.ensures.kept c.in_default.is ∙ c.read_on.ensures.kept c.if-read_on.false in
-    let refused : c.take_step.result ≡ Err NoMemory → c.take_step.new.self ≡ c.walk_on.new.self = λ e. kept_at (c.take_step.new.self ≡ c.walk_on.new.self) c.take_step.result c.take_step.ensures.refused e in
+    let refused : c.take_step.result ≡ Err NoMemory → c.take_step.new.self ≡ c.walk_on.new.self = λ e. kept_at (c.take_step.new.self ≡ c.walk_on.new.self) c.take_step.result c.take_step.ensures.unchanged_on_error e in
     let answer = rw kept at c.take_step.ensures.answer in
     let state = rw kept at c.take_step.ensures.state in
     let lacks = rw kept at c.take_step.ensures.no_memory in
     record {
       answer = answer;
       state = state;
-      refused = rw kept at c.take_step.ensures.refused;
+      refused = rw kept at c.take_step.ensures.unchanged_on_error;
       on_way = λ h. lacks_on_way (known g) g.met.W.Places.laws c.args.self.now c.args.id (lacks h);
       no_memory = lacks;
       after = after_step_call (known g) c.args.self.now c.take_step.new.self c.args.id c.take_step.result state answer (λ e. (refused e ∙ kept, lacks e));

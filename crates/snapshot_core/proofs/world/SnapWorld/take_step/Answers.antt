@@ -1,5 +1,5 @@
 use Rattle.std.proofs.Common.{◌≡◌, Some, None, Ok, refl, sym, ap, ◌∙◌, option_copied}
-use Rattle.snapshot_core.proofs.WorldCommon.{KnownPlaces, places_by, program_of, reply_of, told, clients_over}
+use Rattle.snapshot_core.proofs.WorldCommon.{KnownPlaces, places_by, program_of, reply_of, reported, clients_over}
 use Rattle.step_memory.proofs.LocalityLemmas.{unchanged_local}
 use Rattle.snapshot_core.proofs.SnapWorldLemmas.{snap_alike}
 use Rattle.snapshot_core.proofs.CallLemmas.{no_step_of_nobody, no_step_of_idle, busy_step}
@@ -16,10 +16,10 @@ nobody g c = rw (← c.self.view_is) (sym c.program.ensures ∙ ap option_copied
 the_client : (g : _) (c : After-is_idle g) → program_of c.args.id c.args.self.now.participants ≡ Some c.in-Some.client.now
 the_client g c = rw (← c.self.view_is) (sym c.program.ensures ∙ ap option_copied c.in-Some.is)
 
-said : (g : _) (c : Joined-step g) → c.match-step.result ≡ reply_of told c.step.result
+said : (g : _) (c : Joined-step g) → c.match-step.result ≡ reply_of reported c.step.result
 said g c = elim c.match-step.branch [
-  | in-Ok w ↦ w.result-is ∙ ap Ok w.of_step.ensures ∙ sym (ap (reply_of told) w.in-Ok.is)
-  | in-Err w ↦ w.result-is ∙ sym (ap (reply_of told) w.in-Err.is)
+  | in-Ok w ↦ w.result-is ∙ ap Ok w.of_step.ensures ∙ sym (ap (reply_of reported) w.in-Ok.is)
+  | in-Err w ↦ w.result-is ∙ sym (ap (reply_of reported) w.in-Err.is)
 ]
 
 pub returns-in_default : goal.returns-in_default
@@ -49,7 +49,7 @@ returns-then-is_idle g c =
 pub returns : goal.returns
 returns g c =
     let h = busy_step (known g) c.args.self.now c.args.id c.in-Some.client.now (the_client g (goal.at.returns g c).After-is_idle) (sym c.is_idle.ensures ∙ c.if-is_idle.false) c.step.new.self c.step.result
-    (rw c.self.view_is at c.step.ensures.answer) (rw c.self.view_is at c.step.ensures.after) (rw c.self.view_is at c.step.ensures.refused) (rw c.self.view_is at c.step.ensures.no_memory)
+    (rw c.self.view_is at c.step.ensures.answer) (rw c.self.view_is at c.step.ensures.after) (rw c.self.view_is at c.step.ensures.unchanged_on_error) (rw c.self.view_is at c.step.ensures.no_memory)
     c.match-step.result (said g (goal.at.returns g c).Joined-step) in
     record {
       answer = h.step.answer;

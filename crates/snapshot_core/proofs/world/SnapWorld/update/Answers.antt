@@ -58,7 +58,7 @@ returns g c =
     record {
       answer = h.answer;
       state = h.state;
-      refused = rw c.self.view_is at c.ask.ensures.refused;
+      refused = rw c.self.view_is at c.ask.ensures.unchanged_on_error;
       no_access = h.spares;
       after = updated_leads_on (known g) c.args.self.now c.ask.new.self c.args.id c.args.value c.ask.result h.state h.answer;
       law = law_holds (known g) g.met.W.Places.laws c.ask.new.self;

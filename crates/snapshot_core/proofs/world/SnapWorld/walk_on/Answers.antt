@@ -1,6 +1,6 @@
 use Rattle.std.proofs.Common.{Ok, IfSome, Option, Some, None, sym, ◌∙◌}
-use Rattle.snapshot_core.proofs.WorldCommon.{told_of_way, placed_note, KnownPlaces, places_by}
-use Rattle.step_memory.specs.Taken.{told_in}
+use Rattle.snapshot_core.proofs.WorldCommon.{reported_of_way, placed_note, KnownPlaces, places_by}
+use Rattle.step_memory.specs.Taken.{reported_in}
 use Rattle.snapshot_core.proofs.SnapWorldLemmas.{after_stepped}
 use Rattle.snapshot_core.proofs.CallLemmas.{way_state, way_answer}
 use Rattle.snapshot_core.proofs.Following.{law_holds}
@@ -20,15 +20,15 @@ returns-clause-law g c = law_holds (known g) g.met.W.Places.laws c.take.new.self
 
 pub returns-clause-answer : goal.returns-clause-answer
 returns-clause-answer g c =
-    both_said (told_in c.take.result) c.take.ensures.takes c.take.ensures.answer (λ note takes answer.
+    both_said (reported_in c.take.result) c.take.ensures.takes c.take.ensures.answer (λ note takes answer.
     rw (← c.self.view_is) (way_answer (known g) c.self.inside.world c.args.id (placed_note note) takes answer))
 
 pub returns-clause-state : goal.returns-clause-state
 returns-clause-state g c =
-    both_said (told_in c.take.result) c.take.ensures.takes c.take.ensures.after (λ note takes after.
+    both_said (reported_in c.take.result) c.take.ensures.takes c.take.ensures.after (λ note takes after.
     rw (← c.self.view_is) (after ∙ sym (way_state (known g) c.self.inside.world c.args.id takes)))
 
 pub returns-clause-after : goal.returns-clause-after
 returns-clause-after g c =
-    both_said (told_in c.take.result) (returns-clause-state g c) (returns-clause-answer g c) (λ note state answer.
-    after_stepped (known g) c.args.self.now c.take.new.self c.args.id (Ok (told_of_way note)) state (sym answer))
+    both_said (reported_in c.take.result) (returns-clause-state g c) (returns-clause-answer g c) (λ note state answer.
+    after_stepped (known g) c.args.self.now c.take.new.self c.args.id (Ok (reported_of_way note)) state (sym answer))

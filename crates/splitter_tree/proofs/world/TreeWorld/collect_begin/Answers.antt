@@ -42,7 +42,7 @@ returns g c =
     record {
       answer = h.answer;
       state = h.state;
-      refused = rw c.self.view_is at c.set.ensures.refused;
+      refused = rw c.self.view_is at c.set.ensures.unchanged_on_error;
       after = tree_collects c.args.self.now c.set.new.self c.args.id c.set.result h.state h.answer;
       law = tree_law c.set.new.self;
       due = tree_due c.set.new.self;

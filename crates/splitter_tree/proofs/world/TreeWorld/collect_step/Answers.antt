@@ -1,6 +1,6 @@
 use Rattle.std.proofs.Common.{◌≡◌, Some, None, Ok, refl, sym, ap, ◌∙◌, option_copied}
 use Rattle.splitter_tree.proofs.WorldCommon.{program_of, client_steps, tree_steps}
-use Rattle.splitter_tree.specs.Client.{view_told}
+use Rattle.splitter_tree.specs.Client.{view_reported}
 use Rattle.step_memory.specs.Calls.{reply_of}
 use Rattle.step_memory.proofs.LocalityLemmas.{unchanged_local}
 use Rattle.splitter_tree.proofs.CallsAsked.{no_collect_of_nobody, no_collect_of_other, collect_step, view_alike, refused_too}
@@ -14,10 +14,10 @@ nobody g c = rw (← c.self.view_is) (sym c.program.ensures ∙ ap option_copied
 the_client : (g : _) (c : After-is_collecting g) → program_of c.args.id c.args.self.now.participants ≡ Some c.in-Some.client.now
 the_client g c = rw (← c.self.view_is) (sym c.program.ensures ∙ ap option_copied c.in-Some.is)
 
-said : (g : _) (c : Joined-step g) → c.match-step.result ≡ reply_of view_told c.step.result
+said : (g : _) (c : Joined-step g) → c.match-step.result ≡ reply_of view_reported c.step.result
 said g c = elim c.match-step.branch [
-  | in-Ok w ↦ w.result-is ∙ ap Ok w.view_told.ensures ∙ sym (ap (reply_of view_told) w.in-Ok.is)
-  | in-Err w ↦ w.result-is ∙ sym (ap (reply_of view_told) w.in-Err.is)
+  | in-Ok w ↦ w.result-is ∙ ap Ok w.view_reported.ensures ∙ sym (ap (reply_of view_reported) w.in-Ok.is)
+  | in-Err w ↦ w.result-is ∙ sym (ap (reply_of view_reported) w.in-Err.is)
 ]
 
 pub returns-in_default : goal.returns-in_default
@@ -52,13 +52,13 @@ returns-then-not-is_collecting g c =
 
 pub returns : goal.returns
 returns g c =
-    let told = said g (goal.at.returns g c).Joined-step in
+    let reported = said g (goal.at.returns g c).Joined-step in
     let h = collect_step c.args.self.now c.args.id c.in-Some.client.now (the_client g (goal.at.returns g c).After-is_collecting) c.step.new.self c.step.result
-    (rw c.self.view_is at c.step.ensures.answer) (rw c.self.view_is at c.step.ensures.after) (sym c.is_collecting.ensures ∙ c.if-not-is_collecting.false) (rw c.self.view_is at c.step.ensures.no_memory) c.match-step.result told in
+    (rw c.self.view_is at c.step.ensures.answer) (rw c.self.view_is at c.step.ensures.after) (sym c.is_collecting.ensures ∙ c.if-not-is_collecting.false) (rw c.self.view_is at c.step.ensures.no_memory) c.match-step.result reported in
     record {
       answer = h.answer;
       state = h.state;
-      refused = rw told (refused_too view_told _ c.step.result (rw c.self.view_is at c.step.ensures.refused));
+      refused = rw reported (refused_too view_reported _ c.step.result (rw c.self.view_is at c.step.ensures.unchanged_on_error));
       after = tree_reads_on c.args.self.now c.step.new.self c.args.id c.match-step.result h.state h.answer;
       law = tree_law c.step.new.self;
       due = tree_due c.step.new.self;

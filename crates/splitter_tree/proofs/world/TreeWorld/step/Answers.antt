@@ -1,6 +1,6 @@
 use Rattle.std.proofs.Common.{◌≡◌, Some, None, Ok, refl, sym, ap, ◌∙◌, option_copied}
 use Rattle.splitter_tree.proofs.WorldCommon.{program_of, client_steps, tree_steps}
-use Rattle.splitter_tree.specs.Client.{place_told}
+use Rattle.splitter_tree.specs.Client.{place_reported}
 use Rattle.step_memory.specs.Calls.{reply_of}
 use Rattle.step_memory.proofs.LocalityLemmas.{unchanged_local}
 use Rattle.splitter_tree.proofs.CallsAsked.{no_way_of_nobody, no_way_of_other, way_step, place_alike, lacked_too, kept_too, refused_too}
@@ -14,10 +14,10 @@ nobody g c = rw (← c.self.view_is) (sym c.program.ensures ∙ ap option_copied
 the_client : (g : _) (c : After-is_placing g) → program_of c.args.id c.args.self.now.participants ≡ Some c.in-Some.client.now
 the_client g c = rw (← c.self.view_is) (sym c.program.ensures ∙ ap option_copied c.in-Some.is)
 
-said : (g : _) (c : Joined-step g) → c.match-step.result ≡ reply_of place_told c.step.result
+said : (g : _) (c : Joined-step g) → c.match-step.result ≡ reply_of place_reported c.step.result
 said g c = elim c.match-step.branch [
-  | in-Ok w ↦ w.result-is ∙ ap Ok w.place_told.ensures ∙ sym (ap (reply_of place_told) w.in-Ok.is)
-  | in-Err w ↦ w.result-is ∙ sym (ap (reply_of place_told) w.in-Err.is)
+  | in-Ok w ↦ w.result-is ∙ ap Ok w.place_reported.ensures ∙ sym (ap (reply_of place_reported) w.in-Ok.is)
+  | in-Err w ↦ w.result-is ∙ sym (ap (reply_of place_reported) w.in-Err.is)
 ]
 
 pub returns-in_default : goal.returns-in_default
@@ -56,15 +56,15 @@ returns-then-not-is_placing g c =
 
 pub returns : goal.returns
 returns g c =
-    let told = said g (goal.at.returns g c).Joined-step in
+    let reported = said g (goal.at.returns g c).Joined-step in
     let h = way_step c.args.self.now c.args.id c.in-Some.client.now (the_client g (goal.at.returns g c).After-is_placing) c.step.new.self c.step.result
-    (rw c.self.view_is at c.step.ensures.answer) (rw c.self.view_is at c.step.ensures.after) (sym c.is_placing.ensures ∙ c.if-not-is_placing.false) c.match-step.result told in
+    (rw c.self.view_is at c.step.ensures.answer) (rw c.self.view_is at c.step.ensures.after) (sym c.is_placing.ensures ∙ c.if-not-is_placing.false) c.match-step.result reported in
     record {
       answer = h.answer;
       state = h.state;
-      refused = rw told (refused_too place_told _ c.step.result (rw c.self.view_is at c.step.ensures.refused));
-      no_memory = λ e. (rw c.self.view_is at c.step.ensures.no_memory) (lacked_too place_told c.step.result (sym told ∙ e));
-      after = tree_goes_on c.args.self.now c.step.new.self c.args.id c.match-step.result h.state h.answer (λ e. kept_too place_told _ c.step.result (rw c.self.view_is at c.step.ensures.refused) (sym told ∙ e)) (λ e. (rw c.self.view_is at c.step.ensures.no_memory) (lacked_too place_told c.step.result (sym told ∙ e)));
+      refused = rw reported (refused_too place_reported _ c.step.result (rw c.self.view_is at c.step.ensures.unchanged_on_error));
+      no_memory = λ e. (rw c.self.view_is at c.step.ensures.no_memory) (lacked_too place_reported c.step.result (sym reported ∙ e));
+      after = tree_goes_on c.args.self.now c.step.new.self c.args.id c.match-step.result h.state h.answer (λ e. kept_too place_reported _ c.step.result (rw c.self.view_is at c.step.ensures.unchanged_on_error) (sym reported ∙ e)) (λ e. (rw c.self.view_is at c.step.ensures.no_memory) (lacked_too place_reported c.step.result (sym reported ∙ e)));
       law = tree_law c.step.new.self;
       due = tree_due c.step.new.self;
       nodes = tree_nodes c.step.new.self;

@@ -2,7 +2,7 @@ use Rattle.std.proofs.Common.{◌≡◌, ◌<◌, Ok, IfSome, Option, Some, None
 use Rattle.step_memory.proofs.Common.{get_or_default, resumed, with_participant, got_by}
 use Rattle.std.proofs.lemmas.Option.{IfSome_then}
 use Rattle.std.proofs.lemmas.Result.{on_err_weaker}
-use Rattle.step_memory.specs.Taken.{told_in}
+use Rattle.step_memory.specs.Taken.{reported_in}
 use Rattle.step_memory.proofs.LocalityLemmas.{step_local}
 use Rattle.step_memory.proofs.Found.{Found}
 use Rattle.step_memory.proofs.Roster as roster
@@ -46,7 +46,7 @@ pub returns-clause-answer : goal.returns-clause-answer
 returns-clause-answer g c =
     let f = found_participant g (goal.at.returns-clause-answer g c).After-index-walker in
     let w = taken g (goal.at.returns-clause-answer g c).After-take in
-    IfSome_then (told_in c.take.result) c.take.ensures.note (λ told said.
+    IfSome_then (reported_in c.take.result) c.take.ensures.note (λ reported said.
     going_answer g.P.StepProgram.steps g.S.StepMemory.steps c.args.self.now c.args.id c.index-walker.result.now f.is c.if-walker.false
     ∙ ap Ok (rw (← w.memory, ← w.same) said))
 
@@ -54,7 +54,7 @@ pub returns-clause-takes : goal.returns-clause-takes
 returns-clause-takes g c =
     let f = found_participant g (goal.at.returns-clause-takes g c).After-index-walker in
     let w = taken g (goal.at.returns-clause-takes g c).After-take in
-    IfSome_then (told_in c.take.result) c.take.ensures.takes (λ told takes. (c.index-walker.result.now, f.is, rw (← w.same) takes))
+    IfSome_then (reported_in c.take.result) c.take.ensures.takes (λ reported takes. (c.index-walker.result.now, f.is, rw (← w.same) takes))
 
 pub returns-clause-after : goal.returns-clause-after
 returns-clause-after g c =
@@ -63,7 +63,7 @@ returns-clause-after g c =
     let m : c.self.inside.most ≡ c.args.self.now.most = ap (λ w. w.most) c.self.view_is in
     let v : c.self.inside.participants.items ≡ c.args.self.now.participants = ap (λ w. w.participants) c.self.view_is in
     let got = got_by g.P.StepProgram.steps g.S.StepMemory.steps c.args.self.now.memory c.index-walker.result.now in
-    both_some (told_in c.take.result) c.take.ensures.after c.take.ensures.memory (λ after changed.
+    both_some (reported_in c.take.result) c.take.ensures.after c.take.ensures.memory (λ after changed.
     let participant : c.take.new.self ≡ resumed g.P.StepProgram.steps c.index-walker.result.now got = rw (← w.memory, ← w.same) after in
     let memory : c.take.new.memory ≡ g.S.StepMemory.steps.after c.args.self.now.memory (g.P.StepProgram.steps.next c.index-walker.result.now.program) = rw (← w.memory, ← w.same) changed in
     let identity : c.take.new.self.identity ≡ c.args.id = ap (λ p. p.identity) participant ∙ f.identity in
@@ -73,16 +73,16 @@ returns-clause-after g c =
 
 pub returns-clause-local : goal.returns-clause-local
 returns-clause-local g c =
-    IfSome_then (told_in c.take.result) (returns-clause-after g c) (λ told e.
+    IfSome_then (reported_in c.take.result) (returns-clause-after g c) (λ reported e.
     rw e (step_local g.P.StepProgram.steps g.S.StepMemory.steps g.met.S.StepMemory.others c.args.self.now c.args.id))
 
 pub invariant_of-self : goal.invariant_of-self
 invariant_of-self g c =
-    let told : IfSome (told_in c.take.result) (λ _. c.take.new.self.identity ≡ c.index_mut.result.now.identity) = IfSome_then (told_in c.take.result) c.take.ensures.after (λ told after. ap (λ p. p.identity) after) in
+    let reported : IfSome (reported_in c.take.result) (λ _. c.take.new.self.identity ≡ c.index_mut.result.now.identity) = IfSome_then (reported_in c.take.result) c.take.ensures.after (λ reported after. ap (λ p. p.identity) after) in
     let own : c.take.new.self.identity ≡ c.index_mut.result.now.identity =
-    elim (told_in c.take.result) as (λ o. (o ≡ None → c.take.new.self ≡ c.index_mut.result.now) → IfSome o (λ _. c.take.new.self.identity ≡ c.index_mut.result.now.identity) → c.take.new.self.identity ≡ c.index_mut.result.now.identity) [
+    elim (reported_in c.take.result) as (λ o. (o ≡ None → c.take.new.self ≡ c.index_mut.result.now) → IfSome o (λ _. c.take.new.self.identity ≡ c.index_mut.result.now.identity) → c.take.new.self.identity ≡ c.index_mut.result.now.identity) [
       | None ↦ λ kept same. ap (λ p. p.identity) (kept refl)
       | Some x ↦ λ kept same. same
-    ] c.take.ensures.kept told
+    ] c.take.ensures.kept reported
     in
     (c.self.invariant.0, distinct_there c.args.id c.in-Some.i c.index_mut.result.now c.take.new.self c.deref.ensures.value c.in-Some.ensures.answer c.index_mut.ensures.value own c.self.invariant.1)

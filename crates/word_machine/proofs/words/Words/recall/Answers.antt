@@ -22,15 +22,15 @@ loop-i-preserved g c =
     let read : HasRead law c.self.inside.size c.args.slot c.loop-i.seat.me = subst (λ n. HasRead law n c.args.slot c.loop-i.seat.me) (sym most) (subst (λ me. HasRead law c.args.self.now.size c.args.slot me) (sym c.loop-i.invariant.same) c.requires.read) in
     let long = c.self.invariant.4 in
     let low = c.loop-i-test.true in
-    let told = recalled law c.self.inside.size c.args.slot c.loop-i.i c.load.result (step 0 (c.self.inside.registers + c.args.slot * c.self.inside.length + c.loop-i.i) 0 0 none) c.loop-i.seat.me c.load.new.seat.me read (word_is law c.self.inside.size _ _ 0 c.self.invariant.3 c.self.invariant.4 c.args.slot c.loop-i.i) (omega arith) c.load.ensures.2 in
+    let reported = recalled law c.self.inside.size c.args.slot c.loop-i.i c.load.result (step 0 (c.self.inside.registers + c.args.slot * c.self.inside.length + c.loop-i.i) 0 0 none) c.loop-i.seat.me c.load.new.seat.me read (word_is law c.self.inside.size _ _ 0 c.self.invariant.3 c.self.invariant.4 c.args.slot c.loop-i.i) (omega arith) c.load.ensures.2 in
     let all = c.loop-i.invariant.all in
     let short = g.met.P.WordProgram.sound.short in
     let read_is : read_in c.loop-i.seat.me ≡ read_in c.args.seat.now.me = ap read_in c.loop-i.invariant.same in
     let many : length (read_in c.args.seat.now.me) ≡ law.length = ap (λ me. length (read_in me)) c.requires.read.me_is ∙ c.requires.read.long in
     record {
       ours = c.load.ensures.0 ∙ c.loop-i.invariant.ours;
-      same = told.0 ∙ c.loop-i.invariant.same;
+      same = reported.0 ∙ c.loop-i.invariant.same;
       few = omega arith;
       all = length-set c.loop-i.words c.loop-i.i c.load.result ∙ all;
-      read = read_on c.loop-i.i c.load.result c.loop-i.words (read_in c.args.seat.now.me) (omega arith) (omega arith) c.loop-i.invariant.read (told.1 ∙ ap (λ xs. slice_index xs c.loop-i.i) read_is);
+      read = read_on c.loop-i.i c.load.result c.loop-i.words (read_in c.args.seat.now.me) (omega arith) (omega arith) c.loop-i.invariant.read (reported.1 ∙ ap (λ xs. slice_index xs c.loop-i.i) read_is);
     }

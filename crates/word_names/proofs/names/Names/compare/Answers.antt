@@ -6,5 +6,5 @@ use Rattle.word_names.proofs.names.Names.compare.Goals as goal
 pub returns-clause-one_seat : goal.returns-clause-one_seat
 returns-clause-one_seat g c = λ n x y.
     ap (λ (z : ClaimId). z.number) (sym c.one.view_is)
-    ∙ one_seat _ _ c.compare.ensures.told n (ap (λ (z : ClaimId). z.named) c.one.view_is ∙ x) (ap (λ (z : ClaimId). z.named) c.other.view_is ∙ y)
+    ∙ one_seat _ _ c.compare.ensures.reported n (ap (λ (z : ClaimId). z.named) c.one.view_is ∙ x) (ap (λ (z : ClaimId). z.named) c.other.view_is ∙ y)
     ∙ ap (λ (z : ClaimId). z.number) c.other.view_is

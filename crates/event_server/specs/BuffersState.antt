@@ -1,0 +1,12 @@
+-- what a contract sees of a connection without its stream
+use Rattle.std.specs.Prelude.{ℕ, List, Bool}
+use Rattle.player.specs.ResponderState.{ResponderState}
+
+-- one side of a transcript, what came and is not taken yet, what was said and is not sent yet, whether the end of what comes was taken, and
+-- whether it is at fault: then nothing more is read or sent
+pub record BuffersState : Type 0 where
+  pub responder : ResponderState
+  pub inbox : List ℕ
+  pub outbox : List ℕ
+  pub ended : Bool
+  pub broken : Bool

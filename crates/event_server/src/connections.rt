@@ -1,0 +1,217 @@
+//! The connections of a server, their seats, and who is to have a turn.
+
+ghost use Rattle.std.specs.Prelude.{◌≤◌, length};
+
+use crate::buffers::Buffers;
+use crate::connection::{Connection, Stage};
+use crate::socket::Socket;
+use commands::WorldKind;
+use mio::event::Event;
+use mio::net::TcpStream;
+use mio::{Interest, Poll, Token};
+use std::alloc::{AllocError, Global};
+use std::mem;
+use std::net::Shutdown;
+
+/// For so many clients at most room is taken at once, in lists that lie below all that clients make grow: so what those leave goes back to
+/// the system.
+const MOST_RESERVED: usize = 16_384;
+
+/// For how many ticks a connection that is at its end may take nothing of the replies to it.
+const FLUSH_TICKS: u64 = 10;
+
+/// The seats of a server. A seat that is left is given again.
+#[derive(Drop)]
+pub struct ConnectionTable {
+    /// The seats, some of them empty.
+    pub seats: Vec<Option<Connection<Socket, Global>>>,
+    /// The seats whose connections are due, in the order in which they became so.
+    pub ready: Vec<usize>,
+    /// How many seats are taken.
+    pub open: usize,
+    /// How many connections have left.
+    pub served: u64,
+    later: Vec<usize>,
+    empty: Vec<usize>,
+}
+
+// Whether replies wait to be sent to whoever sits there.
+fn has_unsent(seat: &Option<Connection<Socket, Global>>) -> bool {
+    match seat {
+        Some(connection) => !connection.buffers.unsent().is_empty(),
+        None => false,
+    }
+}
+
+impl ConnectionTable {
+    /// No seats, for so many clients.
+    pub fn new(alloc: Global, clients: usize) -> Result<ConnectionTable, AllocError> {
+        let few = clients.min(MOST_RESERVED);
+        Ok(ConnectionTable {
+            seats: Vec::with_capacity(alloc, few)?,
+            ready: Vec::with_capacity(alloc, few)?,
+            open: 0,
+            served: 0,
+            later: Vec::with_capacity(alloc, few)?,
+            empty: Vec::with_capacity(alloc, few)?,
+        })
+    }
+
+    // An empty seat.
+    fn empty_seat(&mut self) -> Result<usize, AllocError> {
+        if let Some(key) = self.empty.pop() {
+            return Ok(key);
+        }
+        let key = self.seats.len();
+        if self.seats.push(None).is_err() {
+            return Err(AllocError);
+        }
+        Ok(key)
+    }
+
+    // Whoever sat there leaves, and this connection has the seat, or none. Says whether there is such a seat.
+    fn fill(&mut self, key: usize, connection: Option<Connection<Socket, Global>>) -> bool {
+        match self.seats.get_mut(key) {
+            Some(seat) => {
+                drop(mem::replace(seat, connection));
+                true
+            }
+            None => {
+                drop(connection);
+                false
+            }
+        }
+    }
+
+    // Whoever sits there.
+    fn seated(&mut self, key: usize) -> Option<&mut Connection<Socket, Global>> {
+        self.seats.get_mut(key)?.as_mut()
+    }
+
+    /// Gives a seat to a stream. One that cannot be waited for is closed.
+    pub fn admit(
+        &mut self,
+        alloc: Global,
+        poll: &Poll,
+        kind: WorldKind,
+        mut stream: TcpStream,
+        tick: u64,
+    ) -> Result<(), AllocError> {
+        let _ = stream.set_nodelay(true);
+        let key = self.empty_seat()?;
+        let both = Interest::READABLE | Interest::WRITABLE;
+        if poll
+            .registry()
+            .register(&mut stream, Token(key), both)
+            .is_err()
+        {
+            let _ = self.empty.push(key);
+            return Ok(());
+        }
+        let Ok(buffers) = Buffers::new(alloc, kind) else {
+            return Err(AllocError);
+        };
+        let connection = Connection::new(Socket { stream }, buffers, tick);
+        if self.fill(key, Some(connection)) {
+            self.open = self.open.saturating_add(1);
+        }
+        Ok(())
+    }
+
+    /// Notes what the system tells of a connection, which is due then.
+    pub fn note(&mut self, event: &Event) -> Result<(), AllocError> {
+        let key = event.token().0;
+        let Some(connection) = self.seated(key) else {
+            return Ok(());
+        };
+        let hung = event.is_read_closed() || event.is_error();
+        connection.readable = connection.readable || hung || event.is_readable();
+        connection.hung = connection.hung || hung;
+        connection.writable = connection.writable || event.is_writable();
+        if connection.stage == Stage::Idle {
+            connection.stage = Stage::Queued;
+            self.ready.push(key)?;
+        }
+        Ok(())
+    }
+
+    // After its turn a connection leaves, or is due again, or waits for the system.
+    fn settle_one(&mut self, key: usize, tick: u64) -> Result<(), AllocError> {
+        let Some(connection) = self.seated(key) else {
+            return Ok(());
+        };
+        if connection.is_done() {
+            self.leave(key);
+            return Ok(());
+        }
+        if !connection.buffers.is_over() {
+            connection.since = tick;
+        } else if connection.buffers.unsent().is_empty() {
+            let _ = connection.stream.stream.shutdown(Shutdown::Write);
+        }
+        if connection.goes_on() {
+            connection.stage = Stage::Queued;
+            self.later.push(key)?;
+        }
+        Ok(())
+    }
+
+    // Whoever sits there leaves, and the seat is empty then.
+    fn leave(&mut self, key: usize) {
+        self.fill(key, None);
+        let _ = self.empty.push(key);
+        self.open = self.open.saturating_sub(1);
+        self.served = self.served.saturating_add(1);
+    }
+
+    /// After a turn in which so many of the ready seats were called: those that have more to do are due again, behind the others.
+    pub fn settle(&mut self, called: usize, tick: u64) -> Result<(), AllocError> {
+        for at in 0..called {
+            if at < self.ready.len() {
+                let key = self.ready[at];
+                self.settle_one(key, tick)?;
+            }
+        }
+        let from = called.min(self.ready.len());
+        self.queue_again(from)
+    }
+
+    // The ready seats from there on, and then those that are due again.
+    fn queue_again(&mut self, from: usize) -> Result<(), AllocError>
+        requires { from ≤ length self.old.ready.items }
+    {
+        let left = self.ready.len() - from;
+        self.ready.copy_within(from.., 0);
+        self.ready.truncate(left);
+        self.ready.extend_from_slice(&self.later)?;
+        self.later.clear();
+        Ok(())
+    }
+
+    /// Closes each connection of which nothing came or went for so many ticks, or for ten where it is at its end.
+    pub fn sweep(&mut self, tick: u64, idle: Option<u64>) {
+        for key in 0..self.seats.len() {
+            self.sweep_one(key, tick, idle);
+        }
+    }
+
+    // The same, of one seat.
+    fn sweep_one(&mut self, key: usize, tick: u64, idle: Option<u64>) {
+        let Some(connection) = self.seated(key) else {
+            return;
+        };
+        let quiet = tick.saturating_sub(connection.since);
+        let leaving = connection.buffers.is_over() || connection.buffers.is_ended();
+        let most = if leaving { Some(FLUSH_TICKS) } else { idle };
+        let rests = connection.stage == Stage::Idle;
+        match most {
+            Some(most) if rests && most <= quiet => self.leave(key),
+            _ => {}
+        }
+    }
+
+    /// Whether replies wait to be sent to any.
+    pub fn has_unsent(&self) -> bool {
+        self.seats.iter().any(has_unsent)
+    }
+}

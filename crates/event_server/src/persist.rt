@@ -1,0 +1,80 @@
+//! What is kept of a turn before its replies go out.
+
+ghost use Rattle.std.specs.Prelude.{◌≡◌, ◌≤◌, ◌+◌, ◌++◌, ℕ, List, length, OnOk};
+ghost use Rattle.command_lines.specs.declared.replies.TheConstants.{HELD_REPLIES};
+ghost use Rattle.slot_array.specs.SlotsState.{SlotsState};
+ghost use Rattle.held_lines.specs.Held.{held_text};
+ghost use Rattle.held_lines.specs.declared.telling.TheConstants.{HELD_ROOM};
+
+use command_lines::{HELD_REPLIES, Replies};
+use held_lines::{HELD_ROOM, HeldQuery};
+use std::alloc::Allocator;
+
+/// What a service and its persister tell of themselves to whoever looks on.
+#[derive(Clone, Copy, Debug, Drop, PartialEq, Eq)]
+pub struct Tally {
+    /// How many events the service has taken.
+    pub events: u64,
+    /// How many bytes are kept of them.
+    pub bytes: u64,
+}
+
+/// Whether a persister has learnt the answers to the lines that it was told.
+#[derive(Clone, Copy, Debug, Drop, PartialEq, Eq)]
+pub enum Prefetch {
+    /// The service answers them now.
+    Known,
+    /// They were not learnt in time, and nothing is known of them.
+    Lost,
+}
+
+/// Keeps what a service tells of the events that it accepted, before any reply of that turn is sent.
+pub trait Persist<D> {
+    /// Why it could not be kept.
+    type Fault;
+
+    /// The persister and the service were so, and are so once what the service tells is kept.
+    ghost persists: { Self → D → Self → D → Type 0 };
+
+    /// The persister and the service were so, and are so once the answers to these lines are learnt.
+    ghost prefetches: { Self → D → List ℕ → Self → D → Type 0 };
+
+    /// The persister and the service were so, and are so once the persister went on by itself, or answers were not learnt in time.
+    ghost waits: { Self → D → Self → D → Type 0 };
+
+    /// The pool and its slots, as they are where all is kept that the service told.
+    ghost holds: { Self → D → SlotsState ℕ };
+
+    /// Appends who holds numbers, as it is asked.
+    fn put_held<B: Allocator>(&self, service: &D, query: HeldQuery, out: &mut Replies<B>)
+        requires room { length out.old + HELD_ROOM ≤ HELD_REPLIES }
+        ensures text { out.new ≡ out.old ++ held_text (holds self.now service.now) query }
+        ensures short { length out.new ≤ length out.old + HELD_ROOM };
+
+    /// Whether so much is told that it is to be kept before any other connection has its turn. It is not asked where `most_prefetched` is some:
+    /// then each connection has its turn whose lines were told.
+    fn is_full(&self, service: &D) -> bool;
+
+    /// Keeps what the service tells.
+    fn persist(&mut self, service: &mut D) -> Result<(), Self::Fault>
+        ensures { OnOk result (persists self.old service.old self.new service.new) };
+
+    /// How many bytes of lines of requests it is told, at most, before a turn takes them; `None` where the service answers each as it comes.
+    fn most_prefetched(&self) -> Option<usize>;
+
+    /// Has the service learn the answers to these lines of requests, in their order; each ends in LF. `Lost` where they were not learnt in
+    /// time: nothing is known of them then.
+    fn prefetch(&mut self, service: &mut D, lines: &[u8]) -> Result<Prefetch, Self::Fault>
+        ensures known { result ≡ Ok Prefetch.Known → prefetches self.old service.old lines.now self.new service.new }
+        ensures lost { result ≡ Ok Prefetch.Lost → waits self.old service.old self.new service.new };
+
+    /// Is called about once a second while clients are there, and once a minute while none is.
+    fn tick(&mut self, service: &mut D) -> Result<(), Self::Fault>
+        ensures { OnOk result (waits self.old service.old self.new service.new) };
+
+    /// What is amiss and does not end the server, for people; `None` where nothing is.
+    fn trouble(&self) -> Option<&'static str>;
+
+    /// How much there is, for people.
+    fn tally(&self, service: &D) -> Tally;
+}

@@ -1,0 +1,62 @@
+//! What the connections of a loop share.
+
+ghost use Rattle.std.specs.Prelude.{◌≡◌, ◌≤◌, IfOk};
+ghost use Rattle.event_server.specs.SharedBuffers.{AreShared};
+ghost use Rattle.event_server.specs.declared.shared.TheConstants.{READ_ROOM};
+
+use player::Replies;
+use std::alloc::Allocator;
+use step_memory::{NoMemory, View};
+
+/// The most bytes that are read of a connection in a turn.
+pub const READ_ROOM: usize = 65_536;
+
+/// The fewest bytes that are read of a connection in a turn, however many are due.
+pub const LEAST_READ: usize = 1_024;
+
+/// Room that each connection uses in its turn: for a view, for the bytes of one read, and for the replies to them.
+#[derive(Drop)]
+pub struct SharedBuffers<A: Allocator> {
+    pub view: View,
+    pub chunk: Vec<u8, A>,
+    pub replies: Replies<A>,
+    /// How many bytes of the chunk a read may fill.
+    pub share: usize,
+}
+
+impl<A: Allocator + Clone> SharedBuffers<A> {
+    /// Room for a loop; `NoMemory` where it was refused.
+    pub fn new(alloc: A) -> Result<SharedBuffers<A>, NoMemory>
+        ensures { IfOk result AreShared }
+    {
+        let Ok(other) = alloc.clone() else {
+            return Err(NoMemory);
+        };
+        let Ok(chunk) = Vec::from_elem(other, 0, READ_ROOM) else {
+            return Err(NoMemory);
+        };
+        let replies = Replies::new(alloc)?;
+        Ok(SharedBuffers {
+            view: View::new(),
+            chunk,
+            replies,
+            share: READ_ROOM,
+        })
+    }
+}
+
+impl<A: Allocator> SharedBuffers<A> {
+    /// The chunk is divided among so many connections, so that each waits for no more than a chunk of the others; each has 1 KiB at least.
+    pub fn share_among(&mut self, connections: usize)
+        ensures { (self.new.chunk ≡ self.old.chunk) × (self.new.replies ≡ self.old.replies) }
+    {
+        self.share = LEAST_READ.max(READ_ROOM / connections.max(1));
+    }
+
+    /// How many bytes one read may give.
+    pub fn most(&self) -> usize
+        ensures { (1 ≤ result) × (result ≤ READ_ROOM) }
+    {
+        self.share.max(1).min(READ_ROOM)
+    }
+}

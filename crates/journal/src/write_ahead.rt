@@ -1,0 +1,172 @@
+//! A hall, and the lines of its journal that are not written yet.
+
+ghost use Rattle.std.specs.Prelude.{◌≡◌, ◌↔◌, ◌≤◌, ◌<◌, ◌+◌, ◌-◌, ◌++◌, [], ◌∷◌, true, false, length, IfOk, vec_len, vec_capacity};
+ghost use Rattle.commands.specs.Replies.{is_refusal, with_view};
+ghost use Rattle.desk.specs.DeskCalls.{exchange};
+ghost use Rattle.hall.specs.Halls.{HallMay};
+ghost use Rattle.player.specs.Records.{exchange_line};
+ghost use Rattle.hall.specs.Compactions.{IsCompacted};
+ghost use Rattle.journal.specs.WriteAheads.{WriteAheadServes, write_ahead_of, waiting_of};
+ghost use Rattle.journal.specs.Compactings.{MayCompact};
+ghost use Rattle.journal.specs.WriteAheadProofs.{write_ahead_answers};
+
+use commands::{Event, Reply};
+use hall::{Compactor, Hall, law_of_serving};
+use player::{AsRecord, Form, Replies, Service, TURN_ROOM};
+use std::alloc::Global;
+use std::marker::Model;
+use step_memory::{NoMemory, Refusal, View};
+
+/// No more bytes of lines wait.
+pub const MOST_WAITING: usize = 1_048_576;
+
+/// A hall that tells each event that it accepts, with its reply, as a line of a record: the lines wait until they are committed. With
+/// the header, those that were committed and those that wait are the record of the hall's history.
+#[derive(Drop)]
+pub struct WriteAhead {
+    hall: Hall,
+    reported: usize,
+    lines: Vec<u8>,
+    line: Replies<Global>,
+}
+
+impl Model for WriteAhead {
+    ghost use Rattle.journal.specs.WriteAheadState.{WriteAheadState};
+
+    ghost Value = { WriteAheadState };
+
+    ghost use Rattle.std.specs.Prelude.{◌≡◌, ◌≤◌, length};
+    ghost use Rattle.journal.specs.WriteAheads.{write_ahead_of, waiting_of};
+
+    ghost view = { λ c. write_ahead_of c.hall c.reported };
+
+    ghost invariant = { λ c. (c.lines.items ≡ waiting_of (write_ahead_of c.hall c.reported)) × (c.reported ≤ length c.hall.history) };
+}
+
+/// Applies an event to a hall, which takes it into its history where it accepts it, and nothing else.
+pub(crate) fn applied(hall: &mut Hall, event: Event, view: &mut View) -> Reply<()>
+    ensures may { HallMay hall.old event (with_view result view.new) hall.new }
+    ensures config { hall.new.config ≡ hall.old.config }
+    ensures accepted { is_refusal (with_view result view.new) ≡ false → hall.new.history ≡ hall.old.history ++ exchange event (with_view result view.new) ∷ [] }
+    ensures refused { is_refusal (with_view result view.new) ≡ true → hall.new.history ≡ hall.old.history }
+{
+    law_of_serving();
+    let _ = hall.len();
+    hall.apply_short(event, view)
+}
+
+/// Puts the line of an event with its reply, and the view beside that, behind others, where there is room.
+pub(crate) fn put_line(
+    event: Event,
+    reply: Reply<()>,
+    view: &View,
+    line: &mut Replies<Global>,
+    lines: &mut Vec<u8>,
+)
+    requires { vec_len lines.old + TURN_ROOM ≤ vec_capacity lines.old }
+    ensures { lines.new.items ≡ lines.old.items ++ exchange_line (exchange event (with_view reply view.now)) }
+{
+    line.clear();
+    AsRecord::put_answered(event, reply, view, line);
+    let _ = lines.extend_from_slice(line.as_slice());
+}
+
+impl WriteAhead {
+    /// Round a hall all of whose events were committed; `NoMemory` where room was refused.
+    pub fn new(alloc: Global, hall: Hall) -> Result<WriteAhead, NoMemory>
+        ensures { IfOk result (λ c. c ≡ write_ahead_of hall (length hall.history)) }
+    {
+        let reported = hall.len();
+        Ok(WriteAhead {
+            hall,
+            reported,
+            lines: Vec::new(alloc),
+            line: Replies::new(alloc)?,
+        })
+    }
+
+    /// The hall.
+    pub fn hall(&self) -> &Hall
+        ensures { result.now ≡ self.now.hall }
+    {
+        &self.hall
+    }
+
+    /// The lines that wait: those of the events that were not committed.
+    pub fn waiting(&self) -> &[u8]
+        ensures lines { result.now ≡ waiting_of self.now }
+        ensures few { self.now.reported ≤ length self.now.hall.history }
+    {
+        &self.lines
+    }
+
+    /// Whether lines wait.
+    pub fn has_waiting(&self) -> bool
+        ensures some { result ≡ true ↔ (self.now.reported < length self.now.hall.history) }
+        ensures none { result ≡ false → self.now.reported ≡ length self.now.hall.history }
+        ensures few { self.now.reported ≤ length self.now.hall.history }
+    {
+        self.reported < self.hall.len()
+    }
+
+    /// Whether so many bytes wait that an event would be refused for want of room: those that wait are to be committed first.
+    pub fn is_full(&self) -> bool
+        ensures { result ≡ true ↔ (MOST_WAITING - TURN_ROOM < length (waiting_of self.now)) }
+    {
+        MOST_WAITING - TURN_ROOM < self.lines.len()
+    }
+
+    /// What waited was committed.
+    pub fn mark_committed(&mut self)
+        ensures { self.new ≡ write_ahead_of self.old.hall (length self.old.hall.history) }
+    {
+        self.lines.clear();
+        self.reported = self.hall.len();
+    }
+
+    /// A hall that was compacted of this one takes its place; all of it was committed, or there is no journal.
+    pub fn replace_hall(&mut self, hall: Hall)
+        requires { IsCompacted self.old.hall hall }
+        ensures { self.new ≡ write_ahead_of hall (length hall.history) }
+    {
+        self.lines.clear();
+        self.reported = hall.len();
+        self.hall = hall;
+    }
+
+    /// Compacts the hall where that is due and gives a shorter history; what waited is gone then. For a write-ahead hall without a journal:
+    /// with one, `Journal::compact_when_due`.
+    pub fn compact_when_due(&mut self, alloc: Global, compactor: &mut Compactor)
+        ensures { MayCompact self.old self.new }
+    {
+        if !compactor.is_due(&self.hall) {
+            return;
+        }
+        if let Some(hall) = compactor.compacted(alloc, &self.hall) {
+            self.replace_hall(hall);
+        }
+    }
+}
+
+impl<R> Service<R> for WriteAhead {
+    ghost knows = { λ q. true };
+
+    ghost may = { WriteAheadServes };
+
+    ghost answers = { λ c q known. write_ahead_answers c q };
+
+    fn apply(&mut self, _rt: &R, event: Event, view: &mut View) -> Reply<()> {
+        if self.is_full() || self.lines.reserve(TURN_ROOM).is_err() {
+            return Reply::Refused(self.hall.refusal(event).unwrap_or(Refusal::NoMemory));
+        }
+        let reply = applied(&mut self.hall, event, view);
+        if !reply.is_refusal() {
+            put_line(event, reply, view, &mut self.line, &mut self.lines);
+        }
+        reply
+    }
+
+    fn owner(&mut self, _rt: &R, n: u64) -> Reply<View> {
+        self.hall.owner(n)
+    }
+}

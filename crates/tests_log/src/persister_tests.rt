@@ -1,0 +1,138 @@
+//! Front ends over a log in which others have written.
+
+use crate::front_tests::{answers, config};
+use crate::log_doubles::{Lossy, Tries};
+use event_server::{Persist, Prefetch};
+use hall_log::{LogFault, LogPersister, ReplyQueue};
+use replicated_log::{MemoryStore, Store, StoreFault};
+use std::alloc::Global;
+
+/// How the log of a hall of the config begins.
+const FIRST: &[u8] = b"beglushan hall 1 world rename m 4 k 4 limit 1000\n";
+
+/// How that of a hall for three begins.
+const OF_THREE: &[u8] = b"beglushan hall 1 world rename m 3 k 4 limit 1000\n";
+
+/// What another front end has written behind it.
+const OTHERS: &[u8] = b"another 1\nenter 1\nprobe 1\n";
+
+// A store in which these entries stand.
+fn written(alloc: Global, entries: &[&[u8]]) -> Result<MemoryStore, StoreFault> {
+    let mut store = MemoryStore::new(alloc);
+    for place in 0..entries.len() {
+        store.put(place as u64, entries[place])?;
+    }
+    Ok(store)
+}
+
+// A front end over a log that begins so, whose store loses each so many answers, and which asks again so often.
+fn opened(
+    alloc: Global,
+    entries: &[&[u8]],
+    every: u64,
+    most: u64,
+) -> Result<LogPersister<Lossy, Tries>, LogFault> {
+    let Some(config) = config() else {
+        return Err(LogFault::NoNames);
+    };
+    let Ok(store) = written(alloc, entries) else {
+        return Err(LogFault::Memory);
+    };
+    let lossy = Lossy::new(store, every);
+    let tries = Tries { most, left: 0 };
+    LogPersister::open(alloc, lossy, tries, config, [b'a'; 32])
+}
+
+// What a front end answers to lines, as a turn of its loop does; none where they are lost.
+fn reported(
+    alloc: Global,
+    persister: &mut LogPersister<Lossy, Tries>,
+    lines: &[u8],
+) -> Result<Option<Vec<u8>>, LogFault> {
+    let mut reply_queue = ReplyQueue::new(alloc);
+    if persister.prefetch(&mut reply_queue, lines)? == Prefetch::Lost {
+        return Ok(None);
+    }
+    let Some(answer) = answers(alloc, &mut reply_queue, lines) else {
+        return Err(LogFault::Memory);
+    };
+    persister.persist(&mut reply_queue)?;
+    Ok(Some(answer))
+}
+
+/// A front end as `opened` opens it; what it answers to lines, one after the other; and how many entries and events it has then.
+#[derive(Drop)]
+struct Transcript {
+    title: &'static str,
+    entries: &'static [&'static [u8]],
+    every: u64,
+    most: u64,
+    reported: &'static [(&'static [u8], Option<&'static [u8]>)],
+    then: (u64, usize),
+}
+
+// Whether a front end goes so.
+fn goes_so(
+    alloc: Global,
+    persister: &mut LogPersister<Lossy, Tries>,
+    transcript: &Transcript,
+) -> bool {
+    for (lines, want) in transcript.reported {
+        match reported(alloc, persister, lines) {
+            Ok(answer) if answer.as_deref() == *want => {}
+            _ => return false,
+        }
+    }
+    persister.len() == transcript.then.0 && persister.hall().len() == transcript.then.1
+}
+
+// Whether the one that is opened does.
+fn goes(alloc: Global, transcript: &Transcript) -> bool {
+    match opened(alloc, transcript.entries, transcript.every, transcript.most) {
+        Ok(mut persister) => goes_so(alloc, &mut persister, transcript),
+        Err(_) => false,
+    }
+}
+
+const TRANSCRIPTS: [Transcript; 3] = [
+    Transcript {
+        title: "one that starts late catches up",
+        entries: &[FIRST, OTHERS],
+        every: 0,
+        most: 0,
+        reported: &[(
+            b"enter 1\nenter 2\nprobe 2\nprobe 2\n",
+            Some(b"refused 9\nok\nmissed\ngot 2\n"),
+        )],
+        then: (3, 5),
+    },
+    Transcript {
+        title: "lines whose answer is lost stand once",
+        entries: &[FIRST],
+        every: 2,
+        most: 1,
+        reported: &[(b"enter 1\n", Some(b"ok\n"))],
+        then: (2, 1),
+    },
+    Transcript {
+        title: "lines that are not answered may stand",
+        entries: &[FIRST],
+        every: 2,
+        most: 0,
+        reported: &[(b"enter 1\n", None), (b"enter 1\n", Some(b"refused 9\n"))],
+        then: (3, 1),
+    },
+];
+
+#[test]
+fn front_ends_over_a_log_of_others(rt: HostRuntime) {
+    for transcript in &TRANSCRIPTS {
+        assert!(rt; goes(rt.alloc(), transcript), "{}", transcript.title);
+    }
+}
+
+#[test]
+fn a_front_end_of_another_config_does_not_start(rt: HostRuntime) {
+    let reported = opened(rt.alloc(), &[OF_THREE, OTHERS], 0, 0).err();
+    assert!(rt; reported == Some(LogFault::OtherConfig));
+}
