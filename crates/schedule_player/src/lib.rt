@@ -42,6 +42,6 @@ pub use player::{
     print_header, print_reply, print_words, put_number, put_word, quick_command, quick_number,
     record_on,
 };
-pub use playing::{play, play_any, play_in};
+pub use playing::{play, play_in};
 pub use recording::record;
 pub use world::{Unshared, World};
