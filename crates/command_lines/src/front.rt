@@ -1,4 +1,4 @@
-//! What stands behind a text at the beginning of bytes.
+//! What stands behind a text at the prefix of bytes.
 
 ghost use Rattle.std.specs.Prelude.{◌≡◌, ◌≢◌, ◌++◌, ◌≤◌, true, false, length, take, IfSome, IfNone};
 ghost use Rattle.command_lines.specs.Front.{AreAlike, BeginsOtherwise};

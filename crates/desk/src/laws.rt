@@ -8,8 +8,8 @@ ghost use Rattle.desk.specs.Names.{WasNamed, begun_in};
 
 /// A law, which runs nothing. A fresh desk is after no calls, and there is one for each config; whatever a desk may answer to
 /// an event leads on by one call that is this exchange; the exchanges of every list of calls that leads to a desk are a run
-/// of the renaming object, the pool and the slots; after such a list owners are told rightly, and events are refused, want
-/// of memory aside, just as the desk says beforehand; and where no growth is refused there is one reply and one desk.
+/// of the renaming object, the pool and the slots; after such a list owners are reported rightly, and events are refused, failed
+/// allocations aside, just as the desk says beforehand; and where no growth is refused there is one reply and one desk.
 pub fn law_of_desk()
     ensures fresh { BeginsDesk }
     ensures fresh_is { HasFreshDesk }

@@ -12,13 +12,13 @@
 //! an allocation failure with nothing changed); the exchanges, events with their replies, are a *run*, which the renaming object,
 //! the pool and the slots, begun fresh, can answer in order, within their counts of steps (`law_of_desk`: `law`); and so,
 //! among the exchanges, nobody was given two names, no two were given one, and each name is from 1 to 2b - 1 where b have
-//! begun (`law_of_names`). Who is told to have a name is who was given it (`Desk::owner`: `reported`). What an event would be
+//! begun (`law_of_names`). Who is reported to have a name is who was given it (`Desk::owner`: `reported`). What an event would be
 //! refused is said beforehand (`Desk::refusal`).
 //!
 //! A reply may show a view, which takes a kilobyte. Where events are many, `Desk::apply_short` answers in a few bytes and puts
 //! the view beside, by the same rules.
 //!
-//! What stands in a desk is told to what watches it, with no access and nothing changed: the access that a participant makes next
+//! What stands in a desk is reported to what watches it, with no access and nothing changed: the access that a participant makes next
 //! (`coming`), its place and its name, what a register holds (`held`), and the slots over their pool.
 //!
 //! A caller:

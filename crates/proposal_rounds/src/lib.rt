@@ -5,7 +5,7 @@
 //! proposes in that view; r is its rank among those of the view. Where no other does, it makes no more proposals.
 //!
 //! What is proved (`law_of_rounds`): `b` identities make at most `3(5^b - 1)/4` proposals, all together. Views may be stale, an identity
-//! may begin late, and any may stop for good; what it proposed then stands.
+//! may begin late, and any may crash; what it proposed then stands.
 //!
 //! Why. Take a stretch with no first proposal, and the least identity `p` that writes in it. Once each other that writes there has
 //! written twice, `p` writes at most twice more: what the others propose is then above what `p` chooses, since their ranks

@@ -27,7 +27,7 @@
 //!
 //! A board has a word for each name: 0, or the identity that was first posted there, which never changes. Who was named
 //! posts its name, by one compare-exchange; who has to know whether a name is somebody's looks, by one load. Either gets a
-//! grant: that the word holds this identity, for good. So a name is checked by whoever was told of it, without a lock. A post gives
+//! grant: that the word holds this identity, for good. So a name is checked by whoever heard of it, without a lock. A post gives
 //! its grant just where its one access found the word 0 or the identity in it, a look just where it found the identity.
 //!
 //! The law: each grant finds its word equal to its identity, which is not 0. So two grants that meet have two names where

@@ -74,7 +74,7 @@ pub fn put_owner(owner: Option<u64>, out: &mut Text) -> Result<(), AllocError>
     }
 }
 
-/// Appends the words of what is told.
+/// Appends the words of what is reported.
 fn put_words(reported: &Reported, out: &mut Text) -> Result<(), AllocError>
     ensures { OnOk result (out.new ≡ out.old ++ reported_words reported.now) }
 {
@@ -98,7 +98,7 @@ fn put_words(reported: &Reported, out: &mut Text) -> Result<(), AllocError>
     }
 }
 
-/// Appends the words of what is told: those of each reply of which it is told. An error where a growth was refused.
+/// Appends the words of what is reported: those of each reply of which it is reported. An error where a growth was refused.
 #[tactic(auto, using(crate::proofs::ReportedWords::spelled))]
 pub fn put_reported(reported: &Reported, out: &mut Text) -> Result<(), AllocError>
     ensures words { OnOk result (out.new ≡ out.old ++ reported_words reported.now) }

@@ -16,7 +16,7 @@
 //! let Some((head, rows)) = next_line(bytes) else { .. };      // no line
 //! let Some(header) = read_header(alloc, head)? else { .. };   // no header
 //! let (row, rest) = next_line(rows?)?;
-//! read_line(alloc, header.config.world, header.version, row)? // the event and what is told of its reply
+//! read_line(alloc, header.config.world, header.version, row)? // the event and what is reported of its reply
 //! ```
 #![tactic(auto)]
 

@@ -73,7 +73,7 @@ fn plain_end(text: &[u8]) -> Option<(&[u8], Option<&[u8]>)>
     Some((reply, Some(view)))
 }
 
-/// What is told by the reply with which a line of a record of this version ends, and by the view beside it. `None` says nothing of the
+/// What is reported by the reply with which a line of a record of this version ends, and by the view beside it. `None` says nothing of the
 /// bytes. An error where a growth was refused.
 #[inline(never)]
 fn plain_reported(

@@ -135,7 +135,7 @@ pub fn read_reply(alloc: Global, text: &[u8]) -> Result<Option<Reported>, AllocE
     }
 }
 
-/// What is told of a reply beside which no view is written, in a record of this version.
+/// What is reported of a reply beside which no view is written, in a record of this version.
 fn without_view(version: Version, reported: Reported) -> Option<Reported>
     ensures { result ≡ reported_with version reported None }
 {
@@ -145,7 +145,7 @@ fn without_view(version: Version, reported: Reported) -> Option<Reported>
     }
 }
 
-/// What is told of a reply beside which the pairs of this text are written, in a record of version 2. An error where a growth
+/// What is reported of a reply beside which the pairs of this text are written, in a record of version 2. An error where a growth
 /// was refused.
 fn with_view(alloc: Global, reported: Reported, text: &[u8]) -> Result<Option<Reported>, AllocError>
     ensures { IfOk result (λ r. r ≡ reported_with Two reported (Some text.now)) }

@@ -37,7 +37,7 @@ pub fn law_of_renaming_calls<W: RenamePlaces<A>, A: Allocator>()
 
 /// A law, which runs nothing. Over a grid the calls of a renaming world with their replies keep the law of renaming, after
 /// every list of calls: where b have begun, a place comes within 4b steps, and over G segments a view within G(G + 1) and
-/// a proposal within one step more; and of m, one who steps alone is named within 4m + 11G + 1. No step wants memory, and
+/// a proposal within one step more; and of m, one who runs solo is named within 4m + 11G + 1. No step wants memory, and
 /// what `begin` gives is a function of the identity and of the most participants alone.
 pub fn grid_rename_law<A: Allocator + Clone>(world: &RenameWorld<Grid<A>, A>)
     ensures law { SatisfiesSpecWithin grid_places kind.Rename grid_bounds world.now }
@@ -49,7 +49,7 @@ pub fn grid_rename_law<A: Allocator + Clone>(world: &RenameWorld<Grid<A>, A>)
 
 /// A law, which runs nothing. Over a tree the calls of a renaming world with their replies keep the law of renaming, after
 /// every list of calls: where b have begun, a place comes within 5b steps, a view within (b + 1)(6b - 2) and a proposal
-/// within one step more; and of m, one who steps alone is named within 5m + 11(6m - 2) + 1. Only a step that makes a node
+/// within one step more; and of m, one who runs solo is named within 5m + 11(6m - 2) + 1. Only a step that makes a node
 /// may want memory, and what `begin` gives is a function of the identity and of the most participants alone.
 pub fn tree_rename_law<A: Allocator + Clone>(world: &RenameWorld<TreePlaces<A>, A>)
     ensures law { SatisfiesSpecWithin tree_places kind.Tree tree_bounds world.now }
@@ -69,7 +69,7 @@ pub fn fixed_rename_law<A: Allocator>(world: &RenameWorld<Fixed<A>, A>)
     let _world = world;
 }
 
-/// A law, which runs nothing: the most steps that one who steps alone makes until it is named, among at most m participants,
+/// A law, which runs nothing: the most steps that one who runs solo makes until it is named, among at most m participants,
 /// from any point at which two of its proposals are left. They are 4m + 11G + 1 over a grid of G doors, and
 /// 5m + 11(6m - 2) + 1 over a tree: a linear number of collects' reads, where the bounds on steps among others are quadratic.
 pub fn law_of_steps_alone()

@@ -39,7 +39,7 @@ impl Drop for Checker {
     }
 }
 
-/// Whether a refusal is told as it is due; where none is, an allocation failure may be told where there may be one.
+/// Whether a refusal is reported as it is due; where none is, an allocation failure may be told where there may be one.
 fn is_reported_rightly(due: Option<Refusal>, lacks: bool, number: u64) -> bool
     ensures { result ≡ is_reported_rightly due lacks number }
 {
@@ -49,7 +49,7 @@ fn is_reported_rightly(due: Option<Refusal>, lacks: bool, number: u64) -> bool
     }
 }
 
-/// Whether a refusal is told where it is due, and as it is due.
+/// Whether a refusal is reported where it is due, and as it is due.
 fn is_refused_as_due(due: Option<Refusal>, lacks: bool, reported: &Reported) -> bool
     ensures { result ≡ is_refused_as_due due lacks reported.now }
 {
@@ -103,7 +103,7 @@ impl Checker {
         Ok(())
     }
 
-    /// A participant that may step is told a place.
+    /// A participant that may step gets a place.
     fn place(&mut self, id: u64, place: Place) -> Result<(), Fault>
         ensures { Judges (MayStep id) self.old (line (event.Step id) (reported.Place place)) result self.new }
     {
@@ -113,7 +113,7 @@ impl Checker {
         Ok(())
     }
 
-    /// A participant that may step is told that it has proposed.
+    /// A participant that may step learns that it has proposed.
     fn propose(&mut self, id: u64, number: u64) -> Result<(), Fault>
         ensures { JudgesWithRoom (MayStep id) self.old (line (event.Step id) (reported.Proposed number)) result self.new }
     {
@@ -124,7 +124,7 @@ impl Checker {
         Ok(())
     }
 
-    /// A participant that may step is told a view.
+    /// A participant that may step gets a view.
     fn see(&self, id: u64, view: &Pairs) -> Result<(), Fault>
         ensures { Judges (MayStep id) self.now (line (event.Step id) (reported.Saw view.now)) result self.now }
     {
@@ -137,7 +137,7 @@ impl Checker {
         Ok(())
     }
 
-    /// A participant that may step is told a name.
+    /// A participant that may step gets a name.
     fn name(&mut self, id: u64, name: u64, shown: Option<&Pairs>) -> Result<(), Fault>
         ensures { Judges (MayStep id) self.old (line (event.Step id) (reported.Named name (option_copied shown.entry))) result self.new }
     {
@@ -148,7 +148,7 @@ impl Checker {
         Ok(())
     }
 
-    /// A participant that may step is told that it is spent.
+    /// A participant that may step learns that it is spent.
     fn spend(&mut self, id: u64) -> Result<(), Fault>
         ensures { Judges (MayStep id) self.old (line (event.Step id) reported.Spent) result self.new }
     {
@@ -170,7 +170,7 @@ impl Checker {
         Ok(())
     }
 
-    /// An identity that may probe is told that it missed.
+    /// An identity that may probe learns that it missed.
     fn miss(&mut self, id: u64) -> Result<(), Fault>
         ensures { Judges (MayProbe id) self.old (line (event.Probe id) reported.Missed) result self.new }
     {
@@ -181,7 +181,7 @@ impl Checker {
         Ok(())
     }
 
-    /// An identity that may probe is told a number.
+    /// An identity that may probe gets a number.
     fn gain(&mut self, id: u64, number: u64) -> Result<(), Fault>
         ensures { Judges (MayProbe id) self.old (line (event.Probe id) (reported.Got number)) result self.new }
     {
@@ -192,7 +192,7 @@ impl Checker {
         Ok(())
     }
 
-    /// The holder of a number is told which one it gives back.
+    /// The holder of a number learns which one it gives back.
     fn leave(&mut self, id: u64, number: u64) -> Result<(), Fault>
         ensures { Judges (HoldsNumber id) self.old (line (event.Leave id) (reported.Left number)) result self.new }
     {
@@ -217,7 +217,7 @@ impl Checker {
         Ok(())
     }
 
-    /// The holder of a number is told the value in its slot.
+    /// The holder of a number gets the value in its slot.
     fn get(&self, id: u64, value: u64) -> Result<(), Fault>
         ensures { Judges (HoldsNumber id) self.now (line (event.Get id) (reported.Value value)) result self.now }
     {
@@ -238,7 +238,7 @@ impl Checker {
         Ok(())
     }
 
-    /// What a step is told changes the renaming object.
+    /// What is answered to a step changes the renaming object.
     fn step(&mut self, id: u64, reported: &Reported) -> Result<(), Fault>
         ensures { JudgesWithRoom (IsDueSo (event.Step id) reported.now) self.old (line (event.Step id) reported.now) result self.new }
     {
@@ -252,7 +252,7 @@ impl Checker {
         }
     }
 
-    /// What a probe is told changes the pool.
+    /// What is answered to a probe changes the pool.
     fn probe(&mut self, id: u64, reported: &Reported) -> Result<(), Fault>
         ensures { Judges (IsDueSo (event.Probe id) reported.now) self.old (line (event.Probe id) reported.now) result self.new }
     {
@@ -263,7 +263,7 @@ impl Checker {
         }
     }
 
-    /// What is told of an event, of whose command it is a reply and which is refused as it is due, changes the objects.
+    /// What is reported of an event, of whose command it is a reply and which is refused as it is due, changes the objects.
     fn follow(&mut self, event: Event, reported: &Reported) -> Result<(), Fault>
         ensures { JudgesWithRoom (IsDueSo event reported.now) self.old (line event reported.now) result self.new }
     {

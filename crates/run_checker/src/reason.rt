@@ -4,12 +4,12 @@ ghost use Rattle.std.specs.Prelude.{◌≡◌};
 ghost use Rattle.run_checker.specs.Reasons.{reason_number};
 
 /// Why a line can't follow those before it. The numbers are this project's profile; where several reasons fit, the least is
-/// told.
+/// reported.
 #[derive(Clone, Copy, Debug, Drop, PartialEq, Eq)]
 pub enum Reason {
     /// It is no reply of the command.
     Reply = 1,
-    /// A refusal is due and was not told, or not that one was told.
+    /// A refusal is due and was not reported, or not that one was reported.
     Refusal = 2,
     /// The place was given before, or the identity has one.
     Place = 3,

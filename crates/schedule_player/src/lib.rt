@@ -2,7 +2,7 @@
 //!
 //! `play` reads the commands that a reader gives, a line each, has a world answer them, and writes the replies, a line
 //! each. Its theorem (`IsPlayed`): there is a transcript of the config, turns to the lines of the input in order, whose events with
-//! their replies are a run that the world's objects can answer, and in which whoever asks is told right who has a name
+//! their replies are a run that the world's objects can answer, and in which whoever asks learns rightly who has a name
 //! (`IsTranscript`); the writer has gained the text of its answers, however the bytes were cut; and the summary counts them.
 //! `quit` ends the reading, and no call failed. What a read fault, a write fault and an allocation failure leave is said too.
 //!

@@ -47,7 +47,7 @@ pub trait World<A, R>: Service<R> {
     /// The exchanges of a run under the rules keep the law.
     ghost lawful: { (c : Config) (w u : Self) (ts : List Turn) → fresh c w → Runs Self.may w ts u → IsRunIn c (exchanges ts) };
 
-    /// Everyone is told right who has a name.
+    /// Everyone learns rightly who has a name.
     ghost tells: { (c : Config) (w u : Self) (ts : List Turn) → fresh c w → Runs Self.may w ts u → AreOwnersReported c.m ts };
 
     /// All that are fresh under a config are one.

@@ -1,4 +1,4 @@
-//! What is told of lines and replies.
+//! What is reported of lines and replies.
 
 /// What a worker tells of each connection that it serves, and where a test may hold it.
 pub trait Gate<R> {

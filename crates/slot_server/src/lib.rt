@@ -10,9 +10,9 @@
 //! for each clerk serve them, each connection whole. No lock of the hall is held while a client is waited for. A fault of
 //! one connection ends it alone. All clerks come back but for failed allocations (`clerks`), each with what it had kept and, behind
 //! that, the accepted events of turns that it answered (`kept`, by `law_of_clerks`), so that the lock can be closed with them; and
-//! where no fault is told as many were served as were asked for (`all`).
+//! where no fault is reported as many were served as were asked for (`all`).
 //!
-//! A `Gate` is told of each line that was read whole before it is applied, and of each reply that was written whole (`Watched`):
+//! A `Gate` hears of each line that was read whole before it is applied, and of each reply that was written whole (`Watched`):
 //! a test holds a worker there. `OpenGate` does nothing.
 //!
 //! `serve` is a whole server by a `Plan`: it makes the hall's lock, listens on 127.0.0.1, and tells in two lines its port and how many it
@@ -29,7 +29,7 @@
 //! clerks.push(lock.clerk(rt, alloc)?)?;                           // a worker
 //! clerks.push(lock.clerk(rt, alloc)?)?;                           // and another
 //! let served = serve_many(rt, alloc, &listener, &lock, &OpenGate, clerks, 10);
-//! served.served;                                                  // 10, where no fault is told
+//! served.served;                                                  // 10, where no fault is reported
 //! lock.close(Vec::new(alloc), served.clerks)?;                    // the history of what all clients did
 //! ```
 #![tactic(auto)]

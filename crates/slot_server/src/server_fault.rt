@@ -11,7 +11,7 @@ pub enum ServerFault {
     Memory = 3,
     /// To listen or to accept failed.
     Network = 4,
-    /// The history at the end is not what the clients were told: some event in it was not answered, or not so.
+    /// The history at the end is not what the clients were sent: some event in it was not answered, or not so.
     History = 5,
 }
 

@@ -18,7 +18,7 @@ pub trait Shortcut<P: StepProgram, S: StepMemory<Reg = P::Reg, Value = P::Value>
     /// The programs whose step it may take.
     ghost takes: { P → Type 0 };
 
-    /// What the program says of a step of which this is told.
+    /// What the program says of a step of which this is reported.
     ghost note: { Self.Reported → Note P.Output };
 
     /// Takes the program's step, if it is one after which the program goes on, and tells what it says. `None` where it did

@@ -9,7 +9,7 @@
 //! The law, where `b` walks had begun when this one ended, itself among them: the place is among the first `b(b + 1)/2`; the
 //! walk made exactly two accesses for each door that it left to the right, four for each that it left down, and four at its
 //! own, so at most `4b`; so who enters alone has place 0 by four. No more have entered than seats were dealt, which the
-//! dealer shows. Two that meet have two places; a claim shows a place to whoever was told of it, and two claims of one place
+//! dealer shows. Two that meet have two places; a claim shows a place to whoever heard of it, and two claims of one place
 //! are of one seat. What is not promised: anything of seats that never meet, and that a thread gets on with its accesses.
 //!
 //! A caller:
