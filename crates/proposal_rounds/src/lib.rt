@@ -18,7 +18,10 @@
 ghost use Rattle.std.specs.Prelude.{◌≡◌, ℕ, ◌+◌, ◌*◌, ◌^◌};
 ghost use Rattle.proposal_rounds.specs.Rounds.{RoundsEnd, most_proposals};
 
-/// A law, which runs nothing: `b` identities that propose by the rule make at most `3(5^b - 1)/4` proposals, all together.
+/// A law, which runs nothing: `b` identities that propose by the rule make at most `3(5^b - 1)/4` proposals, all
+/// together.
+///
+/// The algorithm is from Attiya et al. (1990), its exponential cost from Fouren (1999). The bound is not in the papers.
 pub fn law_of_rounds()
     ensures end { RoundsEnd }
     ensures closed { (b : ℕ) → 4 * most_proposals b + 3 ≡ 3 * 5 ^ b }

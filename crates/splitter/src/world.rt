@@ -32,8 +32,12 @@ impl<A: Allocator> Model for SplitterWorld<A> {
 }
 
 impl<A: Allocator + Clone> SplitterWorld<A> {
-    /// A splitter that no one has entered, for at most `most` participants, from 1 to 16; `OutOfRange` elsewhere. All
-    /// the memory that its calls want is taken here.
+    /// Makes a splitter that no participant has entered, for at most `most` participants. No other call allocates.
+    ///
+    /// # Errors
+    ///
+    /// - `OutOfRange`: `most` is not from 1 to 16.
+    /// - `NoMemory`: an allocation failed.
     #[tactic(auto, using(crate::proofs::SplitterTied::splitter_contracts))]
     pub fn new(alloc: A, most: usize) -> Result<Self, Refusal>
         ensures fresh { IfOk result (λ w. w ≡ fresh most) }
@@ -49,8 +53,15 @@ impl<A: Allocator + Clone> SplitterWorld<A> {
         open(alloc, most)
     }
 
-    /// A participant begins: its visit has made no access. Refused where the identity is 0, then where it has begun,
-    /// then where as many have begun as there may be.
+    /// Adds participant `id`, whose visit has made no access.
+    ///
+    /// # Errors
+    ///
+    /// An error changes nothing. The first that applies is returned:
+    ///
+    /// - `ZeroIdentity`: `id` is 0.
+    /// - `AlreadyBegun`: `id` has begun.
+    /// - `Full`: as many participants as the world takes have begun.
     #[tactic(auto, using(crate::proofs::SplitterTied::splitter_contracts))]
     pub fn begin(&mut self, id: u64) -> Result<(), Refusal>
         ensures answer { result ≡ done_unless (begin_refusal self.old id) }
@@ -65,8 +76,18 @@ impl<A: Allocator + Clone> SplitterWorld<A> {
         self.world.begin(id, Visitor::new(id, 0, 1))
     }
 
-    /// One step of a visit, which is one access; the way, once the visit ends. Refused where the identity has not
-    /// begun, then where its visit has ended.
+    /// Makes one step of the visit of `id`: one access. Returns the way if the visit ends with it.
+    ///
+    /// # Errors
+    ///
+    /// An error changes nothing. The first that applies is returned:
+    ///
+    /// - `NotBegun`: `id` has not begun.
+    /// - `Finished`: the visit of `id` has ended.
+    ///
+    /// # Steps
+    ///
+    /// A visit makes at most 4.
     #[tactic(auto, using(crate::proofs::SplitterTied::splitter_contracts))]
     pub fn step(&mut self, id: u64) -> Result<Option<Way>, Refusal>
         ensures answer { result ≡ step_reply self.old id }
@@ -88,7 +109,7 @@ impl<A: Allocator + Clone> SplitterWorld<A> {
     }
 }
 
-/// A splitter that no one has entered; `NoMemory` where its room was refused.
+/// A splitter that no participant has entered; `NoMemory` if an allocation failed.
 fn open<A: Allocator + Clone>(alloc: A, most: usize) -> Result<SplitterWorld<A>, Refusal>
     ensures fresh { IfOk result (λ w. w ≡ fresh most) }
     ensures only { IfErr result (λ r. r ≡ Refusal.NoMemory) }
