@@ -12,12 +12,19 @@ use commands::{Bad, Command, Event, WorldKind};
 /// The most bytes of a line, without its LF.
 pub(crate) const LINE_MAX: usize = 100;
 
-/// What a line means in this world, without its LF: its command, or why it is none (this project's profile).
+/// Returns the command that a line, without its LF, means in this world.
 ///
-/// The reasons are tried in the order of their numbers: `TooLong` above 100 bytes; `NotPrintable` where a byte is
-/// outside 0x20..=0x7E; `UnknownWord` where the first word is no command's; `WrongCount` where there are other words
-/// than the command takes; `BadNumber` where one of them is not plain decimal below 2^64. Words are cut at each single
-/// space, so two spaces side by side have an empty word between them.
+/// A single space ends a word, so two spaces side by side have an empty word between them.
+///
+/// # Errors
+///
+/// The first that applies is returned:
+///
+/// - `TooLong`: the line has more than 100 bytes.
+/// - `NotPrintable`: a byte is outside 0x20..=0x7E.
+/// - `UnknownWord`: the first word is no command of this world.
+/// - `WrongCount`: the command takes another count of words.
+/// - `BadNumber`: one of the other words is not `0` or digits without a leading zero, or is not below 2^64.
 pub fn parse_line(line: &[u8], world: WorldKind) -> Result<Command, Bad>
     ensures { result ≡ meaning world line.now }
 {
