@@ -10,7 +10,7 @@ use crate::fault::Fault;
 use std::io;
 use std::io::Write;
 
-/// A writer that contracts know the number of calls of, and the number of calls that failed.
+/// A writer with ghost counts of its calls and of those that failed.
 ///
 /// A write that takes no byte has failed.
 pub trait Sink: Write {

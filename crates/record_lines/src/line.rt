@@ -3,12 +3,12 @@
 use crate::reported::Reported;
 use commands::Event;
 
-/// An event and what the record tells of its reply.
+/// A line of a record: an event, and what the record reports of its reply.
 #[derive(Debug)]
 pub struct Line {
-    /// What a participant did.
+    /// The event.
     pub event: Event,
-    /// What it was answered, as the record tells.
+    /// What the record reports of its reply.
     pub reported: Reported,
 }
 
