@@ -202,8 +202,9 @@ pub fn play_schedules<A: Allocator + Clone, W: Sink>(
     held.send(writer)
 }
 
-/// Plays a share of the schedules, from number `first` on, and puts the numbers of each run into its place, or `None`
-/// if an allocation failed.
+/// Plays a share of the schedules, from number `first` on, and puts the numbers of each run into its place.
+///
+/// The place of a run is `None` if an allocation failed.
 pub(crate) fn play_share<A: Allocator + Clone>(
     alloc: A,
     plan: Schedule,

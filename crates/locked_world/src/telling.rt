@@ -16,7 +16,7 @@ use logbook::Plain;
 use std::sync::Wait;
 use step_memory::View;
 
-/// An event with its reply, and the view beside that.
+/// An event with its reply, and the reply's view.
 #[derive(Drop)]
 pub(crate) struct Reported<'a> {
     pub(crate) event: Event,
@@ -24,7 +24,7 @@ pub(crate) struct Reported<'a> {
     pub(crate) view: &'a View,
 }
 
-/// The entry of what was told: the event with its whole reply.
+/// The entry of an event: the event with its whole reply.
 pub(crate) struct Telling;
 
 impl<'a> Plain<Reported<'a>, Exchange, u64> for Telling {
@@ -37,7 +37,7 @@ impl<'a> Plain<Reported<'a>, Exchange, u64> for Telling {
     ghost state = { λ t. None };
 }
 
-/// Waits for ever.
+/// Waits for ever. Its callers never reach it.
 fn wait<R: Wait>(rt: &R)
     ensures { ⊥ }
 {
@@ -45,7 +45,7 @@ fn wait<R: Wait>(rt: &R)
     unreachable!()
 }
 
-/// Adds an event with its reply to the history, of which a caller has then seen all.
+/// Appends an event with its reply to the history, and shows a caller all of it.
 pub(crate) fn tell<L: LockName, R: Wait>(
     rt: &R,
     book: &Book<L, Exchange>,
@@ -64,7 +64,7 @@ pub(crate) fn tell<L: LockName, R: Wait>(
     wait(rt);
 }
 
-/// Has a caller see all of the history, which begins with what it has seen.
+/// Shows a caller all of the history, which extends what it has seen.
 pub(crate) fn show<L: LockName, R: Wait>(
     rt: &R,
     front: &Front<L, Exchange>,

@@ -7,17 +7,17 @@ ghost use Rattle.run_checker.specs.declared.fault.Fault.TheVariants as fault;
 use crate::reason::Reason;
 use std::alloc::AllocError;
 
-/// Why a checker does not go on after a line.
+/// Why a checker stops at a line.
 #[derive(Clone, Copy, Drop)]
 pub enum Fault {
     /// The line can't follow those before it.
     Unlawful(Reason),
-    /// A growth was refused.
+    /// An allocation failed.
     NoMemory,
 }
 
 impl Fault {
-    /// The reason, or that a growth was refused.
+    /// Returns the reason, or `AllocError` if an allocation failed.
     pub fn reported(self) -> Result<Option<Reason>, AllocError>
         ensures { result ≡ reported_by self }
     {

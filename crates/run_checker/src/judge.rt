@@ -15,7 +15,7 @@ use std::alloc::{AllocError, Global};
 /// How far the lines of a record are judged.
 #[derive(Drop)]
 pub enum Stage {
-    /// There was no line yet.
+    /// There is no line yet.
     Opening,
     /// The lines so far can follow one another.
     Judging(RowJudge),
@@ -23,7 +23,8 @@ pub enum Stage {
     Over(Verdict),
 }
 
-/// What is kept of a record so far: how far its lines are judged, and the bytes of the next, which is not whole.
+/// Judges a record whose bytes are given part by part. It holds the state of the objects and the bytes of the present
+/// line.
 #[derive(Drop)]
 pub struct Judge {
     alloc: Global,
@@ -87,7 +88,7 @@ fn verdict_of(stage: &Stage) -> Verdict
 }
 
 impl Judge {
-    /// No byte was taken yet.
+    /// Makes a judge that has taken no byte. This allocates nothing.
     pub fn new(alloc: Global) -> Judge
         ensures { HasTakenAll [] result }
     {
@@ -113,8 +114,11 @@ impl Judge {
         judged
     }
 
-    /// Takes some more bytes of the record, and judges the lines that end in them. An error where a growth was refused; then it is of no
-    /// more use.
+    /// Takes more bytes of the record, and judges the lines that end in them.
+    ///
+    /// # Errors
+    ///
+    /// `AllocError`: the allocation failed. The judge is then of no use.
     pub fn take(&mut self, bytes: &[u8]) -> Result<(), AllocError>
         ensures { OnOk result ((seen : List ℕ) → HasTakenAll seen self.old → HasTakenAll (seen ++ bytes.now) self.new) }
     {
@@ -141,7 +145,11 @@ impl Judge {
         judge_line(self.alloc, &mut self.stage, &self.held)
     }
 
-    /// The verdict on the bytes that were taken, once they are all. An error where a growth was refused.
+    /// Returns the verdict on all bytes that were taken.
+    ///
+    /// # Errors
+    ///
+    /// `AllocError`: the allocation failed.
     pub fn verdict(self) -> Result<Verdict, AllocError>
         ensures { IfOk result (λ v. (seen : List ℕ) → HasTakenAll seen self → IsSaid (record_lines seen) v) }
     {

@@ -11,8 +11,13 @@ use commands::Config;
 use record_lines::Line;
 use std::alloc::{AllocError, Global};
 
-/// The first of at most a million lines that can't follow those before it, from 0, with the least reason that fits; `None`
-/// where they are those of a run of this config. An error where a growth was refused.
+/// Returns the index, from 0, of the first line that cannot follow those before it, with the least reason that fits.
+///
+/// Returns `None` if and only if the lines are those of a run of this configuration. There are at most a million lines.
+///
+/// # Errors
+///
+/// `AllocError`: the allocation failed.
 pub fn first_fault(
     alloc: Global,
     config: Config,

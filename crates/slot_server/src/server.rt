@@ -16,16 +16,16 @@ use std::sync::Wait;
 use std::sync::ledger::Blank;
 use std::thread::Threads;
 
-/// What is to be served, over one hall.
+/// What a server serves, over one hall.
 #[derive(Clone, Copy, Drop)]
 pub struct Plan {
-    /// The world of the hall, in which names are given, and its sizes.
+    /// The configuration of the hall, whose world gives names.
     pub config: Config,
-    /// The port that is listened on; with 0 any that is free.
+    /// The port to listen on, or 0 for any that is free.
     pub port: u16,
-    /// How many connections are served at once.
+    /// The number of workers, each of which serves one connection at a time.
     pub workers: u64,
-    /// How many are served.
+    /// The number of connections to serve.
     pub count: u64,
 }
 
@@ -123,8 +123,17 @@ fn end<L: LockName, W: Write>(
     tell(alloc, "served", served.served, output)
 }
 
-/// Serves connections to 127.0.0.1 over one hall, by threads. Before the first it writes a line with the port that it listens on,
-/// behind the last one, once the hall was closed against all that its clerks answered, with how many it served.
+/// Serves `plan.count` connections to 127.0.0.1 over one hall, by threads.
+///
+/// It writes a line `listening PORT` before the first connection. After the last it closes the hall against all that
+/// its clerks kept, and writes a line `served COUNT`. Only tested: what it writes and returns (`tests/serve`).
+///
+/// # Errors
+///
+/// - `Server(Memory)`: an allocation failed, or more than 1,000,000 workers are asked for.
+/// - `Server(Network)`: to listen or to accept failed, or there are no workers.
+/// - `Write`: a line could not be written.
+/// - `Server(History)`: the history at the end is not what the clerks kept.
 pub fn serve<L: LockName + Send + Sync, R, W: Write>(
     rt: &R,
     alloc: Global,

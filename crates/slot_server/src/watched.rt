@@ -7,11 +7,12 @@ use player::{Sink, Source};
 use std::io;
 use std::io::{Read, Write};
 
-/// What ends a line.
+/// The byte that ends a line.
 const LF: u8 = 10;
 
-/// A reader or a writer of a connection that tells a gate: of each line that it has read whole, and of each reply that it has
-/// written whole.
+/// A reader or a writer of a connection that calls a gate for each line that it has read or written whole.
+///
+/// Not proved: the calls of the gate, which no clause names. Its bytes are those of the inner reader or writer.
 #[derive(Drop)]
 pub struct Watched<'a, R, G, T> {
     rt: &'a R,
@@ -22,7 +23,7 @@ pub struct Watched<'a, R, G, T> {
 }
 
 impl<'a, R, G: Gate<R>, T> Watched<'a, R, G, T> {
-    /// This reader or writer, of this connection.
+    /// Wraps a reader or a writer of a connection.
     pub fn new(rt: &'a R, gate: &'a G, connection: u64, inner: T) -> Watched<'a, R, G, T>
         ensures inner { result.inner ≡ inner }
         ensures connection { result.connection ≡ connection }
