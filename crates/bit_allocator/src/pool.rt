@@ -246,10 +246,10 @@ impl<A: Allocator> Pool<A> {
         ensures after { Extends pool self.old self.new (Probed id result) }
         ensures law { SatisfiesSpec pool self.new }
 
-        // Nothing of the pool changes but this competitor and the bit that it names.
+        // Nothing of the pool changes except this competitor and the bit that it names.
         ensures local { ChangesOnly probe_steps id self.old self.new result }
 
-        // In another pool that looks alike to this competitor the answer is the same, and where it then stands.
+        // In another pool that this competitor cannot distinguish, the reply and its new state are the same.
         ensures alike { (other : PoolState) → Indistinguishable probe_steps id self.old other → result ≡ probe_answer other id }
         ensures stands_alike { (other : PoolState) → Indistinguishable probe_steps id self.old other → StandAlike id self.new (after_probe other id) }
     {
@@ -311,10 +311,10 @@ impl<A: Allocator> Pool<A> {
         ensures after { Extends pool self.old self.new (Left id result) }
         ensures law { SatisfiesSpec pool self.new }
 
-        // Nothing of the pool changes but this competitor and the bit that it names.
+        // Nothing of the pool changes except this competitor and the bit that it names.
         ensures local { ChangesOnly leave_steps id self.old self.new result }
 
-        // In another pool that looks alike to this competitor the answer is the same, and where it then stands.
+        // In another pool that this competitor cannot distinguish, the reply and its new state are the same.
         ensures alike { (other : PoolState) → Indistinguishable leave_steps id self.old other → result ≡ number_answer other id }
         ensures stands_alike { (other : PoolState) → Indistinguishable leave_steps id self.old other → StandAlike id self.new (after_leave other id) }
     {
@@ -356,7 +356,7 @@ impl<A: Allocator> Pool<A> {
         ensures after { Extends pool self.old self.new (Widened size result) }
         ensures law { SatisfiesSpec pool self.new }
 
-        // No competitor stands elsewhere, and no bit changes but that of what was the last number.
+        // No competitor changes, and no bit except that of the number that was the last one.
         ensures local { IsWidened self.old self.new result }
     {
         if let Some(refusal) = self.widen_refusal(size) {

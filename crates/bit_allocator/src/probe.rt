@@ -1,4 +1,4 @@
-//! What a probe answers.
+//! What a probe returns.
 
 /// What a probe returns (Moir and Anderson 1995).
 #[derive(Clone, Copy, Debug, Drop, PartialEq, Eq)]

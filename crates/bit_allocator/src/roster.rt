@@ -1,4 +1,4 @@
-//! Those who compete, and where a search for one begins.
+//! The competitors, and the index at which a search for one starts.
 
 ghost use Rattle.std.specs.Prelude.{◌≡◌, ◌<◌, ◌≤◌, ◌+◌, ◌%◌, [], ◌∷◌, ◌++◌, true, false, length, drop, option_map, IfOk, IfSome, None, Some, slice_index_or, slice_set};
 ghost use Rattle.bit_allocator.specs.Competitors.{index_of, stay_of, with_stay, without};

@@ -1,4 +1,4 @@
-//! Where a competitor stands, from its entering to its leaving.
+//! The state of a competitor, from `enter` to `leave`.
 
 ghost use Rattle.std.specs.Prelude.{◌≡◌};
 ghost use Rattle.bit_allocator.specs.Stay.{probe_access, stay_probed, probe_reply, leave_access, held_at};

@@ -1,4 +1,4 @@
-//! What stands behind a text at the prefix of bytes.
+//! The bytes after a prefix.
 
 ghost use Rattle.std.specs.Prelude.{◌≡◌, ◌≢◌, ◌++◌, ◌≤◌, true, false, length, take, IfSome, IfNone};
 ghost use Rattle.command_lines.specs.Front.{AreAlike, BeginsOtherwise};

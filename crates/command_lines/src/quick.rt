@@ -1,4 +1,4 @@
-//! The commands that most inputs are made of, in one pass over their bytes.
+//! The commonest commands, read in one pass over their bytes.
 
 ghost use Rattle.std.specs.Prelude.{◌≡◌, ◌≢◌, ◌+◌, ◌≤◌, ◌<◌, ℕ, true, length, drop, Some, IfSome, IfNone};
 ghost use Rattle.commands.specs.Config.{gives_names};

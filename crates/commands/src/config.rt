@@ -1,4 +1,4 @@
-//! What a run is of.
+//! The configuration of a run.
 
 ghost use Rattle.std.specs.Prelude.{◌≡◌, ◌<◌, ◌↔◌, true, IfOk, IfErr, IsOk};
 ghost use Rattle.commands.specs.Ranges.{IsConfigRange};

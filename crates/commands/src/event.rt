@@ -1,4 +1,4 @@
-//! What a participant does, and that the pool gets more numbers.
+//! What a participant does, and the growth of the pool.
 
 /// One event: an action of one participant, or the growth of the pool, which is no participant's. It makes at most one
 /// access.

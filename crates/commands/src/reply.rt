@@ -1,4 +1,4 @@
-//! What is answered to an event.
+//! The reply to an event.
 
 ghost use Rattle.std.specs.Prelude.{◌≡◌, ℕ, List};
 ghost use Rattle.commands.specs.Replies.{is_refusal, with_view, done_reply, left_reply, value_reply};

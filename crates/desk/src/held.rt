@@ -1,4 +1,4 @@
-//! What stands in a register of a desk.
+//! What a register of a desk holds.
 
 ghost use Rattle.std.specs.Prelude.{◌≡◌, ◌<◌};
 ghost use Rattle.desk.specs.Held.{door_number, held_by_grid, held_by_tree, proposed_in, register_in_grid, register_in_tree};

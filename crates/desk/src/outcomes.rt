@@ -1,4 +1,4 @@
-//! What outcomes of steps and probes are answered as.
+//! The replies for the outcomes of steps and probes.
 
 ghost use Rattle.std.specs.Prelude.{◌≡◌, ℕ, List};
 ghost use Rattle.commands.specs.Replies.{with_view};

@@ -1,4 +1,4 @@
-//! A book, and what was seen of its history.
+//! An append-only history, and the prefixes of it that were seen.
 
 ghost use Rattle.std.specs.Prelude.{◌≡◌, ◌+◌, ◌<◌, ◌≤◌, ◌^◌, ◌++◌, ◌∷◌, [], length, true, MatchBool};
 ghost use mathlib.Core.List.{IsPrefix};

@@ -1,4 +1,4 @@
-//! What a caller tells of itself.
+//! What a caller has kept.
 
 ghost use Rattle.std.specs.Prelude.{◌≡◌, length, slice_get};
 ghost use Rattle.locked_world.specs.Kepts.{IsSound};

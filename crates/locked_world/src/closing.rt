@@ -1,4 +1,4 @@
-//! The end of a lock: its history against what its callers kept.
+//! The end of a lock: its history is compared with what its callers kept.
 
 ghost use Rattle.std.specs.Prelude.{◌≡◌, ◌++◌, map, IfOk, IfErr};
 ghost use Rattle.locked_world.specs.Kepts.{IsJust};

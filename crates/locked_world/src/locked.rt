@@ -182,7 +182,7 @@ impl<L: LockName> Locked<L> {
             return Err(Refusal::Full);
         }
         let kept = KeptLog::new(alloc)?;
-        // Asked for what it tells of the history: that it is lawful.
+        // Called for its clause `lawful`: the history satisfies the specification.
         let _ = self.hall.len();
         let seen = self.front.again();
         let Locked { rest, opened, .. } = self;
@@ -239,7 +239,7 @@ impl<L: LockName> Locked<L> {
         ensures { IsReported L.config clerk.old number result clerk.new }
     {
         show(rt, &self.front, &mut clerk.seen);
-        // Asked for what it tells of the history: that it is lawful.
+        // Called for its clause `lawful`: the history satisfies the specification.
         let _ = self.hall.len();
         self.hall.owner(number)
     }
@@ -248,7 +248,7 @@ impl<L: LockName> Locked<L> {
     pub fn owner(&self, number: u64) -> Reply<View>
         ensures { IsSomeOwner L.config number result }
     {
-        // Asked for what it tells of the history: that it is lawful.
+        // Called for its clause `lawful`: the history satisfies the specification.
         let _ = self.hall.len();
         self.hall.owner(number)
     }

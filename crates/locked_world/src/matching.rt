@@ -1,4 +1,4 @@
-//! The end of a history: it against what its callers kept.
+//! The end of a history: it is compared with what its callers kept.
 
 ghost use Rattle.std.specs.Prelude.{◌≡◌, All, replicate, ◌+◌, ◌++◌, length, map, true, false, slice_get, slice_set, slice_index_or, vec_len, IfSome};
 ghost use Rattle.locked_world.specs.Kepts.{IsJust};
@@ -189,7 +189,7 @@ impl<L: LockName> Locked<L> {
         ensures just { result ≡ true → IsJust self.new.hall.history (map (λ s. s.clerk.kept) sessions.now.items ++ map (λ c. c.kept) clerks.now.items) }
     {
         let Locked { hall, marks, .. } = self;
-        // Asked for what it tells of the history: that it is lawful.
+        // Called for its clause `lawful`: the history satisfies the specification.
         let _ = hall.len();
         let agrees = mark_callers(hall, marks, sessions, clerks);
         marks.fill(false);

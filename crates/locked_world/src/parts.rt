@@ -1,4 +1,4 @@
-//! What lies under a lock, and what a caller has of its own.
+//! What is under a lock, and what a caller owns.
 
 ghost use Rattle.std.specs.Prelude.{◌≡◌, ◌+◌, ◌≤◌, length, false, replicate};
 

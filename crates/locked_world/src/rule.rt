@@ -1,4 +1,4 @@
-//! What a book of one word keeps.
+//! The invariant of a book of one word.
 
 use logbook::{Gain, Play, Rule};
 

@@ -1,8 +1,8 @@
 //! The history of a lock's book, and what its callers have seen of it.
 //!
-//! A lock alone adds to its book, and whoever is answered under the lock has seen the history of then. So the history goes on by
-//! what is added, and begins with whatever a caller has seen. A proof knows of the book what its type says, and not that no one else
-//! adds: so each of these asks, and would wait for ever where it were otherwise, which never comes.
+//! Only a lock adds to its book, and a caller has seen the history as it was at the lock's last reply. So an addition extends the
+//! history, and the history extends what a caller has seen. A proof knows of the book what its type says, and not that nothing
+//! else adds to it. So each call here asks, and waits for ever if it were otherwise, which never happens.
 
 ghost use Rattle.std.specs.Prelude.{◌≡◌, ◌++◌, ◌∷◌, ◌<◌, ◌^◌, [], length};
 ghost use mathlib.Core.List.{IsPrefix};
@@ -37,7 +37,7 @@ impl<'a> Plain<Reported<'a>, Exchange, u64> for Telling {
     ghost state = { λ t. None };
 }
 
-/// Waits for ever. Its callers never reach it.
+/// Waits for ever. Its callers never reach it: the page above says why, and a proof cannot. So its clause is `⊥`.
 fn wait<R: Wait>(rt: &R)
     ensures { ⊥ }
 {

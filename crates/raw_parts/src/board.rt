@@ -119,7 +119,7 @@ fn read_all<B: Allocator>(
 #[derive(Drop)]
 pub struct Board<A: Allocator> {
     alloc: A,
-    // It has no slots, so what a slot holds says nothing.
+    // It has no slots: their type means nothing.
     table: Table<u8, BoardView, u64, Boarding, A>,
 }
 
@@ -302,7 +302,7 @@ impl<A: Allocator> Board<A> {
         if found == 0 {
             return None;
         }
-        // Split off before the test, whatever stands there: else the seat would still claim what it found, and it must claim
+        // Split off before the test, whatever was found: otherwise the seat would still claim it, and it must claim
         // nothing again.
         let given = self.table.shared.split_seat::<Hand>(seat);
         if found != identity {

@@ -87,7 +87,7 @@ fn look_together(
 /// 4. Read X. If it holds what was written, the visit stops. Otherwise it goes down.
 #[derive(Drop)]
 pub struct RawSplitter<A: Allocator> {
-    // It has no slots, so what a slot holds says nothing.
+    // It has no slots: their type means nothing.
     table: Table<u8, SplitterView, u64, Splitting, A>,
 }
 
@@ -182,7 +182,7 @@ impl<A: Allocator> RawSplitter<A> {
         ensures accesses { result.0.accesses ≡ accesses_by result.1 }
         ensures met { MetBy result.0 result.1 }
 
-        // The seat is under the rule of the splitter, with all others that enter.
+        // The seat keeps the invariant of the splitter, with all others that enter.
         ensures lawful { IsUnderRule (lone_view self.now.seats (gone_at result.0)) }
         ensures alone { self.now.seats ≡ 1 → result.1 ≡ Stop }
     {
@@ -206,7 +206,7 @@ impl<A: Allocator> RawSplitter<A> {
         ensures right { HasMet one.old other.old → one.old.way ≡ Right → other.old.way ≢ Right }
         ensures down { HasMet one.old other.old → one.old.way ≡ Down → one.old.turn < other.old.turn }
 
-        // Where the splitter has two seats, the two that met are all that entered.
+        // If the splitter has two seats, the two that are compared are all that entered.
         ensures split { self.now.seats ≡ 2 → IsSplit (IsEither one.old other.old) (EitherTook one.old other.old) }
     {
         let left = mem::replace(&mut one.badge, Badge::blank()).into_seat::<u8>();

@@ -1,4 +1,4 @@
-//! The rule of a splitter's table, and the kinds of step that keep it.
+//! The invariant of a splitter's table, and the kinds of step that keep it.
 
 ghost use Rattle.std.specs.Prelude.{◌++◌, [], take, drop};
 ghost use Rattle.raw_parts.specs.SplitterRule.{KeepsRule};

@@ -1,4 +1,4 @@
-//! What a seat of a splitter knows. No value of these types is made: they exist in proofs alone.
+//! The ghost state of a seat of a splitter. No value of these types is made: they exist in proofs alone.
 
 use splitter::Stage;
 use std::collections::LinkedList;

@@ -1,4 +1,4 @@
-//! What the first line of a record says.
+//! The first line of a record.
 
 ghost use Rattle.std.specs.Prelude.{◌≡◌, ◌↔◌, IsTrue};
 ghost use Rattle.record_lines.specs.Json.{version_of, FitsVersion};

@@ -1,4 +1,4 @@
-//! From the bytes of a record's line to what it says.
+//! From the bytes of a record's line to its contents.
 
 ghost use Rattle.std.specs.Prelude.{◌≤◌, IfOk, MatchOption, Ok, length};
 ghost use Rattle.commands.specs.declared.event.Event.{Event};

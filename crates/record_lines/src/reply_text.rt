@@ -1,4 +1,4 @@
-//! From the text of a reply to what it tells.
+//! From the text of a reply to what it reports.
 
 ghost use Rattle.std.specs.Prelude.{◌≡◌, IfOk, None, Some};
 ghost use Rattle.std.specs.Option.{option_copied};

@@ -1,4 +1,4 @@
-//! What a record tells of an event.
+//! What a record reports of the reply to an event.
 
 ghost use Rattle.std.specs.Prelude.{◌≡◌};
 ghost use Rattle.record_lines.specs.Reported.{is_name, is_step, is_done, is_reply_of};

@@ -1,4 +1,4 @@
-//! Why a checker does not go on.
+//! Why a checker stops.
 
 ghost use Rattle.std.specs.Prelude.{◌≡◌};
 ghost use Rattle.run_checker.specs.Fault.{reported_by};

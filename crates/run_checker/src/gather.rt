@@ -1,4 +1,4 @@
-//! What is done with lines that were taken.
+//! What is built of the lines that were taken.
 
 ghost use Rattle.std.specs.Prelude.{List, OnOk};
 ghost use Rattle.commands.specs.declared.config.Config.{Config};

@@ -1,4 +1,4 @@
-//! Judges a record whose bytes come one after the other.
+//! Judges a record whose bytes are given part by part.
 
 ghost use Rattle.std.specs.Prelude.{◌≡◌, ℕ, List, [], ◌∷◌, ◌++◌, IfOk, OnOk};
 ghost use Rattle.run_checker.specs.Stages.{HasTakenAll, StandsAfter};
@@ -32,7 +32,7 @@ pub struct Judge {
     stage: Stage,
 }
 
-// What follows from the first line.
+// The stage after the first line.
 fn opened(alloc: Global, line: &[u8]) -> Result<Stage, AllocError>
     ensures { IfOk result (StandsAfter (line.now ∷ [])) }
 {
@@ -42,7 +42,7 @@ fn opened(alloc: Global, line: &[u8]) -> Result<Stage, AllocError>
     }
 }
 
-// Takes the first line. A function of its own, since what follows from it is a kilobyte, for which room would be cleared at each line.
+// Takes the first line. It is a function of its own, since the new stage is a kilobyte, for which each line would clear room.
 #[inline(never)]
 fn take_first(alloc: Global, stage: &mut Stage, line: &[u8]) -> Result<(), AllocError>
     ensures { OnOk result (StandsAfter (line.now ∷ []) stage.new) }
@@ -51,7 +51,7 @@ fn take_first(alloc: Global, stage: &mut Stage, line: &[u8]) -> Result<(), Alloc
     Ok(())
 }
 
-// The verdict is known. A function of its own for the same reason.
+// Stores a verdict. It is a function of its own for the same reason.
 #[inline(never)]
 fn conclude(stage: &mut Stage, verdict: Verdict)
     ensures { stage.new ≡ Stage.Over verdict }
@@ -76,7 +76,7 @@ fn judge_line(alloc: Global, stage: &mut Stage, line: &[u8]) -> Result<(), Alloc
     }
 }
 
-// The verdict where no line follows.
+// The verdict if no line follows.
 fn verdict_of(stage: &Stage) -> Verdict
     ensures { (lines : List (List ℕ)) → StandsAfter lines stage.now → IsSaid lines result }
 {
@@ -99,7 +99,7 @@ impl Judge {
         }
     }
 
-    // The end of a line came.
+    // Judges a line at its end.
     fn end_line(&mut self, line: &[u8]) -> Result<(), AllocError>
         ensures held { OnOk result (self.new.held.items ≡ []) }
         ensures stands { OnOk result ((lines : List (List ℕ)) → StandsAfter lines self.old.stage →
@@ -134,7 +134,7 @@ impl Judge {
         Ok(())
     }
 
-    // The end of the record came: what stands before it with no LF is a line too, if it is not empty.
+    // Judges the end of the record: the bytes before it with no LF are a line too, if there are any.
     fn end_last(&mut self) -> Result<(), AllocError>
         ensures { OnOk result ((lines : List (List ℕ)) → StandsAfter lines self.old.stage →
             StandsAfter (lines ++ unless_empty self.old.held.items) self.new.stage) }

@@ -1,4 +1,4 @@
-//! Goes over a list of lines.
+//! Judges a list of lines.
 
 ghost use Rattle.std.specs.Prelude.{◌≡◌, ◌≤◌, ◌↔◌, length, IfOk, None};
 ghost use Rattle.run_checker.specs.Config.{terms_of};
@@ -26,7 +26,7 @@ pub fn first_fault(
     requires { length lines.now ≤ 1000000 }
     ensures fault { IfOk result (IsFirstFaultOrNone (terms_of config) config.k lines.now) }
 
-    // None is found exactly where the lines are those of a run.
+    // None is found if and only if the lines are those of a run.
     ensures none { IfOk result (λ r. (r ≡ None) ↔ AreLinesOfRun (terms_of config) config.k lines.now) }
 {
     let mut checker = Checker::new(alloc, config, lines.len())?;

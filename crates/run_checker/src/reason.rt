@@ -1,4 +1,4 @@
-//! Why a line can't follow.
+//! Why a line cannot follow.
 
 ghost use Rattle.std.specs.Prelude.{◌≡◌};
 ghost use Rattle.run_checker.specs.Reasons.{reason_number};

@@ -1,4 +1,4 @@
-//! What is said of a record.
+//! The verdict on a record.
 
 use crate::Reason;
 

@@ -1,4 +1,4 @@
-//! The first moments in which proposals stand alone.
+//! The first moments in which proposals are alone.
 
 ghost use Rattle.std.specs.Prelude.{◌≡◌, ◌==◌, ℕ, OnOk};
 ghost use Rattle.std.specs.List.{list_any};

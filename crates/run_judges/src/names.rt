@@ -1,4 +1,4 @@
-//! What is kept of the renaming object.
+//! The state of the renaming object.
 
 ghost use Rattle.std.specs.Prelude.{◌≡◌, ◌<◌, ◌≤◌, ◌^◌, ◌↔◌, OnOk, IfOk, IsTrue, None, Ok, [], MatchOption};
 ghost use Rattle.std.specs.List.{list_any};

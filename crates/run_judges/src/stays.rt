@@ -1,4 +1,4 @@
-//! What is kept of the pool and the slots.
+//! The state of the pool and the slots.
 
 ghost use Rattle.std.specs.Prelude.{◌≡◌, ◌≢◌, ℕ, ◌+◌, ◌-◌, ◌≤◌, ◌↔◌, max, replicate, IfOk, OnOk, IsTrue, None, Ok};
 ghost use Rattle.std.specs.List.{list_any};

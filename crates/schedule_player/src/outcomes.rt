@@ -1,4 +1,4 @@
-//! What the outcomes of a splitter's and a grid's steps are answered as.
+//! The replies for the outcomes of a splitter's and a grid's steps.
 
 ghost use Rattle.std.specs.Prelude.{◌≡◌, ℕ, List};
 ghost use Rattle.commands.specs.Replies.{with_view};

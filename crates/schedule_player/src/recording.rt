@@ -32,7 +32,7 @@ pub fn record<A: Allocator + Clone, R: Source, W: Sink>(
 {
     let mut world = opened::<Desk<A>, Unshared, A>(&alloc, config)?;
     let recorded = record_on(alloc, &Unshared, &mut world, config, reader, writer);
-    // by a call, since it is taken apart wherever it is let go without one
+    // by a call, since otherwise it is dropped at each way out
     drop(world);
     recorded
 }

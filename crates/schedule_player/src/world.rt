@@ -1,4 +1,4 @@
-//! Worlds: services that a config opens, whose runs keep a law.
+//! Worlds: services that a configuration opens, whose runs satisfy a trace specification.
 
 ghost use Rattle.std.specs.Prelude.{◌≡◌, ◌≢◌, List, Bool, true, IfOk, IfErr};
 ghost use Rattle.step_memory.specs.declared.refusal.Refusal.TheVariants as refusal;

@@ -126,8 +126,8 @@ impl<T: Drop, A: Allocator> Slots<T, A> {
         ensures after { Extends slots self.old self.new (Pooled (Probed id result)) }
         ensures law { SatisfiesSpec slots self.new }
 
-        // Nothing of the pool changes but this competitor and the bit that it names, and in another pool that looks alike to
-        // this competitor the answer is the same, and where it then stands.
+        // Nothing of the pool changes except this competitor and the bit that it names. In another pool that this competitor
+        // cannot distinguish, the reply and its new state are the same.
         ensures local { ChangesOnly probe_steps id self.old.pool self.new.pool result }
         ensures alike { (other : PoolState) → Indistinguishable probe_steps id self.old.pool other → result ≡ probe_answer other id }
         ensures stands_alike { (other : PoolState) → Indistinguishable probe_steps id self.old.pool other → StandAlike id self.new.pool (after_probe other id) }
@@ -152,8 +152,8 @@ impl<T: Drop, A: Allocator> Slots<T, A> {
         ensures after { Extends slots self.old self.new (Pooled (Left id result)) }
         ensures law { SatisfiesSpec slots self.new }
 
-        // Nothing of the pool changes but this competitor and the bit that it names, and in another pool that looks alike to
-        // this competitor the answer is the same, and where it then stands.
+        // Nothing of the pool changes except this competitor and the bit that it names. In another pool that this competitor
+        // cannot distinguish, the reply and its new state are the same.
         ensures local { ChangesOnly leave_steps id self.old.pool self.new.pool result }
         ensures alike { (other : PoolState) → Indistinguishable leave_steps id self.old.pool other → result ≡ number_answer other id }
         ensures stands_alike { (other : PoolState) → Indistinguishable leave_steps id self.old.pool other → StandAlike id self.new.pool (after_leave other id) }
@@ -220,7 +220,7 @@ impl<T: Copy, A: Allocator> Slots<T, A> {
         ensures after { Extends slots self.old self.new (Extended size value result) }
         ensures law { SatisfiesSpec slots self.new }
 
-        // No competitor stands elsewhere, and no bit changes but that of what was the last number.
+        // No competitor changes, and no bit except that of the number that was the last one.
         ensures local { IsWidened self.old.pool self.new.pool result }
     {
         self.pool.widen(size)?;

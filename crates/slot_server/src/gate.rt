@@ -1,4 +1,4 @@
-//! What is reported of lines and replies.
+//! What is called for lines and replies.
 
 /// What a worker calls as it serves a connection, so that a test may hold it.
 pub trait Gate<R> {

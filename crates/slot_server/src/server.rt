@@ -36,7 +36,7 @@ fn line_of(alloc: Global, word: &str, number: u64) -> Result<String, AllocError>
     format!(in alloc; "{word} {number}\n")
 }
 
-// Writes such a line, at once.
+// Writes such a line, and flushes it. Only tested (`tests/serve`).
 fn tell<W: Write>(
     alloc: Global,
     word: &str,
@@ -50,7 +50,7 @@ fn tell<W: Write>(
     Ok(())
 }
 
-// A fault of sockets.
+// The fault for an error of sockets. Only tested (`tests/serve`).
 fn fault_of(error: &io::Error) -> ServeFault {
     if error.kind() == ErrorKind::OutOfMemory {
         ServeFault::Server(ServerFault::Memory)
@@ -59,7 +59,7 @@ fn fault_of(error: &io::Error) -> ServeFault {
     }
 }
 
-// A listener, and the port that it got.
+// A listener, and the port that it got. Only tested (`tests/serve`).
 fn listening<R: Net<Listener = TcpListener, Stream = TcpStream>>(
     rt: &R,
     port: u16,
@@ -74,7 +74,7 @@ fn listening<R: Net<Listener = TcpListener, Stream = TcpStream>>(
     }
 }
 
-// As many clerks of a lock.
+// `count` clerks of a lock. Only tested (`tests/serve`): that there are so many.
 fn clerks_of<L: LockName, R: Wait>(
     rt: &R,
     alloc: Global,
@@ -88,7 +88,7 @@ fn clerks_of<L: LockName, R: Wait>(
     Some(clerks)
 }
 
-// Serves all connections of a plan by these clerks, once it has told the port.
+// Serves all connections of a plan by these clerks, after it has written the port. Only tested (`tests/serve`): what it writes.
 fn serve_all<L: LockName + Send + Sync, R, W: Write>(
     rt: &R,
     alloc: Global,
@@ -107,7 +107,7 @@ where
     }
 }
 
-// Closes the hall against all that its clerks answered, and tells how many connections were served.
+// Closes the hall against all that its clerks kept, and writes how many connections were served. Only tested (`tests/serve`).
 fn end<L: LockName, W: Write>(
     alloc: Global,
     lock: HallLock<L>,

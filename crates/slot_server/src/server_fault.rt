@@ -1,4 +1,4 @@
-//! Why a server did not come to its end.
+//! Why a server failed.
 
 use std::alloc::AllocError;
 use std::error::Error;

@@ -1,4 +1,4 @@
-//! Readers and writers that tell a gate.
+//! Readers and writers that call a gate.
 
 ghost use Rattle.std.specs.Prelude.{◌≡◌};
 
@@ -37,7 +37,7 @@ impl<'a, R, G: Gate<R>, T> Watched<'a, R, G, T> {
         }
     }
 
-    // Tells of each line that ends in these bytes.
+    // Calls the gate for each line that ends in these bytes. Only tested (`server_tests`).
     fn tell_read(&self, bytes: &[u8]) {
         for byte in bytes {
             if *byte == LF {
@@ -46,7 +46,7 @@ impl<'a, R, G: Gate<R>, T> Watched<'a, R, G, T> {
         }
     }
 
-    // Tells of the lines that these bytes make whole. No bytes are the end, at which what has begun is a line.
+    // Calls the gate for the lines that these bytes complete. No bytes are the end, which completes a line that has begun.
     fn has_read(&mut self, bytes: &[u8])
         ensures { self.new.inner ≡ self.old.inner }
     {
@@ -63,7 +63,7 @@ impl<'a, R, G: Gate<R>, T> Watched<'a, R, G, T> {
         }
     }
 
-    // Tells of each reply that ends in these bytes.
+    // Calls the gate for each reply that ends in these bytes. Only tested (`server_tests`).
     fn tell_written(&self, bytes: &[u8]) {
         for byte in bytes {
             if *byte == LF {

@@ -38,8 +38,8 @@ const PAUSE: u64 = 100;
 /// How many reads are dropped then at most.
 const PASSED_READS: u64 = 1_000_000;
 
-// Ends a connection: its client finds the end behind the last reply, and what it still sends is passed over until it ends
-// or pauses. To close at once would take back replies that the client has not read.
+// Ends a connection: its client finds the end after the last reply. What it still sends is dropped until it ends or pauses:
+// to close at once would lose replies that the client has not read. Only tested (`tests/serve`).
 fn end(stream: &TcpStream) {
     let pause = Duration::from_millis(PAUSE);
     if stream.shutdown(Shutdown::Write).is_err() || stream.set_read_timeout(Some(pause)).is_err() {
@@ -72,7 +72,7 @@ fn serve_stream<R: Wait, L: LockName, G: Gate<R>>(
     }
 }
 
-// Serves what a reader gives, and tells whether that came to its end: of any reader and writer, since a proof over those of a stream is long.
+// Serves a reader and a writer of any type, since a proof over those of a stream is long. Returns whether there was no fault.
 fn serve_lines<R: Wait, L: LockName, I: Source, O: Sink>(
     rt: &R,
     alloc: Global,
@@ -87,7 +87,7 @@ fn serve_lines<R: Wait, L: LockName, I: Source, O: Sink>(
     serve_one(rt, alloc, reader, writer, service).is_ok()
 }
 
-// Serves connections as long as there are some.
+// Serves connections while there are some.
 fn work<R: Wait, L: LockName, G: Gate<R>>(
     rt: &R,
     alloc: Global,

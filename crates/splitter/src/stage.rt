@@ -1,4 +1,4 @@
-//! How far a visit has come.
+//! The last access of a visit.
 
 ghost use Rattle.std.specs.Prelude.{◌≡◌};
 ghost use Rattle.splitter.specs.Walk.{place_at_door};

@@ -94,8 +94,8 @@ impl<A: Allocator + Clone> SplitterWorld<A> {
         ensures state { self.new ≡ world_after_step self.old id }
         ensures unchanged_on_error { OnErr result (self.new ≡ self.old) }
 
-        // Nothing of the world changes but this visit and the register that it names, and in another world that looks
-        // alike to this visit the answer is the same, and where the visit then stands.
+        // Nothing of the world changes except this visit and the register that it names. In another world that this visit
+        // cannot distinguish, the reply and the new visit are the same.
         ensures local { ChangesOnly visitor_steps memory_steps id self.old self.new }
         ensures alike { (other : SplitterState) → Indistinguishable visitor_steps memory_steps id self.old other → result ≡ step_reply other id }
         ensures stands_alike { StaysAlike self.old self.new id }

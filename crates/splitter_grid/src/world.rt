@@ -101,8 +101,8 @@ impl<A: Allocator + Clone> GridWorld<A> {
         ensures state { self.new ≡ world_after_step self.old id }
         ensures unchanged_on_error { OnErr result (self.new ≡ self.old) }
 
-        // Nothing of the world changes but this walk and the register that it names, and in another world that looks
-        // alike to this walk the answer is the same, and where the walk then stands.
+        // Nothing of the world changes except this walk and the register that it names. In another world that this walk
+        // cannot distinguish, the reply and the new walk are the same.
         ensures local { ChangesOnly walker_steps memory_steps id self.old self.new }
         ensures alike { (other : GridState) → Indistinguishable walker_steps memory_steps id self.old other → result ≡ step_reply other id }
         ensures stands_alike { StaysAlike self.old self.new id }

@@ -1,4 +1,4 @@
-//! A segment, kept as the value of its register.
+//! A segment, stored as the value of its register.
 
 ghost use Rattle.std.specs.Prelude.{◌≡◌};
 ghost use Rattle.splitter_tree.specs.declared.register.TreeValue.TheVariants as value;

@@ -1,4 +1,4 @@
-//! What the registers of a tree are called, and what stands in them.
+//! The names of the registers of a tree, and their values.
 
 ghost use Rattle.std.specs.Prelude.{◌≡◌};
 ghost use Rattle.splitter_tree.specs.TreeSteps.{number_in, sets_mark, value_of};

@@ -115,8 +115,8 @@ impl<A: Allocator + Clone> TreeWorld<A> {
         ensures due { RefusesWhereDue tree self.new }
         ensures nodes { HasLawfulNodes self.new }
 
-        // Nothing of the world changes but this participant and the register that it names, and in another world that
-        // looks alike to this participant the answer is the same, and where the participant then stands.
+        // Nothing of the world changes except this participant and the register that it names. In another world that this
+        // participant cannot distinguish, the reply and the new participant are the same.
         ensures local { ChangesOnly client_steps tree_steps id self.old self.new }
         ensures alike { result ≢ Err Refusal.NoMemory → AnswersPlaceAlike self.old id result }
         ensures stands_alike { result ≢ Err Refusal.NoMemory → StaysAlikeOnWay self.old self.new id }
@@ -152,7 +152,7 @@ impl<A: Allocator + Clone> TreeWorld<A> {
         ensures law { SatisfiesSpec tree self.new }
         ensures due { RefusesWhereDue tree self.new }
 
-        // Nothing of the world changes but this participant and the segment at its place.
+        // Nothing of the world changes except this participant and the segment at its place.
         ensures local { ChangesOnlyStore tree_steps id self.old self.new }
     {
         let Some(client) = self.world.program(id) else {

@@ -1,4 +1,4 @@
-//! What one step asks of a memory, and what comes back.
+//! What one step asks of a memory, and what the memory returns.
 
 /// One access to at most one register: the atomic step of every program and world here.
 ///

@@ -1,4 +1,4 @@
-//! Where a search for a participant begins.
+//! The index at which a search for a participant starts.
 
 ghost use Rattle.std.specs.Prelude.{◌≡◌, ◌<◌, ◌≤◌, true, false, length, drop, option_map, IfSome, Some, ◌+◌};
 ghost use Rattle.step_memory.specs.Participant.{index_of, AreDistinct};

@@ -1,4 +1,4 @@
-//! What a program says of a step.
+//! What a program returns after a step.
 
 ghost use Rattle.std.specs.Prelude.{◌≡◌, ◌↔◌, IsTrue};
 ghost use Rattle.step_memory.specs.Calls.{outcome_in};

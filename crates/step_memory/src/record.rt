@@ -1,4 +1,4 @@
-//! What stands in a segment.
+//! What a segment holds.
 
 use crate::view::View;
 

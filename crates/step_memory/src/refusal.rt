@@ -1,4 +1,4 @@
-//! Why a call is refused.
+//! Why a call fails.
 
 ghost use Rattle.std.specs.Prelude.{◌≡◌};
 ghost use Rattle.step_memory.specs.Refusal.{refusal_number};

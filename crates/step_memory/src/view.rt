@@ -1,4 +1,4 @@
-//! What a scan shows.
+//! What a scan returns.
 
 ghost use Rattle.std.specs.Prelude.{◌≡◌, ◌<◌, ◌≤◌, ◌+◌, ◌↔◌, ◌⊎◌, [], IsSome, length, take, drop, IsTrue, false, if◌then◌else◌};
 ghost use Rattle.step_memory.specs.View.{value_of, inserted, IsRising};

@@ -191,11 +191,11 @@ impl<
         ensures unchanged_on_error { OnErr result (self.new ≡ self.old) }
         ensures no_memory { result ≡ Err Refusal.NoMemory → may_refuse_step P.steps S.steps self.old id ≡ true }
 
-        // Nothing of the world changes but this participant and the register that it names.
+        // Nothing of the world changes except this participant and the register that its program names.
         ensures local { ChangesOnly P.steps S.steps id self.old self.new }
 
-        // In another world that looks alike to this participant the answer is the same. Where it then stands is the same
-        // too: that is a law (`law_of_locality`).
+        // In another world that this participant cannot distinguish, the reply is the same. So is its new program: that is
+        // a law (`law_of_locality`).
         ensures alike { result ≢ Err Refusal.NoMemory → IsAnsweredAlike P.steps S.steps id self.old result }
     {
         let Some(i) = self.hints.find(&self.participants, id) else {

@@ -1,4 +1,4 @@
-//! The seats of a grid: before they are dealt, before and after their walks, and what they can show of their places.
+//! The seats of a grid, before they are dealt and before and after their walks, and claims of their places.
 
 ghost use Rattle.std.specs.Prelude.{◌≡◌};
 ghost use Rattle.word_grid.specs.Seats.{place_of};
@@ -87,7 +87,7 @@ impl EnteredSeat {
     pub fn place(&self) -> Place
         ensures value { result ≡ place_of self.now }
 
-        // The law, which each seat that has entered keeps.
+        // The law that each entered seat keeps.
         ensures law { WalkSpec self.now }
     {
         Place::from(self.seat.program().door.number())

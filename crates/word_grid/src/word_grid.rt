@@ -86,7 +86,7 @@ impl<A: Allocator> WordGrid<A> {
         ensures seat { (result.grid ≡ fresh.grid) × (result.number ≡ fresh.number) }
         ensures law { WalkSpec result }
 
-        // Who was the only one to enter until its walk ended has the place in the corner, by four accesses.
+        // If no other walk had begun when it ended, it has the place in the corner, by four accesses.
         ensures alone { result.entered ≡ 1 → (place_of result ≡ 0) × (result.accesses ≡ 4) }
     {
         let seat = self.machine.enter(fresh.seat);

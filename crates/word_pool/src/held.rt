@@ -1,5 +1,5 @@
-//! What a call of a pool gives: a number that is held, word that all were held, a receipt for a number given back, and what
-//! was held at the end.
+//! What a call of a pool returns: a held number, that all were found held, the receipt of a number given back, and what was
+//! held at the end.
 
 ghost use Rattle.std.specs.Prelude.{◌≡◌, ◌≤◌, ◌<◌, suc, [], ◌∷◌};
 ghost use Rattle.word_pool.specs.PoolRule.{word_of};

@@ -1,4 +1,4 @@
-//! A pool whose numbers are sought from 1 upward, by as many tickets as it has numbers.
+//! A pool with as many tickets as numbers.
 
 ghost use Rattle.std.specs.Prelude.{[], ◌∷◌, ◌≡◌, ◌<◌, ◌≤◌, ◌+◌, ◌-◌, ◌*◌, ◌⊎◌, ◌↔◌, ℕ, suc, Err, IfErr, IfOk, IfSome, IsOk, IsSome, vec_len, slice_index};
 ghost use Rattle.std.specs.Mem.Slots.{slots_items, slots_len, IsFull};
@@ -127,7 +127,7 @@ impl<A: Allocator> PoolOver<Lining, A> {
                 return Held::of(seat, place);
             }
         }
-        // No seat stands behind the last number, so this is never reached.
+        // No seat is past the last number, so this is never reached.
         self.table.shared.load::<Never>(&mut seat, 0);
         unreachable!()
     }

@@ -1,4 +1,4 @@
-//! The rule of a line's table, and the kinds of step that only a line has.
+//! The invariant of a line's table, and the kinds of step that only a line has.
 
 ghost use Rattle.std.specs.Prelude.{[], take, drop};
 ghost use Rattle.word_pool.specs.LineRule.{ComesBySwapInLine, KeepsLineRule, TakesInLine, NeverComes, undealt};

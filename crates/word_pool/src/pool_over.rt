@@ -1,4 +1,4 @@
-//! The words of numbers, under whatever rule of a pool, and what each pool does with them in the same way.
+//! The words of numbers under any invariant of a pool, and what each pool does with them in the same way.
 
 ghost use Rattle.std.specs.Prelude.{[], ◌∷◌, ◌≡◌, ◌≢◌, ◌<◌, ◌≤◌, ◌+◌, ◌⊎◌, ◌↔◌, ℕ, suc, false, Err, IfErr, IfOk, IsOk};
 ghost use lib.ListN.{get_elem?};
@@ -30,7 +30,7 @@ pub(crate) const STRIDE: u64 = 8;
 #[derive(Drop)]
 pub struct PoolOver<R: TableRule<u8, PoolView, u64>, A: Allocator> {
     pub(crate) numbers: u64,
-    // It has no slots, so what a slot holds says nothing.
+    // It has no slots: their type means nothing.
     pub(crate) table: Table<u8, PoolView, u64, R, A>,
 }
 

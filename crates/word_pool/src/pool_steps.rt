@@ -1,4 +1,4 @@
-//! The rule of a pool's table, and the kinds of step that keep it.
+//! The invariant of a pool's table, and the kinds of step that keep it.
 
 ghost use Rattle.std.specs.Prelude.{take, drop, []};
 ghost use Rattle.word_pool.specs.PoolRule.{KeepsPoolRule};

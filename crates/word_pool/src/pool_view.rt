@@ -1,4 +1,4 @@
-//! What a seat of a pool knows. No value of these types is made: they exist in proofs alone.
+//! The ghost state of a seat of a pool. No value of these types is made: they exist in proofs alone.
 
 use std::collections::LinkedList;
 

@@ -1,4 +1,4 @@
-//! What lets its owner take a number.
+//! The tickets with which threads take numbers.
 
 ghost use Rattle.std.specs.Prelude.{◌≡◌};
 
