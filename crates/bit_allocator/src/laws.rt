@@ -12,7 +12,7 @@ ghost use Rattle.step_memory.specs.Steps.{SetsOrClears};
 /// A law: a pool is a machine whose calls extend its history.
 ///
 /// Each history, with every prefix, keeps the law of the pool. Each call's reply is one that the object may give after
-/// the calls before it, so a call fails if and only if that is due. Widening makes a pool larger, to 64 numbers at
+/// the calls before it. So a call fails if and only if that is due. Widening makes a pool larger, to 64 numbers at
 /// most.
 pub fn law_of_pool_calls()
     ensures machine { IsProved pool }

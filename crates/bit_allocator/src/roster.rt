@@ -89,9 +89,9 @@ fn notes_of(competitors: &[Competitor]) -> [u8; 64]
 
 /// The competitors, in the order in which they entered, with room for 64.
 ///
-/// A note for each value of an identity's lowest six bits has the index of the competitor with these bits that was
-/// added last, or that there is none. A note may be of another identity. The search then goes through all, so that
-/// contracts see no note.
+/// There is a note for each value of an identity's lowest six bits. It is the index of the competitor with these bits
+/// that was added last, or says that there is none. A note may be of another identity. The search then goes through
+/// all, so that contracts see no note.
 #[derive(Drop)]
 pub(crate) struct Roster<A: Allocator> {
     competitors: Vec<Competitor, A>,

@@ -21,6 +21,10 @@ pub trait Sink: Write {
     ghost failed: { Self → ℕ };
 
     /// Makes one write, as `write` of std does.
+    ///
+    /// # Errors
+    ///
+    /// Those of `write`. Nothing was then written.
     fn write_once(&mut self, buf: &[u8]) -> io::Result<usize>
         requires room { calls self.old < 2 ^ 100 }
         ensures bound { WritesAtMost result buf.now }

@@ -27,9 +27,9 @@ pub fn law_of_desk()
 /// A law of the exchanges of every run.
 ///
 /// - Nobody was given two names, no two were given one, and each name is from 1 to 2b - 1, where b have begun.
-/// - Cut a run in two, and take a participant that has begun, is neither named nor spent, and has two proposals left at
-///   the cut. If no other makes an accepted step after the cut, it is named within `steps_alone` accepted steps after
-///   it, and is not spent before. Others may begin, and compete for the pool.
+/// - Cut a run in two. Take a participant that at the cut has begun, is neither named nor spent, and has two proposals
+///   left. If no other makes an accepted step after the cut, it is named within `steps_alone` accepted steps after it,
+///   and is not spent before. Others may begin, and compete for the pool.
 /// - All together make at most 3(5^b - 1)/4 proposals. A participant that has made `steps_among` accepted steps has a
 ///   name or is spent. If the round limit is above that number of proposals, nobody is spent.
 pub fn law_of_names()

@@ -11,14 +11,14 @@
 //!   one next desk. Over a tree a step that makes a node may also fail to allocate, and then nothing has changed.
 //! - The exchanges, events with their replies, are a *run*: the fresh renaming object, pool and slots can answer it in
 //!   order, within their counts of steps (`law_of_desk`: `law`).
-//! - So nobody was given two names, no two were given one, and each name is from 1 to 2b - 1, where b have begun
-//!   (`law_of_names`).
+//! - So nobody was given two names, and no two were given one (`law_of_names`). Each name is from 1 to 2b - 1, where b
+//!   have begun.
 //! - The identity that `Desk::owner` returns was given the name (`reported`).
 //! - `Desk::refusal` returns the refusal of an event beforehand.
 //!
 //! A reply may show a view, which takes a kilobyte. `Desk::apply_short` returns a few bytes and keeps the view beside
-//! the reply, by the same rules. Observers may ask a desk for the access that a participant makes next (`coming`), its
-//! place and its name, the value of a register (`held`), and the slots. This makes no access and changes nothing.
+//! the reply, by the same rules. Observers may ask a desk for a participant's next access (`coming`), its place and its
+//! name, the value of a register (`held`), and the slots. This makes no access and changes nothing.
 //!
 //! From `drawn_schedules/src/runs.rt`:
 //!

@@ -8,8 +8,8 @@
 //! there are, and that they run at the same time.
 //!
 //! What is proved: `draw_schedule` writes exactly the text of the generator's words (`ok`; `part` at a fault). Each
-//! line of `play_schedules` has the three numbers of a run of its schedule, which is the run of the configuration's
-//! desk if no allocation fails (`ok`; `part` at a fault). The memory of a run is in an arena that is reset before the
+//! line of `play_schedules` has the three numbers of a run of its schedule (`ok`; `part` at a fault). That is the run
+//! of the configuration's desk if no allocation fails. The memory of a run is in an arena that is reset before the
 //! next.
 //!
 //! From `tests_player/src/writes_tests.rt`:

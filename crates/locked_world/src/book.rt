@@ -29,7 +29,8 @@ pub struct Opened<E> {
 }
 
 impl<E> Opened<E> {
-    /// Opens an append-only history with no entry.
+    /// Opens an append-only history with no entry. Its clauses are the fields `empty` and `head_is`. Not proved:
+    /// anything else.
     pub fn new() -> Opened<E> {
         let (seen, mut first, _second) = Seen::open(Start::alone(), 0, 0);
         Opened {

@@ -8,10 +8,10 @@
 //! takes a lock, waits for another or starts a thread.
 //!
 //! Of the seats that have entered, at most one stops, not all go right, and not all go down. The table keeps an
-//! invariant of its words and of the ghost state of its seats, so that each entered seat keeps this law with all
-//! others. Two seats that are compared show it (`meet`). A seat that went right or down names a seat that it met: one
-//! that had set Y, or one that wrote X after it. Not proved: anything else of seats that are never compared, and that a
-//! thread makes its next access.
+//! invariant of its words and of the ghost state of its seats. So each entered seat keeps this law with all others. Two
+//! seats that are compared show it (`meet`). A seat that went right or down names a seat that it met: one that had set
+//! Y, or one that wrote X after it. Not proved: anything else of seats that are never compared, and that a thread makes
+//! its next access.
 //!
 //! From `tests_objects/src/raw_splitter_tests.rt`:
 //!
@@ -30,7 +30,7 @@
 //! A board has a word for each name: 0, or the identity that was first posted there, which never changes. A thread
 //! posts its name by one compare-exchange. A thread that has to check a name confirms it by one load. Either gets a
 //! grant: the word holds this identity, and always will. A post returns its grant if and only if its access found 0 or
-//! the identity, a confirm if and only if it found the identity.
+//! the identity. A confirm does if and only if it found the identity.
 //!
 //! Each grant finds its word equal to its identity, which is not 0. So two grants of two identities are of two names.
 //! The words at the end are what a last seat read, and each grant that is given to `close_all` is among them. Not

@@ -30,7 +30,8 @@ pub fn law_of_lines()
 
 /// A law of the worlds with names, of what `record` of `schedule_player` writes of a transcript whose numbers fit.
 ///
-/// It is a header of version 2, and for each exchange, in order, a line that is read as it, with the view of a name.
+/// It is a header of version 2 and then a line for each exchange, in order. The line is read as that exchange, with the
+/// view of a name.
 pub fn law_of_written_records()
     ensures { (c : Config) → gives_names c.world ≡ true → (ts : List Turn) → AreNarrowExchanges (exchanges ts) →
         IsRecordOf c (exchanges ts) (record_of c ts) }

@@ -5,8 +5,8 @@
 //! number, 1 at first, by an update of its segment. Then it *looks*, by a scan. If no other identity proposes the same
 //! number, the number is its name. Otherwise it proposes the r-th positive number that no other identity proposes in
 //! that view, where r is its rank there. If it has made as many proposals as the round limit allows, and sees another
-//! identity with the last of them, it is *spent*. Two participants never get one name: every view is one moment of the
-//! memory and a proposal stays until the next, so the later of the two would have seen the other. (The round limit is
+//! identity with the last of them, it is *spent*. Two participants never get one name. Every view is one moment of the
+//! memory, and a proposal stays until the next. So the later of the two would have seen the other. (The round limit is
 //! not in the papers.)
 //!
 //! What is proved, over every list of calls in any order, with participants that crash anywhere:
@@ -33,7 +33,7 @@
 //!
 //! A participant that runs solo, with two proposals left, is named much sooner (`specs/Alone.antt`,
 //! `law_of_steps_alone`). Where at most m take part, it makes at most 4m + 11G + 1 steps over a grid and 5m + 11(6m -
-//! 2) + 1 over a tree, wherever the others crashed.
+//! 2) + 1 over a tree. The others may have crashed anywhere.
 //!
 //! `step_short` is `step` with a reply of a few bytes: the view that it shows, which takes a kilobyte, is kept beside
 //! it.

@@ -17,7 +17,11 @@ pub enum Fault {
 }
 
 impl Fault {
-    /// Returns the reason, or `AllocError` if an allocation failed.
+    /// Returns the reason.
+    ///
+    /// # Errors
+    ///
+    /// `AllocError`: an allocation failed.
     pub fn reported(self) -> Result<Option<Reason>, AllocError>
         ensures { result ≡ reported_by self }
     {

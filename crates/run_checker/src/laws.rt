@@ -30,8 +30,8 @@ pub fn law_of_reasons()
     ensures { (terms : RenameTerms) (o : DeskObject) (l : Line) → CanFollow terms o l ↔ KeepsAll terms o l.event l.reported }
 {}
 
-/// A law: lines are those of a run, for some choice of the views that are not written, if and only if each can follow
-/// those before it.
+/// A law: lines are those of a run if and only if each can follow those before it. The views that are not written may
+/// be any.
 ///
 /// If one after these is at fault, they and it are not those of a run, whatever comes after. A call leaves the objects
 /// as its line does.
@@ -44,8 +44,8 @@ pub fn law_of_followed_lines()
         IsLineOf (exchange_of c) l → AllowsCall terms o c → after_call o c ≡ after_line o l }
 {}
 
-/// A law: lines are those of a run, for some choice of the views that are not written, if and only if each can follow
-/// those before it.
+/// A law: lines are those of a run if and only if each can follow those before it. The views that are not written may
+/// be any.
 ///
 /// If one after these is at fault, they and it are not those of a run, whatever comes after. A record with the verdict
 /// `Yes` has no other.

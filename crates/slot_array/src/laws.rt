@@ -7,7 +7,7 @@ ghost use Rattle.slot_array.specs.Machine.{slots};
 /// A law: slots are a machine whose calls extend its history.
 ///
 /// Each history, with every prefix, keeps the law of the slots. Each call's reply is one that the object may give after
-/// the calls before it, so a call fails if and only if that is due. The number that an identity holds has a slot.
+/// the calls before it. So a call fails if and only if that is due. The number that an identity holds has a slot.
 pub fn law_of_slot_calls<T>()
     ensures machine { IsProved (slots {T = T}) }
     ensures there { HasSlot T }

@@ -2,15 +2,15 @@
 //!
 //! `serve_one` reads commands, has a service answer them and writes the replies. It has the theorem of `play_on`
 //! (`IsPlayed`), for every reader and writer. Over a `Hall`, the entries that it answers are a transcript of the hall's
-//! configuration with the refusals 13 and 12 added, and the history gains exactly the accepted events
+//! configuration, with the refusals 13 and 12 added. The history gains exactly the accepted events
 //! (`hall::law_of_serving`). Over a `ServingClerk`, a clerk with its lock, each reply is one of some hall with a lawful
-//! history, and the clerk keeps what was accepted.
+//! history. The clerk keeps what was accepted.
 //!
 //! `serve_many` accepts a number of connections, numbered from 0 (`Connections::accept`), and has one worker for each
 //! clerk serve them, each connection whole. No lock of the hall is held while a client is waited for. A fault of one
-//! connection ends that connection alone. Unless an allocation fails, all clerks come back (`clerks`), each with what
-//! it had kept and the accepted events of the entries that it answered (`kept`, by `law_of_clerks`). So the lock can be
-//! closed with them. If there is no fault, as many were served as were asked for (`all`).
+//! connection ends that connection alone. Unless an allocation fails, all clerks come back (`clerks`). Each has what it
+//! had kept and the accepted events that it answered (`kept`, by `law_of_clerks`). So the lock can be closed with them.
+//! If there is no fault, as many were served as were asked for (`all`).
 //!
 //! A `Gate` is called for each line that was read whole before it is applied, and for each reply that was written whole
 //! (`Watched`): a test holds a worker there. `OpenGate` does nothing.

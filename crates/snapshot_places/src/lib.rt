@@ -2,10 +2,10 @@
 //!
 //! A snapshot object (`snapshot_core`) needs *places* with two properties. Each participant gets a place of its own. A
 //! walk over the segments meets each segment that was written before the walk began. Over a *grid* (Moir and Anderson
-//! 1995) a participant walks from door to door until it stops, and a collect reads the segments of all doors, by rising
-//! place. Over a *tree* of the same doors it walks down from the root. A collect there reads the marks and the segments
-//! of marked nodes, so that its length depends on the crowd. (The mark, the order and the counts are not in the
-//! papers.)
+//! 1995) a participant walks from door to door until it stops. A collect there reads the segments of all doors, by
+//! rising place. Over a *tree* of the same doors it walks down from the root. A collect there reads the marks and the
+//! segments of marked nodes, so that its length depends on the crowd. (The mark, the order and the counts are not in
+//! the papers.)
 //!
 //! The law is that of the snapshot object, over every list of calls. Where `b` have begun:
 //!

@@ -17,8 +17,10 @@ ghost use Rattle.step_memory.specs.Steps.{ReadsOrWrites};
 ghost use Rattle.step_memory.specs.declared.note.Note.{Note};
 ghost use Rattle.step_memory.specs.declared.note.Note.TheVariants.{Ended};
 
-/// A law: a splitter that no visitor has entered is consistent, each access of a visit keeps it consistent, and a
-/// consistent one keeps the law of the splitter. Structures of many splitters use this.
+/// A law of one splitter. Structures of many splitters use it.
+///
+/// A splitter that no visitor has entered is consistent, and each access of a visit keeps it consistent. A consistent
+/// splitter keeps the law of the splitter.
 pub fn law_of_one_door()
     ensures fresh { (x : ℕ) → DoorSatisfiesSpec x 0 (λ p. Stage.Outside) }
     ensures kept { DoorSpec }

@@ -48,9 +48,9 @@ pub fn law_of_tree_memory()
 
 /// A law of the nodes of a tree and the walks down it. Structures over the places of a tree use this.
 ///
-/// - A tree of no nodes is consistent with no walks. A participant that begins, each access of a walk that does not
-///   fail, and whatever leaves the marks, X and Y of the nodes unchanged keep nodes and walks consistent. Consistent
-///   ones keep the law of the tree.
+/// - A tree of no nodes is consistent with no walks. A participant that begins keeps nodes and walks consistent. So do
+///   each access of a walk that does not fail, and whatever leaves the marks, X and Y of the nodes unchanged.
+///   Consistent ones keep the law of the tree.
 /// - Where b have begun, a walk that has no place yet has made fewer than 5b accesses. Each access brings it nearer to
 ///   a place. Its note ends it if and only if it reaches a place, and is then that place.
 /// - An access leaves all segments unchanged, and all marks but that of the node that it marks. It fails only if that

@@ -51,8 +51,8 @@ pub fn law_of_tree_calls()
 
 /// A law: an access of a participant reads or writes a register, or accesses none.
 ///
-/// A participant that writes a segment has its place at the segment's node, if its visit is to the registers of the
-/// node that it is at. After any calls each participant's is.
+/// After any calls the visit of each participant is to the registers of the node that its walk is at. A participant of
+/// which this is so writes only the segment at its own place.
 pub fn law_of_own_accesses()
     ensures own { (c : Client) → ReadsOrWrites (client_access c) }
     ensures segment { WritesOwnSegment }

@@ -71,6 +71,7 @@ pub trait Request<P> {
 /// The request to replace a program by `program`.
 #[derive(Drop)]
 pub struct Replace<P> {
+    /// The program that takes the place of the other.
     pub program: P,
 }
 

@@ -9,9 +9,9 @@
 //! # What is proved of each call
 //!
 //! - Two numbers that are held at the same time differ (`WordPool::meet`, `LinePool::meet`).
-//! - `acquire` gets a number, and found each number below it held, in order. It makes at most `n + 1` accesses to get
-//!   number `n`, and at most `k` in all among `k` numbers, or `k + 1` if it lost a race. A pool of words returns
-//!   `AllHeld`, within as many, if it found all held. `acquire_near` tries one number before, by one access more.
+//! - `acquire` gets a number, and found each number below it held, in order. To get number `n` it makes at most `n + 1`
+//!   accesses. Among `k` numbers it makes at most `k`, or `k + 1` if it lost a race. A pool of words returns `AllHeld`,
+//!   within as many, if it found all held. `acquire_near` tries one number before, by one access more.
 //! - `LinePool::acquire` always gets a number: there are as many tickets as numbers.
 //! - In a line the number is at most the most calls that competed, held or sought, at one moment of the call
 //!   (`law_of_the_line`). Not proved, and not so where hints are used: the same of a pool of words.
