@@ -33,7 +33,7 @@ pub struct Pool<A: Allocator> {
     competitors: Roster<A>,
 }
 
-// By hand, so that a pool is taken apart here alone, and not wherever one is dropped.
+// By hand, so that the code that drops a pool is here alone, and not at each place where one goes out of scope.
 impl<A: Allocator> Drop for Pool<A> {
     fn drop(self) {
         let Pool {

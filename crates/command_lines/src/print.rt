@@ -65,7 +65,7 @@ pub fn print_words<A: Allocator>(reply: Reply<()>, view: &View, out: &mut Replie
     }
 }
 
-// Appends a word with its space, a number of few digits in decimal, and an LF.
+// Appends a word with its space, a small number in decimal, and an LF.
 #[inline(always)]
 fn put_small<A: Allocator>(word: &[u8], number: u8, out: &mut Replies<A>)
     requires { length out.old + (length word.now + 21) ≤ HELD_REPLIES }
@@ -138,7 +138,7 @@ fn put_place<A: Allocator>(place: Place, out: &mut Replies<A>)
     out.put(Buffer::new().format(place).as_bytes());
 }
 
-// Appends who has a name.
+// Appends `owner` and the identity that has a name, or `none`.
 fn put_owner<A: Allocator>(owner: Option<u64>, out: &mut Replies<A>)
     requires { length out.old + 29 ≤ HELD_REPLIES }
     ensures text { out.new ≡ out.old ++ owner_words owner }

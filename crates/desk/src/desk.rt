@@ -107,7 +107,7 @@ impl<A: Allocator + Clone> Desk<A> {
     pub fn refusal(&self, event: Event) -> Option<Refusal>
         ensures value { result ≡ desk_refusal self.now event }
 
-        // After every list of calls it is what `apply` would answer.
+        // After every history it is the refusal that `apply` would return.
         ensures reported { RefusesAsSaid self.now event }
     {
         match &self.parts {
@@ -184,7 +184,7 @@ impl<A: Allocator + Clone> Desk<A> {
     pub fn owner(&self, number: u64) -> Reply<View>
         ensures value { result ≡ owner_reply self.now number }
 
-        // It is who was given the name, among the exchanges of the events so far.
+        // It is the identity that was given the name, in the exchanges so far.
         ensures reported { TellsOwners self.now number result }
     {
         match &self.parts {

@@ -18,7 +18,7 @@ use std::thread::Threads;
 /// The most threads.
 pub const MOST_JOBS: u64 = 64;
 
-// How many play at once, where so many are asked for; with 0 as many as there are processors, and one where that is not known.
+// The number of threads for `asked`: if that is 0, as many as processors, or one if their number is not known.
 fn jobs_for<R: Threads>(rt: &R, asked: u64) -> u64
     ensures { (1 ≤ result) × (result ≤ 64) }
 {
@@ -32,7 +32,7 @@ fn jobs_for<R: Threads>(rt: &R, asked: u64) -> u64
     jobs.min(MOST_JOBS)
 }
 
-// Plays drawn schedules, one for each of these places, and puts the numbers of each into its own: so many places in a row are a thread's.
+// Plays drawn schedules, one for each of these places, and puts the numbers of each into its place. Each thread has `share` places in a row.
 fn play_shares<R: Threads + Sync>(
     rt: &R,
     alloc: Global,

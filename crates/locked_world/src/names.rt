@@ -33,8 +33,8 @@ pub fn post_name<L: LockName, A: Allocator>(
     ensures name { IfSome result (λ g. name_kept session.now.clerk.kept ≡ Some g.name) }
     ensures identity { IfSome result (λ g. g.identity ≡ session.now.id) }
 
-    // It is posted by one access, and a grant takes one more: the seat makes no other. The grant is given where the board's word was
-    // free or held the identity.
+    // A post is one access, and a grant takes one more: the seat makes no other. The grant is returned if and only if the board's
+    // word was 0 or held the identity.
     ensures posted { (name : ℕ) → name_kept session.now.clerk.kept ≡ Some name → MayHold board.now name session.now.id →
         (seat.new ≡ reader_of board.now (seat.old.accesses + post_cost seat.new.found session.now.id) seat.new.found) ×
         (IsSome result ↔ ((seat.new.found ≡ 0) ⊎ (seat.new.found ≡ session.now.id))) }

@@ -12,7 +12,7 @@ pub struct Line {
     pub reported: Reported,
 }
 
-// By hand, so that a line is taken apart here alone, and not wherever one is dropped.
+// By hand, so that the code that drops a line is here alone, and not at each place where one goes out of scope.
 impl Drop for Line {
     fn drop(self) {
         let Line {

@@ -11,8 +11,8 @@
 //!
 //! What is proved, over every list of calls in any order, with participants that crash anywhere:
 //!
-//! - The replies are those of the renaming object (`specs/RenameObject.antt`). It knows who has begun, places, names,
-//!   who is spent, and the moments that proposals make, and may give any name that these allow.
+//! - The replies are those of the renaming object (`specs/RenameObject.antt`). Its state is who has begun, places,
+//!   names, who is spent, and the moments that proposals make. It may give any name that these allow.
 //! - No two participants have one name, and each name is from 1 to 2b - 1.
 //! - A participant gets its place, then proposals and views in turn, then its name or `Spent`, each within a bound
 //!   (`specs/Pace.antt`).

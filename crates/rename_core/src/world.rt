@@ -137,7 +137,7 @@ impl<W: RenamePlaces<A>, A: Allocator> RenameWorld<W, A> {
     pub fn name_of(&self, id: u64) -> Option<u64>
         ensures value { result ≡ name_in self.now id }
 
-        // It is the name that the replies have given to the identity.
+        // It is the name that the replies gave to the identity.
         ensures law { IsName ⟦<W as Known>⟧.places W.world self.now id result }
     {
         name_among(&self.hints, &self.rounds, id)
@@ -147,7 +147,7 @@ impl<W: RenamePlaces<A>, A: Allocator> RenameWorld<W, A> {
     pub fn owner_of(&self, number: u64) -> Option<u64>
         ensures value { result ≡ owner_by number self.now.rounds }
 
-        // It is the identity to which the replies have given the name.
+        // It is the identity to which the replies gave the name.
         ensures law { IsOwnerOf ⟦<W as Known>⟧.places W.world self.now number result }
     {
         owner_among(&self.rounds, number)
@@ -157,7 +157,7 @@ impl<W: RenamePlaces<A>, A: Allocator> RenameWorld<W, A> {
     pub fn proposals(&self) -> View
         ensures value { result ≡ shown_by [] self.now.rounds }
 
-        // It is the last moment that the replies have made.
+        // It is the last moment of the history.
         ensures law { IsLastMoment ⟦<W as Known>⟧.places W.world self.now result }
     {
         proposals_among(&self.rounds)
@@ -223,13 +223,13 @@ where
         ensures unchanged_on_error { OnErr result (self.new ≡ self.old) }
         ensures no_memory { result ≡ Err Refusal.NoMemory → LacksMemory ⟦<W as Known>⟧.places self.old id }
 
-        // The law, over every list of calls and replies that the world may be after.
+        // The specification, over every history that leads to this world.
         ensures after { Extends (renaming ⟦<W as Known>⟧.places W.world) self.old self.new (Stepped id result) }
         ensures law { SatisfiesSpec (renaming ⟦<W as Known>⟧.places W.world) self.new }
 
-        // Reply and own state are functions of the own state and the access's answer, and nothing else changes. After every
-        // list of calls the access is one for what the participant does: on its way to a place a read, a write or none, which
-        // leaves each segment as it is, in a scan a read, at the end of an update the write of its own segment.
+        // The reply and the new own state are functions of the own state and of the answer, and nothing else changes.
+        // After every history the access is one of the participant's stage. On its way to a place it is a read, a write or
+        // none, and changes no segment. In a scan it is a read, and at the end of an update the write of its own segment.
         ensures local { ChangesOnly ⟦<W as Known>⟧.places id self.old self.new result }
         ensures own { MakesOwnAccess ⟦<W as Known>⟧.places W.world self.old id }
     {
@@ -290,7 +290,7 @@ where
         ensures state { self.new ≡ after_rename_begin ⟦<W as Known>⟧.places self.old id }
         ensures no_access { self.new.snap.memory ≡ self.old.snap.memory }
 
-        // The law, over every list of calls and replies that the world may be after.
+        // The specification, over every history that leads to this world.
         ensures after { Extends (renaming ⟦<W as Known>⟧.places W.world) self.old self.new (Began id result) }
         ensures law { SatisfiesSpec (renaming ⟦<W as Known>⟧.places W.world) self.new }
     {

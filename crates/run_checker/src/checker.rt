@@ -28,7 +28,7 @@ pub struct Checker {
     grows: bool,
 }
 
-// By hand, so that a checker is taken apart here alone, and not wherever one is dropped.
+// By hand, so that the code that drops a checker is here alone, and not at each place where one goes out of scope.
 impl Drop for Checker {
     fn drop(self) {
         let Checker {

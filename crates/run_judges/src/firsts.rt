@@ -20,7 +20,7 @@ pub struct Firsts {
     found: HashMap<u64, Pairs>,
 }
 
-// By hand, so that they are taken apart here alone, and not wherever a migration is dropped.
+// By hand, so that the code that drops them is here alone, and not at each place where a migration goes out of scope.
 impl Drop for Firsts {
     fn drop(self) {
         let Firsts {

@@ -24,7 +24,7 @@ pub struct Slots<T, A: Allocator> {
     values: Vec<T, A>,
 }
 
-// By hand, so that slots are taken apart here alone, and not wherever some are dropped.
+// By hand, so that the code that drops slots is here alone, and not at each place where some go out of scope.
 impl<T: Drop, A: Allocator> Drop for Slots<T, A> {
     fn drop(self) {
         let Slots { pool: _, values: _ } = self;

@@ -54,7 +54,7 @@ fn end(stream: &TcpStream) {
     }
 }
 
-// Serves one connection to its end. A fault of it ends it alone.
+// Serves one connection to its end. A fault of the connection ends it alone.
 fn serve_stream<R: Wait, L: LockName, G: Gate<R>>(
     rt: &R,
     alloc: Global,

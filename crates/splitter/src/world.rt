@@ -68,7 +68,7 @@ impl<A: Allocator + Clone> SplitterWorld<A> {
         ensures state { self.new ≡ after_begin self.old id (visit_of id) }
         ensures unchanged_on_error { OnErr result (self.new ≡ self.old) }
 
-        // The law, over every list of calls and replies that the world may be after.
+        // The specification, over every history that leads to this world.
         ensures after { Extends splitter self.old self.new (Began id result) }
         ensures law { SatisfiesSpec splitter self.new }
         ensures due { RefusesWhereDue splitter self.new }
@@ -100,7 +100,7 @@ impl<A: Allocator + Clone> SplitterWorld<A> {
         ensures alike { (other : SplitterState) → Indistinguishable visitor_steps memory_steps id self.old other → result ≡ step_reply other id }
         ensures stands_alike { StaysAlike self.old self.new id }
 
-        // The law, over every list of calls and replies that the world may be after.
+        // The specification, over every history that leads to this world.
         ensures after { Extends splitter self.old self.new (Stepped id result) }
         ensures law { SatisfiesSpec splitter self.new }
         ensures due { RefusesWhereDue splitter self.new }

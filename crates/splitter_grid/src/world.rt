@@ -75,7 +75,7 @@ impl<A: Allocator + Clone> GridWorld<A> {
         ensures state { self.new ≡ after_begin self.old id (walk_of id) }
         ensures unchanged_on_error { OnErr result (self.new ≡ self.old) }
 
-        // The law, over every list of calls and replies that the world may be after.
+        // The specification, over every history that leads to this world.
         ensures after { Extends grid self.old self.new (Began id result) }
         ensures law { SatisfiesSpec grid self.new }
         ensures due { RefusesWhereDue grid self.new }
@@ -107,7 +107,7 @@ impl<A: Allocator + Clone> GridWorld<A> {
         ensures alike { (other : GridState) → Indistinguishable walker_steps memory_steps id self.old other → result ≡ step_reply other id }
         ensures stands_alike { StaysAlike self.old self.new id }
 
-        // The law, over every list of calls and replies that the world may be after.
+        // The specification, over every history that leads to this world.
         ensures after { Extends grid self.old self.new (Stepped id result) }
         ensures law { SatisfiesSpec grid self.new }
         ensures due { RefusesWhereDue grid self.new }
@@ -130,8 +130,8 @@ impl<A: Allocator + Clone> GridWorld<A> {
     pub fn doors_entered(&self) -> u64
         ensures count { result ≡ entered_count self.now }
 
-        // The law, over every list of calls and replies that the world may be after: the doors counted are those that
-        // were entered, and all of them lie on the first diagonals, as many as participants have begun.
+        // Over every history that leads to this world: the doors counted are those that were entered. Where b participants
+        // have begun, all of these doors are on the first b diagonals.
         ensures entered { ShowsWhatWasEntered self.now }
         ensures within { OnEveryHistory grid (λ most r. (k : ℕ) → WasEntered most r k → IsDoorWithin (begun_in r) k) self.now }
         ensures few { OnEveryHistory grid (λ most r. 2 * result ≤ begun_in r * (begun_in r + 1)) self.now }

@@ -83,7 +83,7 @@ impl<A: Allocator + Clone> TreeWorld<A> {
         ensures unchanged_on_error { OnErr result (self.new ≡ self.old) }
         ensures after { Extends tree self.old self.new (Began id result) }
 
-        // The law, over every list of calls and replies that the world may be after.
+        // The specification, over every history that leads to this world.
         ensures law { SatisfiesSpec tree self.new }
         ensures due { RefusesWhereDue tree self.new }
         ensures nodes { HasLawfulNodes self.new }
@@ -148,7 +148,7 @@ impl<A: Allocator + Clone> TreeWorld<A> {
         ensures unchanged_on_error { OnErr result (self.new ≡ self.old) }
         ensures after { Extends tree self.old self.new (Stored id value result) }
 
-        // The law, over every list of calls and replies that the world may be after.
+        // The specification, over every history that leads to this world.
         ensures law { SatisfiesSpec tree self.new }
         ensures due { RefusesWhereDue tree self.new }
 
@@ -162,7 +162,7 @@ impl<A: Allocator + Clone> TreeWorld<A> {
             return Err(Refusal::AlreadyBegun);
         }
         let client = client.storing(value);
-        // Whoever has begun may be set.
+        // This succeeds, since the identity has begun.
         let _ = self.world.set(id, client);
         match self.world.step(id) {
             Ok(_) => Ok(()),
