@@ -22,7 +22,7 @@ const PART: usize = 240;
 
 /// The number of LFs in a part. It has no branch for each byte, so that many are tested at once.
 ///
-/// Not proved: the count is a hint for an allocation.
+/// Not proved: the count, which is a hint for an allocation alone.
 #[inline(always)]
 fn line_ends(part: &[u8]) -> u8 {
     let mut count = 0u8;
@@ -34,7 +34,7 @@ fn line_ends(part: &[u8]) -> u8 {
 
 /// Returns the number of lines to allocate room for: those of a record, at most a million.
 ///
-/// Not proved: `check` has the same contract for every room.
+/// Not proved: this number. `check` is proved for every room.
 pub fn room_for(rows: Option<&[u8]>) -> usize {
     let Some(bytes) = rows else {
         return 0;

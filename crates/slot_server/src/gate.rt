@@ -2,11 +2,11 @@
 
 /// What a worker calls as it serves a connection, so that a test may hold it.
 pub trait Gate<R> {
-    /// Called when a line of a connection is read whole, before it is applied. Only tested: that it is
+    /// Called when a line of a connection is read whole, before it is applied. Only tested: that it is called
     /// (`server_tests`).
     fn read(&self, rt: &R, connection: u64);
 
-    /// Called when a reply to a connection was written whole. Only tested: that it is (`server_tests`).
+    /// Called when a reply to a connection was written whole. Only tested: that it is called (`server_tests`).
     fn answered(&self, rt: &R, connection: u64);
 }
 

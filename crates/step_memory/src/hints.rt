@@ -67,13 +67,14 @@ pub struct Hints {
 }
 
 impl Hints {
-    /// Makes hints that try the first participant first. Not proved: `find` returns the same for all hints.
+    /// Makes hints that try the first participant first. Not proved: which hints these are. `find` is proved for all
+    /// hints.
     pub fn new() -> Self {
         Hints { places: [0; 64] }
     }
 
-    /// Records that the participant with this identity was added at index `at`. Not proved: `find` returns the same for
-    /// all hints.
+    /// Records that the participant with this identity was added at index `at`. Not proved: which hints are then kept.
+    /// `find` is proved for all hints.
     pub fn note(&mut self, id: u64, at: usize) {
         self.places[(id % 64) as usize] = (at % 64) as u8;
     }
