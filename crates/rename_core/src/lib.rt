@@ -32,8 +32,8 @@
 //! limit is above S(b), nobody is spent (`Config::cannot_spend`).
 //!
 //! A participant that runs solo, with two proposals left, is named much sooner (`specs/Alone.antt`,
-//! `law_of_steps_alone`). Where at most m take part, it makes at most 4m + 11G + 1 steps over a grid and 5m + 11(6m -
-//! 2) + 1 over a tree. The others may have crashed anywhere.
+//! `law_of_steps_alone`). Where at most m take part, it makes at most 4m + 11G + 1 steps over a grid of G doors.
+//! Over a tree it makes at most 5m + 11(6m - 2) + 1. The others may have crashed anywhere.
 //!
 //! `step_short` is `step` with a reply of a few bytes: the view that it shows, which takes a kilobyte, is kept beside
 //! it.
