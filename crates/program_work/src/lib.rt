@@ -18,23 +18,18 @@
 //! `in_sight` does any work, and shows beside it that it goes on, in a thread of its own; `may_take_long` says which words ask for such
 //! work. Texts for people are shown by tests.
 //!
-//! A caller:
+//! From `tests_player/src/work_tests.rt`:
 //!
 //! ```text
-//! let mut input = Tried::new(rt.stdin());
-//! let mut output = Tried::new(rt.stdout());
-//! match program(&rt, alloc, &["slotctl", "check"], &mut input, &mut output, &mut rt.stderr()) {
-//!     Outcome::Ended(status) => status,                   // 0, where the record is one of a run
-//!     Outcome::Serve(serving) => ..
-//! }
+//! status_of(&program(threads, alloc, words, reader, writer, errors))
 //! ```
 //!
-//! Another, which has words read:
+//! From `tests_player/src/words_tests.rt`, where words are read:
 //!
 //! ```text
-//! match ask(alloc, &["slotctl", "play", "--m", "2"]) {
-//!     Ok(Ask::Play(playing)) => playing.config.m,         // 2
-//!     ..
+//! match ask(alloc, words_of(alloc, line).as_slice()) {
+//!     Ok(Ask::Play(p)) => Some((p.config.world, p.config.m, p.config.k, p.config.limit)),
+//!     _ => None,
 //! }
 //! ```
 #![tactic(auto)]

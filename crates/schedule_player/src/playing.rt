@@ -17,16 +17,19 @@ use splitter::SplitterWorld;
 use splitter_grid::GridWorld;
 use std::alloc::Allocator;
 
-/// Plays the commands that a reader gives, line by line, and writes the replies, one a line: a transcript of the config's world. The
-/// clause of each kind of world spells out what that is; the last says it once for whatever world the config has.
+/// Plays the commands of a reader, one a line, in a fresh world of the configuration, and writes the replies, one a
+/// line.
 ///
-/// The run ends at the end of the input or at `quit`, and then the text of all answers is written. The replies to what one
-/// read gave are written before the next read. All memory is taken before the first read, but for what a world takes to
-/// answer an event.
+/// The run ends at the end of the input or at `quit`. The replies to what one read gave are written before the next
+/// read. All memory is allocated before the first read, except for nodes of a tree. The first three clauses are for one
+/// kind of world each. The last is for every world.
 ///
-/// `Fault::Memory` where it was refused, with nothing read and nothing written; `Fault::Read` where the reader failed or
-/// was read 2^40 times, with the answers to all whole lines written and a cut line not run; `Fault::Write` where the
-/// writer failed or took nothing, with a prefix of the text written.
+/// # Errors
+///
+/// - `Memory`: an allocation failed. Nothing was read and nothing was written.
+/// - `Read`: a read failed, or 2^40 reads were made. The replies to all whole lines are written, and a cut line was not
+///   run.
+/// - `Write`: a write failed or took no byte. A prefix of the replies is written.
 pub fn play<A: Allocator + Clone, R: Source, W: Sink>(
     alloc: A,
     reader: &mut R,
@@ -57,7 +60,7 @@ pub fn play<A: Allocator + Clone, R: Source, W: Sink>(
     }
 }
 
-/// A fresh world of a config; `Fault::Memory` where memory was refused.
+/// A fresh world of a configuration; `Memory` if an allocation failed.
 pub(crate) fn opened<D: World<A, H>, H, A: Allocator + Clone>(
     alloc: &A,
     config: Config,
@@ -75,7 +78,13 @@ pub(crate) fn opened<D: World<A, H>, H, A: Allocator + Clone>(
     }
 }
 
-/// Plays in a fresh world of any type, as `play`. `play` takes no world apart itself, since that is dear to prove of each type.
+/// Plays in a fresh world of any type, as `play` does.
+///
+/// It is a function of its own, so that `play` drops no world, which costs the prover time for each type.
+///
+/// # Errors
+///
+/// Those of `play`.
 pub fn play_in<D: World<A, H> + Drop, H, A: Allocator + Clone, R: Source, W: Sink>(
     alloc: A,
     rt: &H,
