@@ -2,7 +2,7 @@
 //!
 //! A `Store` has places, each of which is written at most once, by whoever comes first: what stands there in order is the log. A
 //! `Replica` applies the entries of the log to its `Machine`, each once, in their order. `Replica::serve` has a batch come to stand in
-//! the log, behind all that stands there, and gives the replies that are due there. So each reply is told at one place of one
+//! the log, behind all that stands there, and gives the replies that are due there. So each reply is reported at one place of one
 //! history, whichever replica told it (state machine replication).
 //!
 //! What a store over a network holds no contract can say. So `Store::stands` and `Store::lacks` say what the store's own value tells: of a `MemoryStore`
