@@ -40,7 +40,7 @@ REFUSALS = {
     13: "HistoryFull: the history is full",
     14: "OutOfRange: a parameter is outside its range",
 }
-_ALREADY_BEGUN, _FINISHED, _SPENT, _CROWDED, _NOT_COMPETING, _ALREADY_COMPETING, _NO_MEMORY = 2, 5, 6, 7, 8, 9, 12
+_ALREADY_BEGUN, _FINISHED, _CROWDED, _NOT_COMPETING, _ALREADY_COMPETING, _NO_MEMORY = 2, 5, 7, 8, 9, 12
 
 # The replies that a line may have, by its first word. N is a decimal of 64 bits.
 _FORMS = {
@@ -120,7 +120,7 @@ class _Connection:
     def __init__(self, addresses: Sequence[Tuple[str, int]], timeout: float, identity: int) -> None:
         self.identity = identity
         self.serial = 0  # of the last connection: what was said on an earlier one counts no more
-        self._addresses, self._timeout, self._at, self._process = addresses, timeout, 0, os.getpid()
+        self._addresses, self._timeout, self._at = addresses, timeout, 0
         self._stream: Optional[socket.socket] = None
 
     def is_open(self, serial: int) -> bool:
@@ -135,8 +135,6 @@ class _Connection:
 
     def exchange(self, *lines: str) -> List[str]:
         """Sends lines at once, and returns the reply to each. A fault closes the connection; the next one is to the next address."""
-        if os.getpid() != self._process:
-            raise BeglushanError("a number is not taken into a process that was forked")
         host, port = self._addresses[self._at]
         end = time.monotonic() + self._timeout
         try:
@@ -270,6 +268,7 @@ class Number:
         self._is_own = is_drawn  # whether nobody else can have entered for this identity before
         self._own = _Held(0, 0)
         self._lost: Optional[str] = None
+        self._process = os.getpid()
         self._entered_on = 0  # the serial of the connection on which `enter` was said last
         self._thread = threading.Thread(target=self._beat, name=f"beglushan {connection.identity}", daemon=True)
         try:
@@ -300,6 +299,7 @@ class Number:
         """Asks a front end whether the number is held with this token. If `check` returns, that was so at a moment of the call.
 
         Raises LostNumber if it is not, Unreachable, and Refused."""
+        self._refuse_fork()
         with self._lock:
             if self._is_left:
                 raise LostNumber(f"number {self.value} was given back")
@@ -310,6 +310,7 @@ class Number:
 
         Raises LostNumber, and then gives nothing back; Unreachable, and Refused (13 where the history is full). After these two the number
         may be held, and `leave` may be called again."""
+        self._refuse_fork()
         self._over.set()
         self._thread.join()
         with self._lock:
@@ -330,6 +331,10 @@ class Number:
 
     def __repr__(self) -> str:
         return f"<Number {self.value} of identity {self.identity} with token {self.token}>"
+
+    def _refuse_fork(self) -> None:
+        if os.getpid() != self._process:
+            raise BeglushanError("a number is not taken into a process that was forked")
 
     def _acquire(self) -> None:
         """An attempt to get a number and its token. It goes on where an earlier one has ended."""
@@ -494,9 +499,7 @@ class Hall:
                     return int(reply.split(" ")[1])
                 if reply == f"refused {_FINISHED}":
                     return self._owned(connection)
-                if reply == "spent":
-                    raise Refused(_SPENT)
-                _raise_refusal(reply)
+                _raise_refusal(reply)  # after `spent` each step is refused 6
 
     def _owned(self, connection: _Connection) -> int:
         """The name that was given by a step whose reply was lost, or before."""
