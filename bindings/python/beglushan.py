@@ -462,6 +462,8 @@ class Hall:
     def acquire(self) -> Number:
         """Gets a number and its token. A given identity that still holds a number, as after a crash, gets that one with a new token.
 
+        Each number has a connection of its own, and a thread for the heartbeat.
+
         Raises NumbersExhausted; Refused (13 where the history is full, 9 where this hall's given identity holds its number); Unreachable;
         BeglushanError where the slot has the greatest value."""
         if self._is_drawn:
