@@ -1,0 +1,512 @@
+"""A client of `slotctl host`: numbers that are held and given back, and names for good. The standard library alone; Python 3.8 or later.
+
+    with Hall("127.0.0.1:7070").acquire() as number:
+        work(number.value, number.token)    # nobody else holds this number now
+
+A number is held until `leave`, which the end of the block sends. A process that is killed sends none, so its number stays held.
+The token rises with each holder of a number. A resource that refuses a lower token than it has seen refuses a former holder.
+
+A connection that fails is closed, and nothing of it is used again. The client goes on at the next front end, and asks there what
+lost replies said. A front end may still take lines that it has not answered. So each stay has an identity of its own, unless `Hall`
+is given one. This client is tested, and not proved.
+"""
+
+import os
+import re
+import secrets
+import socket
+import threading
+import time
+from typing import Callable, Iterable, List, NamedTuple, Optional, Sequence, Tuple, TypeVar, Union
+
+__all__ = ["BeglushanError", "Hall", "LostNumber", "NoNames", "Number", "NumbersExhausted", "Refused", "Unreachable"]
+
+Result = TypeVar("Result")
+
+# The refusals of docs/PROTOCOL.md, each with its name and when it comes.
+REFUSALS = {
+    1: "ZeroIdentity: the identity is 0",
+    2: "AlreadyBegun: the identity has begun",
+    3: "Full: as many participants as the world takes have begun",
+    4: "NotBegun: the identity has not begun",
+    5: "Finished: the participant has ended",
+    6: "Spent: the participant has used up its rounds",
+    7: "Crowded: as many compete as the pool has numbers",
+    8: "NotCompeting: the identity does not compete",
+    9: "AlreadyCompeting: the identity competes already",
+    10: "Holding: the identity holds a number already",
+    11: "NotHolding: the identity competes and holds no number",
+    12: "NoMemory: a growth was refused in this call",
+    13: "HistoryFull: the history is full",
+    14: "OutOfRange: a parameter is outside its range",
+}
+_ALREADY_BEGUN, _FINISHED, _CROWDED, _NOT_COMPETING, _ALREADY_COMPETING, _NO_MEMORY = 2, 5, 7, 8, 9, 12
+
+# The replies that a line may have, by its first word. N is a decimal of 64 bits.
+_FORMS = {
+    "": "bad 3",
+    "enter": "ok|refused N",
+    "probe": "missed|got N|refused N",
+    "put": "ok|refused N",
+    "held": "none|N N N",
+    "leave": "left N|refused N",
+    "begin": "ok|refused N",
+    "step": "quiet|place N|proposed N|saw N:N(?: N:N)*|named N|spent|refused N",
+    "owner": "owner N|owner none|refused N|bad 3",
+}
+_REPLIES = {word: re.compile(form.replace("N", "(?:0|[1-9][0-9]{0,19})")) for word, form in _FORMS.items()}
+# How many probes are sent at once: a pool has at most 64 numbers, and a competitor has one after as many probes.
+_PROBES = (8, 16, 40)
+# How many steps of renaming are sent at once; the most names, which are at most 2m - 1, where m is at most 64; the longest reply, in bytes.
+_STEPS, _MOST_NAMES, _LONGEST = 64, 127, 8192
+
+
+class BeglushanError(Exception):
+    """The base of each error here. By itself: a number was used in a process that was forked, or a slot has the greatest value."""
+
+
+class Unreachable(BeglushanError):
+    """No front end answered in time: each was closed, silent, or gave a reply that is none of the line's. The text has the last fault.
+
+    What was asked may have been done, or may be done later. `identity` asked it, and may hold a number. `Hall(.., identity=..).acquire()`
+    takes that number up."""
+
+    def __init__(self, text: str, identity: int) -> None:
+        super().__init__(f"{text} (identity {identity})")
+        self.identity = identity
+
+
+class Refused(BeglushanError):
+    """A front end refused a call. `number` and `text` are those of docs/PROTOCOL.md, "Refusals"."""
+
+    def __init__(self, number: int) -> None:
+        self.number = number
+        self.text = REFUSALS.get(number, "unknown")
+        super().__init__(f"refused {number}: {self.text}")
+
+
+class NumbersExhausted(Refused):
+    """`acquire` found as many competitors as the pool has numbers. It holds nothing, and may be called again."""
+
+    def __init__(self) -> None:
+        super().__init__(_CROWDED)
+
+
+class LostNumber(BeglushanError):
+    """A number is no longer held with its token. `check` raises it, and `leave` if `check` has not.
+
+    Somebody has sent `leave` for the identity, or has taken it up in another process, or the server has forgotten its history.
+    `check` raises it after `leave` too."""
+
+
+class NoNames(BeglushanError):
+    """`rename` was called where the front end's world gives no names: it knows no `owner`."""
+
+
+class _Fault(Exception):
+    """An attempt has failed, and may be made again."""
+
+
+class _Held(NamedTuple):
+    """A number, and the value in its slot."""
+
+    number: int
+    value: int
+
+
+class _Connection:
+    """One connection at a time to one of the front ends, for one identity. Replies are matched to lines in their order."""
+
+    def __init__(self, addresses: Sequence[Tuple[str, int]], timeout: float, identity: int) -> None:
+        self.identity = identity
+        self.serial = 0  # of the last connection: what was said on an earlier one counts no more
+        self._addresses, self._timeout, self._at = addresses, timeout, 0
+        self._stream: Optional[socket.socket] = None
+
+    def is_open(self, serial: int) -> bool:
+        """Whether this is the connection's serial, and it is not known to have ended."""
+        return self._stream is not None and self.serial == serial
+
+    def close(self) -> None:
+        """Closes the connection, if there is one."""
+        stream, self._stream = self._stream, None
+        if stream is not None:
+            stream.close()
+
+    def exchange(self, *lines: str) -> List[str]:
+        """Sends lines at once, and returns the reply to each. A fault closes the connection; the next one is to the next address."""
+        host, port = self._addresses[self._at]
+        end = time.monotonic() + self._timeout
+        try:
+            stream = self._silent_stream(host, port)
+            stream.settimeout(self._timeout)
+            stream.sendall("".join(line + "\n" for line in lines).encode("ascii"))
+            replies = _read_replies(stream, len(lines), end)
+            for line, reply in zip(lines, replies):
+                if not _fits(line, reply):
+                    raise OSError(f"{reply[:80]!r} is no reply to {line!r}")
+            return replies
+        except (OSError, UnicodeError) as fault:
+            self.close()
+            self._at = (self._at + 1) % len(self._addresses)
+            raise _Fault(f"{host}:{port}: {fault}") from fault
+        except BaseException:
+            self.close()
+            raise
+
+    def persist(self, attempt: Callable[[], Result], patience: float) -> Result:
+        """Makes an attempt, and again after a fault, until it ends or the patience does. Each front end has its turn at least once.
+
+        An attempt may find done what an earlier one has asked for."""
+        count, faults = len(self._addresses), 0
+        end = time.monotonic() + patience
+        while True:
+            try:
+                return attempt()
+            except _Fault as fault:
+                error: BeglushanError = Unreachable(str(fault), self.identity)
+                error.__cause__ = fault
+            except Refused as refusal:
+                if refusal.number != _NO_MEMORY:
+                    raise
+                error = refusal
+            faults += 1
+            left = end - time.monotonic()
+            if faults >= count and left <= 0:
+                raise error
+            if faults % count == 0:
+                time.sleep(min(0.025 * 2 ** min(faults // count, 6), 1.0, max(left, 0.0)))
+
+    def held(self) -> Optional[_Held]:
+        """The number that the identity holds, if any."""
+        return _as_held(self.exchange(f"held {self.identity}")[0])
+
+    def give_back(self) -> None:
+        """Gives back what the identity holds, or would get, by one try that may fail."""
+        try:
+            self.exchange(*[f"probe {self.identity}"] * sum(_PROBES), f"leave {self.identity}")
+        except _Fault:
+            pass
+
+    def _silent_stream(self, host: str, port: int) -> socket.socket:
+        """The connection, which is made where there is none; a fault where it has ended, or says what was not asked."""
+        if self._stream is None:
+            self._stream = socket.create_connection((host, port), self._timeout)
+            self._stream.setsockopt(socket.IPPROTO_TCP, socket.TCP_NODELAY, 1)
+            self._stream.setsockopt(socket.SOL_SOCKET, socket.SO_KEEPALIVE, 1)
+            self.serial += 1
+        self._stream.setblocking(False)
+        try:
+            said = self._stream.recv(1)
+        except BlockingIOError:
+            return self._stream
+        raise OSError("it says what was not asked" if said else "it closed the connection")
+
+
+def _read_replies(stream: socket.socket, count: int, end: float) -> List[str]:
+    """So many lines until that time, with nothing behind them."""
+    text = b""
+    while text.count(b"\n") < count:
+        left = end - time.monotonic()
+        if left <= 0:
+            raise OSError("it does not answer in time")
+        stream.settimeout(left)
+        piece = stream.recv(1 << 16)
+        text += piece
+        if not piece or len(text) > count * _LONGEST:
+            raise OSError("it says too much" if piece else "it closed the connection")
+    *replies, rest = text.decode("latin-1").split("\n")
+    if len(replies) != count or rest:
+        raise OSError("it says more than was asked")
+    return replies
+
+
+def _fits(line: str, reply: str) -> bool:
+    """Whether this may be the reply to this line."""
+    word, _, identity = line.partition(" ")
+    return bool(_REPLIES[word].fullmatch(reply)) and (word != "held" or reply == "none" or reply.split(" ")[1] == identity)
+
+
+def _as_held(reply: str) -> Optional[_Held]:
+    return None if reply == "none" else _Held(int(reply.split(" ")[0]), int(reply.split(" ")[2]))
+
+
+def _raise_refusal(reply: str, *but: int) -> None:
+    """Raises what a reply refuses, unless that is one of these."""
+    word, _, number = reply.partition(" ")
+    if word == "refused" and int(number) not in but:
+        raise Refused(int(number))
+
+
+def _as_addresses(addresses: Union[str, Iterable[str]]) -> List[Tuple[str, int]]:
+    """Hosts and ports."""
+    pairs = []
+    for text in addresses.split(",") if isinstance(addresses, str) else addresses:
+        host, _, port = text.strip().rpartition(":")
+        if not host or not re.fullmatch("[0-9]{1,5}", port) or not 0 < int(port) < 65536:
+            raise ValueError(f"{text!r} is no host:port")
+        pairs.append((host[1:-1] if host.startswith("[") and host.endswith("]") else host, int(port)))
+    if not pairs:
+        raise ValueError("no address of a front end")
+    return pairs
+
+
+def _drawn_identity() -> int:
+    return secrets.randbelow(2**64 - 1) + 1
+
+
+class Number:
+    """A number that is held, as `Hall.acquire` returns it. A `with` block gives it back at its end. Threads may share it.
+
+    After an exception in the block a failure to give back is not raised, so that the exception is."""
+
+    def __init__(self, connection: _Connection, is_drawn: bool, patience: float, heartbeat: float, at_end: Callable[[], None]) -> None:
+        """For `Hall.acquire` alone."""
+        self._connection, self._patience, self._heartbeat, self._at_end = connection, patience, heartbeat, at_end
+        self._lock, self._over = threading.Lock(), threading.Event()
+        self._is_left = self._is_leaving = self._is_reported = False
+        self._is_own = is_drawn  # whether nobody else can have entered for this identity before
+        self._own = _Held(0, 0)
+        self._lost: Optional[str] = None
+        self._process = os.getpid()
+        self._entered_on = 0  # the serial of the connection on which `enter` was said last
+        self._thread = threading.Thread(target=self._beat, name=f"beglushan {connection.identity}", daemon=True)
+        try:
+            connection.persist(self._acquire, patience)
+            self._thread.start()
+        except BaseException as fault:
+            if self._is_own and not isinstance(fault, (Unreachable, NumbersExhausted)):
+                connection.give_back()
+            connection.close()
+            raise
+
+    @property
+    def identity(self) -> int:
+        """Who holds it: from 1 to 2^64 - 1."""
+        return self._connection.identity
+
+    @property
+    def value(self) -> int:
+        """The number, from 1 to the size of the pool."""
+        return self._own.number
+
+    @property
+    def token(self) -> int:
+        """The fencing token, at least 1: above that of each earlier holder of this number."""
+        return self._own.value
+
+    def check(self) -> None:
+        """Asks a front end whether the number is held with this token. If `check` returns, that was so at a moment of the call.
+
+        Raises LostNumber if it is not, Unreachable, and Refused."""
+        self._refuse_fork()
+        with self._lock:
+            if self._is_left:
+                raise LostNumber(f"number {self.value} was given back")
+            self._settle(self._assure)
+
+    def leave(self) -> None:
+        """Gives the number back. Once that is done, or once LostNumber was raised, it does nothing.
+
+        Raises LostNumber, and then gives nothing back; Unreachable, and Refused (13 where the history is full). After these two the number
+        may be held, and `leave` may be called again."""
+        self._refuse_fork()
+        self._over.set()
+        self._thread.join()
+        with self._lock:
+            if not self._is_left and not self._is_reported:
+                self._settle(self._leave)
+                self._is_left = True
+                self._end()
+
+    def __enter__(self) -> "Number":
+        return self
+
+    def __exit__(self, kind: object, fault: object, trace: object) -> None:
+        try:
+            self.leave()
+        except BeglushanError:
+            if kind is None:
+                raise
+
+    def __repr__(self) -> str:
+        return f"<Number {self.value} of identity {self.identity} with token {self.token}>"
+
+    def _refuse_fork(self) -> None:
+        if os.getpid() != self._process:
+            raise BeglushanError("a number is not taken into a process that was forked")
+
+    def _acquire(self) -> None:
+        """An attempt to get a number and its token. It goes on where an earlier one has ended."""
+        exchange, probe, held = self._connection.exchange, f"probe {self.identity}", f"held {self.identity}"
+        entered, *probes, last = exchange(f"enter {self.identity}", *[probe] * _PROBES[0], held)
+        if entered == f"refused {_CROWDED}":
+            raise NumbersExhausted()
+        _raise_refusal(entered, _ALREADY_COMPETING)
+        self._is_own = self._is_own or entered == "ok"
+        for count in _PROBES[1:]:
+            if last == "none":
+                _raise_refusal(next((reply for reply in probes if reply != "missed"), "missed"))
+                *probes, last = exchange(*[probe] * count, held)
+        now = _as_held(last)
+        if now is None:
+            raise _Fault(f"no number after {sum(_PROBES)} probes")
+        # A `put` of an earlier attempt may have been taken, or may be taken yet. The same token makes it harmless.
+        if entered == "ok" or now.number != self.value or now.value not in (self.token - 1, self.token):
+            self._own = _Held(now.number, now.value + 1)
+        if self.token >= 2**64:
+            raise BeglushanError(f"the slot of number {self.value} has the greatest value, and no token is above that")
+        _raise_refusal(exchange(f"put {self.identity} {self.token}")[0])
+        self._entered_on = self._connection.serial
+
+    def _assure(self) -> None:
+        """An attempt to find that the number is held. On a new connection it says `enter` too."""
+        self._compare(self._connection.held())
+        if not self._connection.is_open(self._entered_on):
+            reply = self._connection.exchange(f"enter {self.identity}")[0]
+            if reply == "ok":
+                self._connection.give_back()
+            if reply in ("ok", f"refused {_CROWDED}"):
+                raise self._lose("the identity has left")
+            _raise_refusal(reply, _ALREADY_COMPETING)
+            self._entered_on = self._connection.serial
+
+    def _leave(self) -> None:
+        """An attempt to give the number back, unless an earlier one has done that."""
+        held = self._connection.held()
+        if held is None and self._is_leaving:
+            return
+        self._compare(held)
+        is_again, self._is_leaving = self._is_leaving, True
+        reply = self._connection.exchange(f"leave {self.identity}")[0]
+        _raise_refusal(reply, _NOT_COMPETING)
+        if reply != f"left {self.value}" and not (is_again and reply == f"refused {_NOT_COMPETING}"):
+            raise self._lose(f"`leave` was answered `{reply}`")
+
+    def _keep(self) -> None:
+        """An attempt to keep the connection, or to have another."""
+        if self._connection.is_open(self._entered_on):
+            self._connection.exchange("")
+        else:
+            self._assure()
+
+    def _compare(self, held: Optional[_Held]) -> None:
+        if held is None:
+            raise self._lose("the identity holds none")
+        if held != self._own:
+            raise self._lose(f"the identity holds {held.number}, with token {held.value}")
+
+    def _lose(self, why: str) -> LostNumber:
+        self._lost = f"number {self.value} with token {self.token} is lost: {why}"
+        self._end()
+        return LostNumber(self._lost)
+
+    def _end(self) -> None:
+        self._over.set()
+        self._connection.close()
+        self._at_end()
+
+    def _settle(self, attempt: Callable[[], None]) -> None:
+        """Makes an attempt, unless the number is lost. Raises LostNumber where it is, now or before."""
+        try:
+            if self._lost is None:
+                self._connection.persist(attempt, self._patience)
+        except LostNumber:
+            pass
+        if self._lost is not None:
+            self._is_reported = True
+            raise LostNumber(self._lost)
+
+    def _beat(self) -> None:
+        """The heartbeat, while the number is held."""
+        while not self._over.wait(self._heartbeat):
+            with self._lock:
+                try:
+                    if not self._over.is_set():
+                        self._connection.persist(self._keep, 0.0)
+                except BeglushanError:
+                    continue  # a number that is lost is over; else the next beat tries again
+
+
+class Hall:
+    """A hall that front ends serve: a pool of numbers, and names. It has no connection of its own. Threads may share it."""
+
+    def __init__(
+        self,
+        addresses: Union[str, Iterable[str]],
+        *,
+        identity: Optional[int] = None,
+        timeout: float = 5.0,
+        heartbeat: float = 60.0,
+        patience: float = 20.0,
+    ) -> None:
+        """Takes note of the front ends, and connects to none.
+
+        `addresses` are `host:port` texts, or one text with commas between them, tried in turn; an IPv6 address stands in brackets.
+        `identity` holds the number and has the name, from 1 to 2^64 - 1. With it the hall holds one number at a time. Without it an identity
+        is drawn for each number, and one for the name.
+        All else is in seconds. `timeout` is the longest that a front end may take to connect or to answer. A held number's connection says
+        something each `heartbeat`, which has to be shorter than the server's `--idle`. A call tries the front ends for `patience`.
+
+        Raises ValueError for a text that is no address, an identity out of range, and seconds that are not positive."""
+        if identity is not None and not 0 < identity < 2**64:
+            raise ValueError("an identity is from 1 to 2^64 - 1")
+        if min(timeout, heartbeat, patience) <= 0:
+            raise ValueError("seconds are positive")
+        self.identity = _drawn_identity() if identity is None else identity
+        self._is_drawn = identity is None
+        self._addresses = _as_addresses(addresses)
+        self._timeout, self._heartbeat, self._patience = timeout, heartbeat, patience
+        self._busy = threading.Lock()
+
+    def acquire(self) -> Number:
+        """Gets a number and its token. A given identity that still holds a number, as after a crash, gets that one with a new token.
+
+        Each number has a connection of its own, and a thread for the heartbeat.
+
+        Raises NumbersExhausted; Refused (13 where the history is full, 9 where this hall's given identity holds its number); Unreachable;
+        BeglushanError where the slot has the greatest value."""
+        if self._is_drawn:
+            return self._acquired(_drawn_identity(), lambda: None)
+        if not self._busy.acquire(blocking=False):
+            raise Refused(_ALREADY_COMPETING)
+        try:
+            return self._acquired(self.identity, self._busy.release)
+        except BaseException:
+            self._busy.release()
+            raise
+
+    def rename(self) -> int:
+        """The name of this hall's identity, from 1 to 2m - 1, where m is the most participants. It is for good: each call returns the same.
+
+        Raises Refused (3 where as many have begun as the world takes, 6 where the proposals are used up, 13), NoNames and Unreachable."""
+        connection = _Connection(self._addresses, self._timeout, self.identity)
+        try:
+            return connection.persist(lambda: self._named(connection), self._patience)
+        finally:
+            connection.close()
+
+    def _acquired(self, identity: int, at_end: Callable[[], None]) -> Number:
+        connection = _Connection(self._addresses, self._timeout, identity)
+        return Number(connection, self._is_drawn, self._patience, self._heartbeat, at_end)
+
+    def _named(self, connection: _Connection) -> int:
+        """An attempt to be named, which goes on where an earlier one has ended."""
+        if connection.exchange("owner 1")[0] == "bad 3":
+            raise NoNames("the world gives no names")
+        _raise_refusal(connection.exchange(f"begin {self.identity}")[0], _ALREADY_BEGUN)
+        while True:
+            for reply in connection.exchange(*[f"step {self.identity}"] * _STEPS):
+                if reply.startswith("named "):
+                    return int(reply.split(" ")[1])
+                if reply == f"refused {_FINISHED}":
+                    return self._owned(connection)
+                _raise_refusal(reply)  # after `spent` each step is refused 6
+
+    def _owned(self, connection: _Connection) -> int:
+        """The name that was given by a step whose reply was lost, or before."""
+        names = range(1, _MOST_NAMES + 1)
+        for name, reply in zip(names, connection.exchange(*[f"owner {name}" for name in names])):
+            if reply == f"owner {self.identity}":
+                return name
+        raise _Fault("the participant has ended, and owns no name")
