@@ -25,7 +25,7 @@ pub record IsWalkAt (segments : List (Option Record)) (k : FixedWalk) (j : ℕ) 
   pub at : k.at ≡ j
   pub inside : j < length segments
 
--- who has begun has its place, and a walk reads each segment once
+-- each participant that has begun has its place, and a walk reads each segment once
 abbrev pub fixed_ties : PlaceTies (List (Option Record)) FixedWalker FixedWalk
 fixed_ties = record {
   IsNew = IsEmptyRow;
@@ -46,6 +46,6 @@ fixed_places = places_by walker_steps fixed_place fixed_walks fixed_steps length
 abbrev pub fresh_row : ℕ → List (Option Record)
 fresh_row most = replicate most None
 
--- over m of them nobody takes a step to its place, and a scan makes at most m(m + 1) reads
+-- over m segments no participant makes a step to its place, and a scan makes at most m(m + 1) reads
 abbrev pub fixed_bounds : ℕ → SnapBounds
 fixed_bounds m = record { most = m; placing = λ b. 0; scanning = λ b. m * (m + 1); collecting = m }
