@@ -1,4 +1,4 @@
--- renaming as a machine, and what is said of a world after its calls
+-- renaming as a machine, and properties of a world after its calls
 use Rattle.std.specs.Prelude.{◌≡◌, ℕ, ◌+◌, ◌*◌, ◌≤◌, true, if◌then◌else◌, ◌⊎◌, List, Option, Some, None, Err, IsOk}
 use Rattle.step_memory.specs.declared.refusal.Refusal.TheVariants.{NoMemory}
 use Rattle.step_memory.specs.World.{begin_refusal, done_unless}
@@ -20,12 +20,12 @@ use Rattle.rename_core.specs.RenameState.{RenameState}
 use Rattle.rename_core.specs.RenameWorld.{fresh_world, after_rename_begin, step_refusal, rename_answer, after_rename_step, may_lack, LacksMemory}
 
 module _ {S R V U K : Type 0} (W : KnownPlaces S R V U K) where
-  -- the world after a call. A step for which a growth was refused is still to come
+  -- the world after a call. A step that fails with `NoMemory` changes nothing
   abbrev pub next : RenameState S U K → Call StepReply → RenameState S U K
   next w (Began id reply) = after_rename_begin W w id
   next w (Stepped id reply) = if lacked_memory reply then w else after_rename_step W w id
 
-  -- the reply is the one that the call gets, or the refusal of a growth where there may be one and nothing else is due
+  -- the reply is the due one, or `NoMemory` at a step that may lack memory and for which no other refusal is due
   abbrev pub IsReply : RenameState S U K → Call StepReply → Type 0
   IsReply w (Began id reply) = reply ≡ done_unless (begin_refusal w.snap id)
   IsReply w (Stepped id reply) =

@@ -34,7 +34,7 @@ pub record ChangesOwnSlot {T : Type 0} (id : ℕ) (value : T) (old new : SlotsSt
   pub others : (number : ℕ) → 1 ≤ number → number_answer old.pool id ≢ Ok number → slot number new.values ≡ slot number old.values
   pub pool : new.pool ≡ old.pool
 
--- the values after `widen` that is answered so: each new slot holds this value
+-- the values after a `widen` with this reply: each new slot holds this value
 abbrev pub extended_in : {T : Type 0} → Result (Unit {0}) Refusal → ℕ → T → List T → List T
 extended_in (Ok done) more value values = values ++ replicate (more - length values) value
 extended_in (Err refusal) more value values = values
