@@ -1,5 +1,5 @@
--- the frame of a call: a competitor sees of the others the one bit that it reaches, and changes of the pool that bit
--- and its own state alone (this project's profile)
+-- the frame of a call: a competitor reads of the others one bit alone, and changes of the pool that bit and its own
+-- state alone (this project's profile)
 use Rattle.std.specs.Prelude.{◌≡◌, ◌≢◌, ℕ, Option, Some, None, Result, IfOk, OnOk, unwrap_or}
 use Rattle.step_memory.specs.declared.access.Access.{Access}
 use Rattle.step_memory.specs.declared.access.Answer.{Answer}

@@ -61,7 +61,7 @@ BeginSlots [] = Unit {0}
 BeginSlots (h ∷ r) = BeginsSlots h × BeginSlots r
 
 -- these calls lead to the desk, with these bounds on participants, rounds and numbers at the start. The calls of
--- renaming lead to its renaming world. The others lead to its slots, each of which holds 0 when it is new
+-- renaming lead to its renaming world, and the others to its slots, each of which holds 0 when it is new
 pub record ReachesDesk {S R V U K : Type 0} (W : KnownPlaces S R V U K) (kind : WorldKind) (most limit size : ℕ) (w : DeskState S U K) (calls : List DeskCall) : Type 0 where
   pub first : S
   pub room : W.most_of first ≡ most

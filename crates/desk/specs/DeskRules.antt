@@ -25,7 +25,7 @@ abbrev pub fetched : List ℕ → Result ℕ Refusal → Result ℕ Refusal
 fetched values (Ok number) = Ok (slice_index values (number - 1))
 fetched values (Err why) = Err why
 
--- why one who should hold a number holds none
+-- why an identity holds no number, if it holds none
 abbrev pub refusal_of : Result ℕ Refusal → Option Refusal
 refusal_of (Ok number) = None
 refusal_of (Err why) = Some why
@@ -36,7 +36,7 @@ grows_by None may = may
 grows_by (Some why) may = false
 
 module _ {S U K : Type 0} where
-  -- a desk on which nothing was done, over these places, for so many participants, rounds and numbers; each slot holds 0
+  -- a desk over these places before any call, for this many participants, rounds and numbers. Each slot holds 0
   abbrev pub fresh_over : S → ℕ → ℕ → ℕ → DeskState S U K
   fresh_over first most limit size = record {
     names = fresh_world first most limit;

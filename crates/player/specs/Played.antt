@@ -16,8 +16,8 @@ use Rattle.player.specs.Asked.{asked_by, asks_quit}
 use Rattle.player.specs.Counts.{CountsAnswers}
 use Rattle.player.specs.Texts.{replies_of}
 
--- a reader before a call and after it, and what a contract sees of one: the bytes that it still has, if it reports
--- them, the number of reads, and the number of reads that failed
+-- a reader before a call and after it, as a contract sees it. It has the bytes that are left, if it reports them, the
+-- number of reads, and the number of reads that failed
 pub record Reading (R : Type 0) : Type 0 where
   pub remaining : R → Option (List ℕ)
   pub calls : R → ℕ
@@ -28,8 +28,8 @@ pub record Reading (R : Type 0) : Type 0 where
 abbrev pub reading : {R : Type 0} → (R → Option (List ℕ)) → (R → ℕ) → (R → ℕ) → R → R → Reading R
 reading remaining calls failed old new = record { remaining = remaining; calls = calls; failed = failed; old = old; new = new }
 
--- a writer before a call and after it, and what a contract sees of one: the bytes that were written, if it reports
--- them, and the number of writes that failed
+-- a writer before a call and after it, as a contract sees it. It has the bytes that were written, if it reports them,
+-- and the number of writes that failed
 pub record Writing (W : Type 0) : Type 0 where
   pub contents : W → Option (List ℕ)
   pub failed : W → ℕ

@@ -29,7 +29,7 @@ pub record HasTwoLeft (terms : RenameTerms) (o : RenameObject) (p : ℕ) : Type 
 abbrev pub steps_alone : SnapBounds → ℕ
 steps_alone bounds = bounds.placing bounds.most + 11 * bounds.collecting + 1
 
--- p has a name; or it is not spent, so that its steps go on, and has made fewer than so many among these calls
+-- p has a name. Or it is not spent, so that its steps go on, and it has made fewer than `most` among these calls
 abbrev pub IsNamedWithin : ℕ → RenameObject → ℕ → List (Call StepReply) → Type 0
 IsNamedWithin most now p more = (is_some (now.name p) ≡ true) ⊎ ((now.spent p ≡ false) × (steps_of p more < most))
 

@@ -1,5 +1,5 @@
--- the frame of a step: a participant sees of the others the register that it reads alone, and leaves of the world all
--- that it does not write (this project's profile)
+-- the frame of a step: a participant reads of the others one register alone, and changes of the world nothing but what
+-- it writes (this project's profile)
 use Rattle.std.specs.Prelude.{◌≡◌, ◌≢◌, ℕ, Option, Some, None, Result, IfOk, OnOk}
 use Rattle.step_memory.specs.declared.access.Access.{Access}
 use Rattle.step_memory.specs.declared.access.Answer.{Answer}

@@ -32,7 +32,8 @@ module _ {S R V U K : Type 0} (W : KnownPlaces S R V U K) where
       (reply ≡ rename_answer W w id)
       ⊎ ((reply ≡ Err NoMemory) × LacksMemory W w id)
 
-  -- nobody has begun, and nothing was written. There is room for so many, each with so many proposals
+  -- no participant has begun, and nothing was written. There is room for `most` participants, each with at most `limit`
+  -- proposals
   pub record IsFresh (most limit : ℕ) (w : RenameState S U K) : Type 0 where
     pub first : S
     pub new : W.ties.IsNew first
@@ -58,7 +59,7 @@ module _ {S R V U K : Type 0} (W : KnownPlaces S R V U K) where
   abbrev pub terms_of : WorldKind → S × ℕ → RenameTerms
   terms_of kind first = record { most = W.most_of first.0; limit = first.1; grows = is_tree kind }
 
-  -- where b have begun, of whom walks over the segments make so many reads, a scan makes at most b + 1 collects
+  -- if b have begun, a scan makes at most b + 1 collects, each of as many reads as a walk over the segments makes
   abbrev pub bounds_for : S × ℕ → SnapBounds
   bounds_for first = bounds_over W first.0 (λ b. (b + 1) * W.ties.reads (W.most_of first.0) b)
 
@@ -74,7 +75,8 @@ module _ {S R V U K : Type 0} (W : KnownPlaces S R V U K) where
       RefusesAsDue = λ first r. AnswersAsDue after (Allows (terms_of kind first)) new_object r;
     }
 
-    -- every list of calls that leads to this world keeps the law within these bounds, which go by the most participants
+    -- every list of calls that leads to this world satisfies the specification within these bounds, which depend on the
+    -- most participants
     abbrev pub SatisfiesSpecWithin : (ℕ → SnapBounds) → RenameState S U K → Type 0
     SatisfiesSpecWithin bounds w = OnEveryHistory renaming (λ first r. RenameSpec (terms_of kind first) (bounds (W.most_of first.0)) r) w
 

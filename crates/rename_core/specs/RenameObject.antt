@@ -18,9 +18,9 @@ pub record RenameTerms : Type 0 where
   pub limit : ℕ
   pub grows : Bool
 
--- the identities that have begun, and how many they are; their places and names; those that are spent; and the moments,
--- which are maps from identity to proposal, with numbers from 0 to the last. Of each identity it has the moment of its
--- last proposal, and the number of its proposals
+-- the identities that have begun, with their places and names, and those that are spent. Moments are maps from identity
+-- to proposal, with numbers from 0 to the last. Of each identity the object has the moment of its last proposal, and
+-- the number of its proposals
 pub record RenameObject : Type 0 where
   pub begun : ℕ → Bool
   pub many : ℕ

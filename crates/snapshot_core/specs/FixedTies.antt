@@ -12,7 +12,7 @@ pub record IsEmptyRow (segments : List (Option Record)) : Type 0 where
   pub few : length segments ≤ 16
   pub empty : (x : ℕ) → slice_index_or segments x None ≡ None
 
--- so many have begun, no more than there are segments. Their places are the first ones, each of another
+-- this many have begun, no more than there are segments. Their places are the first ones, and no two have one
 pub record IsRowFor (segments : List (Option Record)) (b : ℕ) (ways : ℕ → Option FixedWalker) : Type 0 where
   pub few : length segments ≤ 16
   pub room : b ≤ length segments
@@ -42,7 +42,7 @@ fixed_ties = record {
 abbrev pub fixed_places : KnownPlaces (List (Option Record)) ℕ (Option Record) FixedWalker FixedWalk
 fixed_places = places_by walker_steps fixed_place fixed_walks fixed_steps length fixed_walker fixed_walk fixed_ties
 
--- so many empty segments in a row
+-- a row of empty segments
 abbrev pub fresh_row : ℕ → List (Option Record)
 fresh_row most = replicate most None
 

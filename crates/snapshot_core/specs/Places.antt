@@ -17,7 +17,8 @@ module _ {S R V U : Type 0} (way : ProgramSteps U R V ℕ) (memory : MemorySteps
   abbrev pub way_after : U → S → U
   way_after u s = way.resumed u (answer_got way memory u s)
 
--- what ties a memory of type S to the ways U of those who have begun, and to walks K over its segments
+-- the relations of a memory of type S to the ways U of the participants that have begun, and to walks K over its
+-- segments
 pub record PlaceTies (S U K : Type 0) : Type 1 where
   -- a memory in which nothing was written
   pub IsNew : S → Type 0
@@ -36,7 +37,7 @@ pub record PlaceTies (S U K : Type 0) : Type 1 where
   -- over this memory a walk has made this many reads, and is not over
   pub HasRead : S → K → ℕ → Type 0
 
--- places: what gives them does, step by step, in one record
+-- places: the ways, the walks and the memory of one implementor, step by step, in one record
 pub record KnownPlaces (S R V U K : Type 0) : Type 1 where
   -- a way to a place, and the place that it has reached
   pub walker : ProgramSteps U R V ℕ

@@ -19,6 +19,6 @@ pub record DoorSatisfiesSpec (x y : ℕ) (stage : ℕ → Stage) : Type 0 where
   pub alone : (p : ℕ) → has_stopped (stage p) ≡ true → (q : ℕ) → is_between (stage q) ≡ true → x ≢ q
   pub one : (p q : ℕ) → has_stopped (stage p) ≡ true → has_stopped (stage q) ≡ true → p ≡ q
 
--- the law of the splitter, of the visits
+-- the visits satisfy the specification of a splitter
 abbrev pub IsSplitter : (ℕ → Stage) → Type 0
 IsSplitter stage = IsSplit (λ p. has_entered (stage p) ≡ true) (λ p way. stage p ≡ Gone way)

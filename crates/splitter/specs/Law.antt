@@ -14,7 +14,7 @@ AtMostOneStopped Took = (p q : ℕ) → Took p Stop → Took q Stop → p ≡ q
 abbrev pub NotAllTook : Way → (ℕ → Type 0) → (ℕ → Way → Type 0) → Type 0
 NotAllTook way Entered Took = (p : ℕ) → Entered p → (q : ℕ) × Entered q × (¬ Took q way)
 
--- at most one of those who entered stopped; not all of them went right, and not all of them went down
+-- at most one of the participants that entered stopped; not all of them went right, and not all of them went down
 pub record IsSplit (Entered : ℕ → Type 0) (Took : ℕ → Way → Type 0) : Type 0 where
   pub one_stops : AtMostOneStopped Took
   pub not_all_right : NotAllTook Right Entered Took

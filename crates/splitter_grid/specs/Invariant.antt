@@ -67,9 +67,9 @@ pub record DoorsAgree (limit b : ℕ) (x_of y_of : ℕ → ℕ) (walker : ℕ �
       StandsAt walker p d c
       ⊎ (((went_right (stage (door_number d c) p) ≡ true) × (reached (suc d) c ≡ true))
       ⊎ ((went_down (stage (door_number d c) p) ≡ true) × (reached (suc d) (suc c) ≡ true)))
-  -- at a door that was reached someone stands, or someone has entered it
+  -- a door that was reached has been entered, or a participant is there
   pub here : (d c : ℕ) → reached d c ≡ true → ((p : ℕ) × StandsAt walker p d c) ⊎ ((p : ℕ) × (has_entered (stage (door_number d c) p) ≡ true))
-  -- it was reached from the diagonal before
+  -- a door below the corner was reached from a door on the diagonal before
   pub comes : (d c : ℕ) → c ≤ suc d → reached (suc d) c ≡ true → (e : ℕ) × (e ≤ d) × (reached d e ≡ true)
   pub inside : (d c : ℕ) → reached d c ≡ true → c ≤ d
   pub within : (d c : ℕ) → reached d c ≡ true → d < limit

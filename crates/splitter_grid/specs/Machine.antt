@@ -54,6 +54,6 @@ grid = world_machine grid_parts
 abbrev pub place_in : GridState → ℕ → Option ℕ
 place_in w id = place_by (program_of id w.participants)
 
--- the doors of a grid for so many participants
+-- the number of doors of a grid for this many participants
 abbrev pub doors_for : ℕ → ℕ
 doors_for most = most * (most + 1) / 2
