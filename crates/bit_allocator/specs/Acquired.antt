@@ -1,5 +1,5 @@
--- a whole stay at once: one who enters and probes until it gets a number (Moir and Anderson 1995; that it is one call is
--- this project's profile)
+-- a whole stay at once: a competitor enters and probes until it gets a number (Moir and Anderson 1995; that it is one
+-- call is this project's profile)
 use Rattle.std.specs.Prelude.{◌≡◌, ℕ, zero, suc, ◌+◌, List, [], ◌∷◌, ◌++◌, replicate, Result, Ok, Err, Bool, false, not}
 use Rattle.step_memory.specs.declared.access.Answer.{Answer}
 use Rattle.step_memory.specs.declared.access.Answer.TheVariants.{Value, WasSet, Done}
@@ -16,7 +16,7 @@ use Rattle.bit_allocator.specs.Calls.Call.{Entered, Probed}
 use Rattle.bit_allocator.specs.Machine.{next, IsReply, pool}
 use Rattle.step_memory.specs.Machine.{Reaches, OnEveryHistory, Extends}
 
--- the calls of one who enters, misses so often and then gets a number
+-- the calls of a competitor that enters, misses this often and then gets a number
 abbrev pub stay_calls : ℕ → ℕ → ℕ → List Call
 stay_calls p misses n = Entered p (Ok tt) ∷ (replicate misses (Probed p (Ok Missed)) ++ Probed p (Ok (Got n)) ∷ [])
 

@@ -13,7 +13,7 @@ identities cs = map (λ c. c.identity) cs
 abbrev pub index_of : ℕ → List Competitor → Option ℕ
 index_of id cs = index_by (λ c. c.identity) id cs
 
--- where an identity stands; none where it does not compete
+-- the state of a competitor, or none if the identity does not compete
 abbrev pub stay_of : ℕ → List Competitor → Option Stay
 stay_of id cs = seen_by (λ c. c.identity) (λ c. c.stay) id cs
 
@@ -37,7 +37,7 @@ abbrev pub holds_at : ℕ → Option ℕ → Bool
 holds_at number None = false
 holds_at number (Some n) = n == number
 
--- who holds a number: the first that does
+-- the first competitor that holds a number
 abbrev pub holder_in : ℕ → List Competitor → Option ℕ
 holder_in number [] = None
 holder_in number (c ∷ cs) = if holds_at number (held_at c.stay) then Some c.identity else holder_in number cs

@@ -1,4 +1,4 @@
--- what is true of every pool, whatever calls it got
+-- an invariant of every pool, after any calls
 use Rattle.std.specs.Prelude.{ℕ, ◌≤◌, List, All}
 use Rattle.bit_allocator.specs.declared.competitor.Competitor.{Competitor}
 use Rattle.bit_allocator.specs.Stay.{IsWithin}

@@ -1,10 +1,10 @@
--- the law of the pool, over calls and their replies alone
+-- the specification of the pool, over calls and their replies alone
 use Rattle.std.specs.Prelude.{◌≡◌, ℕ, ◌≤◌, List, length, Some, true}
 use Rattle.bit_allocator.specs.Calls.{Call}
 use Rattle.bit_allocator.specs.PoolObject.{PoolObject, IsRun, competes}
 
--- the replies are those of the pool object, begun with this size, in order; no more compete than there are numbers at
--- present, and what is held is one to one from those who compete into these numbers
+-- The replies are those of the pool object, fresh with this size, in order. No more compete than there are numbers at
+-- present. No two competitors hold one number, and each number held is one of these
 pub record PoolSpec (size : ℕ) (r : List Call) : Type 0 where
   pub object : PoolObject
   pub run : IsRun size r object

@@ -1,5 +1,5 @@
--- locality: a competitor sees of the others what stands in the one bit that it reaches, and leaves of the pool nothing
--- but that bit and its own state (this project's profile)
+-- the frame of a call: a competitor reads of the others one bit alone, and changes of the pool that bit and its own
+-- state alone (this project's profile)
 use Rattle.std.specs.Prelude.{◌≡◌, ◌≢◌, ℕ, Option, Some, None, Result, IfOk, OnOk, unwrap_or}
 use Rattle.step_memory.specs.declared.access.Access.{Access}
 use Rattle.step_memory.specs.declared.access.Answer.{Answer}
@@ -13,12 +13,12 @@ use Rattle.bit_allocator.specs.Competitors.{stay_of}
 use Rattle.bit_allocator.specs.PoolState.{PoolState}
 use Rattle.bit_allocator.specs.Widening.{widen_access}
 
--- p stands alike in two pools
+-- p has the same state in two pools
 abbrev pub StandAlike : ℕ → PoolState → PoolState → Type 0
 StandAlike p one other = stay_of p one.competitors ≡ stay_of p other.competitors
 
--- a call of a competitor as functions of the size, of its own state, and of what its one access answers: the access,
--- the reply, and the own state that is left (none: it competes no more)
+-- a call of a competitor, as three functions of the size, of its own state, and of the answer to its one access. They
+-- are the access, the reply and the new state, which is none if it competes no more
 pub record OwnSteps (O : Type 0) : Type 0 where
   pub access : ℕ → Stay → Access ℕ (Unit {0})
   pub reply : ℕ → Stay → Answer (Unit {0}) → O
@@ -43,8 +43,8 @@ module _ {O : Type 0} (steps : OwnSteps O) where
   abbrev pub got_in : PoolState → Stay → Answer (Unit {0})
   got_in w stay = answer_of w.bits (steps.access w.size stay)
 
-  -- an accepted call of p makes the one access that p's own state names; its reply and p's new state are functions of
-  -- that state and the answer; nothing else changes, and where p does not compete no bit does
+  -- an accepted call of p makes the one access that p's own state names. Its reply and p's new state are functions of
+  -- that state and the answer. Nothing else changes, and no bit does if p does not compete
   pub record ChangesOnly (p : ℕ) (old new : PoolState) (result : Result O Refusal) : Type 0 where
     pub access : (stay : Stay) → stay_of p old.competitors ≡ Some stay → OnOk result (new.bits ≡ after_access old.bits (steps.access old.size stay))
     pub reply : (stay : Stay) → stay_of p old.competitors ≡ Some stay → IfOk result (λ x. x ≡ steps.reply old.size stay (got_in old stay))
@@ -54,7 +54,7 @@ module _ {O : Type 0} (steps : OwnSteps O) where
     pub absent : stay_of p old.competitors ≡ None → new.bits ≡ old.bits
     pub size : new.size ≡ old.size
 
-  -- p stands alike in two pools of one size, and they have the same bit where p's own state names one
+  -- p has the same state in two pools of one size, and they have the same bit if p's own state names one
   pub record Indistinguishable (p : ℕ) (one other : PoolState) : Type 0 where
     pub size : one.size ≡ other.size
     pub stay : stay_of p one.competitors ≡ stay_of p other.competitors

@@ -12,8 +12,8 @@ use Rattle.bit_allocator.specs.Calls.{Call}
 use Rattle.bit_allocator.specs.Calls.Call.{Entered, Probed, Left, Widened}
 use Rattle.bit_allocator.specs.Widening.{widen_refusal}
 
--- the present size; who competes; the number that each identity holds, if any; and how many accepted probes it has made in
--- its present stay
+-- the present size, and the identities that compete. Of each identity it has the number that it holds, if any, and how
+-- many accepted probes it has made in its present stay
 pub record PoolObject : Type 0 where
   pub size : ℕ
   pub competing : List ℕ

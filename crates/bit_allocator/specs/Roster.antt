@@ -1,9 +1,9 @@
--- what is true of the competitors of every pool, and of what is noted of them
+-- an invariant of the competitors of every pool, and of the index that it has of them
 use Rattle.std.specs.Prelude.{◌≡◌, ◌≢◌, ℕ, ◌%◌, List, [], ◌∷◌, None, slice_index}
 use Rattle.bit_allocator.specs.declared.competitor.Competitor.{Competitor}
 use Rattle.bit_allocator.specs.Competitors.{stay_of}
 
--- no identity stands twice
+-- no identity occurs twice
 abbrev pub AreDistinct : List Competitor → Type 0
 AreDistinct [] = Unit {0}
 AreDistinct (c ∷ cs) = (stay_of c.identity cs ≡ None) × AreDistinct cs

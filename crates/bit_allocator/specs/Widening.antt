@@ -7,7 +7,7 @@ use Rattle.step_memory.specs.declared.refusal.Refusal.TheVariants.{OutOfRange}
 use Rattle.bit_allocator.specs.Competitors.{holder_in}
 use Rattle.bit_allocator.specs.PoolState.{PoolState}
 
--- why a pool of this size does not get so many numbers: it has as many, or they are more than 64
+-- why a pool of this size does not get this many numbers: it has as many, or they are more than 64
 abbrev pub widen_refusal : ℕ → ℕ → Option Refusal
 widen_refusal size more = if nat_le more size then Some OutOfRange else if nat_lt 64 more then Some OutOfRange else None
 

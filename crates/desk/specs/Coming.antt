@@ -67,7 +67,7 @@ coming_in_tree a = Nothing
 abbrev pub next_over : {S R V U K : Type 0} → KnownPlaces S R V U K → DeskState S U K → ℕ → Option (Access R V)
 next_over t w p = option_map (λ c. next_access t.walker t.place_of t.walks c) (program_of p w.names.snap.participants)
 
--- as a desk of either world tells it
+-- the next access of an identity, as a desk of either world reports it
 abbrev pub coming_of : DeskValue → ℕ → Option Coming
 coming_of (OverGrid w) p = option_map coming_in_grid (next_over grid_places w p)
 coming_of (OverTree w) p = option_map coming_in_tree (next_over tree_places w p)

@@ -60,8 +60,8 @@ abbrev pub BeginSlots : List (SlotCall ℕ) → Type 0
 BeginSlots [] = Unit {0}
 BeginSlots (h ∷ r) = BeginsSlots h × BeginSlots r
 
--- the desk is after these calls, for so many participants, rounds and numbers at the start: its renaming world is after
--- those of renaming, and its slots, each 0 when it is new, after theirs
+-- these calls lead to the desk, with these bounds on participants, rounds and numbers at the start. The calls of
+-- renaming lead to its renaming world, and the others to its slots, each of which holds 0 when it is new
 pub record ReachesDesk {S R V U K : Type 0} (W : KnownPlaces S R V U K) (kind : WorldKind) (most limit size : ℕ) (w : DeskState S U K) (calls : List DeskCall) : Type 0 where
   pub first : S
   pub room : W.most_of first ≡ most
@@ -69,7 +69,7 @@ pub record ReachesDesk {S R V U K : Type 0} (W : KnownPlaces S R V U K) (kind : 
   pub slots : Reaches slots (size, replicate size 0) w.slots (slot_calls calls)
   pub new_slots : BeginSlots (slot_calls calls)
 
--- calls lead on by one that is this exchange
+-- these calls, and then one call that is this exchange, lead to this desk
 pub record LeadsBy {S R V U K : Type 0} (W : KnownPlaces S R V U K) (kind : WorldKind) (most limit size : ℕ) (calls : List DeskCall) (e : Event) (r : ShownReply) (new : DeskState S U K) : Type 0 where
   pub call : DeskCall
   pub spelled : exchange_of call ≡ exchange e r

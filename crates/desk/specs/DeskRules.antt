@@ -1,4 +1,4 @@
--- what a desk over places of one kind answers to an event, and what is left then
+-- the reply of a desk over places of one kind to an event, and the desk after it
 use Rattle.std.specs.Prelude.{ℕ, ◌-◌, Bool, false, List, Option, Some, None, Result, Ok, Err, slice_index, replicate}
 use Rattle.step_memory.specs.declared.refusal.Refusal.{Refusal}
 use Rattle.step_memory.specs.Calls.Call.{Began, Stepped}
@@ -25,18 +25,18 @@ abbrev pub fetched : List ℕ → Result ℕ Refusal → Result ℕ Refusal
 fetched values (Ok number) = Ok (slice_index values (number - 1))
 fetched values (Err why) = Err why
 
--- why one who should hold a number holds none
+-- why an identity holds no number, if it holds none
 abbrev pub refusal_of : Result ℕ Refusal → Option Refusal
 refusal_of (Ok number) = None
 refusal_of (Err why) = Some why
 
--- a growth may be refused only where nothing else is due
+-- an allocation may fail only if no refusal is due
 abbrev pub grows_by : Option Refusal → Bool → Bool
 grows_by None may = may
 grows_by (Some why) may = false
 
 module _ {S U K : Type 0} where
-  -- a desk on which nothing was done, over these places, for so many participants, rounds and numbers; each slot holds 0
+  -- a desk over these places before any call, for this many participants, rounds and numbers. Each slot holds 0
   abbrev pub fresh_over : S → ℕ → ℕ → ℕ → DeskState S U K
   fresh_over first most limit size = record {
     names = fresh_world first most limit;
@@ -55,7 +55,7 @@ module _ {S U K : Type 0} where
   refusal_over w (Widen more) = widen_refusal w.slots.pool.size more
 
 module _ {S R V U K : Type 0} (W : KnownPlaces S R V U K) where
-  -- the call that an event is, with the reply that it gets where no growth is refused
+  -- the call that an event is, with its reply if no allocation fails
   abbrev pub call_for : DeskState S U K → Event → DeskCall
   call_for w (Begin p) = Renamed (Began p (done_unless (begin_refusal w.names.snap p)))
   call_for w (Step p) = Renamed (Stepped p (rename_answer W w.names p))
@@ -71,14 +71,14 @@ module _ {S R V U K : Type 0} (W : KnownPlaces S R V U K) where
   next_over w (Renamed h) = record { names = next W w.names h; slots = w.slots }
   next_over w (Slotted h) = record { names = w.names; slots = slots_next w.slots h }
 
-  -- the reply to an event where no growth is refused, and the desk after it
+  -- the reply to an event, if no allocation fails, and the desk after it
   abbrev pub reply_over : DeskState S U K → Event → ShownReply
   reply_over w e = (exchange_of (call_for w e)).reply
 
   abbrev pub after_over : DeskState S U K → Event → DeskState S U K
   after_over w e = next_over w (call_for w e)
 
-  -- whether a growth may be refused instead
+  -- whether an allocation may fail instead
   abbrev pub grows_over : DeskState S U K → Event → Bool
   grows_over w (Step p) = grows_by (step_refusal w.names p) (may_lack W w.names p)
   grows_over w e = false

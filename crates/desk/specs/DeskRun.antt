@@ -11,10 +11,11 @@ use Rattle.slot_array.specs.Law.{SlotsSpec}
 use Rattle.commands.specs.declared.exchange.Exchange.{Exchange}
 use Rattle.desk.specs.DeskCalls.{DeskCall, rename_calls, slot_calls, exchange_of, BeginSlots}
 
--- The exchanges are calls of renaming, pool and slots. Those of renaming keep its law: no two have one name, where b have
--- begun each name is from 1 to 2b - 1, each view shown is a moment of its scan, and nobody is answered `quiet` for ever.
--- Those of pool and slots keep theirs: while at most as many compete as there are numbers, what is held is distinct and
--- within them, and a slot, which is 0 when it is new, changes by its holder alone. The size is that at the start
+-- The exchanges are calls of renaming, pool and slots. Those of renaming satisfy its specification: no two participants
+-- have one name, and if b have begun each name is from 1 to 2b - 1. Each view shown is a moment of its scan, and no
+-- participant gets `quiet` without end. Those of pool and slots satisfy theirs: at most as many compete as there are
+-- numbers, and the numbers held are distinct and within the size. A slot is 0 when it is new, and only its holder
+-- changes it. The size is that at the start
 pub record IsDeskRun (terms : RenameTerms) (bounds : SnapBounds) (size : ℕ) (r : List Exchange) : Type 0 where
   pub calls : List DeskCall
   pub spelled : map exchange_of calls ≡ r

@@ -1,4 +1,4 @@
--- what a desk holds, for what watches it from outside
+-- what a desk holds, for observers
 use Rattle.std.specs.Prelude.{ℕ, ◌+◌, ◌*◌, nat_lt, if◌then◌else◌, Option, Some, None, option_and_then, option_map}
 use Rattle.step_memory.specs.declared.record.Record.{Record}
 use Rattle.snapshot_core.specs.SnapWorld.{place_in}
@@ -52,7 +52,7 @@ abbrev pub held_by_tree : TreeValue → Option ℕ
 held_by_tree (in_tree.Word word) = Some word
 held_by_tree (in_tree.Contents segment) = proposed_in segment
 
--- what stands in a register: a word, or the proposal in a segment
+-- what a register holds: a word, or the proposal in a segment
 abbrev pub held_in_grid : GridState → Register → Option ℕ
 held_in_grid g r = option_and_then (λ own. held_by_grid (register_of g own).0) (register_in_grid r)
 

@@ -17,24 +17,24 @@ use Rattle.desk.specs.DeskValue.{DeskValue}
 use Rattle.desk.specs.Names.{IsOwnerReply}
 use Rattle.desk.specs.Rules.{may_by}
 
--- names are given in the config's world, and this is its fresh desk
+-- the config's world gives names, and this is its fresh desk
 pub record IsThisDesk (c : Config) (w : DeskValue) : Type 0 where
   pub named : gives_names c.world ≡ true
   pub is : w ≡ fresh_desk c
 
--- a fresh desk is after no calls
+-- no calls lead to a fresh desk
 abbrev pub BeginsDesk : Type 0
 BeginsDesk = (c : Config) (w : DeskValue) → IsFreshDesk c w → IsAfterDesk c w []
 
--- where names are given there is a fresh desk, and it is this one
+-- a config whose world gives names has a fresh desk, and it is this one
 abbrev pub HasFreshDesk : Type 0
 HasFreshDesk = (c : Config) (w : DeskValue) → IsFreshDesk c w ↔ IsThisDesk c w
 
--- all fresh desks of one config are one
+-- any two fresh desks of one config are equal
 abbrev pub IsOneFreshDesk : Type 0
 IsOneFreshDesk = (c : Config) (w u : DeskValue) → IsFreshDesk c w → IsFreshDesk c u → w ≡ u
 
--- whatever a desk may answer to an event leads on by one call that is this exchange
+-- each answer that a desk may give to an event extends its history by one call, which is this exchange
 abbrev pub DeskGoesOn : Type 0
 DeskGoesOn = (c : Config) (w : DeskValue) (calls : List DeskCall) → IsAfterDesk c w calls → (e : Event) (r : ShownReply) (u : DeskValue) → may_by desk_rules w e r u → LeadsDesk c calls e r u
 
@@ -42,21 +42,21 @@ DeskGoesOn = (c : Config) (w : DeskValue) (calls : List DeskCall) → IsAfterDes
 abbrev pub DeskKeepsRuns : Type 0
 DeskKeepsRuns = (c : Config) (w : DeskValue) (calls : List DeskCall) → IsAfterDesk c w calls → IsDeskRunOf c (map exchange_of calls)
 
--- what a desk tells of a name is right after these exchanges
+-- the reply to a question for the owner of a name is right after these exchanges
 abbrev pub TellsOwners : DeskValue → ℕ → ShownReply → Type 0
 TellsOwners w n reported = (c : Config) (calls : List DeskCall) → IsAfterDesk c w calls → IsOwnerReply c.m (map exchange_of calls) n reported
 
 abbrev pub DeskTellsOwners : Type 0
 DeskTellsOwners = (w : DeskValue) (n : ℕ) → TellsOwners w n (owner_reply w n)
 
--- an event is refused, failed allocations aside, just as the desk says beforehand
+-- failed allocations aside, an event is refused if and only if `desk_refusal` returns that refusal
 abbrev pub RefusesAsSaid : DeskValue → Event → Type 0
 RefusesAsSaid w e = (c : Config) (calls : List DeskCall) → IsAfterDesk c w calls → (why : Refusal) → (desk_reply w e ≡ reply.Refused why) ↔ (desk_refusal w e ≡ Some why)
 
 abbrev pub DeskRefusesAsSaid : Type 0
 DeskRefusesAsSaid = (w : DeskValue) (e : Event) → RefusesAsSaid w e
 
--- where no growth is refused there is one reply, and one desk is left
+-- if no allocation fails, there is one reply to an event and one desk after it
 abbrev pub IsDeskDetermined : Type 0
 IsDeskDetermined = (w u v : DeskValue) (e : Event) (a b : ShownReply) → may_by desk_rules w e a u → may_by desk_rules w e b v →
     a ≢ reply.Refused refusal.NoMemory → b ≢ reply.Refused refusal.NoMemory → (a ≡ b) × (u ≡ v)

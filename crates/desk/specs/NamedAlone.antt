@@ -1,4 +1,4 @@
--- how soon one is named who alone steps, by exchanges alone (this project's profile)
+-- how soon a participant is named in a solo run, by exchanges alone (this project's profile)
 use Rattle.std.specs.Prelude.{◌≡◌, ℕ, ◌+◌, ◌<◌, ◌≤◌, ◌==◌, ◌&&◌, not, false, if◌then◌else◌, ◌⊎◌, List, [], ◌∷◌, ◌++◌}
 use Rattle.snapshot_core.specs.Snapshot.{SnapBounds}
 use Rattle.rename_core.specs.Alone.{steps_alone}
@@ -66,12 +66,12 @@ pub record HasTwoLeft (limit p : ℕ) (r : List Exchange) : Type 0 where
 abbrev pub HasName : ℕ → List Exchange → Type 0
 HasName p r = (n : ℕ) × WasNamed p n r
 
--- p has a name; or it is not spent, so that its steps go on, and has made fewer than so many after the cut
+-- p has a name. Or it is not spent, so that its steps go on, and it has made fewer than `most` after the cut
 abbrev pub IsNamedWithin : ℕ → ℕ → List Exchange → List Exchange → Type 0
 IsNamedWithin most p before more = HasName p (before ++ more) ⊎ ((WasSpent p (before ++ more) → ⊥) × (steps_of p more < most))
 
--- cut each run in two at any point: who has two proposals left there, and alone steps after it, is named once it has made so
--- many steps after it, or earlier
+-- cut each run in two at any point. A participant that has two proposals left there, and then runs solo, is named by
+-- its `steps_alone`-th step after the cut, or earlier
 abbrev pub NamesSoonAlone : Type 0
 NamesSoonAlone = (terms : RenameTerms) (bounds : SnapBounds) (size : ℕ) (before more : List Exchange) → IsDeskRun terms bounds size (before ++ more) →
     (p : ℕ) → HasTwoLeft terms.limit p before → StepsAlone p more → IsNamedWithin (steps_alone bounds) p before more

@@ -1,5 +1,5 @@
--- how soon one is named whatever the others do, by exchanges alone (the problem and the algorithm, which is wait-free: Attiya
--- et al. 1990; this bound: this project's own)
+-- how soon a participant is named, whatever the others do, by exchanges alone (the problem and the algorithm, which is
+-- wait-free: Attiya et al. 1990; this bound: this project's own)
 use Rattle.std.specs.Prelude.{◌≡◌, ℕ, ◌+◌, ◌<◌, ◌≤◌, ◌⊎◌, Bool, true, false, List, [], ◌∷◌, ◌++◌}
 use Rattle.step_memory.specs.declared.refusal.Refusal.TheVariants as refusal
 use Rattle.snapshot_core.specs.Snapshot.{SnapBounds}
@@ -27,17 +27,17 @@ abbrev pub all_proposals : List Exchange → ℕ
 all_proposals [] = 0
 all_proposals (x ∷ r) = all_more x.event x.reply (all_proposals r)
 
--- a step that is answered so is accepted, and neither names its participant nor leaves it spent
+-- a step with this reply is accepted, and neither names its participant nor leaves it spent
 abbrev pub goes_on : ShownReply → Bool
 goes_on (reply.Named name view) = false
 goes_on reply.Spent = false
 goes_on (reply.Refused why) = false
 goes_on said = true
 
--- No more have begun than may. Where at most b have, all together have made at most as many proposals as b identities make.
--- Whoever has begun and made `steps_among` accepted steps has a name or is spent, whatever the others did; so whoever went on by the last of these
--- exchanges has made fewer. Where the round limit is above that number of proposals, nobody is spent, and no step is
--- refused for it
+-- No more have begun than may. If at most b have, all together have made at most as many proposals as b identities
+-- make. A participant that has made `steps_among` accepted steps has a name or is spent, whatever the others did. So
+-- one that goes on with the last of these exchanges has made fewer. If the round limit is above that number of
+-- proposals, no participant is spent, and no step is refused for it
 pub record EndsSoon (terms : RenameTerms) (bounds : SnapBounds) (r : List Exchange) : Type 0 where
   pub roomy : begun_in r ≤ terms.most
   pub few : (b : ℕ) → begun_in r ≤ b → all_proposals r ≤ most_proposals b

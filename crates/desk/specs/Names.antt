@@ -1,4 +1,4 @@
--- who was named, by exchanges alone
+-- the names that were given, by exchanges alone
 use Rattle.std.specs.Prelude.{◌≡◌, ℕ, ◌+◌, ◌-◌, ◌*◌, ◌≤◌, ◌⊎◌, List, [], ◌∷◌, Option, Some, None}
 use Rattle.step_memory.specs.declared.refusal.Refusal.TheVariants as refusal
 use Rattle.commands.specs.declared.event.Event.{Event}
@@ -29,7 +29,7 @@ abbrev pub begun_in : List Exchange → ℕ
 begun_in [] = 0
 begun_in (x ∷ r) = begun_more x.event x.reply (begun_in r)
 
--- who has the name n, or that no one has
+-- this participant was given the name n, or none was
 abbrev pub IsOwnerIn : List Exchange → ℕ → Option ℕ → Type 0
 IsOwnerIn r n None = (p : ℕ) → WasNamed p n r → ⊥
 IsOwnerIn r n (Some p) = WasNamed p n r
@@ -39,13 +39,14 @@ pub record IsNumber (most n : ℕ) : Type 0 where
   pub some : 1 ≤ n
   pub small : n ≤ 2 * most - 1
 
--- the reply tells who was given the name among the exchanges, or that it was given to nobody
+-- the reply is the participant that was given the name in these exchanges, or that none was
 pub record TellsOwner (r : List Exchange) (n : ℕ) (reported : ShownReply) : Type 0 where
   pub owner : Option ℕ
   pub is : reported ≡ reply.Owner owner
   pub given : IsOwnerIn r n owner
 
--- the right answer, after these exchanges, to who has a name: a refusal exactly where names don't reach there
+-- the right reply, after these exchanges, to a question for the owner of a name. It is a refusal if and only if the
+-- name is out of range
 pub record IsOwnerReply (most : ℕ) (r : List Exchange) (n : ℕ) (reported : ShownReply) : Type 0 where
   pub out_of_range : (IsNumber most n → ⊥) → reported ≡ reply.Refused refusal.OutOfRange
   pub in_range : IsNumber most n → TellsOwner r n reported

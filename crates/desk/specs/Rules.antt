@@ -1,4 +1,4 @@
--- rules by which a structure answers events
+-- rules: the replies of a structure to events
 use Rattle.std.proofs.Common.{◌≡◌, ◌≢◌, Bool, true, ◌⊎◌, inl, inr, sym, ◌∙◌}
 use Rattle.step_memory.specs.declared.refusal.Refusal.TheVariants as refusal
 use Rattle.commands.specs.declared.event.Event.{Event}
@@ -11,13 +11,13 @@ pub record Rules (T : Type 0) : Type 0 where
   pub after : T → Event → T
   pub grows : T → Event → Bool
 
--- an event may be answered so, and leave this: the one reply and the one state; or, where a growth may be refused, that
--- refusal, with nothing changed
+-- an event may have this reply and lead to this state. They are the one reply and the one state, or `NoMemory` with
+-- nothing changed if an allocation may fail
 abbrev pub may_by : {T : Type 0} → Rules T → T → Event → ShownReply → T → Type 0
 may_by rules w e r u =
     ((r ≡ rules.reply w e) × (u ≡ rules.after w e)) ⊎ ((r ≡ reply.Refused refusal.NoMemory) × (u ≡ w) × (rules.grows w e ≡ true))
 
--- where no growth is refused, rules leave one reply and one state
+-- if no allocation fails, rules allow one reply and one state
 pub one_by_rules : {T : Type 0} (rules : Rules T) (w u v : T) (e : Event) (a b : ShownReply) → may_by rules w e a u → may_by rules w e b v →
     a ≢ reply.Refused refusal.NoMemory → b ≢ reply.Refused refusal.NoMemory → (a ≡ b) × (u ≡ v)
 one_by_rules rules w u v e a b (inl x) (inl y) na nb = (x.0 ∙ sym y.0, x.1 ∙ sym y.1)

@@ -1,4 +1,4 @@
-//! What etcd answers.
+//! The answers of etcd.
 
 ghost use Rattle.std.specs.Prelude.{◌≡◌, ◌≢◌, ◌⊎◌, ◌+◌, ◌<◌, ◌≤◌, ◌^◌, ◌++◌, ℕ, List, Some, None, Ok, Err, IfOk, IfErr, OnOk, IsUtf8, option_map, option_and_then};
 ghost use Rattle.std.specs.declared.vec.Vec.{Vec};
@@ -18,7 +18,7 @@ use json::{Error, Scratch, Value};
 use replicated_log::{Put, StoreFault};
 use std::alloc::Global;
 
-/// Whether a transaction put its value. None where the value is no answer to one.
+/// Returns whether a transaction put its value, or `None` if the JSON is no answer to a transaction.
 pub fn put_said(answer: &Value<'_>) -> Option<bool>
     ensures { result ≡ put_said (value_view answer.now) }
 {
@@ -29,7 +29,7 @@ pub fn put_said(answer: &Value<'_>) -> Option<bool>
     }
 }
 
-// The base64 of an entry that stands at a key, both in base64. None where it stands at another.
+// Returns the base64 value of an entry whose key is this one, in base64. `None` if the key is another.
 fn entry_said<'v>(entry: &Value<'v>, key: &str) -> Option<&'v str>
     ensures { option_map (λ text. text.now) result ≡ entry_said key.now (value_view entry.now) }
 {
@@ -43,7 +43,10 @@ fn entry_said<'v>(entry: &Value<'v>, key: &str) -> Option<&'v str>
     }
 }
 
-/// What stands at a key, in base64, as the entry of this index has to say it. None where the value is no such answer.
+/// Returns the base64 value at a key, as the answer has it at this index. The inner `None` is an answer with no entry
+/// there.
+///
+/// The outer `None` is JSON that is no such answer. The index is from 0, and the key is in base64.
 pub fn get_said<'v>(answer: &Value<'v>, index: usize, key: &str) -> Option<Option<&'v str>>
     ensures { option_map (λ found. option_map (λ text. text.now) found) result ≡ get_said index key.now (value_view answer.now) }
 {
@@ -57,7 +60,7 @@ pub fn get_said<'v>(answer: &Value<'v>, index: usize, key: &str) -> Option<Optio
     }
 }
 
-// The value that the body of an answer is.
+// Returns the JSON of the body of an answer.
 fn parsed<'a>(
     alloc: Global,
     body: &'a [u8],
@@ -74,7 +77,12 @@ fn parsed<'a>(
     }
 }
 
-/// Reads the body of an answer to a request that puts. `Wrong` only where it is none, and `Memory` where a growth was refused.
+/// Reads the body of an answer to a request that puts.
+///
+/// # Errors
+///
+/// - `Memory`: an allocation failed.
+/// - `Wrong`: the body is no such answer.
 pub fn read_put(alloc: Global, body: &[u8]) -> Result<Put, StoreFault>
     ensures said { IfOk result (λ put. option_and_then put_said (document body.now) ≡ Some (is_written put)) }
     ensures fault { IfErr result (λ f. (f ≡ StoreFault.Memory) ⊎ (f ≡ StoreFault.Wrong)) }
@@ -89,7 +97,7 @@ pub fn read_put(alloc: Global, body: &[u8]) -> Result<Put, StoreFault>
     }
 }
 
-// The bytes of a text in base64.
+// Returns the bytes of a text in base64.
 fn decoded(alloc: Global, text: &str) -> Result<Vec<u8>, StoreFault>
     ensures bytes { IfOk result (λ bytes. decode_of standard text.now ≡ Ok bytes.items) }
     ensures fault { IfErr result IsOverNetwork }
@@ -102,7 +110,7 @@ fn decoded(alloc: Global, text: &str) -> Result<Vec<u8>, StoreFault>
     }
 }
 
-// What stands at a place under a prefix, as the entry of this index has to say it.
+// Returns the entry at a place under a prefix, as the answer has it at this index.
 fn found_at(
     alloc: Global,
     answer: &Value<'_>,
@@ -124,7 +132,7 @@ fn found_at(
     }
 }
 
-// Appends what stands at the places from one on, as the entries from this index on say it, so many at most.
+// Appends the entries at the places from `place` on, at most `most`, as the answer has them from this index on.
 fn read_from(
     alloc: Global,
     answer: &Value<'_>,
@@ -152,6 +160,7 @@ fn read_from(
     if most == 1 {
         return Ok(());
     }
+    /// No log has so many places.
     let Some(next) = place.checked_add(1) else {
         // No log has so many places.
         return Err(StoreFault::Wrong);
@@ -159,7 +168,7 @@ fn read_from(
     read_from(alloc, answer, index + 1, most - 1, prefix, next, found)
 }
 
-// What stands at the places from one on, as an answer says it from its first entry on, so many at most.
+// Returns the entries at the places from `place` on, at most `most`, as the answer has them from its first one on.
 fn read_all(
     alloc: Global,
     answer: &Value<'_>,
@@ -176,8 +185,13 @@ fn read_all(
     Ok(found)
 }
 
-/// Reads the body of an answer to a request for what stands under a prefix at the places from one on, so many at most. An answer is wrong
-/// where more than the last place is asked and something stands there.
+/// Reads the body of an answer to a request that gets. Returns the entries under a prefix from `place` on, at most
+/// `most`.
+///
+/// # Errors
+///
+/// - `Memory`: an allocation failed.
+/// - `Wrong`: the body is no such answer, or it has more entries than the places up to 2^64 - 1.
 pub fn read_get(
     alloc: Global,
     body: &[u8],

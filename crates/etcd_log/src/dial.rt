@@ -1,4 +1,4 @@
-//! Streams to the members of etcd.
+//! Streams to the members of etcd. No contract says what they carry.
 
 use std::io::{Read, Write};
 use std::net::{Net, OpenStream, SocketAddr, TcpStream};
@@ -6,17 +6,17 @@ use std::time::Duration;
 
 /// Makes streams to members, which are counted from 0.
 pub trait Dial {
-    /// A stream.
+    /// A stream to a member.
     type Stream: Read + Write + Drop;
 
-    /// How many members there are.
+    /// Returns the number of members. Not proved: it has no clause.
     fn members(&self) -> usize;
 
-    /// A new stream to a member. None where there is none to be had.
+    /// Returns a new stream to a member, or `None` if it cannot make one. Not proved: it has no clause.
     fn dial(&mut self, member: usize) -> Option<Self::Stream>;
 }
 
-/// Streams over TCP, each of whose reads and writes has so long.
+/// Makes streams over TCP, with a time limit for each read and each write.
 #[derive(Drop)]
 pub struct TcpDial<'r, R: Net> {
     rt: &'r R,
@@ -25,13 +25,15 @@ pub struct TcpDial<'r, R: Net> {
 }
 
 impl<'r, R: Net> TcpDial<'r, R> {
-    /// Streams to members at these addresses.
+    /// Makes streams to members at these addresses. `wait` is the limit of each connect, read and write. Not proved: it
+    /// has no clause.
     pub fn new(rt: &'r R, members: Vec<SocketAddr>, wait: Duration) -> TcpDial<'r, R> {
         TcpDial { rt, members, wait }
     }
 }
 
-// A stream that sends at once, and each of whose reads and writes has so long. None where that could not be set.
+// Sets the stream to send at once, with a time limit for each read and write. `None` if that failed. Not proved: it has
+// no clause.
 fn prepared<S: OpenStream + Drop>(stream: S, wait: Duration) -> Option<S> {
     let is_set = stream.set_nodelay(true).is_ok()
         && stream.set_read_timeout(Some(wait)).is_ok()

@@ -1,4 +1,4 @@
-//! Places in etcd.
+//! A store over etcd.
 
 ghost use Rattle.std.specs.Prelude.{◌≡◌, ◌≢◌, ◌<◌, ◌++◌, [], ◌∷◌, ℕ, List, ⊤, Err, OnOk, IfErr};
 ghost use Rattle.std.specs.declared.vec.Vec.{Vec};
@@ -17,13 +17,13 @@ use std::alloc::Global;
 /// The status of a response that answers.
 const ANSWERED: u16 = 200;
 
-/// What a member says where the quota of etcd is used up.
+/// The message of a member whose quota is used up.
 const NO_SPACE: &[u8] = b"etcdserver: mvcc: database space exceeded";
 
-/// What stands at so many places at most is asked at once.
+/// The most places that one request gets.
 const MOST_FOUND: usize = 256;
 
-// A connection that is kept.
+// A connection that is kept open.
 #[derive(Drop)]
 struct Kept<S: Drop> {
     stream: S,
@@ -37,7 +37,7 @@ struct Last {
     entry: Vec<u8>,
 }
 
-// Why a member answers with another status.
+// Returns why a member answered with another status.
 fn refusal(body: &[u8]) -> StoreFault
     ensures { IsOverNetwork result }
 {
@@ -47,7 +47,7 @@ fn refusal(body: &[u8]) -> StoreFault
     StoreFault::Lost
 }
 
-// Takes the first place out of what was found, the last place first: this has to stand there.
+// Takes the first place out of what was found, which has the last place first. It must hold this entry.
 fn take_first(found: &mut Vec<Vec<u8>>, stood: &[u8]) -> Result<(), StoreFault>
     ensures taken { OnOk result ((first : Vec ℕ Global) × (found.old.items ≡ found.new.items ++ first ∷ []) × (first.items ≡ stood.now)) }
     ensures fault { IfErr result (λ f. f ≡ StoreFault.WentBack) }
@@ -63,11 +63,14 @@ fn take_first(found: &mut Vec<Vec<u8>>, stood: &[u8]) -> Result<(), StoreFault>
     Err(StoreFault::WentBack)
 }
 
-/// The places under a prefix in etcd, whose members are asked in turn: after a fault the next one. Nothing is ever deleted there,
-/// since a place that was deleted could be written again: let each log have a prefix of its own.
+/// The places under a prefix in etcd. It asks the members in turn, and after a fault the next one.
 ///
-/// What was written or read last at the place before has to stand there still at each put, and at each get that asks a member. Where it
-/// does not, etcd was put back to an older state: nothing is written, and the fault is `WentBack`.
+/// Nothing may delete a key under the prefix, since a deleted place could be written again. Each log needs its own
+/// prefix.
+///
+/// Each put checks that the place before it still holds what this store wrote or read there last. So does each get that
+/// asks a member. If it does not, etcd was put back to an older state. A put then writes nothing and returns `Taken`,
+/// and a get returns the fault `WentBack`.
 #[derive(Drop)]
 pub struct EtcdStore<D: Dial> {
     alloc: Global,
@@ -75,15 +78,16 @@ pub struct EtcdStore<D: Dial> {
     member: usize,
     kept: Option<Kept<D::Stream>>,
     prefix: String,
-    /// What stands at the places from `place` on, the last of them first: it stands there for good.
+    /// The entries at the places from `place` on, the last of them first. etcd never changes them.
     ahead: Vec<Vec<u8>>,
     place: u64,
-    /// What was written or read last, and at which place.
+    /// What this store wrote or read last, and at which place.
     last: Option<Last>,
 }
 
 impl<D: Dial> EtcdStore<D> {
-    /// The places under a prefix.
+    /// Makes a store of the places under a prefix. Not proved: it has no clause, since contracts see nothing of such a
+    /// store.
     pub fn new(alloc: Global, dial: D, prefix: String) -> EtcdStore<D> {
         EtcdStore {
             alloc,
@@ -97,7 +101,7 @@ impl<D: Dial> EtcdStore<D> {
         }
     }
 
-    // The connection that is kept, or a new one to the member whose turn it is.
+    // Returns the open connection, or a new one to the member whose turn it is. Not proved: it has no clause.
     fn connection(&mut self) -> Option<Kept<D::Stream>> {
         if let Some(kept) = self.kept.take() {
             return Some(kept);
@@ -113,7 +117,7 @@ impl<D: Dial> EtcdStore<D> {
         })
     }
 
-    // Asks one member once, and gives the body of its answer.
+    // Asks one member once, and returns the body of its answer.
     fn ask_once(&mut self, target: &[u8], text: &[u8]) -> Result<Vec<u8>, StoreFault>
         ensures { IfErr result IsOverNetwork }
     {
@@ -131,7 +135,7 @@ impl<D: Dial> EtcdStore<D> {
         Ok(response.body)
     }
 
-    // Asks the members in turn, each twice at most.
+    // Asks the members in turn, each at most twice, and returns the body of the first answer.
     fn ask(&mut self, target: &[u8], text: &[u8]) -> Result<Vec<u8>, StoreFault>
         ensures { IfErr result IsOverNetwork }
     {
@@ -147,7 +151,7 @@ impl<D: Dial> EtcdStore<D> {
         Err(StoreFault::Lost)
     }
 
-    // What stands at the places from one on. An answer with a key of another length between them is wrong.
+    // Returns the entries at the places from `place` on. An answer with a key of another length among them is wrong.
     fn ask_range(&mut self, place: u64) -> Result<Vec<Vec<u8>>, StoreFault>
         requires { place < MOST_PLACES }
         ensures { IfErr result IsOverNetwork }
@@ -160,7 +164,7 @@ impl<D: Dial> EtcdStore<D> {
         read_get(self.alloc, &body, MOST_FOUND, self.prefix.as_str(), place)
     }
 
-    // What stands at one place.
+    // Returns the entry at one place.
     fn ask_one(&mut self, place: u64) -> Result<Vec<Vec<u8>>, StoreFault>
         ensures { IfErr result IsOverNetwork }
     {
@@ -171,7 +175,7 @@ impl<D: Dial> EtcdStore<D> {
         read_get(self.alloc, &body, 1, self.prefix.as_str(), place)
     }
 
-    // What was written or read at the place before one, if that was the last.
+    // Returns what was written or read at the place before, if that was the last one. Not proved: it has no clause.
     fn stood_before(&self, place: u64) -> Option<&[u8]> {
         let last = self.last.as_ref()?;
         if last.place.checked_add(1) != Some(place) {
@@ -180,7 +184,8 @@ impl<D: Dial> EtcdStore<D> {
         Some(&last.entry)
     }
 
-    // The place from which is asked what stands at one and behind it: the place before, where it is known what stood there.
+    // Returns the first place to ask for: the place before this one if it is known what that held, and otherwise this
+    // one.
     fn first_asked(&self, place: u64) -> u64
         requires { place < MOST_PLACES }
         ensures { result < MOST_PLACES }
@@ -191,7 +196,7 @@ impl<D: Dial> EtcdStore<D> {
         }
     }
 
-    // Takes the place before one out of what was found from there on, the last place first, where it is known what stood there.
+    // Takes the place before out of what was found, which has the last place first, if it is known what it held.
     fn take_before(&self, place: u64, found: &mut Vec<Vec<u8>>) -> Result<(), StoreFault>
         ensures { IfErr result IsOverNetwork }
     {
@@ -201,7 +206,7 @@ impl<D: Dial> EtcdStore<D> {
         }
     }
 
-    // What stands at the places from one on, the last of them first.
+    // Returns the entries at the places from `place` on, the last of them first.
     fn ask_behind(&mut self, place: u64) -> Result<Vec<Vec<u8>>, StoreFault>
         requires { place < MOST_PLACES }
         ensures { IfErr result IsOverNetwork }
@@ -212,7 +217,7 @@ impl<D: Dial> EtcdStore<D> {
         Ok(found)
     }
 
-    // What stands at one place, where the place before is asked alone too.
+    // Returns the entry at one place, and asks for the place before by itself.
     fn ask_singly(&mut self, place: u64) -> Result<Vec<Vec<u8>>, StoreFault>
         requires { place < MOST_PLACES }
         ensures { IfErr result IsOverNetwork }
@@ -225,8 +230,8 @@ impl<D: Dial> EtcdStore<D> {
         self.ask_one(place)
     }
 
-    // Asks what stands at the places from one on; or at that one alone where keys stand between them of a log whose prefix begins with this
-    // one and goes on with digits.
+    // Asks for the entries at the places from `place` on. It asks for this place alone if keys of another log are
+    // between them. The prefix of such a log begins with this one and goes on with digits.
     fn ask_from(&mut self, place: u64) -> Result<(), StoreFault>
         requires { place < MOST_PLACES }
         ensures { IfErr result IsOverNetwork }
@@ -239,7 +244,7 @@ impl<D: Dial> EtcdStore<D> {
         Ok(())
     }
 
-    // The text of the request that puts an entry at a place behind what was written or read there last.
+    // Returns the text of the request that puts an entry at a place, after what was written or read there last.
     fn text_of_put(&self, place: u64, entry: &[u8]) -> Result<Vec<u8>, StoreFault>
         ensures { IfErr result IsOverNetwork }
     {

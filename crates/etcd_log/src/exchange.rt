@@ -9,32 +9,32 @@ use replicated_log::StoreFault;
 use std::alloc::Global;
 use std::io::{Read, Write};
 
-/// How many bytes the body of a response has at most.
+/// The most bytes of the body of a response: 2^25.
 pub const MOST_BODY: usize = 33_554_432;
 
-/// How many events are read of one response, at most.
+/// The most events of one response.
 const MOST_EVENTS: u64 = 1_000_000;
 
 /// A response.
 #[derive(Drop)]
 pub struct Response {
-    /// The status.
+    /// The HTTP status.
     pub status: u16,
-    /// The body.
+    /// The body: at most `MOST_BODY` bytes.
     pub body: Vec<u8>,
 }
 
-// What is to be done after an event.
+// What to do after an event.
 enum Next {
     // Read the next event.
     Event,
-    // Have more bytes.
+    // Read more bytes.
     Bytes,
     // The response has ended.
     Nothing,
 }
 
-// Appends the bytes of a request, and tells whether there was room.
+// Appends the bytes of a request, and returns false if an allocation failed. Not proved: it has no clause.
 fn put_request(output: &mut Vec<u8>, client: &mut Client, target: &[u8], body: &[u8]) -> bool {
     let headers = [
         Header {
@@ -54,7 +54,7 @@ fn put_request(output: &mut Vec<u8>, client: &mut Client, target: &[u8], body: &
         && client.write_end(output, &[]).is_ok()
 }
 
-// Reads an event of the bytes that are unread, and tells how many it took.
+// Reads one event of the unread bytes, and returns how many it took.
 fn read_event(
     client: &mut Client,
     unread: &[u8],
@@ -89,7 +89,7 @@ fn read_event(
     }
 }
 
-// Appends what a stream gives next. An error where it gives nothing.
+// Appends what a stream gives next. It fails if the stream gives nothing.
 fn fill<S: Read>(stream: &mut S, input: &mut Vec<u8>) -> Result<(), StoreFault>
     ensures longer { vec_len input.old ≤ vec_len input.new }
     ensures fault { IfErr result IsOverNetwork }
@@ -104,7 +104,7 @@ fn fill<S: Read>(stream: &mut S, input: &mut Vec<u8>) -> Result<(), StoreFault>
     }
 }
 
-// Reads a response to its end, behind which no byte may stand.
+// Reads a response to its end. No byte may follow it.
 fn receive<S: Read>(
     alloc: Global,
     client: &mut Client,
@@ -131,7 +131,13 @@ fn receive<S: Read>(
     Err(StoreFault::Wrong)
 }
 
-/// Sends a request, and reads the response to its end. At a fault the connection is of no more use.
+/// Sends a request, and reads the response to its end. After a fault the connection is of no more use.
+///
+/// # Errors
+///
+/// - `Memory`: an allocation failed.
+/// - `Lost`: a write or a read failed, or the connection ended.
+/// - `Wrong`: the bytes are no response, they go on after it, or its body is longer than `MOST_BODY`.
 pub fn exchange<S: Read + Write>(
     alloc: Global,
     client: &mut Client,

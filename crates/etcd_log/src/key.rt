@@ -8,7 +8,7 @@ ghost use Rattle.etcd_log.specs.Keys.{digits, key_of};
 use base64::engine::general_purpose::STANDARD;
 use std::alloc::{AllocError, Global};
 
-// Appends the last so many decimal digits of a number.
+// Appends the last `count` decimal digits of a number.
 fn push_digits(text: &mut Vec<u8>, count: u32, number: u64) -> Result<(), AllocError>
     ensures { OnOk result (text.new.items ≡ text.old.items ++ digits count number) }
 {
@@ -22,7 +22,11 @@ fn push_digits(text: &mut Vec<u8>, count: u32, number: u64) -> Result<(), AllocE
     }
 }
 
-/// The key of a place under a prefix: the prefix, and the place in 16 digits.
+/// Returns the key of a place under a prefix: the prefix, and the place in 16 digits.
+///
+/// # Errors
+///
+/// `AllocError`: an allocation failed.
 pub fn key(alloc: Global, prefix: &str, place: u64) -> Result<Vec<u8>, AllocError>
     ensures { IfOk result (λ key. key.items ≡ key_of prefix.now place) }
 {
@@ -31,7 +35,11 @@ pub fn key(alloc: Global, prefix: &str, place: u64) -> Result<Vec<u8>, AllocErro
     Ok(key)
 }
 
-/// The key of a place under a prefix in base64, as etcd's gateway has it.
+/// Returns the key of a place under a prefix in base64, as etcd's gateway takes it.
+///
+/// # Errors
+///
+/// `AllocError`: an allocation failed.
 pub fn key64(alloc: Global, prefix: &str, place: u64) -> Result<String, AllocError>
     ensures reads { IfOk result (λ text. decode_of standard (string_bytes text) ≡ Ok (key_of prefix.now place)) }
     ensures text { IfOk result (λ text. string_bytes text ≡ encode_of standard (key_of prefix.now place)) }
@@ -39,7 +47,7 @@ pub fn key64(alloc: Global, prefix: &str, place: u64) -> Result<String, AllocErr
     STANDARD.encode(alloc, &key(alloc, prefix, place)?)
 }
 
-/// A law, which runs nothing: under one prefix two places have two keys.
+/// A law: under one prefix two places below 10^16 have two keys.
 pub fn law_of_keys()
     ensures { (prefix : List ℕ) (p q : ℕ) → p < 10 ^ 16 → q < 10 ^ 16 → key_of prefix p ≡ key_of prefix q → p ≡ q }
 {}

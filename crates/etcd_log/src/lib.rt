@@ -1,19 +1,20 @@
 //! A store over etcd: places that are written once, by the JSON gateway that each member of etcd has.
 //!
-//! A place is a key, its prefix and 16 digits. To put is a transaction that puts a value where the key was never created; to get is a
-//! range of keys, of which those behind the first are kept for the next calls. `put_text` and `get_text` give the texts that say so, and
-//! `read_put` and `read_get` what the texts of the answers say (`specs/Requests`, `specs/Answers`): keys and values are in base64, and etcd
-//! leaves out what is false or empty.
+//! The key of a place is its prefix and 16 digits. A put is a transaction that puts a value if its key was never
+//! created. A get asks for a range of keys, and the store keeps those after the first for its next calls. `put_text`
+//! and `get_text` return the texts of the requests (`specs/Requests`). `read_put` and `read_get` read the texts of the
+//! answers (`specs/Answers`). Keys and values are in base64, and etcd leaves out what is false or empty.
 //!
-//! What was written or read last has to stand at its place still: the transaction of the next put asks that too (`put_behind_text`), and
-//! the next range begins with it. Where it does not, etcd was put back to an older state, and the fault is `StoreFault::WentBack`.
+//! The place that was written or read last must still hold its entry. The transaction of the next put asks for that too
+//! (`put_behind_text`), and the next range begins there. If it does not, etcd was put back to an older state. The put
+//! then writes nothing, and the get returns `StoreFault::WentBack`.
 //!
-//! `EtcdStore` asks its members in turn, over any `Dial`; `TcpDial` is one over TCP, with a time limit for each read and write. After a
-//! fault it drops the connection and asks the next member the same, each twice at most: a put whose answer was lost is then found
-//! taken, by its own entry.
+//! `EtcdStore` asks its members in turn, over any `Dial`. `TcpDial` makes streams over TCP, with a time limit for each
+//! read and write. After a fault the store drops the connection and asks the next member the same, each member at most
+//! twice. A put whose answer was lost then finds the place taken, by its own entry.
 //!
-//! Not promised, since no contract can say what sockets carry, and trusted: that what etcd answered it holds, and that it holds a key
-//! for good once it was created. So nothing is ever deleted under a prefix, and each log has a prefix of its own.
+//! Not proved, but trusted, since no contract can say what sockets carry: etcd holds what it answered, and never loses
+//! a key that it created. So nothing may delete a key under a prefix, and each log has its own prefix.
 //!
 //! From `tests_log/src/etcd_tests.rt`, over texts in place of members:
 //!

@@ -1,4 +1,4 @@
-//! What etcd is asked.
+//! The requests to etcd. Each is the text of a JSON value.
 
 ghost use Rattle.std.specs.Prelude.{◌≡◌, ◌<◌, Some, Ok, codes, string_bytes, IfOk};
 ghost use Rattle.base64.specs.Engines.{standard};
@@ -12,7 +12,7 @@ use base64::engine::general_purpose::STANDARD;
 use json::{Value, to_vec};
 use std::alloc::{AllocError, Global};
 
-// A list of one item.
+// Makes a list of one item.
 fn alone<'a>(alloc: Global, value: Value<'a>) -> Result<Value<'a>, AllocError>
     ensures { IfOk result (λ v. value_view v ≡ alone (value_view value.entry)) }
 {
@@ -20,7 +20,7 @@ fn alone<'a>(alloc: Global, value: Value<'a>) -> Result<Value<'a>, AllocError>
     Ok(Value::Array(items))
 }
 
-// A list of two items.
+// Makes a list of two items.
 fn both<'a>(alloc: Global, one: Value<'a>, other: Value<'a>) -> Result<Value<'a>, AllocError>
     ensures { IfOk result (λ v. value_view v ≡ both (value_view one.entry) (value_view other.entry)) }
 {
@@ -28,7 +28,7 @@ fn both<'a>(alloc: Global, one: Value<'a>, other: Value<'a>) -> Result<Value<'a>
     Ok(Value::Array(items))
 }
 
-// An object of one member.
+// Makes an object of one member.
 fn only<'a>(alloc: Global, name: &'a str, value: Value<'a>) -> Result<Value<'a>, AllocError>
     ensures { IfOk result (λ v. value_view v ≡ only name.now (value_view value.entry)) }
 {
@@ -36,7 +36,7 @@ fn only<'a>(alloc: Global, name: &'a str, value: Value<'a>) -> Result<Value<'a>,
     Ok(Value::Object(members))
 }
 
-// An object of two members.
+// Makes an object of two members.
 fn object_of<'a>(alloc: Global, members: [(&'a str, Value<'a>); 2]) -> Result<Value<'a>, AllocError>
     ensures { IfOk result (λ v. value_view v ≡ object (members_view members.entry)) }
 {
@@ -44,7 +44,7 @@ fn object_of<'a>(alloc: Global, members: [(&'a str, Value<'a>); 2]) -> Result<Va
     Ok(Value::Object(members))
 }
 
-// That what is reported of a key under a name is this.
+// Makes the condition that a key has this value under a name.
 fn compared<'a>(
     alloc: Global,
     key: &'a str,
@@ -63,21 +63,21 @@ fn compared<'a>(
     Ok(Value::Object(members))
 }
 
-// That a key was never created: nothing was ever put there.
+// Makes the condition that a key was never created.
 fn never_created<'a>(alloc: Global, key: &'a str) -> Result<Value<'a>, AllocError>
     ensures { IfOk result (λ v. value_view v ≡ never_created key.now) }
 {
     compared(alloc, key, "CREATE", "create_revision", "0")
 }
 
-// That a value stands at a key.
+// Makes the condition that a key has this value.
 fn holds<'a>(alloc: Global, key: &'a str, value: &'a str) -> Result<Value<'a>, AllocError>
     ensures { IfOk result (λ v. value_view v ≡ holds key.now value.now) }
 {
     compared(alloc, key, "VALUE", "value", value)
 }
 
-// That a key was never created, and that a value stands at the one before it.
+// Makes two conditions: a key was never created, and the key before it has this value.
 fn conditions<'a>(
     alloc: Global,
     key: &'a str,
@@ -90,7 +90,7 @@ fn conditions<'a>(
     both(alloc, never, holds(alloc, before, last)?)
 }
 
-// A value at a key.
+// Makes the object of a key and its value.
 fn pair<'a>(alloc: Global, key: &'a str, value: &'a str) -> Result<Value<'a>, AllocError>
     ensures { IfOk result (λ v. value_view v ≡ pair key.now value.now) }
 {
@@ -100,7 +100,7 @@ fn pair<'a>(alloc: Global, key: &'a str, value: &'a str) -> Result<Value<'a>, Al
     )
 }
 
-// The list of the request that puts a value at a key.
+// Makes the list of the one request that puts a value at a key.
 fn success<'a>(alloc: Global, key: &'a str, value: &'a str) -> Result<Value<'a>, AllocError>
     ensures { IfOk result (λ v. value_view v ≡ alone (only (codes "request_put") (pair key.now value.now))) }
 {
@@ -108,7 +108,7 @@ fn success<'a>(alloc: Global, key: &'a str, value: &'a str) -> Result<Value<'a>,
     alone(alloc, only(alloc, "request_put", put)?)
 }
 
-// The transaction that puts a value at a key where all of a list holds.
+// Makes the transaction that puts a value at a key if all conditions of a list hold.
 fn transaction<'a>(
     alloc: Global,
     compared: Value<'a>,
@@ -121,7 +121,11 @@ fn transaction<'a>(
     object_of(alloc, [("compare", compared), ("success", success)])
 }
 
-/// The text of the request that puts an entry at a place under a prefix, if nothing was ever put there.
+/// Returns the text of the request that puts an entry at a place under a prefix, if the place was never written.
+///
+/// # Errors
+///
+/// `AllocError`: an allocation failed.
 pub fn put_text(
     alloc: Global,
     prefix: &str,
@@ -139,14 +143,15 @@ pub fn put_text(
     )
 }
 
-// An entry in base64.
+// Returns an entry in base64.
 fn value64(alloc: Global, entry: &[u8]) -> Result<String, AllocError>
     ensures { IfOk result (λ text. decode_of standard (string_bytes text) ≡ Ok entry.now) }
 {
     STANDARD.encode(alloc, entry)
 }
 
-// The text of the transaction that puts a value at a key that was never created, if a value stands at the key before.
+// Returns the text of the transaction that puts a value at a key that was never created, if the key before has this
+// value.
 fn text_behind(
     alloc: Global,
     before: &str,
@@ -160,7 +165,12 @@ fn text_behind(
     to_vec(alloc, &transaction(alloc, compared, key, value)?)
 }
 
-/// The text of the request that puts an entry at a place under a prefix, if nothing was ever put there and this stands at the place before.
+/// Returns the text of the request that puts an entry at a place, if the place was never written and the place before
+/// holds `stood`.
+///
+/// # Errors
+///
+/// `AllocError`: an allocation failed.
 pub fn put_behind_text(
     alloc: Global,
     prefix: &str,
@@ -183,7 +193,7 @@ pub fn put_behind_text(
     )
 }
 
-// The keys from one on that come before another.
+// Makes the request for the keys from `key` on that come before `end`.
 fn range<'a>(alloc: Global, key: &'a str, end: &'a str) -> Result<Value<'a>, AllocError>
     ensures { IfOk result (λ v. value_view v ≡ get_request key.now end.now) }
 {
@@ -196,7 +206,11 @@ fn range<'a>(alloc: Global, key: &'a str, end: &'a str) -> Result<Value<'a>, All
     )
 }
 
-/// The text of the request that gets what stands under a prefix at the places from one on that come before another.
+/// Returns the text of the request that gets the entries under a prefix from `place` on, before `last`.
+///
+/// # Errors
+///
+/// `AllocError`: an allocation failed.
 pub fn get_text(alloc: Global, prefix: &str, place: u64, last: u64) -> Result<Vec<u8>, AllocError>
     ensures { IfOk result (λ text. SaysGet text.items prefix.now place last) }
 {
@@ -205,7 +219,11 @@ pub fn get_text(alloc: Global, prefix: &str, place: u64, last: u64) -> Result<Ve
     to_vec(alloc, &range(alloc, key.as_str(), end.as_str())?)
 }
 
-/// The text of the request that gets what stands at one place under a prefix.
+/// Returns the text of the request that gets the entry at one place under a prefix.
+///
+/// # Errors
+///
+/// `AllocError`: an allocation failed.
 pub fn one_text(alloc: Global, prefix: &str, place: u64) -> Result<Vec<u8>, AllocError>
     ensures { IfOk result (λ text. SaysOne text.items prefix.now place) }
 {

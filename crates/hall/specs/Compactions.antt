@@ -1,4 +1,5 @@
--- a hall with fewer events that stands as another does (this project's profile; that a log is cut to what its state needs: Gray 1978)
+-- a hall with the same desk and fewer events (this project's profile; that a log is cut to what its state needs: Gray
+-- 1978)
 use Rattle.std.specs.Prelude.{◌≡◌, ◌<◌, List, length, filter}
 use Rattle.commands.specs.declared.exchange.Exchange.{Exchange}
 use Rattle.hall.specs.Halls.{desk_of, SatisfiesSpec}
@@ -9,8 +10,8 @@ use Rattle.hall.specs.DeskParts.{is_renaming}
 abbrev pub renaming_of : List Exchange → List Exchange
 renaming_of xs = filter (λ x. is_renaming x.event) xs
 
--- The other hall is lawful, of the same config, and its desk is the same; its exchanges of renaming are the same ones, and it has fewer in
--- all
+-- the other hall satisfies the specification of a hall, and its config and desk are the same. It has the same exchanges
+-- of renaming, and fewer exchanges in all
 pub record IsCompacted (h new : HallState) : Type 0 where
   pub config : new.config ≡ h.config
   pub lawful : SatisfiesSpec new

@@ -1,4 +1,4 @@
--- what a copy of a pool and its slots stands for
+-- the pool and the slots that a copy holds
 use Rattle.std.specs.Prelude.{ℕ, List, [], Bool}
 use Rattle.step_memory.specs.RegisterState.{Registers}
 use Rattle.slot_array.specs.SlotsState.{SlotsState}

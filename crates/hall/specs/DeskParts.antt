@@ -1,4 +1,4 @@
--- the two parts of a desk, which do not know of each other
+-- the two parts of a desk, which do not depend on each other
 use Rattle.std.specs.Prelude.{◌≡◌, ℕ, Bool, true, false}
 use Rattle.commands.specs.declared.event.Event.{Event}
 use Rattle.commands.specs.declared.event.Event.TheVariants.{Begin, Step}

@@ -1,4 +1,4 @@
--- what an event and its reply leave of a lawful hall (this project's profile; a history of one object: Herlihy and Wing 1990)
+-- what an event and its reply leave of a hall (this project's profile; a history of one object: Herlihy and Wing 1990)
 use Rattle.std.specs.Prelude.{◌≡◌, [], ◌∷◌, ◌++◌}
 use Rattle.commands.specs.declared.event.Event.{Event}
 use Rattle.commands.specs.Replies.{ShownReply}
@@ -7,7 +7,8 @@ use Rattle.hall.specs.HallState.{HallState}
 use Rattle.hall.specs.Halls.{SatisfiesSpec}
 use Rattle.hall.specs.Serving.{accepted}
 
--- a lawful hall of the same config, whose history has gained the event with its reply where it was accepted, and nothing else
+-- the hall satisfies the specification, and its config is the same. An accepted event has added itself with its reply
+-- to the history, and nothing else has changed
 pub record GoesOn (h : HallState) (e : Event) (r : ShownReply) (u : HallState) : Type 0 where
   pub lawful : SatisfiesSpec u
   pub config : u.config ≡ h.config

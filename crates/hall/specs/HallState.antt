@@ -3,7 +3,7 @@ use Rattle.std.specs.Prelude.{List}
 use Rattle.commands.specs.declared.config.Config.{Config}
 use Rattle.commands.specs.declared.exchange.Exchange.{Exchange}
 
--- what it was opened for, and its accepted events with their replies
+-- the config for which it was opened, and its accepted events with their replies
 pub record HallState : Type 0 where
   pub config : Config
   pub history : List Exchange

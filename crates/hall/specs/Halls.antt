@@ -1,4 +1,4 @@
--- what a hall answers, and what its history is
+-- the replies of a hall, and its history
 use Rattle.std.specs.Prelude.{◌≡◌, ◌⊎◌, ℕ, List, [], ◌∷◌, ◌++◌, length, ◌≤◌, true, nat_le, if◌then◌else◌, Option, Some, None}
 use Rattle.step_memory.specs.declared.refusal.Refusal.{Refusal}
 use Rattle.step_memory.specs.declared.refusal.Refusal.TheVariants as refusal
@@ -21,13 +21,13 @@ hall_of config history = record { config = config; history = history }
 abbrev pub desk_of : HallState → DeskValue
 desk_of h = replay (fresh_desk h.config) h.history
 
--- names are given in the hall's world, and the history is one of accepted events with the replies that were due, at most 1,000,000
+-- the config's world gives names. The history has at most 1,000,000 events, each accepted, with the reply that was due
 pub record SatisfiesSpec (h : HallState) : Type 0 where
   pub named : gives_names h.config.world ≡ true
   pub accepted : AreAccepted (fresh_desk h.config) h.history
   pub few : length h.history ≤ 1000000
 
--- a history of 1,000,000 events is full: that is said where nothing else is due
+-- a history of 1,000,000 events is full, which is the last reason to refuse an event
 abbrev pub full_unless : Option Refusal → ℕ → Option Refusal
 full_unless (Some why) count = Some why
 full_unless None count = if nat_le 1000000 count then Some refusal.HistoryFull else None
@@ -36,11 +36,11 @@ full_unless None count = if nat_le 1000000 count then Some refusal.HistoryFull e
 abbrev pub hall_refusal : HallState → Event → Option Refusal
 hall_refusal h e = full_unless (desk_refusal (desk_of h) e) (length h.history)
 
--- the hall with one more event in its history, behind all others, with the reply of the desk
+-- the hall with one more event at the end of its history, with the reply of the desk
 abbrev pub longer : HallState → Event → HallState
 longer h e = hall_of h.config (h.history ++ exchange e (desk_reply (desk_of h) e) ∷ [])
 
--- the reply to an event where no growth is refused, and the hall after it
+-- the reply to an event if no allocation fails, and the hall after it
 abbrev pub reply_unless : Option Refusal → HallState → Event → ShownReply
 reply_unless None h e = desk_reply (desk_of h) e
 reply_unless (Some why) h e = reply.Refused why
@@ -55,8 +55,8 @@ hall_reply h e = reply_unless (hall_refusal h e) h e
 abbrev pub hall_after : HallState → Event → HallState
 hall_after h e = after_unless (hall_refusal h e) h e
 
--- an event may be answered so, and leave this: the one reply and the one hall; or a refused growth, where nothing else is
--- due, with nothing changed
+-- a hall may answer an event with this reply and then be in this state. They are the one reply and the one state, or
+-- `NoMemory` with nothing changed if no other refusal is due
 abbrev pub HallMay : HallState → Event → ShownReply → HallState → Type 0
 HallMay h e r u =
     ((r ≡ hall_reply h e) × (u ≡ hall_after h e)) ⊎ ((r ≡ reply.Refused refusal.NoMemory) × (u ≡ h) × (hall_refusal h e ≡ None))

@@ -1,4 +1,4 @@
--- exchanges of which long replies stand apart
+-- exchanges whose long replies are stored apart
 use Rattle.std.specs.Prelude.{ℕ, List, [], ◌∷◌, map, Bool, true, ◌&&◌, nat_lt, slice_index_or}
 use Rattle.commands.specs.declared.event.Event.{Event}
 use Rattle.commands.specs.declared.exchange.Exchange.{Exchange}
@@ -10,7 +10,7 @@ use Rattle.hall.specs.declared.entry.Short.{Short}
 use Rattle.hall.specs.declared.entry.Short.TheVariants.{Ok, Quiet, Proposed, Missed, Got, Left, Value, Apart}
 use Rattle.hall.specs.LogState.{LogState}
 
--- the reply that this stands for, among the long ones
+-- the reply that a short one means, by the long ones that are stored apart
 abbrev pub reply_shown : List ShownReply → Short → ShownReply
 reply_shown apart Ok = reply.Ok
 reply_shown apart Quiet = reply.Quiet
@@ -21,7 +21,7 @@ reply_shown apart (Left number) = reply.Left number
 reply_shown apart (Value value) = reply.Value value
 reply_shown apart (Apart at) = slice_index_or apart at reply.Quiet
 
--- it is short, or stands among so many long ones
+-- the reply is short, or it is one of this many long ones
 abbrev pub is_inside : ℕ → Short → Bool
 is_inside count (Apart at) = nat_lt at count
 is_inside count s = true
@@ -36,7 +36,7 @@ exchange_shown apart e = exchange e.event (reply_shown apart e.reply)
 abbrev pub entry_of : Event → Short → Entry
 entry_of e short = record { event = e; reply = short }
 
--- the exchanges that entries and long replies stand for
+-- the exchanges that these entries mean, by the long replies
 abbrev pub put_together : List ShownReply → List Entry → List Exchange
 put_together apart es = map (exchange_shown apart) es
 

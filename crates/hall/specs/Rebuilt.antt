@@ -1,4 +1,4 @@
--- how far a hall is built anew
+-- the state of a hall under construction
 use Rattle.std.specs.Prelude.{◌≡◌, ℕ, take, None}
 use Rattle.commands.specs.declared.event.Event.{Event}
 use Rattle.hall.specs.Halls.{hall_of, desk_of, hall_refusal, longer}
@@ -13,7 +13,7 @@ use Rattle.hall.specs.DeskParts.{slots_of, NamesAlike}
 abbrev pub IsCopied : HallState → SlotsCopy → Type 0
 IsCopied h c = slots_in c ≡ slots_of (desk_of h)
 
--- the hall as it was after its first events, so many
+-- the hall as it was after its first n events
 abbrev pub after_first : ℕ → HallState → HallState
 after_first n h = hall_of h.config (take n h.history)
 
@@ -23,19 +23,19 @@ pub record HasRenaming (h new : HallState) : Type 0 where
   pub names : NamesAlike (desk_of new) (desk_of h)
   pub renaming : renaming_of new.history ≡ renaming_of h.history
 
--- an event was accepted, and followed in the copy
+-- an event was accepted, and the copy followed it
 pub record HasTaken (old : Rebuilding) (e : Event) (new : Rebuilding) : Type 0 where
   pub accepted : hall_refusal old.hall e ≡ None
   pub hall : new.hall ≡ longer old.hall e
   pub copied : IsCopied old.hall old.slots → IsCopied new.hall new.slots
 
--- it went on by events of the pool and the slots alone
+-- the hall went on by events of the pool and the slots alone
 pub record GoesOn (old new : Rebuilding) : Type 0 where
   pub same : HasRenaming old.hall new.hall
   pub copied : IsCopied old.hall old.slots → IsCopied new.hall new.slots
 
--- the first events of a hall, so many, are taken over into a new one where they are of renaming, and followed in a copy of the old pool where
--- they are not
+-- the first n events of a hall are sorted. The new hall has those of renaming, and the copy of the old pool has
+-- followed the others
 pub record IsSorted (h : HallState) (n : ℕ) (new : Rebuilding) (old : SlotsCopy) : Type 0 where
   pub same : HasRenaming (after_first n h) new.hall
   pub copied : IsCopied new.hall new.slots

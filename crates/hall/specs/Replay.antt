@@ -9,7 +9,7 @@ abbrev pub replay : DeskValue → List Exchange → DeskValue
 replay w [] = w
 replay w (x ∷ xs) = replay (desk_after w x.event) xs
 
--- each event is accepted, and has the reply that is due there
+-- each event is accepted, and has the reply that is due after those before it
 abbrev pub AreAccepted : DeskValue → List Exchange → Type 0
 AreAccepted w [] = Unit {0}
 AreAccepted w (x ∷ xs) = (desk_refusal w x.event ≡ None) × (x.reply ≡ desk_reply w x.event) × AreAccepted (desk_after w x.event) xs

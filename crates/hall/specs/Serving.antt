@@ -1,4 +1,4 @@
--- what a hall may answer as a service
+-- a hall as a service
 use Rattle.std.specs.Prelude.{◌≡◌, List, [], ◌∷◌, Bool, true, false, if◌then◌else◌}
 use Rattle.step_memory.specs.declared.refusal.Refusal.{Refusal}
 use Rattle.step_memory.specs.declared.refusal.Refusal.TheVariants as refusal
@@ -15,12 +15,12 @@ use Rattle.player.specs.Turns.Turn.{Answered, Reported, Ended, Misread}
 use Rattle.hall.specs.Halls.{hall_of, desk_of, HallMay}
 use Rattle.hall.specs.HallState.{HallState}
 
--- a hall takes an event by its rules, and tells who has a name with nothing changed
+-- a hall applies an event as `HallMay` allows, and reports the owner of a name with nothing changed
 abbrev pub HallServes : HallState → Request → ShownReply → HallState → Type 0
 HallServes h (Take e) r u = HallMay h e r u
 HallServes h (OwnerOf n) r u = (r ≡ owner_reply (desk_of h) n) × (u ≡ h)
 
--- a growth was refused, or the history was full
+-- an allocation failed, or the history was full
 abbrev pub is_of_room : Refusal → Bool
 is_of_room refusal.NoMemory = true
 is_of_room refusal.HistoryFull = true
@@ -30,7 +30,7 @@ abbrev pub wants_room : ShownReply → Bool
 wants_room (reply.Refused why) = is_of_room why
 wants_room _ = false
 
--- the turns that were not answered so
+-- the turns without those whose reply is `NoMemory` or `HistoryFull`
 abbrev pub with_room : List Turn → List Turn
 with_room [] = []
 with_room (Answered x ∷ ts) = if wants_room x.reply then with_room ts else Answered x ∷ with_room ts
@@ -43,6 +43,6 @@ abbrev pub accepted : List Exchange → List Exchange
 accepted [] = []
 accepted (x ∷ xs) = if is_refusal x.reply then accepted xs else x ∷ accepted xs
 
--- a hall that began with no event has answered so in turn
+-- a hall that began with no event has answered these turns in order
 abbrev pub HasServed : Config → List Turn → HallState → Type 0
 HasServed c ts u = Runs HallServes (hall_of c []) ts u

@@ -1,4 +1,4 @@
--- how a pool and its slots go on by events
+-- how events change a pool and its slots
 use Rattle.std.specs.Prelude.{◌≡◌, ℕ, None}
 use Rattle.commands.specs.declared.event.Event.{Event}
 use Rattle.commands.specs.declared.event.Event.TheVariants.{Enter, Probe, Leave, Put, Widen}
@@ -7,7 +7,7 @@ use Rattle.bit_allocator.specs.Widening.{widen_refusal}
 use Rattle.slot_array.specs.Slots.{after_put, after_extend}
 use Rattle.slot_array.specs.SlotsState.{SlotsState}
 
--- the pool lets this one enter, or get so many numbers
+-- the pool lets this identity enter, or accepts to have this many numbers
 abbrev pub LetsIn : SlotsState ℕ → Event → Type 0
 LetsIn s (Enter p) = enter_refusal s.pool p ≡ None
 LetsIn s (Widen more) = widen_refusal s.pool.size more ≡ None

@@ -1,4 +1,4 @@
-//! A hall is built anew with fewer events.
+//! Compaction: a new hall with the same desk and fewer events.
 
 ghost use Rattle.std.specs.Prelude.{◌≡◌, ◌+◌, length, true, false, Some, IfOk, IfSome, OnOk};
 ghost use Rattle.hall.specs.Halls.{desk_of};
@@ -30,11 +30,11 @@ fn is_renaming(event: Event) -> bool
     }
 }
 
-/// Takes the event at a place of a hall over into a new one where it is of renaming, and follows it in a copy where it is not.
+/// Takes the event at a place of a hall into a new one if it is of renaming. Otherwise it follows the event in a copy.
 fn sort(hall: &Hall, place: usize, new: &mut Rebuilding, old: &mut SlotsCopy) -> Result<(), Stuck>
     ensures { OnOk result (IsSorted hall.now place new.old old.old → IsSorted hall.now (place + 1) new.new old.new) }
 {
-    // Asked for what it tells of the history: that it is lawful.
+    // The call is for its clause that the history satisfies the specification.
     let _ = hall.len();
     let Some(exchange) = hall.get(place) else {
         return Err(Stuck);
@@ -65,7 +65,7 @@ fn sort_all(alloc: Global, hall: &Hall) -> Result<Sorted, Stuck>
     Ok(Sorted { new, old })
 }
 
-/// A hall that is built anew, with the desk of another.
+/// Builds a new hall with the desk of another.
 fn rebuilt(alloc: Global, hall: &Hall) -> Result<Hall, Stuck>
     ensures renaming { IfOk result (λ new. HasRenaming hall.now new) }
     ensures desk { IfOk result (λ new. desk_of new ≡ desk_of hall.now) }
@@ -79,11 +79,13 @@ fn rebuilt(alloc: Global, hall: &Hall) -> Result<Hall, Stuck>
     Ok(built)
 }
 
-/// A hall of the same config whose desk is the same, with fewer events: those of renaming as they are, and in place of those of the
-/// pool and the slots as many as lead there from the start, at most some 150,000. `None` where that would be no fewer, or where a
-/// growth was refused.
+/// Returns a hall of the same config, with the same desk and fewer events.
 ///
-/// It takes time as the history is long.
+/// It has the events of renaming as they are. In place of those of the pool and the slots it has events that lead there
+/// from the start, at most some 150,000. That it has so few is only tested.
+///
+/// Returns `None` if the new hall would not have fewer events, or if an allocation failed. The time is linear in the
+/// length of the history.
 pub fn compacted(alloc: Global, hall: &Hall) -> Option<Hall>
     ensures { IfSome result (λ new. IsCompacted hall.now new) }
 {

@@ -9,22 +9,22 @@ use crate::compacting::compacted;
 use crate::hall::MOST_EVENTS;
 use std::alloc::Global;
 
-/// So many events are compacted.
+/// The length of a history, in events, at which a compaction is due.
 pub const DUE_EVENTS: usize = 900_000;
 
-/// Compacts the history of one hall whenever that has grown long.
+/// Compacts the history of one hall when it has grown long.
 ///
-/// It is due where a history has more than half of 900,000 events at first, and 900,000 later on. Where the events of renaming
-/// leave little room, it is due once half of that room is used up; and never again where that is fewer than 10,000 events, since
-/// then the hall is full of renaming.
+/// - The first compaction is due at more than 450,000 events, a later one at 900,000.
+/// - After one that left more than 800,000 events, the next is due when half of the remaining room is used up.
+/// - If this half is fewer than 10,000 events, none is due any more. The hall is then full of renaming.
 #[derive(Drop)]
 pub struct Compactor {
     due: usize,
-    /// Whether what the last one gave could not be kept.
+    /// Whether the result of the last compaction could not be stored.
     put_off: bool,
 }
 
-/// At how many events the next compaction is due after one that left so many.
+/// Returns the length of a history at which the next compaction is due, after one that left `left` events.
 fn due_after(left: usize) -> usize
     ensures { result ≡ due_after left }
 {
@@ -36,7 +36,7 @@ fn due_after(left: usize) -> usize
 }
 
 impl Compactor {
-    /// Of a hall that was just opened.
+    /// Makes a compactor for a hall that was just opened.
     pub fn new() -> Compactor
         ensures due { result.due ≡ 450001 }
         ensures put_off { result.put_off ≡ false }
@@ -47,14 +47,15 @@ impl Compactor {
         }
     }
 
-    /// Whether a hall's history is to be compacted.
+    /// Returns true if and only if the hall's history is long enough for a compaction.
     pub fn is_due(&self, hall: &Hall) -> bool
         ensures { result ≡ true ↔ (self.now.due ≤ length hall.now.history) }
     {
         self.due <= hall.len()
     }
 
-    /// A compaction could not be kept: the next one is due a tenth of the room further on, and not at each event until then.
+    /// Records that the result of a compaction could not be stored. The next is due when another tenth of the room is
+    /// used up, and not at each event.
     pub fn put_off(&mut self, hall: &Hall)
         ensures due { self.new.due ≡ due_again (length hall.now.history) }
         ensures put_off { self.new.put_off ≡ true }
@@ -64,14 +65,14 @@ impl Compactor {
         self.put_off = true;
     }
 
-    /// Whether what the last compaction gave could not be kept.
+    /// Returns true if and only if the result of the last compaction could not be stored.
     pub fn is_put_off(&self) -> bool
         ensures { result ≡ self.now.put_off }
     {
         self.put_off
     }
 
-    /// What `compacted` makes of a hall; the next one is due so long after what that left.
+    /// Returns what `compacted` makes of a hall, and sets when the next compaction is due.
     pub fn compacted(&mut self, alloc: Global, hall: &Hall) -> Option<Hall>
         ensures compacted { IfSome result (λ new. IsCompacted hall.now new) }
         ensures next { IfSome result (λ new. self.new.due ≡ due_after (length new.history)) }

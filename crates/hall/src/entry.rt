@@ -1,4 +1,4 @@
-//! What stands in a history for an exchange.
+//! What a history stores of an exchange.
 
 ghost use Rattle.std.specs.Prelude.{◌≡◌, ◌<◌, ◌++◌, List, true, vec_len, vec_capacity};
 ghost use Rattle.hall.specs.Logs.{reply_shown, is_inside};
@@ -9,7 +9,7 @@ use commands::{Event, Reply};
 use std::alloc::Allocator;
 use step_memory::View;
 
-/// A reply of few bytes, or where one with a view or of a rare kind stands apart.
+/// A reply of few bytes, or the index of one that shows a view or is of a rare kind.
 #[derive(Clone, Copy, Drop)]
 pub(crate) enum Short {
     Ok,
@@ -22,14 +22,14 @@ pub(crate) enum Short {
     Apart(usize),
 }
 
-/// An event with what stands for its reply.
+/// An event with its reply, in few bytes.
 #[derive(Clone, Copy, Drop)]
 pub(crate) struct Entry {
     pub(crate) event: Event,
     pub(crate) reply: Short,
 }
 
-/// What stands for a reply with the view beside it, which is put apart where it is long.
+/// Returns a reply in few bytes. A long one goes with its view to the end of `apart`.
 pub(crate) fn shorten<A: Allocator>(
     apart: &mut Vec<Reply<View>, A>,
     reply: Reply<()>,
@@ -56,7 +56,7 @@ pub(crate) fn shorten<A: Allocator>(
     }
 }
 
-/// The reply that this stands for.
+/// Returns the reply that `shorten` made short.
 pub(crate) fn shown(apart: &[Reply<View>], short: Short) -> Reply<View>
     ensures { result ≡ reply_shown apart.now short }
 {

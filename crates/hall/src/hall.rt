@@ -16,23 +16,23 @@ use std::alloc::Global;
 use std::marker::Model;
 use step_memory::{Refusal, View};
 
-/// The most events that a history holds.
+/// The most events of a history.
 pub const MOST_EVENTS: usize = 1_000_000;
 
-/// A value that is let go by what its type says of that, and not by its parts.
+/// A value that is dropped by what its type says of that, and not by its parts.
 #[derive(Drop)]
 struct Held<T> {
     desk: T,
 }
 
-/// A desk with the list of its accepted events and their replies. A refused event is not stored.
+/// A desk with its history: the list of its accepted events and their replies. It stores no refused event.
 pub struct Hall {
     config: Config,
     held: Held<Desk<Global>>,
     history: Log<Global>,
 }
 
-// By hand, so that a hall is taken apart here alone, and not wherever one is dropped.
+// By hand, so that the code that drops a hall is here alone, and not at each place where one goes out of scope.
 impl Drop for Hall {
     fn drop(self) {
         let Hall {
@@ -57,8 +57,14 @@ impl Model for Hall {
 }
 
 impl Hall {
-    /// A hall of this config with no event; `OutOfRange` where no names are given in the config's world, and `NoMemory` where
-    /// its room was refused.
+    /// Makes a hall of this config with no event.
+    ///
+    /// # Errors
+    ///
+    /// The first that applies is returned:
+    ///
+    /// - `OutOfRange`: the config's world gives no names.
+    /// - `NoMemory`: an allocation failed.
     pub fn new(alloc: Global, config: Config) -> Result<Self, Refusal>
         ensures opened { IfOk result (λ h. h ≡ hall_of config []) }
         ensures out_of_range { result ≡ Err Refusal.OutOfRange ↔ (gives_names config.world ≡ false) }
@@ -67,7 +73,7 @@ impl Hall {
         if !config.world.gives_names() {
             return Err(Refusal::OutOfRange);
         }
-        // The desk last, since it is taken apart at each way out behind it.
+        // The desk last, since each later exit has code that takes it apart.
         let history = Log::new(alloc)?;
         let desk = Desk::new(alloc, config)?;
         Ok(Hall {
@@ -77,7 +83,7 @@ impl Hall {
         })
     }
 
-    /// What the hall was opened for.
+    /// Returns the config for which the hall was opened.
     pub fn config(&self) -> Config
         ensures config { result ≡ self.now.config }
         ensures lawful { SatisfiesSpec self.now }
@@ -85,7 +91,7 @@ impl Hall {
         self.config
     }
 
-    /// How many events the history holds: at most 1,000,000.
+    /// Returns the number of events in the history: at most 1,000,000.
     pub fn len(&self) -> usize
         ensures count { result ≡ length self.now.history }
         ensures most { result ≤ 1000000 }
@@ -94,15 +100,16 @@ impl Hall {
         self.history.len()
     }
 
-    /// The event at a place of the history, counted from 0, with its reply.
+    /// Returns the event at a place of the history, from 0, with its reply. Returns `None` if the history is shorter.
     pub fn get(&self, place: usize) -> Option<Exchange>
         ensures { result ≡ slice_get self.now.history place }
     {
         self.history.get(place)
     }
 
-    /// Why an event would be refused, failed allocations aside: `HistoryFull` where nothing else is due and 1,000,000 events are
-    /// held. It changes nothing.
+    /// Returns why `apply` would refuse an event, failed allocations aside, or `None` if it would accept it.
+    ///
+    /// The desk's refusals come first. `HistoryFull` comes last: the history has 1,000,000 events.
     pub fn refusal(&self, event: Event) -> Option<Refusal>
         ensures { result ≡ hall_refusal self.now event }
     {
@@ -116,8 +123,14 @@ impl Hall {
         }
     }
 
-    /// Takes one event and answers it, by at most one access. Where it is accepted the history gains the event with its
-    /// reply; where it is refused nothing changes. The growth of the history is made first.
+    /// Applies one event to the desk, and returns the reply. It stores an accepted event with its reply in the history.
+    ///
+    /// A refusal changes nothing. The first that applies is returned: one of `refusal`, and then `NoMemory` if an
+    /// allocation failed.
+    ///
+    /// # Steps
+    ///
+    /// At most one access.
     pub fn apply(&mut self, event: Event) -> Reply<View>
         ensures { HallMay self.old event result self.new }
     {
@@ -125,7 +138,8 @@ impl Hall {
         self.apply_short(event, &mut view).with(&view)
     }
 
-    /// As `apply`, with a reply of a few bytes, and its view where it shows one.
+    /// Does what `apply` does, and returns a reply of few bytes. A reply that shows a view shows the one that this call
+    /// stores in `view`.
     pub fn apply_short(&mut self, event: Event, view: &mut View) -> Reply<()>
         ensures { HallMay self.old event (with_view result view.new) self.new }
     {
@@ -142,19 +156,20 @@ impl Hall {
         reply
     }
 
-    /// The pool and its slots, for what watches from outside.
+    /// Returns the pool and its slots, for observers.
     pub fn slots(&self) -> &Slots<u64, Global>
         ensures { result.now ≡ slots_of (desk_of self.now) }
     {
         self.held.desk.slots()
     }
 
-    /// Who has a name, or that nobody has it; `OutOfRange` unless the number is from 1 to 2m - 1, for m participants. It
-    /// changes nothing.
+    /// Returns the reply that names the owner of a name, or `nobody` if no participant has it. This changes nothing.
+    ///
+    /// The reply is the refusal `OutOfRange` if the number is not from 1 to `2m - 1`, for m participants.
     pub fn owner(&self, number: u64) -> Reply<View>
         ensures value { result ≡ owner_reply (desk_of self.now) number }
 
-        // It is who was given the name in the history.
+        // The owner is the identity that got the name in the history.
         ensures reported { IsOwnerReply self.now.config.m self.now.history number result }
     {
         self.held.desk.owner(number)

@@ -1,4 +1,4 @@
-//! Who holds numbers for a while, so that others get those above.
+//! Helpers: identities that hold numbers for a while, so that others get the numbers above.
 
 use bit_allocator::Competitor;
 
@@ -9,11 +9,12 @@ pub(crate) struct Helpers {
 }
 
 impl Helpers {
+    /// Makes helpers that have given no identity.
     pub(crate) fn new() -> Helpers {
         Helpers { next: u64::MAX }
     }
 
-    /// The next identity that is none of these.
+    /// Returns the next identity that does not compete. Not proved: compaction compares the result as a whole.
     pub(crate) fn next(&mut self, competitors: &[Competitor]) -> u64 {
         for _ in 0..competitors.len() {
             if !competitors.iter().any(|one| one.identity == self.next) {

@@ -1,4 +1,4 @@
-//! What structures over a hall stand on.
+//! Laws of a hall, which run nothing.
 
 ghost use Rattle.std.specs.Prelude.{◌≡◌, ◌<◌, ◌++◌, ℕ, List, length, None, true, false};
 ghost use Rattle.commands.specs.Config.{gives_names};
@@ -17,16 +17,20 @@ ghost use Rattle.hall.specs.Serving.{HallServes, HasServed, with_room, accepted}
 use crate::hall::Hall;
 use commands::{Event, Reply};
 
-/// A law, which runs nothing: the history of a hall is a run of the renaming object, the pool and the slots.
+/// A law: the history of a hall is a run of the renaming object, the pool and the slots, each fresh at first.
 pub fn law_of_hall(hall: &Hall)
     ensures run { IsDeskRunOf hall.now.config hall.now.history }
 {
     let _ = hall.len();
 }
 
-/// A law, which runs nothing: whatever a lawful hall may answer to an event leaves a lawful hall of its config, whose history has
-/// gained the event with its reply where it was accepted, and nothing else; a refused event leaves the hall as it was; a
-/// beginning is accepted by `ok` alone; and where a hall refuses nothing its history has room for one more.
+/// A law of each event that a hall applies, and of its reply.
+///
+/// - An accepted event leaves a hall of the same config that satisfies the specification. Its history has gained the
+///   event with its reply, and nothing else.
+/// - A refused event leaves the hall as it was.
+/// - A participant begins with the reply `ok` alone.
+/// - If a hall refuses an event for no reason, its history has room for one more.
 pub fn law_of_events()
     ensures goes_on { (h u : HallState) (e : Event) (r : ShownReply) → SatisfiesSpec h → HallMay h e r u → GoesOn h e r u }
     ensures refused { (h u : HallState) (e : Event) (r : ShownReply) → SatisfiesSpec h → HallMay h e r u → is_refusal r ≡ true → u ≡ h }
@@ -34,9 +38,11 @@ pub fn law_of_events()
     ensures room { (h : HallState) (e : Event) → hall_refusal h e ≡ None → length h.history < 1000000 }
 {}
 
-/// A law, which runs nothing, of what a hall answers in turn as a service: without the turns that were refused a growth or
-/// found the history full, turns from a hall with no event are a transcript of its config; and its history gains the accepted
-/// events with their replies.
+/// A law of a hall as a service.
+///
+/// - `transcript`: the turns from a hall with no event are a transcript of its config. Turns whose reply is `NoMemory`
+///   or `HistoryFull` are left out.
+/// - `history`: the history gains the accepted events with their replies.
 pub fn law_of_serving()
     ensures transcript { (c : Config) → gives_names c.world ≡ true → (u : HallState) (ts : List Turn) → HasServed c ts u → IsTranscript c (with_room ts) }
     ensures history { (h u : HallState) (ts : List Turn) → SatisfiesSpec h → Runs HallServes h ts u → u.history ≡ h.history ++ accepted (exchanges ts) }

@@ -1,22 +1,31 @@
-//! One desk with the history of its events, and a hall with fewer events that stands as another does.
+//! One desk with the history of its events, and a shorter history for the same desk.
 //!
-//! A *hall* is a desk with the list of its accepted events and their replies. What is proved of it: the history is a run, which
-//! the renaming object, the pool and the slots, begun fresh, can answer in order (`law_of_hall`), and the desk is its replay;
-//! where an event is accepted the history gains just the event with its reply, and where it is refused nothing changes
-//! (`Hall::apply`, `law_of_events`). A history holds at most 1,000,000 events, 40 bytes each, and their views apart.
+//! A *hall* is a desk with the list of its accepted events and their replies. What is proved:
 //!
-//! As a service a hall answers lines (`law_of_serving`). Nobody shares it: a lock round one is `locked_world`, and a log or a
-//! journal may keep its events.
+//! - The history is a run of the renaming object, the pool and the slots, each fresh at first (`law_of_hall`). The desk
+//!   is its replay.
+//! - An accepted event adds itself with its reply to the history, and nothing else. A refused event changes nothing
+//!   (`Hall::apply`, `law_of_events`).
 //!
-//! A reply may show a view, which takes a kilobyte. Where events are many, `Hall::apply_short` answers in a few bytes and puts the view
-//! beside.
+//! A history has at most 1,000,000 events. Each takes 40 bytes, and views are stored apart.
 //!
-//! A history only grows. Most of its events are soon of no use: who entered the pool and left it again leaves a history of hundreds of events
-//! and a pool as it was before. `compacted` builds a hall anew: it takes over the events of renaming, word for word, and leads the pool and the
-//! slots to where they stand by as few events as that takes. What is proved (`IsCompacted`): the new hall is lawful and of the same
-//! config, its desk is the same, the events of renaming stand in its history with their replies in their order, and the history is shorter.
-//! So what it answers to any event from then on, want of room aside, is what the old hall would have answered. That one is found, where the
-//! history has many more events of the pool than it takes, is no clause: it is tried on drawn states. `Compactor` says when one is due.
+//! As a service a hall answers lines (`law_of_serving`). One caller owns it: `locked_world` puts a lock around one, and
+//! a log or a journal may store its events.
+//!
+//! A reply that shows a view takes a kilobyte. `Hall::apply_short` returns a reply of few bytes instead, and stores the
+//! view in a buffer of the caller.
+//!
+//! A history only grows, and most of its events are soon of no use. An identity that enters the pool and leaves it
+//! again adds hundreds of events, and the pool is as before. `compacted` makes a new hall. It has the events of
+//! renaming as they are, and a few events that lead the pool and the slots to their present state. What is proved
+//! (`IsCompacted`):
+//!
+//! - The new hall satisfies the specification of a hall, and its config and desk are the same.
+//! - The events of renaming are in its history with their replies, in their order. The history is shorter.
+//!
+//! So its reply to any later event is the one that the old hall would have returned, failed allocations and a full
+//! history aside. Only tested, on drawn states: `compacted` returns a hall if the history has many more events of the
+//! pool than it needs. `Compactor` says when a compaction is due.
 //!
 //! From `tests_hall/src/lock_tests.rt`:
 //!

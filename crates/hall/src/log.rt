@@ -1,4 +1,4 @@
-//! Exchanges in order, in which views stand apart.
+//! Exchanges in order, which store their views apart.
 
 ghost use Rattle.std.specs.Prelude.{◌≡◌, ◌<◌, ◌++◌, [], ◌∷◌, length, slice_get, true, IfOk};
 ghost use Rattle.desk.specs.DeskCalls.{exchange};
@@ -11,7 +11,7 @@ use std::alloc::Allocator;
 use std::marker::Model;
 use step_memory::{NoMemory, View};
 
-/// Exchanges in order: 40 bytes each, and their views apart.
+/// Exchanges in order. Each takes 40 bytes, and those that show a view a kilobyte more.
 #[derive(Drop)]
 pub struct Log<A: Allocator> {
     entries: Vec<Entry, A>,
@@ -33,7 +33,11 @@ impl<A: Allocator> Model for Log<A> {
 }
 
 impl<A: Allocator + Clone> Log<A> {
-    /// No exchange, which takes no memory.
+    /// Makes a log of no exchange. This allocates nothing.
+    ///
+    /// # Errors
+    ///
+    /// `NoMemory`: the allocator could not be cloned.
     pub fn new(alloc: A) -> Result<Log<A>, NoMemory>
         ensures { IfOk result (λ l. l.items ≡ []) }
     {
@@ -48,14 +52,14 @@ impl<A: Allocator + Clone> Log<A> {
 }
 
 impl<A: Allocator> Log<A> {
-    /// How many there are.
+    /// Returns the number of exchanges.
     pub fn len(&self) -> usize
         ensures { result ≡ length self.now.items }
     {
         self.entries.len()
     }
 
-    /// The exchange at a place.
+    /// Returns the exchange at a place, from 0, or `None` if there are fewer.
     pub fn get(&self, place: usize) -> Option<Exchange>
         ensures { result ≡ slice_get self.now.items place }
     {
@@ -66,7 +70,7 @@ impl<A: Allocator> Log<A> {
         })
     }
 
-    /// Makes room for one more, and tells whether there is.
+    /// Makes room for one more exchange, and returns false if the allocation failed. The exchanges stay as they are.
     pub fn reserve(&mut self) -> bool
         ensures same { self.new.items ≡ self.old.items }
         ensures room { result ≡ true → self.new.room ≡ true }
@@ -74,7 +78,7 @@ impl<A: Allocator> Log<A> {
         self.entries.reserve(1).is_ok() && self.apart.reserve(1).is_ok()
     }
 
-    /// Puts one behind the others, where there is room: an event with its reply, and the view beside that.
+    /// Appends an event with its reply, for which there is room. A reply that shows a view shows `view`.
     pub fn push_reserved(&mut self, event: Event, reply: Reply<()>, view: &View)
         requires { self.old.room ≡ true }
         ensures { self.new.items ≡ self.old.items ++ exchange event (with_view reply view.now) ∷ [] }

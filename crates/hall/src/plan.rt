@@ -1,4 +1,4 @@
-//! The events that lead a pool and slots to where others stand.
+//! The events that lead a fresh pool and slots to the state of others.
 
 ghost use Rattle.std.specs.Prelude.{OnOk};
 ghost use Rattle.hall.specs.Rebuilt.{GoesOn};
@@ -11,14 +11,14 @@ use bit_allocator::{Competitor, MOST_NUMBERS, Stay};
 use commands::{Event, Reply};
 use std::alloc::Global;
 
-/// A helper and the number that it holds.
+/// A helper with the number that it holds.
 #[derive(Clone, Copy, Drop)]
 struct Held {
     id: u64,
     number: u8,
 }
 
-/// One probes until it gets a number.
+/// Probes until this competitor gets a number, and returns the number.
 fn settle(new: &mut Rebuilding, id: u64) -> Result<u8, Stuck>
     ensures { OnOk result (GoesOn new.old new.new) }
 {
@@ -30,7 +30,7 @@ fn settle(new: &mut Rebuilding, id: u64) -> Result<u8, Stuck>
     Err(Stuck)
 }
 
-/// One probes until its next probe is of this number, and gets none before.
+/// Probes until the next probe of this competitor is of this number.
 fn seek(new: &mut Rebuilding, id: u64, number: u8) -> Result<(), Stuck>
     ensures { OnOk result (GoesOn new.old new.new) }
 {
@@ -40,7 +40,7 @@ fn seek(new: &mut Rebuilding, id: u64, number: u8) -> Result<(), Stuck>
     Ok(())
 }
 
-/// A helper takes the lowest number that is free.
+/// Lets a helper enter and take the lowest number that is free.
 fn help(new: &mut Rebuilding, id: u64) -> Result<Held, Stuck>
     ensures { OnOk result (GoesOn new.old new.new) }
 {
@@ -49,7 +49,7 @@ fn help(new: &mut Rebuilding, id: u64) -> Result<Held, Stuck>
     Ok(Held { id, number })
 }
 
-/// The helpers leave.
+/// Lets all helpers leave.
 fn dismiss(new: &mut Rebuilding, helpers: &[Held]) -> Result<(), Stuck>
     ensures { OnOk result (GoesOn new.old new.new) }
 {
@@ -59,7 +59,7 @@ fn dismiss(new: &mut Rebuilding, helpers: &[Held]) -> Result<(), Stuck>
     Ok(())
 }
 
-/// A helper puts the value of its number, where that is not 0.
+/// Lets a helper put the value of its number, unless that is 0.
 fn put(new: &mut Rebuilding, helper: Held, values: &[u64]) -> Result<(), Stuck>
     ensures { OnOk result (GoesOn new.old new.new) }
 {
@@ -74,7 +74,7 @@ fn put(new: &mut Rebuilding, helper: Held, values: &[u64]) -> Result<(), Stuck>
     }
 }
 
-/// Each helper puts the value of its number.
+/// Lets each helper put the value of its number.
 fn put_all(new: &mut Rebuilding, helpers: &[Held], values: &[u64]) -> Result<(), Stuck>
     ensures { OnOk result (GoesOn new.old new.new) }
 {
@@ -84,7 +84,8 @@ fn put_all(new: &mut Rebuilding, helpers: &[Held], values: &[u64]) -> Result<(),
     Ok(())
 }
 
-/// Up to which slot there are values other than 0.
+/// Returns the number of the last slot with a value other than 0, or 0. Not proved: compaction compares the result as a
+/// whole.
 fn last_value(values: &[u64]) -> usize {
     let mut last = 0;
     for (i, value) in values.iter().enumerate() {
@@ -95,7 +96,7 @@ fn last_value(values: &[u64]) -> usize {
     last
 }
 
-/// Helpers take the numbers from 1 up to the last slot with a value, put the values and leave.
+/// Fills the slots: helpers take the numbers up to the last slot with a value, put the values and leave.
 fn fill(
     alloc: Global,
     new: &mut Rebuilding,
@@ -112,7 +113,7 @@ fn fill(
     dismiss(new, &held)
 }
 
-/// A helper takes this number, where it is free and all below are held.
+/// Lets a helper take this number, if it is free and all below are held.
 fn hold(new: &mut Rebuilding, id: u64, number: u8, held: &mut Vec<Held>) -> Result<(), Stuck>
     ensures { OnOk result (GoesOn new.old new.new) }
 {
@@ -123,7 +124,7 @@ fn hold(new: &mut Rebuilding, id: u64, number: u8, held: &mut Vec<Held>) -> Resu
     Ok(())
 }
 
-/// Helpers take the free numbers below this one.
+/// Lets helpers take the free numbers below this one.
 fn hold_below(
     alloc: Global,
     new: &mut Rebuilding,
@@ -141,7 +142,7 @@ fn hold_below(
     Ok(held)
 }
 
-/// The number at which one stands.
+/// Returns the number that a competitor holds or probes next. Not proved: compaction compares the result as a whole.
 fn place(stay: Stay) -> u8 {
     match stay {
         Stay::Seeking(number) => number,
@@ -149,7 +150,7 @@ fn place(stay: Stay) -> u8 {
     }
 }
 
-/// One who has entered probes until it stands so, where all below is held.
+/// Lets a competitor that has entered probe until its state is this one. All numbers below are held.
 fn go(new: &mut Rebuilding, id: u64, stay: Stay) -> Result<(), Stuck>
     ensures { OnOk result (GoesOn new.old new.new) }
 {
@@ -162,7 +163,7 @@ fn go(new: &mut Rebuilding, id: u64, stay: Stay) -> Result<(), Stuck>
     }
 }
 
-/// A competitor enters and goes to where it stands, while helpers hold what is free below.
+/// Lets a competitor enter and go to its state, while helpers hold the free numbers below.
 fn enter(
     alloc: Global,
     new: &mut Rebuilding,
@@ -179,7 +180,7 @@ fn enter(
     dismiss(new, &held)
 }
 
-/// The pool gets so many numbers, where it has fewer.
+/// Gives the pool as many numbers as this, if it has fewer.
 fn widen(new: &mut Rebuilding, size: u8) -> Result<(), Stuck>
     ensures { OnOk result (GoesOn new.old new.new) }
 {
@@ -189,7 +190,7 @@ fn widen(new: &mut Rebuilding, size: u8) -> Result<(), Stuck>
     Ok(())
 }
 
-/// Leads a pool and slots with no event to where the others stand.
+/// Leads a fresh pool and slots to the state of the others. Only tested: that they reach it, which the caller compares.
 pub(crate) fn lead(alloc: Global, new: &mut Rebuilding, old: &SlotsCopy) -> Result<(), Stuck>
     ensures { OnOk result (GoesOn new.old new.new) }
 {

@@ -1,4 +1,4 @@
-//! A hall that is built anew.
+//! A hall under construction.
 
 ghost use Rattle.std.specs.Prelude.{◌≡◌, [], false, IfOk, OnOk};
 ghost use Rattle.hall.specs.Halls.{hall_of};
@@ -12,7 +12,7 @@ use commands::{Config, Event, Reply};
 use std::alloc::Global;
 use step_memory::View;
 
-/// A hall, and how its pool and slots stand.
+/// A hall, with a copy of its pool and slots.
 #[derive(Drop)]
 pub(crate) struct Rebuilding {
     pub(crate) hall: Hall,
@@ -21,7 +21,7 @@ pub(crate) struct Rebuilding {
 }
 
 impl Rebuilding {
-    /// A hall of this config with no event.
+    /// Makes a hall of this config with no event.
     pub(crate) fn new(alloc: Global, config: Config) -> Result<Rebuilding, Stuck>
         ensures hall { IfOk result (λ r. r.hall ≡ hall_of config []) }
         ensures copied { IfOk result (λ r. IsCopied r.hall r.slots) }
@@ -33,11 +33,11 @@ impl Rebuilding {
         })
     }
 
-    /// Takes an event, and tells what the hall answered; an error where that is a refusal.
+    /// Applies an event, and returns the reply. The error is `Stuck` if the hall refuses it.
     pub(crate) fn take(&mut self, event: Event) -> Result<Reply<()>, Stuck>
         ensures taken { OnOk result (HasTaken self.old event self.new) }
 
-        // Then renaming is as it was, where the event is of the pool or the slots.
+        // An event of the pool or the slots leaves renaming as it was.
         ensures pool { OnOk result (is_renaming event ≡ false → GoesOn self.old self.new) }
     {
         let reply = self.hall.apply_short(event, &mut self.view);

@@ -1,11 +1,11 @@
-//! Whether two events are one, and whether two exchanges are.
+//! Comparison of events and of exchanges.
 
 ghost use Rattle.std.specs.Prelude.{◌≡◌, true};
 
 use commands::{Event, Exchange, Reply};
 use step_memory::View;
 
-/// Whether two events are one. `true` is said only where they are.
+/// Returns true only if the two events are equal. Only tested: that it returns true for each two that are equal.
 pub fn is_same_event(a: Event, b: Event) -> bool
     ensures { result ≡ true → a ≡ b }
 {
@@ -22,7 +22,7 @@ pub fn is_same_event(a: Event, b: Event) -> bool
     }
 }
 
-/// Whether two replies are one. `true` is said only where they are.
+/// Returns true only if the two replies are equal.
 #[tactic(auto, using(step_memory::specs::ViewEq::same_pairs_decides))]
 fn is_same_reply(a: &Reply<View>, b: &Reply<View>) -> bool
     ensures { result ≡ true → a.now ≡ b.now }
@@ -43,7 +43,8 @@ fn is_same_reply(a: &Reply<View>, b: &Reply<View>) -> bool
     }
 }
 
-/// Whether two exchanges are one. `true` is said only where they are, and of all that a hall accepts where they are.
+/// Returns true only if the two exchanges are equal. Only tested: that it returns true for each two equal ones that a
+/// hall accepts.
 pub fn is_same(a: &Exchange, b: &Exchange) -> bool
     ensures { result ≡ true → a.now ≡ b.now }
 {

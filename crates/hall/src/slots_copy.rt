@@ -1,4 +1,4 @@
-//! A pool and slots as plain values.
+//! A copy of a pool and its slots, as plain values.
 
 ghost use Rattle.std.specs.Prelude.{◌≡◌, ◌≤◌, ◌<◌, true, false, length, replicate, is_some, if◌then◌else◌, ◌++◌, ◌-◌, vec_len, IfOk, IfSome, OnOk, slice_index_or, slice_set};
 ghost use Rattle.step_memory.specs.Registers.{answer_of, after_access};
@@ -17,7 +17,7 @@ use bit_allocator::{Competitor, MOST_NUMBERS, Stay};
 use commands::Event;
 use std::alloc::Global;
 
-/// How a pool and its slots stand, to be compared. It follows events that were accepted.
+/// A copy of a pool and its slots, which follows accepted events.
 #[derive(Drop)]
 pub(crate) struct SlotsCopy {
     pub(crate) size: u8,
@@ -26,7 +26,7 @@ pub(crate) struct SlotsCopy {
     pub(crate) values: Vec<u64>,
 }
 
-/// Where the competitor of an identity stands in the row.
+/// Returns the index of the competitor with an identity.
 fn find(competitors: &[Competitor], id: u64) -> Option<usize>
     ensures answer { result ≡ index_of id competitors.now }
     ensures inside { IfSome result (λ i. i < length competitors.now) }
@@ -39,7 +39,7 @@ fn find(competitors: &[Competitor], id: u64) -> Option<usize>
     None
 }
 
-/// Where an identity stands; none where it does not compete.
+/// Returns the state of a competitor, or `None` if the identity does not compete.
 fn stay_of(competitors: &[Competitor], id: u64) -> Option<Stay>
     ensures { result ≡ stay_of id competitors.now }
 {
@@ -51,7 +51,7 @@ fn stay_of(competitors: &[Competitor], id: u64) -> Option<Stay>
     None
 }
 
-/// An identity that competes stands so from now on.
+/// Replaces the state of an identity that competes.
 fn put_stay(competitors: &mut [Competitor], id: u64, stay: Stay)
     ensures { competitors.new ≡ with_stay id stay competitors.old }
 {
@@ -64,7 +64,7 @@ fn put_stay(competitors: &mut [Competitor], id: u64, stay: Stay)
     }
 }
 
-/// Whether one who stands so holds a number.
+/// Whether a competitor in this state holds a number.
 fn holds(stay: Stay, number: u8) -> bool
     ensures { result ≡ holds_at number (held_at stay) }
 {
@@ -74,7 +74,7 @@ fn holds(stay: Stay, number: u8) -> bool
     }
 }
 
-/// Whether two competitors are one and stand alike.
+/// Returns true only if the two competitors are equal.
 fn is_one(one: Competitor, other: Competitor) -> bool
     ensures { result ≡ true → one ≡ other }
 {
@@ -89,7 +89,7 @@ fn is_one(one: Competitor, other: Competitor) -> bool
     }
 }
 
-/// Whether two rows of competitors are one.
+/// Returns true only if the two rows of competitors are equal.
 fn is_one_row(row: &[Competitor], other: &[Competitor]) -> bool
     ensures { result ≡ true → row.now ≡ other.now }
 {
@@ -104,14 +104,14 @@ fn is_one_row(row: &[Competitor], other: &[Competitor]) -> bool
     true
 }
 
-/// One competes no more.
+/// Removes the competitor with an identity.
 fn remove(competitors: &mut Vec<Competitor>, id: u64)
     ensures { competitors.new.items ≡ without id competitors.old.items }
 {
     competitors.retain(|competitor| competitor.identity != id);
 }
 
-/// Whether a number is held.
+/// Whether a competitor holds this number.
 fn is_held(competitors: &[Competitor], number: u8) -> bool
     ensures { result ≡ is_some (holder_in number competitors.now) }
 {
@@ -123,7 +123,7 @@ fn is_held(competitors: &[Competitor], number: u8) -> bool
     false
 }
 
-/// Sets a bit, and tells whether it was set.
+/// Sets a bit, and returns whether it was set.
 fn set(bits: &mut [bool], number: u8) -> bool
     ensures was { result ≡ slice_index_or bits.old number false }
     ensures bits { bits.new ≡ slice_set bits.old number true }
@@ -147,7 +147,7 @@ fn release(bits: &mut [bool], size: u8, number: u8)
     }
 }
 
-/// Sets the bit of what was the last number of a pool, where that is held.
+/// Sets the bit of the number that was the last one of a pool, if it is held.
 fn keep_last(bits: &mut [bool], competitors: &[Competitor], size: u8)
     ensures { bits_in bits.new ≡ after_access (bits_in bits.old) (if is_some (holder_in size competitors.now) then TestAndSet size else Nothing) }
 {
@@ -166,7 +166,7 @@ fn put_value(values: &mut [u64], number: u8, value: u64)
     }
 }
 
-/// Puts zeros behind values until there are so many.
+/// Appends zeros to the values until there are `count`.
 fn lengthen(values: &mut Vec<u64>, count: usize) -> Result<(), Stuck>
     ensures { OnOk result (values.new.items ≡ values.old.items ++ replicate (count - vec_len values.old) 0) }
 {
@@ -177,7 +177,7 @@ fn lengthen(values: &mut Vec<u64>, count: usize) -> Result<(), Stuck>
     Ok(())
 }
 
-/// Where one stands that has probed this number, whose bit is set then.
+/// Returns the state of a competitor after a probe of this number, whose bit is then set.
 fn probed(bits: &mut [bool], size: u8, next: u8) -> Stay
     ensures stay { result ≡ stay_probed size (Seeking next) (answer_of (bits_in bits.old) (probe_access size (Seeking next))) }
     ensures bits { bits_in bits.new ≡ after_access (bits_in bits.old) (probe_access size (Seeking next)) }
@@ -196,7 +196,7 @@ fn probed(bits: &mut [bool], size: u8, next: u8) -> Stay
 }
 
 impl SlotsCopy {
-    /// Of a pool of so many numbers in which nobody competes; each slot holds 0.
+    /// Makes a copy of a fresh pool of `size` numbers. Each slot holds 0.
     pub(crate) fn new(alloc: Global, size: u64) -> Result<SlotsCopy, Stuck>
         requires { size ≤ 64 }
         ensures { IfOk result (λ c. slots_in c ≡ record { pool = fresh_pool size; values = replicate size 0 }) }
@@ -209,7 +209,7 @@ impl SlotsCopy {
         })
     }
 
-    /// A competitor probes.
+    /// Follows a probe.
     fn probe(&mut self, id: u64)
         ensures { slots_in self.new ≡ slots_after (slots_in self.old) (Probe id) }
     {
@@ -219,7 +219,7 @@ impl SlotsCopy {
         }
     }
 
-    /// A holder leaves.
+    /// Follows a holder that leaves.
     fn leave(&mut self, id: u64)
         ensures { slots_in self.new ≡ slots_after (slots_in self.old) (Leave id) }
     {
@@ -229,7 +229,7 @@ impl SlotsCopy {
         }
     }
 
-    /// A holder puts a value.
+    /// Follows a holder that puts a value.
     fn put(&mut self, id: u64, value: u64)
         ensures { slots_in self.new ≡ slots_after (slots_in self.old) (Put id value) }
     {
@@ -238,7 +238,7 @@ impl SlotsCopy {
         }
     }
 
-    /// The pool gets so many numbers, which are more than it has.
+    /// Follows a pool that gets more numbers.
     fn widen(&mut self, size: u64) -> Result<(), Stuck>
         ensures { OnOk result (widen_refusal self.old.size size ≡ None → slots_in self.new ≡ slots_after (slots_in self.old) (Widen size)) }
     {
@@ -251,7 +251,7 @@ impl SlotsCopy {
         Ok(())
     }
 
-    /// Goes on as the pool and the slots do by an event that is accepted.
+    /// Changes as the pool and the slots do by an accepted event.
     pub(crate) fn follow(&mut self, event: Event) -> Result<(), Stuck>
         ensures { OnOk result (LetsIn (slots_in self.old) event → slots_in self.new ≡ slots_after (slots_in self.old) event) }
     {
@@ -271,12 +271,12 @@ impl SlotsCopy {
         Ok(())
     }
 
-    /// Whether a number is held.
+    /// Whether a competitor holds this number. Not proved: it only chooses events.
     pub(crate) fn holds(&self, number: u8) -> bool {
         is_held(&self.competitors, number)
     }
 
-    /// Whether the other stands just so.
+    /// Returns true only if the two copies are equal.
     pub(crate) fn is_same(&self, other: &SlotsCopy) -> bool
         ensures { result ≡ true → slots_in self.now ≡ slots_in other.now }
     {

@@ -1,9 +1,9 @@
-//! Why a hall is not built anew.
+//! Why a hall is not rebuilt.
 
 use std::alloc::{AllocError, AllocFailed};
 use step_memory::Refusal;
 
-/// An event was refused, or a growth was.
+/// An event was refused, or an allocation failed.
 #[derive(Clone, Copy, Debug, Drop, PartialEq, Eq)]
 pub(crate) struct Stuck;
 

@@ -1,8 +1,9 @@
-//! The lines that ask who holds numbers, and what is answered to them.
+//! The lines that ask for the holders of numbers, and the answers to them.
 //!
-//! `held` asks for each number that is held, with its holder and its slot's value; `held ID` for the number of one identity. They are no
-//! commands of the language (`command_lines`), in which their word is unknown: a server that answers them looks for them first
-//! (`held_query`). The answer is said of a pool with its slots (`put_held`), and changes nothing.
+//! `held` asks for each number that is held, with its holder and the value of its slot. `held ID` asks for the number
+//! of one identity. These are no commands of the language (`command_lines`), which does not know their word. A server
+//! that answers them checks for them first (`held_query`). The answer is that of a pool with its slots (`put_held`),
+//! and changes nothing.
 //!
 //! From `hall_host/src/holders.rt`:
 //!

@@ -1,23 +1,23 @@
-//! What a line asks.
+//! The lines that ask for the holders of numbers.
 
 ghost use Rattle.std.specs.Prelude.{◌≡◌};
 ghost use Rattle.held_lines.specs.Held.{held_query, number_query};
 
 use command_lines::words::{is_word, number};
 
-/// No line that asks has more bytes, without its LF.
+/// The most bytes of a line that asks for holders, without its LF.
 pub const QUERY_MAX: usize = 25;
 
-/// What a line asks.
+/// What a line asks for.
 #[derive(Clone, Copy, Debug, Drop, PartialEq, Eq)]
 pub enum HeldQuery {
-    /// `held`: who holds which numbers.
+    /// `held`: all numbers that are held, with their holders.
     All,
-    /// `held ID`: which number an identity holds.
+    /// `held ID`: the number that this identity holds.
     Of(u64),
 }
 
-/// What a line asks, without its LF; `None` where it does not ask who holds numbers.
+/// Returns what a line, without its LF, asks for, or `None` if it does not ask for holders.
 pub fn held_query(line: &[u8]) -> Option<HeldQuery>
     ensures { result ≡ held_query line.now }
 {
@@ -31,7 +31,7 @@ pub fn held_query(line: &[u8]) -> Option<HeldQuery>
     number_query(&line[front..])
 }
 
-// What is asked of the number that a word writes.
+// Returns what a line asks for whose second word is this one.
 fn number_query(word: &[u8]) -> Option<HeldQuery>
     ensures { result ≡ number_query word.now }
 {

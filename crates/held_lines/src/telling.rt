@@ -1,4 +1,4 @@
-//! What is answered.
+//! The answers to lines that ask for the holders of numbers.
 
 ghost use Rattle.std.specs.Prelude.{◌≡◌, ◌≤◌, ◌+◌, ◌*◌, ◌++◌, length, get_or};
 ghost use Rattle.command_lines.specs.declared.replies.TheConstants.{HELD_REPLIES};
@@ -10,10 +10,10 @@ use command_lines::{HELD_REPLIES, Replies, put_number};
 use slot_array::Slots;
 use std::alloc::Allocator;
 
-/// No answer has more bytes: 64 lines of three numbers, and `ok`.
+/// The most bytes of an answer: 64 lines of three numbers, and `ok`.
 pub const HELD_ROOM: usize = 4_096;
 
-// Appends the line of a number with its holder and its slot's value.
+// Appends the line of a number with its holder and the value of its slot.
 fn put_holder<B: Allocator>(number: u64, id: u64, value: u64, out: &mut Replies<B>)
     requires { length out.old + 63 ≤ HELD_REPLIES }
     ensures text { out.new ≡ out.old ++ holder_line number id value }
@@ -27,7 +27,7 @@ fn put_holder<B: Allocator>(number: u64, id: u64, value: u64, out: &mut Replies<
     out.put(b"\n");
 }
 
-// The value in the slot of a number, by the number before it.
+// Returns the value in the slot of number `before + 1`.
 fn value_behind(values: &[u64], before: u8) -> u64
     ensures { result ≡ get_or values.now before 0 }
 {
@@ -35,7 +35,7 @@ fn value_behind(values: &[u64], before: u8) -> u64
     if at < values.len() { values[at] } else { 0 }
 }
 
-// Appends the line of the number behind this one, where somebody holds it.
+// Appends the line of number `before + 1`, if an identity holds it.
 fn put_line<A: Allocator, B: Allocator>(slots: &Slots<u64, A>, before: u8, out: &mut Replies<B>)
     requires few { before ≤ 63 }
     requires room { length out.old + 63 ≤ HELD_REPLIES }
@@ -65,7 +65,7 @@ fn put_lines<A: Allocator, B: Allocator>(slots: &Slots<u64, A>, out: &mut Replie
     }
 }
 
-// Appends the line of the number that an identity holds, or that it holds none.
+// Appends the line of the number that an identity holds, or `none` if it holds none.
 fn put_one<A: Allocator, B: Allocator>(slots: &Slots<u64, A>, id: u64, out: &mut Replies<B>)
     requires room { length out.old + 63 ≤ HELD_REPLIES }
     ensures text { out.new ≡ out.old ++ text_of_one slots.now id }
@@ -80,8 +80,10 @@ fn put_one<A: Allocator, B: Allocator>(slots: &Slots<u64, A>, id: u64, out: &mut
     }
 }
 
-/// Appends who holds numbers, as it is asked: of all, a line `NUMBER ID VALUE` for each number that is held, in rising order, and a last line
-/// `ok`; of one identity its line, or `none`.
+/// Appends the answer to a query. This changes nothing of the pool.
+///
+/// - `All`: a line `NUMBER ID VALUE` for each number that is held, in rising order, and a last line `ok`.
+/// - `Of`: the line of that identity, or `none` if it holds no number.
 pub fn put_held<A: Allocator, B: Allocator>(
     slots: &Slots<u64, A>,
     query: HeldQuery,

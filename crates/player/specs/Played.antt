@@ -1,5 +1,5 @@
--- what a run has read and written, for readers and writers that tell their bytes. `None`, of one that does not tell them,
--- claims nothing of the bytes themselves
+-- what a run has read and written, for readers and writers that report their bytes. One that reports none is `None`, of
+-- whose bytes nothing is claimed
 use Rattle.std.specs.Prelude.{◌≡◌, ℕ, ◌+◌, ◌<◌, ◌≤◌, ◌⊎◌, ◌++◌, false, true, List, length, map, Option, Some, None, Result, Err, IfOk}
 use Rattle.std.specs.Io.KnownBytes.{Appends, Consumes}
 use Rattle.commands.specs.declared.bad.Bad.{Bad}
@@ -16,8 +16,8 @@ use Rattle.player.specs.Asked.{asked_by, asks_quit}
 use Rattle.player.specs.Counts.{CountsAnswers}
 use Rattle.player.specs.Texts.{replies_of}
 
--- a reader before a call and after it, and what a contract sees of one: the bytes that it still has, where it tells them, how
--- often it was read, and how many of these reads failed
+-- a reader before a call and after it, as a contract sees it. It has the bytes that are left, if it reports them, the
+-- number of reads, and the number of reads that failed
 pub record Reading (R : Type 0) : Type 0 where
   pub remaining : R → Option (List ℕ)
   pub calls : R → ℕ
@@ -28,8 +28,8 @@ pub record Reading (R : Type 0) : Type 0 where
 abbrev pub reading : {R : Type 0} → (R → Option (List ℕ)) → (R → ℕ) → (R → ℕ) → R → R → Reading R
 reading remaining calls failed old new = record { remaining = remaining; calls = calls; failed = failed; old = old; new = new }
 
--- a writer before a call and after it, and what a contract sees of one: the bytes that were written to it, where it tells them,
--- and how many writes failed
+-- a writer before a call and after it, as a contract sees it. It has the bytes that were written, if it reports them,
+-- and the number of writes that failed
 pub record Writing (W : Type 0) : Type 0 where
   pub contents : W → Option (List ℕ)
   pub failed : W → ℕ
@@ -39,24 +39,24 @@ pub record Writing (W : Type 0) : Type 0 where
 abbrev pub writing : {W : Type 0} → (W → Option (List ℕ)) → (W → ℕ) → W → W → Writing W
 writing contents failed old new = record { contents = contents; failed = failed; old = old; new = new }
 
--- what is left of a call, where the writer was this
+-- the rest of a call whose writer is now this one
 abbrev pub writing_from : {W : Type 0} → Writing W → W → Writing W
 writing_from writing mid = record writing { old = mid }
 
--- the input is what the reader tells, or some bytes where it does not tell them
+-- the input is the bytes that the reader reports, or some bytes if it reports none
 abbrev pub IsInput : Option (List ℕ) → List ℕ → Type 0
 IsInput None input = Unit {0}
 IsInput (Some bytes) input = bytes ≡ input
 
--- turns to all that was asked, which are a transcript; the writer has gained their text
+-- there are turns to all requests, and they are a transcript. The writer has gained their text
 pub record IsReported (text : List Turn → List ℕ) (IsTranscript : List Turn → Type 0) (all : List (Result Command Bad)) (before now : Option (List ℕ)) : Type 0 where
   pub turns : List Turn
   pub asked_is : map asked turns ≡ all
   pub transcript : IsTranscript turns
   pub gained : Appends before now (text turns)
 
--- turns to the first of what was asked, which are done, and may go on to all of it; the writer has gained a prefix of
--- their text
+-- there are turns to the first requests, and they are a transcript that may go on to all requests. The writer has
+-- gained a prefix of their text
 pub record IsPartlyReported (text : List Turn → List ℕ) (IsTranscript MayTranscript : List Turn → Type 0) (all : List (Result Command Bad)) (before now : Option (List ℕ)) : Type 0 where
   pub turns : List Turn
   pub others : List Turn
@@ -66,7 +66,7 @@ pub record IsPartlyReported (text : List Turn → List ℕ) (IsTranscript MayTra
   pub part : HasPartOf before now (text turns)
 
 module _ (kind : WorldKind) {R : Type 0} (reading : Reading R) where
-  -- these bytes were read, the last of them by one read, before which no `quit` had come
+  -- these bytes were read, the last of them by one read. No `quit` was before that read
   pub record HasRead (got : List ℕ) : Type 0 where
     pub mid : R
     pub earlier : List ℕ
@@ -79,8 +79,8 @@ module _ (kind : WorldKind) {R : Type 0} (reading : Reading R) where
     pub few : length last ≤ READ_BYTES
 
   module _ {W : Type 0} (writing : Writing W) (text : List Turn → List ℕ) where
-    -- the end: of all the input, or by `quit`. There are turns to the lines of the input, which are a transcript; the
-    -- writer has gained their text, and the summary counts the answers to them. No read and no write failed
+    -- the run ended with all of the input, or by `quit`. The turns to the lines of the input are a transcript. The
+    -- writer has gained their text, and the summary counts their answers. No read and no write failed
     pub record PlayedToEnd (IsTranscript : List Turn → Type 0) (s : Summary) : Type 0 where
       pub input : List ℕ
       pub input_is : IsInput (reading.remaining reading.old) input
@@ -94,8 +94,8 @@ module _ (kind : WorldKind) {R : Type 0} (reading : Reading R) where
       pub no_read_failed : reading.failed reading.new ≡ reading.failed reading.old
       pub no_write_failed : writing.failed writing.new ≡ writing.failed writing.old
 
-    -- a read fault: one read failed, or the limit of reads was reached. There are turns to the whole lines of what was
-    -- read, and their text is written; `quit` was not among them
+    -- a read failed, or the limit of reads was reached. There are turns to the whole lines of what was read, and their
+    -- text is written. `quit` was not among them
     pub record PlayedToReadFault (IsTranscript : List Turn → Type 0) : Type 0 where
       pub why : (reading.failed reading.new ≡ reading.failed reading.old + 1) ⊎ ((reading.calls reading.new ≡ reading.calls reading.old + MOST_READS) × (reading.failed reading.new ≡ reading.failed reading.old))
       pub got : List ℕ
@@ -104,7 +104,7 @@ module _ (kind : WorldKind) {R : Type 0} (reading : Reading R) where
       pub reported : IsReported text IsTranscript (asked_by kind (whole_lines got)) (writing.contents writing.old) (writing.contents writing.new)
       pub no_write_failed : writing.failed writing.new ≡ writing.failed writing.old
 
-    -- a write fault: what went out is a prefix of the text of the input
+    -- a write failed. The writer has gained a prefix of the text of the input
     pub record PlayedToWriteFault (IsTranscript MayTranscript : List Turn → Type 0) : Type 0 where
       pub why : writing.failed writing.old < writing.failed writing.new
       pub input : List ℕ
@@ -116,8 +116,7 @@ module _ (kind : WorldKind) {R : Type 0} (reading : Reading R) where
       pub read : HasRead got
       pub no_read_failed : reading.failed reading.new ≡ reading.failed reading.old
 
--- the theorem of a run of which this text is written. The turns that were taken are a transcript, and may go on to one of the whole
--- input
+-- the theorem of a run that writes this text. Its turns are a transcript, and may go on to one of the whole input
 pub record IsPlayed (text : List Turn → List ℕ) (IsTranscript MayTranscript : List Turn → Type 0) (kind : WorldKind) {R W : Type 0} (reading : Reading R) (writing : Writing W) (result : Result Summary Fault) : Type 0 where
   pub ok : IfOk result (λ s. PlayedToEnd kind reading writing text IsTranscript s)
   pub read_fault : result ≡ Err Read → PlayedToReadFault kind reading writing text IsTranscript
@@ -125,6 +124,6 @@ pub record IsPlayed (text : List Turn → List ℕ) (IsTranscript MayTranscript 
   pub memory : result ≡ Err Memory → (reading.new ≡ reading.old) × (writing.new ≡ writing.old)
   pub reads : reading.calls reading.new ≤ reading.calls reading.old + MOST_READS
 
--- the same, where the replies are written, and an allocation failure is in the turns where it was met
+-- the same for a run that writes replies, and whose turns show the allocation failures
 abbrev pub IsPlayedIn : (List Turn → Type 0) → WorldKind → {R W : Type 0} → Reading R → Writing W → Result Summary Fault → Type 0
 IsPlayedIn IsTranscript kind reading writing result = IsPlayed replies_of IsTranscript IsTranscript kind reading writing result

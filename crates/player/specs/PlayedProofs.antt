@@ -1,4 +1,4 @@
--- runs that are played: none where memory was refused, one after a prefix, one by a weaker measure
+-- runs: none after an allocation failure, one after a prefix, and one by a weaker relation
 use Rattle.std.proofs.Common.{◌≡◌, ℕ, ◌+◌, ◌≤◌, List, [], ◌++◌, Result, Ok, Err, IfOk, refl, ◌∙◌, arith}
 use Rattle.std.specs.Io.KnownBytes.{Appends}
 use Rattle.std.proofs.KnownBytes.{Appends-nil}
@@ -15,8 +15,8 @@ use Rattle.player.specs.Asked.{asked_by}
 use Rattle.player.specs.Played.{Reading, Writing, writing_from, IsReported, PlayedToEnd, PlayedToReadFault, PlayedToWriteFault, IsPlayed}
 use Rattle.player.specs.Turns.{Turn}
 
--- a run of which this text is written after a prefix is one of which both are written; and what is a transcript by one measure is
--- one by a weaker
+-- a run that writes a text after a prefix is one that writes both. A transcript by one relation is one by a weaker
+-- relation
 module _ (head : List ℕ) (text : List Turn → List ℕ) (P P' Q Q' : List Turn → Type 0)
     (weaker : (ts : List Turn) → P ts → Q ts) (weaker' : (ts : List Turn) → P' ts → Q' ts)
     (kind : WorldKind) {R W : Type 0} (reading : Reading R) (writing : Writing W) (mid : W)

@@ -1,4 +1,4 @@
--- how far a run has come, byte by byte: the line so far, what was asked for, and whether `quit` was among it
+-- how far a run has read, byte by byte: the line so far, the requests, and whether `quit` was among them
 use Rattle.std.specs.Prelude.{ℕ, ◌==◌, if◌then◌else◌, Bool, true, false, List, [], ◌∷◌, ◌++◌, Result, Ok}
 use Rattle.commands.specs.declared.bad.Bad.{Bad}
 use Rattle.commands.specs.declared.command.Command.{Command}
@@ -19,11 +19,11 @@ abbrev pub ends : Result Command Bad → Bool
 ends (Ok command.Quit) = true
 ends r = false
 
--- the same, where the line so far is another
+-- the same, with this line so far
 abbrev pub with_line : Progress → List ℕ → Progress
 with_line p line = record { line = line; asked = p.asked; over = p.over }
 
--- a line is whole that means this
+-- the line is whole, and this is its meaning
 abbrev pub after_meaning : Progress → Result Command Bad → Progress
 after_meaning p m = record { line = []; asked = p.asked ++ m ∷ []; over = ends m }
 
@@ -48,6 +48,6 @@ module _ (kind : WorldKind) where
   after_rest p [] = p
   after_rest p (b ∷ bs) = after_line p
 
-  -- the end of the input: what stands before it with no LF is a line if it is not empty
+  -- the end of the input. The bytes after the last LF, if there are any, are a line
   abbrev pub after_end : Progress → Progress
   after_end p = if p.over then p else after_rest p p.line

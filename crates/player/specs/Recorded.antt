@@ -9,7 +9,7 @@ use Rattle.player.specs.Played.{Reading, Writing, IsPlayed}
 use Rattle.player.specs.Records.{header_line, record_of}
 use Rattle.player.specs.Turns.{Turn}
 
--- the header could not be written: a write failed with nothing read, and what went out is a prefix of the header
+-- the header could not be written. A write failed with nothing read, and the writer has gained a prefix of the header
 pub record StopsAtHeader (config : Config) {R W : Type 0} (reading : Reading R) (writing : Writing W) : Type 0 where
   pub why : writing.failed writing.old < writing.failed writing.new
   pub unread : reading.new ≡ reading.old
@@ -20,7 +20,7 @@ abbrev pub end_of : Result Summary Fault → Result (Unit {0}) Fault
 end_of (Ok summary) = Ok tt
 end_of (Err fault) = Err fault
 
--- such a run was played, and its record is what is written of it; or not even the header could be written, and nothing was said
+-- such a run was played, and it wrote its record. Or it could not write the whole header, and there is no turn
 abbrev pub IsRecordedOn : Config → (List Turn → Type 0) → (List Turn → Type 0) → {R W : Type 0} →
     Reading R → Writing W → Result (Unit {0}) Fault → Type 0
 IsRecordedOn config IsTranscript MayTranscript reading writing result =

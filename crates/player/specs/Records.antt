@@ -30,7 +30,7 @@ abbrev pub exchange_line : Exchange → List ℕ
 exchange_line x =
     codes "{\"command\":\"" ++ event_words x.event ++ codes "\",\"reply\":\"" ++ reply_words x.reply ++ codes "\"" ++ name_view x.reply ++ codes "}\n"
 
--- what is recorded of a turn: an event, with its reply, be it a refusal, and nothing else
+-- the record of a turn: an event with its reply, which may be a refusal, and nothing for another turn
 abbrev pub turn_record : Turn → List ℕ
 turn_record (Answered x) = exchange_line x
 turn_record t = []

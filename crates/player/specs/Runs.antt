@@ -1,4 +1,4 @@
--- what rules allow to be said in turn
+-- the turns that a service allows, in order
 use Rattle.std.specs.Prelude.{◌≡◌, ◌≢◌, List, [], ◌∷◌}
 use Rattle.step_memory.specs.declared.refusal.Refusal.TheVariants as refusal
 use Rattle.commands.specs.Replies.{ShownReply}
@@ -8,7 +8,7 @@ use Rattle.commands.specs.Requests.Request.{Take, OwnerOf}
 use Rattle.player.specs.Turns.{Turn}
 use Rattle.player.specs.Turns.Turn.{Answered, Reported, Ended, Misread}
 
--- under these rules each request may be answered so, in order, from w to u; `quit` and bad lines ask for nothing
+-- the service may answer these turns in order, from state w to state u. `quit` and bad lines make no request
 abbrev pub Runs : {T : Type 0} → (T → Request → ShownReply → T → Type 0) → T → List Turn → T → Type 0
 Runs may w [] u = w ≡ u
 Runs {T = T} may w (Answered x ∷ ts) u = (mid : T) × may w (Take x.event) x.reply mid × Runs may mid ts u
@@ -19,18 +19,18 @@ Runs may w (Misread bad ∷ ts) u = Runs may w ts u
 abbrev pub IsRunTo : {T : Type 0} → (T → Request → ShownReply → T → Type 0) → T → T → List Turn → Type 0
 IsRunTo may w u ts = Runs may w ts u
 
--- to some state
+-- the service may answer these turns in order, from state w
 abbrev pub CanRun : {T : Type 0} → (T → Request → ShownReply → T → Type 0) → T → List Turn → Type 0
 CanRun {T = T} may w ts = (u : T) × Runs may w ts u
 
--- from one that is fresh
+-- a fresh service may answer these turns in order
 pub record CouldRun {T : Type 0} (fresh : T → Type 0) (may : T → Request → ShownReply → T → Type 0) (ts : List Turn) : Type 0 where
   pub start : T
   pub last : T
   pub is_fresh : fresh start
   pub run : Runs may start ts last
 
--- no growth was refused
+-- no reply is `NoMemory`
 abbrev pub NoneRefusedGrowth : List Turn → Type 0
 NoneRefusedGrowth [] = Unit {0}
 NoneRefusedGrowth (Answered x ∷ ts) = (x.reply ≢ reply.Refused refusal.NoMemory) × NoneRefusedGrowth ts

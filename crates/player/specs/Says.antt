@@ -1,4 +1,4 @@
--- what is said to one side of a transcript, whoever else uses the service before and after
+-- the answers to one side of a transcript, while others may use the service before and after
 use Rattle.std.specs.Prelude.{◌≡◌, ℕ, ◌+◌, ◌<◌, ◌≤◌, ◌++◌, length, List, [], true, false, map, flat_map}
 use Rattle.commands.specs.Replies.{ShownReply}
 use Rattle.commands.specs.declared.kind.WorldKind.{WorldKind}
@@ -14,18 +14,18 @@ use Rattle.player.specs.declared.form.TheConstants.{TURN_ROOM}
 use Rattle.player.specs.Turns.{Turn, asked, answer_of, answers_of}
 use Rattle.player.specs.Turns.Turn.{Answered, Reported, Ended, Misread}
 
--- these turns are all that it has had, and it has come as far as p
+-- these turns are all of one side so far, which has read up to p
 pub record Spoke (turns : List Turn) (s : ResponderState) (p : Progress) : Type 0 where
   pub asked_is : map asked turns ≡ p.asked
   pub line_is : s.line ≡ held p.line
   pub over_is : s.over ≡ p.over
   pub counts : CountsAnswers (answers_of turns) s.summary
 
--- it has had none
+-- this side has had no turn
 abbrev pub IsSilent : WorldKind → ResponderState → Type 0
 IsSilent kind s = (s.kind ≡ kind) × Spoke [] s at_start
 
--- what is written of a turn is added to what waits, and the answer to it counted
+-- the text of a turn is appended to the replies, and its answer is counted
 pub record IsHeld (text : Turn → List ℕ) (s : ResponderState) (out : List ℕ) (turn : Turn) (s' : ResponderState) (out' : List ℕ) : Type 0 where
   pub added : out' ≡ out ++ text turn
   pub kept : s' ≡ record s { summary = s'.summary }
@@ -34,7 +34,7 @@ pub record IsHeld (text : Turn → List ℕ) (s : ResponderState) (out : List �
   pub refused : s'.summary.refused ≡ s.summary.refused + one_if_refused (answer_of turn)
   pub bad : s'.summary.bad ≡ s.summary.bad + one_if_bad (answer_of turn)
 
--- so many of these bytes are taken, one line at most, which adds one turn at most
+-- this many of the bytes are taken: at most one line, which adds at most one turn
 pub record TakesLine (s : ResponderState) (out bytes : List ℕ) (s' : ResponderState) (out' : List ℕ) (taken : ℕ) : Type 0 where
   pub some : 0 < taken
   pub inside : taken ≤ length bytes
@@ -42,7 +42,7 @@ pub record TakesLine (s : ResponderState) (out bytes : List ℕ) (s' : Responder
   pub longer : length out' ≤ length out + TURN_ROOM
   pub counted : s'.summary.lines ≤ s.summary.lines + 1
 
--- wherever it stands; where `quit` was not asked for; and where also no byte of the next line was read
+-- any point of the input; one before `quit`; and one before `quit` at which no byte of the next line was read
 abbrev pub Anywhere : Progress → Type 0
 Anywhere p = Unit {0}
 
@@ -53,7 +53,7 @@ abbrev pub Afresh : Progress → Type 0
 Afresh p = (p.over ≡ false) × (p.line ≡ [])
 
 module _ {T : Type 0} (may : T → Request → ShownReply → T → Type 0) where
-  -- one turn is taken
+  -- the service answers one turn, and this is the side of the transcript after it
   abbrev pub IsTurnOf : T → ResponderState → Turn → T → ResponderState → Type 0
   IsTurnOf w s (Answered x) u s' = may w (Take x.event) x.reply u × (s' ≡ s)
   IsTurnOf w s (Reported n r) u s' = may w (OwnerOf n) r u × (s' ≡ s)
@@ -62,8 +62,8 @@ module _ {T : Type 0} (may : T → Request → ShownReply → T → Type 0) wher
 
   -- where this is written of each turn
   module _ (text : Turn → List ℕ) where
-    -- by these turns, which the rules allow, the service goes from w to u; what is written of them is added to what waits; and
-    -- the transcript comes from where it stood to what follows
+    -- by these turns, which the service allows, it goes from w to u. Their text is appended to the replies, and this
+    -- side of the transcript has read up to what follows
     pub record SaysBy (more : List Turn) (w : T) (s : ResponderState) (out : List ℕ) (u : T) (s' : ResponderState) (out' : List ℕ) (Was : Progress → Type 0) (next : Progress → Progress) : Type 0 where
       pub run : Runs may w more u
       pub text_is : out' ≡ out ++ flat_map text more

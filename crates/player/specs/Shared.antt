@@ -1,4 +1,4 @@
--- a service that transcripts share: one order of all that was said, and what each transcript had in it
+-- a service that transcripts share: one order of all turns, and the turns of each transcript in it
 use Rattle.std.specs.Prelude.{◌≡◌, ℕ, ◌==◌, if◌then◌else◌, List, [], ◌∷◌, ◌++◌, flat_map}
 use Rattle.commands.specs.Replies.{ShownReply}
 use Rattle.commands.specs.Requests.{Request}
@@ -8,12 +8,13 @@ use Rattle.player.specs.Says.{Anywhere, SaysBy, Spoke}
 use Rattle.player.specs.ResponderState.{ResponderState}
 use Rattle.player.specs.Turns.{Turn}
 
--- a log has the turns of all transcripts in the one order in which the service took them, each with the number of its transcript
+-- a log: the turns of all transcripts, in the order in which the service answered them, each with the number of its
+-- transcript
 abbrev pub TurnLog : Type 0
 TurnLog = List (ℕ × Turn)
 
 module _ {X : Type 0} where
-  -- of things that each have a number, those of one
+  -- the items that have this number
   abbrev pub numbered : ℕ → List (ℕ × X) → List X
   numbered i [] = []
   numbered i (x ∷ xs) = if x.0 == i then x.1 ∷ numbered i xs else numbered i xs
@@ -23,7 +24,7 @@ module _ {X : Type 0} where
   unnumbered [] = []
   unnumbered (x ∷ xs) = x.1 ∷ unnumbered xs
 
-  -- things of this number alone
+  -- these items, each with this number
   abbrev pub tagged : ℕ → List X → List (ℕ × X)
   tagged i [] = []
   tagged i (x ∷ xs) = (i, x) ∷ tagged i xs
@@ -35,18 +36,18 @@ turns_of i log = numbered i log
 abbrev pub all_turns : TurnLog → List Turn
 all_turns log = unnumbered log
 
--- the same, but for one
+-- the same function, with another value at one place
 abbrev pub changed : {X : Type 0} → (ℕ → X) → ℕ → X → ℕ → X
 changed f i x j = if i == j then x else f j
 
--- the turns of the log, as they stand, lead the service from start to w; those of each transcript are all that it had, and what is written of
--- them is all that it was reported
+-- the turns of the log, in its order, lead the service from its start to w. The turns of each transcript in it are all
+-- of that transcript, and their text is all that it was sent
 pub record IsShared {T : Type 0} (may : T → Request → ShownReply → T → Type 0) (text : Turn → List ℕ) (start w : T) (log : TurnLog) (at : ℕ → ResponderState) (far : ℕ → Progress) (reported : ℕ → List ℕ) : Type 0 where
   pub run : Runs may start (all_turns log) w
   pub each : (i : ℕ) → Spoke (turns_of i log) (at i) (far i)
   pub reported_is : (i : ℕ) → reported i ≡ flat_map text (turns_of i log)
 
--- where one of the transcripts goes on, there is one order of all that was said still, in which each transcript has just its own turns
+-- if one of the transcripts goes on, all turns still have one order, and in it each transcript has its own turns alone
 abbrev pub SharedGoesOn : {T : Type 0} → (T → Request → ShownReply → T → Type 0) → (Turn → List ℕ) → Type 0
 SharedGoesOn {T = T} may text =
     (start w u : T) (log : TurnLog) (at : ℕ → ResponderState) (far : ℕ → Progress) (reported : ℕ → List ℕ) (i : ℕ) (out out' : List ℕ) (s' : ResponderState)

@@ -1,4 +1,4 @@
--- where a player stands: what it holds, and what its writer has gained so far
+-- the state of a player: what it holds, and what its writer has gained so far
 use Rattle.std.specs.Prelude.{◌≡◌, ℕ, ◌++◌, List, [], false, map, flat_map, Option, Result}
 use Rattle.std.specs.Io.KnownBytes.{Appends}
 use Rattle.commands.specs.declared.bad.Bad.{Bad}
@@ -22,7 +22,7 @@ pub record IsFresh (kind : WorldKind) (s : PlayerState) : Type 0 where
   pub counts : CountsAnswers [] s.summary
   pub over : s.over ≡ false
 
--- some of the replies that were held are written, and nothing else changes
+-- some of the replies that it held are written, and nothing else changes
 pub record IsSent (s : PlayerState) (old : Option (List ℕ)) (s' : PlayerState) (now : Option (List ℕ)) : Type 0 where
   pub sent : List ℕ
   pub parts : s.replies ≡ sent ++ s'.replies
@@ -32,8 +32,8 @@ pub record IsSent (s : PlayerState) (old : Option (List ℕ)) (s' : PlayerState)
 module _ {T : Type 0} (may : T → Request → ShownReply → T → Type 0) where
   -- where this is written of each turn
   module _ (text : Turn → List ℕ) where
-    -- world and player have come as far as p: turns to what p asks for, which the rules allow, and what is written of them is
-    -- what the writer gained, and then the replies that are still held
+    -- service and player have answered what p asks for, by turns that the service allows. The text of these turns is
+    -- what the writer has gained, and then the replies that the player still holds
     pub record Stands (start world : T) (player : PlayerState) (p : Progress) (before now : Option (List ℕ)) : Type 0 where
       pub turns : List Turn
       pub asked_is : map asked turns ≡ p.asked
@@ -45,7 +45,7 @@ module _ {T : Type 0} (may : T → Request → ShownReply → T → Type 0) wher
       pub gained : Appends before now written
       pub text_is : flat_map text turns ≡ written ++ player.replies
 
-    -- the world has come to turns to the first of what p asks for, and the writer has gained a prefix of what is written of them
+    -- the service has answered the first requests of p, and the writer has gained a prefix of the text of these turns
     pub record StandsPart (start world : T) (p : Progress) (before now : Option (List ℕ)) : Type 0 where
       pub turns : List Turn
       pub others : List (Result Command Bad)
@@ -53,14 +53,16 @@ module _ {T : Type 0} (may : T → Request → ShownReply → T → Type 0) wher
       pub run : Runs may start turns world
       pub part : HasPartOf before now (flat_map text turns)
 
-    -- where the player stood at p, it stands at `next p` now; nothing was written between
+    -- a player that had answered what p asks for has now answered what `next p` asks for, and has written nothing
+    -- between
     abbrev pub Advances : T → PlayerState → T → PlayerState → (Progress → Progress) → Type 0
     Advances w s u s' next = (start : T) (p : Progress) (before now : Option (List ℕ)) → Stands start w s p before now → Stands start u s' (next p) before now
 
-    -- where the player stood at p, it stands at `next p` now, with what was written between
+    -- a player that had answered what p asks for has now answered what `next p` asks for, and has written between
     abbrev pub AdvancesWriting : T → PlayerState → Option (List ℕ) → T → PlayerState → Option (List ℕ) → (Progress → Progress) → Type 0
     AdvancesWriting w s old u s' new next = (start : T) (p : Progress) (before : Option (List ℕ)) → Stands start w s p before old → Stands start u s' (next p) before new
 
-    -- where the player stood at p, a part of what `next p` asks for is answered now, and a part of that written
+    -- a player that had answered what p asks for has now answered part of what `next p` asks for, and has written part
+    -- of that
     abbrev pub AdvancesInPart : T → PlayerState → Option (List ℕ) → T → Option (List ℕ) → (Progress → Progress) → Type 0
     AdvancesInPart w s old u new next = (start : T) (p : Progress) (before : Option (List ℕ)) → Stands start w s p before old → StandsPart start u (next p) before new

@@ -1,4 +1,4 @@
--- what is written of turns in place of which nothing else is: the reply to each
+-- the text of turns as replies: the reply to each
 use Rattle.std.specs.Prelude.{ℕ, List, flat_map}
 use Rattle.command_lines.specs.Replies.{answer_text}
 use Rattle.player.specs.Turns.{Turn, answer_of}

@@ -13,16 +13,16 @@ use commands::{Bad, Config, Event, Reply, WorldKind};
 use std::alloc::Allocator;
 use step_memory::View;
 
-/// The first line of no record has more bytes.
+/// The most bytes of the first line of a record.
 pub const HEADER_ROOM: usize = 135;
 
-/// The view by which a name was given has no more bytes, with its key.
+/// The most bytes of the view by which a name was given, with its key.
 const NAME_VIEW_ROOM: usize = 2_697;
 
-/// What follows the words of no event in its line has more bytes.
+/// The most bytes after the words of an event in its line.
 const REPLIED_ROOM: usize = 5_402;
 
-/// Of each event a line of JSON is written, with its reply, and of other turns nothing.
+/// The form of a record: each event with its reply is a line of JSON. The other turns have no text.
 #[derive(Drop)]
 pub struct AsRecord;
 
@@ -65,7 +65,7 @@ impl Form for AsRecord {
     fn put_misread<A: Allocator>(_bad: Bad, _out: &mut Replies<A>) {}
 }
 
-/// Appends what follows the words of an event in its line. The commonest replies are appended by one put.
+/// Appends what follows the words of an event in its line. It appends the commonest replies by one put.
 #[inline(always)]
 fn put_replied<A: Allocator>(reply: Reply<()>, view: &View, out: &mut Replies<A>)
     requires { length out.old + REPLIED_ROOM ≤ HELD_REPLIES }
@@ -103,7 +103,7 @@ fn put_small_end<A: Allocator>(front: &[u8], number: u8, out: &mut Replies<A>)
     }
 }
 
-/// As `put_replied`, of any reply.
+/// Does what `put_replied` does, for any reply.
 #[inline(never)]
 fn put_any_replied<A: Allocator>(reply: Reply<()>, view: &View, out: &mut Replies<A>)
     requires { length out.old + REPLIED_ROOM ≤ HELD_REPLIES }
@@ -117,7 +117,7 @@ fn put_any_replied<A: Allocator>(reply: Reply<()>, view: &View, out: &mut Replie
     out.put(b"}\n");
 }
 
-/// Appends, of a name, the view by which it was given; of another reply nothing.
+/// Appends the view by which a name was given, if the reply is a name. Otherwise it appends nothing.
 fn put_name_view<A: Allocator>(reply: Reply<()>, view: &View, out: &mut Replies<A>)
     requires { length out.old + NAME_VIEW_ROOM ≤ HELD_REPLIES }
     ensures text { out.new ≡ out.old ++ name_view (with_view reply view.now) }
@@ -139,7 +139,7 @@ fn put_world<A: Allocator>(world: WorldKind, out: &mut Replies<A>)
     out.put(world.name().as_bytes());
 }
 
-/// Appends the first line of a record.
+/// Appends the first line of a record, with its LF.
 pub fn print_header<A: Allocator>(config: Config, out: &mut Replies<A>)
     requires { length out.old + HEADER_ROOM ≤ HELD_REPLIES }
     ensures text { out.new ≡ out.old ++ header_line config }

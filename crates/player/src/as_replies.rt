@@ -8,7 +8,7 @@ use commands::{Bad, Event, Reply};
 use std::alloc::Allocator;
 use step_memory::View;
 
-/// Of each turn the reply is written, or that its line was bad.
+/// The form of replies: each turn has the text of its reply, or of the answer to a bad line.
 #[derive(Drop)]
 pub struct AsReplies;
 

@@ -1,4 +1,4 @@
-//! How the turns of a run are written.
+//! How a run writes its turns.
 
 ghost use Rattle.std.specs.Prelude.{◌≡◌, ◌≤◌, ◌+◌, ◌++◌, ℕ, List, length};
 ghost use Rattle.commands.specs.Replies.{with_view};
@@ -11,21 +11,22 @@ use commands::{Bad, Event, Reply};
 use std::alloc::Allocator;
 use step_memory::View;
 
-/// What is written of no turn has more bytes: a command, a reply, and a view of 64 pairs beside it.
+/// The most bytes of the text of a turn: a command, a reply, and a view of 64 pairs.
 pub const TURN_ROOM: usize = 5_460;
 
-/// How the turns of a run are written.
+/// How a run writes its turns. Each text has at most `TURN_ROOM` bytes.
 pub trait Form: Drop {
     /// The text of a turn.
     ghost text: { Turn → List ℕ };
 
-    /// Appends the text of an event that was answered, with this view where the reply shows one.
+    /// Appends the text of an event with its reply. A reply that shows a view shows `view`.
     fn put_answered<A: Allocator>(event: Event, reply: Reply<()>, view: &View, out: &mut Replies<A>)
         requires { length out.old + TURN_ROOM ≤ HELD_REPLIES }
         ensures text { out.new ≡ out.old ++ text (Answered (record { event = event; reply = with_view reply view.now })) }
         ensures short { length out.new ≤ length out.old + TURN_ROOM };
 
-    /// As `put_answered`, where this line, without its LF, asked for the event, so that it can be copied where its words are written.
+    /// Appends what `put_answered` appends, for the event that `line` asks for. The line has no LF. It can be copied
+    /// where the text has the words of the event.
     fn put_asked<A: Allocator>(
         line: &[u8],
         event: Event,
@@ -39,7 +40,7 @@ pub trait Form: Drop {
         ensures text { out.new ≡ out.old ++ text (Answered (record { event = event; reply = with_view reply view.now })) }
         ensures short { length out.new ≤ length out.old + TURN_ROOM };
 
-    /// Appends the text of an owner that was reported, by a reply that shows this view where it shows one.
+    /// Appends the text of the reply to a question for the owner of name `n`. A reply that shows a view shows `view`.
     fn put_reported<A: Allocator>(n: u64, reply: Reply<()>, view: &View, out: &mut Replies<A>)
         requires { length out.old + TURN_ROOM ≤ HELD_REPLIES }
         ensures text { out.new ≡ out.old ++ text (Reported n (with_view reply view.now)) }

@@ -14,14 +14,18 @@ ghost use Rattle.player.specs.Stands.{IsFresh, Stands};
 use crate::form::Form;
 use crate::service::Service;
 
-/// A law, which runs nothing: where one of the transcripts that share a service goes on, there is one order of all that was said still, in which
-/// each transcript has just its own turns.
+/// A law: if one of the transcripts that share a service goes on, all turns still have one order. In it each transcript
+/// has its own turns and no others.
 pub fn law_of_sharing<R, D: Service<R>, F: Form>()
     ensures { SharedGoesOn D.may F.text }
 {}
 
-/// A law, which runs nothing, of what bytes ask for: bytes after bytes are one list; what a whole input asks for, and what its whole lines
-/// do, up to `quit`; and what is asked for by the first bytes begins what the input asks for, and is all of it after `quit`.
+/// A law of the requests that bytes make.
+///
+/// - `joined`: bytes and then more bytes make the requests of both in one list.
+/// - `whole`, `quits`, `all`: these are the requests of an input and of its whole lines, up to `quit`.
+/// - `begins`: the requests of a prefix of the input are a prefix of its requests.
+/// - `ended`, `over`: after `quit` they are all of them, and the end of the input adds none.
 pub fn law_of_progress()
     ensures joined { (kind : WorldKind) (p : Progress) (xs ys : List ℕ) → after_bytes kind p (xs ++ ys) ≡ after_bytes kind (after_bytes kind p xs) ys }
     ensures whole { (kind : WorldKind) (bytes : List ℕ) → (after_bytes kind at_start bytes).asked ≡ asked_by kind (whole_lines bytes) }
@@ -35,7 +39,7 @@ pub fn law_of_progress()
     ensures first { (m : Result Command Bad) (ms : List (Result Command Bad)) → until_quit (m ∷ ms) ≡ m ∷ (if ends m then [] else until_quit ms) }
 {}
 
-/// A law, which runs nothing: a player that has read nothing stands where nothing was asked for or written.
+/// A law: a fresh player has answered nothing, and its writer has gained nothing.
 pub fn law_of_fresh_players<R, D: Service<R>, F: Form>()
     ensures { (start : D) (kind : WorldKind) (s : PlayerState) (before : Option (List ℕ)) →
         IsFresh kind s → Stands D.may F.text start start s at_start before before }

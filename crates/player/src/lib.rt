@@ -1,17 +1,24 @@
-//! One side of a transcript in the command language, which is the crate `command_lines`: lines of text in, replies out, whatever service answers.
+//! One side of a transcript in the command language (`command_lines`): it takes lines of text, and returns replies,
+//! over any service.
 //!
-//! A service answers events and tells owners by rules (`Service`), and which one it is is not known here. One side of a transcript stands
-//! by itself (`Responder`): it takes lines, has a service answer them, and adds the replies to room that is lent to it, so that many
-//! can share one service (`law_of_sharing`). `Player` is a talker with its replies: it is fed with bytes and writes what was
-//! answered, however they were cut (`AdvancesWriting`). How a turn is written is a type parameter (`Form`): as a reply
-//! (`AsReplies`), or, in a record, as a line of JSON of the event with its reply (`AsRecord`, `record_of`).
+//! A `Service` answers events, and questions for the owner of a name, as its relation `may` allows. A *turn* is a line
+//! with its answer. A *transcript* is the list of turns of one side.
 //!
-//! `play_on` plays a whole input: it reads the commands that a reader gives, a line each, has a service answer them, and writes the replies, a
-//! line each. Its theorem (`IsPlayed`): there are turns to the lines of the input in order, by which the service has come from what it was to
-//! what it is; the writer has gained the text of its answers, however the bytes were cut; and the summary counts them. `quit` ends the
-//! reading, and no call failed. What a read fault, a write fault and an allocation failure leave is said too. `record_on` plays so too and writes the
-//! record of the run in place of the replies: a header, and each event with its reply as a line of JSON (`record_of`). It has the same
-//! theorem with that text (`IsRecordedOn`).
+//! `Responder` is one side of a transcript. It takes lines, has a service answer them, and appends the replies to a
+//! buffer that its caller lends. So many of them can share one service (`law_of_sharing`). `Player` is a responder with
+//! its replies. It takes bytes, however they are cut, and writes the answers (`AdvancesWriting`). A type parameter says
+//! how a turn is written (`Form`): as a reply (`AsReplies`), or in a record as a line of JSON (`AsRecord`).
+//!
+//! `play_on` plays a whole input. It reads commands, a line each, has a service answer them, and writes the replies, a
+//! line each. Its theorem is `IsPlayed`:
+//!
+//! - There are turns to the lines of the input, in order. By them the service went from its old state to its new one.
+//! - The writer has gained the text of their answers, however the bytes were cut. The summary counts them.
+//! - `quit` ends the reading. If the call succeeds, no read and no write failed.
+//! - A read fault, a write fault and an allocation failure each leave a state that the theorem states.
+//!
+//! `record_on` plays as well, and writes the record of the run in place of the replies: a header, and each event with
+//! its reply (`record_of`). It has the same theorem with that text (`IsRecordedOn`).
 //!
 //! From `player/src/playing.rt`, of a service that is there:
 //!

@@ -22,13 +22,13 @@ use std::alloc::Allocator;
 use std::marker::Model;
 use step_memory::{NoMemory, View};
 
-/// A run under way: one side of a transcript, and the replies that are not written yet.
+/// A run under way: one side of a transcript, with the replies that it has not written yet.
 pub struct Player<A: Allocator, F: Form> {
     responder: Responder<A, F>,
     replies: Replies<A>,
 }
 
-// By hand, so that a player is taken apart here alone, and not wherever one is dropped.
+// By hand, so that the code that drops a player is here alone, and not at each place where one goes out of scope.
 impl<A: Allocator, F: Form> Drop for Player<A, F> {
     fn drop(self) {
         let Player {
@@ -47,7 +47,11 @@ impl<A: Allocator, F: Form> Model for Player<A, F> {
 }
 
 impl<A: Allocator + Clone, F: Form> Player<A, F> {
-    /// A run that has read nothing. All the memory that it wants is taken here.
+    /// Makes a run that has read nothing. No other call of a player allocates.
+    ///
+    /// # Errors
+    ///
+    /// `NoMemory`: an allocation failed.
     pub fn new(alloc: A, kind: WorldKind) -> Result<Player<A, F>, NoMemory>
         ensures { IfOk result (λ player. IsFresh kind player) }
     {
@@ -61,22 +65,22 @@ impl<A: Allocator + Clone, F: Form> Player<A, F> {
 }
 
 impl<A: Allocator, F: Form> Player<A, F> {
-    /// The counts so far.
+    /// Returns the counts so far.
     pub fn summary(&self) -> Summary
         ensures { result ≡ self.now.summary }
     {
         self.responder.summary()
     }
 
-    /// Whether `quit` was answered.
+    /// Returns true if and only if `quit` was answered.
     pub fn is_over(&self) -> bool
         ensures { result ≡ self.now.over }
     {
         self.responder.is_over()
     }
 
-    /// Takes the first line of these bytes with its LF, or all of them where none ends, and says how many bytes it took.
-    /// After `quit` nothing is acted on.
+    /// Takes the first line of these bytes with its LF, or all of them if none ends. Returns how many bytes it took.
+    /// After `quit` it answers nothing.
     #[inline(always)]
     fn take<R, D: Service<R>>(
         &mut self,
@@ -99,7 +103,7 @@ impl<A: Allocator, F: Form> Player<A, F> {
             .take(rt, world, view, bytes, &mut self.replies)
     }
 
-    /// Writes the replies that are held.
+    /// Writes the replies that it holds.
     fn send<W: Sink>(&mut self, writer: &mut W) -> Result<(), Fault>
         requires calls { W.calls writer.old + length self.old.replies ≤ 2 ^ 100 }
         ensures ok { OnOk result (IsSent self.old (W.contents writer.old) self.new (W.contents writer.new)) }
@@ -114,7 +118,11 @@ impl<A: Allocator, F: Form> Player<A, F> {
         self.replies.send(writer)
     }
 
-    /// Writes the first line of a record, before which nothing is held.
+    /// Writes the first line of a record. The player holds no reply.
+    ///
+    /// # Errors
+    ///
+    /// `Fault::Write`: a write failed or took nothing. The writer has gained a prefix of the line.
     pub fn write_header<W: Sink>(&mut self, config: Config, writer: &mut W) -> Result<(), Fault>
         requires none { self.old.replies ≡ [] }
         requires calls { W.calls writer.old + HEADER_ROOM ≤ 2 ^ 100 }
@@ -130,7 +138,7 @@ impl<A: Allocator, F: Form> Player<A, F> {
         self.replies.send(writer)
     }
 
-    /// Makes room for one more turn: where there is too little, the replies that are held are written.
+    /// Makes room for one more turn. If there is too little, it writes the replies that it holds.
     fn make_room<W: Sink>(&mut self, writer: &mut W) -> Result<(), Fault>
         requires calls { W.calls writer.old + length self.old.replies ≤ 2 ^ 100 }
         ensures ok { OnOk result (IsSent self.old (W.contents writer.old) self.new (W.contents writer.new)) }
@@ -149,7 +157,12 @@ impl<A: Allocator, F: Form> Player<A, F> {
         self.send(writer)
     }
 
-    /// Takes bytes that were read, and writes their replies.
+    /// Takes bytes that were read, has the service answer their lines, and writes all replies.
+    ///
+    /// # Errors
+    ///
+    /// `Fault::Write`: a write failed or took nothing. Part of the lines are answered, and a prefix of the text is
+    /// written.
     pub fn feed<R, D: Service<R>, W: Sink>(
         &mut self,
         rt: &R,
@@ -181,7 +194,11 @@ impl<A: Allocator, F: Form> Player<A, F> {
         self.send(writer)
     }
 
-    /// Takes the end of the input, where what stands with no LF is a line too, and writes the last reply.
+    /// Takes the end of the input, and writes the last reply. Bytes after the last LF are a line too.
+    ///
+    /// # Errors
+    ///
+    /// `Fault::Write`: a write failed or took nothing. A prefix of the text is written.
     pub fn finish<R, D: Service<R>, W: Sink>(
         &mut self,
         rt: &R,
@@ -205,7 +222,7 @@ impl<A: Allocator, F: Form> Player<A, F> {
         self.send(writer)
     }
 
-    /// Answers what stands before the end of the input with no LF, if it is not empty.
+    /// Answers the bytes after the last LF, if there are any.
     fn end_line<R, D: Service<R>>(&mut self, rt: &R, world: &mut D, view: &mut View)
         requires knows { Knows D.knows self.old.kind }
         requires room { length self.old.replies + TURN_ROOM ≤ HELD_REPLIES }

@@ -1,4 +1,4 @@
-//! Runs on what answers events, from a reader to a writer.
+//! Runs of a service, from a reader to a writer.
 
 ghost use Rattle.std.specs.Prelude.{◌≡◌, ◌≢◌, Err, ◌^◌, ◌<◌, length, flat_map, IfOk, IfErr};
 ghost use Rattle.player.specs.Knows.{Knows};
@@ -12,22 +12,26 @@ use crate::{AsReplies, Fault, Form, Service, Sink, Source, Summary};
 use commands::WorldKind;
 use std::alloc::Allocator;
 
-/// The most bytes that are asked for in one read.
+/// The most bytes of one read.
 pub const READ_BYTES: usize = 65_536;
 
-/// The most reads of one run.
+/// The most reads of one run: 2^40.
 pub const MOST_READS: u64 = 1_099_511_627_776;
 
-/// Plays on what answers events the commands that a reader gives, line by line, and writes the replies, one a line; it knows each
-/// event that lines of this kind mean.
+/// Plays on a service the commands that a reader gives, a line each, and writes the replies, a line each.
 ///
-/// The run ends at the end of the input or at `quit`, and then the text of all answers is written. The replies to what one
-/// read gave are written before the next read. All memory is taken before the first read, but for what the service takes to
-/// answer an event.
+/// The run ends at the end of the input or at `quit`, when the text of all replies is written. It writes the replies to
+/// what one read gave before the next read. It allocates before the first read alone, except for what the service
+/// allocates.
 ///
-/// `Fault::Memory` where it was refused, with nothing read and nothing written; `Fault::Read` where the reader failed or
-/// was read 2^40 times, with the answers to all whole lines written and a cut line not run; `Fault::Write` where the
-/// writer failed or took nothing, with a prefix of the text written.
+/// The service knows each request that a line of this kind of world means.
+///
+/// # Errors
+///
+/// - `Fault::Memory`: an allocation failed. Nothing was read or written.
+/// - `Fault::Read`: a read failed, or 2^40 reads were made. The answers to all whole lines are written, and a cut line
+///   was not run.
+/// - `Fault::Write`: a write failed or took nothing. A prefix of the text is written.
 pub fn play_on<H, D: Service<H>, A: Allocator + Clone, R: Source, W: Sink>(
     alloc: A,
     rt: &H,
@@ -47,7 +51,7 @@ pub fn play_on<H, D: Service<H>, A: Allocator + Clone, R: Source, W: Sink>(
     run(rt, world, &mut player, &mut chunk, reader, writer)
 }
 
-/// A player that has read nothing, and room for the bytes of one read; `Fault::Memory` where memory was refused.
+/// Makes a player that has read nothing, and room for the bytes of one read. The error is `Fault::Memory`.
 pub(crate) fn fresh<A: Allocator + Clone, F: Form>(
     alloc: A,
     kind: WorldKind,

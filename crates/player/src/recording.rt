@@ -1,4 +1,4 @@
-//! Runs whose record is written.
+//! Runs that write their record.
 
 ghost use Rattle.std.specs.Prelude.{◌≡◌, ◌≢◌, Err, ◌^◌, ◌<◌, length};
 ghost use Rattle.player.specs.Knows.{Knows};
@@ -13,10 +13,13 @@ use crate::{AsRecord, Fault, READ_BYTES, Service, Sink, Source};
 use commands::Config;
 use std::alloc::Allocator;
 
-/// Plays on what answers events, as `play_on`, and writes the record of the run in place of the replies: the header of the config
-/// before the first read, and a line for each event with its reply.
+/// Plays on a service as `play_on` does, and writes the record of the run in place of the replies.
 ///
-/// Its faults are those of `play_on`. `Fault::Write` comes with nothing read where not even the header could be written.
+/// It writes the header of the config before the first read, and then a line for each event with its reply.
+///
+/// # Errors
+///
+/// Those of `play_on`. If it cannot write the whole header, the error is `Fault::Write` and nothing was read.
 pub fn record_on<H, D: Service<H>, A: Allocator + Clone, R: Source, W: Sink>(
     alloc: A,
     rt: &H,
@@ -36,7 +39,7 @@ pub fn record_on<H, D: Service<H>, A: Allocator + Clone, R: Source, W: Sink>(
     record_run(rt, world, &mut player, &mut chunk, config, reader, writer)
 }
 
-// Writes the header, and then the lines of what is read to the end of the input or to `quit`.
+// Writes the header, and then the lines of what it reads to the end of the input or to `quit`.
 fn record_run<H, D: Service<H>, A: Allocator, R: Source, W: Sink>(
     rt: &H,
     world: &mut D,

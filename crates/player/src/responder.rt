@@ -1,4 +1,5 @@
-//! One side of a transcript: bytes in, requests to a service that others may share, and replies out, which are held elsewhere.
+//! One side of a transcript: it takes bytes, makes requests of a service that others may share, and appends replies to
+//! a buffer.
 
 ghost use Rattle.std.specs.Prelude.{◌≡◌, true, ◌+◌, ◌^◌, ◌<◌, ◌≤◌, length, take, IfOk, Ok};
 ghost use Rattle.commands.specs.Replies.{ShownReply, with_view};
@@ -21,11 +22,13 @@ use std::alloc::Allocator;
 use std::marker::{Model, PhantomData};
 use step_memory::{NoMemory, View};
 
-/// What ends a line.
+/// The byte that ends a line.
 const LF: u8 = 10;
 
-/// One side of a transcript under way: the kind of what answers, the line so far, the counts, and whether `quit` was answered. It holds
-/// some 200 bytes, so that a server can have one for each connection; the replies go to whoever lends room for them.
+/// One side of a transcript under way: the kind of world, the line so far, the counts, and whether `quit` was answered.
+///
+/// It takes some 200 bytes, so that a server can have one for each connection. Its replies go to a buffer that the
+/// caller lends.
 #[derive(Drop)]
 pub struct Responder<A: Allocator, F: Form> {
     kind: WorldKind,
@@ -44,7 +47,11 @@ impl<A: Allocator, F: Form> Model for Responder<A, F> {
 }
 
 impl<A: Allocator, F: Form> Responder<A, F> {
-    /// A transcript in which nothing was said; `NoMemory` where the room for a line was refused.
+    /// Makes a transcript without a turn. No other call allocates.
+    ///
+    /// # Errors
+    ///
+    /// `NoMemory`: the allocation of room for a line failed.
     pub fn new(alloc: A, kind: WorldKind) -> Result<Responder<A, F>, NoMemory>
         ensures { IfOk result (λ responder. IsSilent kind responder) }
     {
@@ -58,21 +65,21 @@ impl<A: Allocator, F: Form> Responder<A, F> {
         })
     }
 
-    /// The counts so far.
+    /// Returns the counts so far.
     pub fn summary(&self) -> Summary
         ensures { result ≡ self.now.summary }
     {
         self.summary
     }
 
-    /// Whether `quit` was answered.
+    /// Returns true if and only if `quit` was answered.
     pub fn is_over(&self) -> bool
         ensures { result ≡ self.now.over }
     {
         self.over
     }
 
-    /// Counts the reply to an event, which shows this view where it shows one, and adds the text of both.
+    /// Counts the reply to an event, and appends the text of both. A reply that shows a view shows `view`.
     #[inline(always)]
     fn hold_answered<B: Allocator>(
         &mut self,
@@ -90,7 +97,7 @@ impl<A: Allocator, F: Form> Responder<A, F> {
         self.summary.count_reply(reply);
     }
 
-    /// As `hold_answered`, where this line asked for the event.
+    /// Does what `hold_answered` does, for the event that this line asks for.
     #[inline(always)]
     fn hold_asked<B: Allocator>(
         &mut self,
@@ -111,7 +118,7 @@ impl<A: Allocator, F: Form> Responder<A, F> {
         self.summary.count_reply(reply);
     }
 
-    /// Counts that it was reported who has a name, and adds the text of it.
+    /// Counts the reply to a question for the owner of name `n`, and appends its text.
     #[inline(always)]
     fn hold_reported<B: Allocator>(
         &mut self,
@@ -129,7 +136,7 @@ impl<A: Allocator, F: Form> Responder<A, F> {
         self.summary.count_reply(reply);
     }
 
-    /// Counts `quit` and adds the text of it.
+    /// Counts `quit`, and appends its text.
     fn hold_ended<B: Allocator>(&mut self, out: &mut Replies<B>)
         requires room { length out.old + TURN_ROOM ≤ HELD_REPLIES }
         requires count { self.old.summary.lines + 1 < 2 ^ 64 }
@@ -140,7 +147,7 @@ impl<A: Allocator, F: Form> Responder<A, F> {
         self.summary.count_reply(Reply::Ok);
     }
 
-    /// Counts a bad line and adds the text of it.
+    /// Counts a bad line, and appends its text.
     fn hold_misread<B: Allocator>(&mut self, bad: Bad, out: &mut Replies<B>)
         requires room { length out.old + TURN_ROOM ≤ HELD_REPLIES }
         requires count { self.old.summary.lines + 1 < 2 ^ 64 }
@@ -151,7 +158,8 @@ impl<A: Allocator, F: Form> Responder<A, F> {
         self.summary.count_bad(bad);
     }
 
-    /// Tells who has a name, counts the answer and adds the text of it. A function of its own, since a whole reply is a kilobyte.
+    /// Asks the service for the owner of name `n`, counts the reply, and appends its text. It is a function of its own,
+    /// since a whole reply takes a kilobyte.
     #[inline(never)]
     fn tell_owner<R, D: Service<R>, B: Allocator>(
         &mut self,
@@ -171,7 +179,7 @@ impl<A: Allocator, F: Form> Responder<A, F> {
         self.hold_reported(n, reply, view, out);
     }
 
-    /// Answers what a line means, counts the answer and adds the text of both. `quit` ends the transcript.
+    /// Answers what a line means, counts the answer, and appends the text of both. `quit` ends the transcript.
     #[inline(always)]
     fn answer<R, D: Service<R>, B: Allocator>(
         &mut self,
@@ -203,7 +211,7 @@ impl<A: Allocator, F: Form> Responder<A, F> {
         }
     }
 
-    /// Answers an event that this line asks for, counts the answer and adds the text of both.
+    /// Answers the event that this line asks for, counts the reply, and appends the text of both.
     #[inline(always)]
     fn answer_event<R, D: Service<R>, B: Allocator>(
         &mut self,
@@ -229,7 +237,7 @@ impl<A: Allocator, F: Form> Responder<A, F> {
         self.hold_asked(line, event, reply, view, out);
     }
 
-    /// Answers the line so far, which is whole, and begins the next.
+    /// Answers the line so far, which is whole, and starts the next.
     fn answer_line<R, D: Service<R>, B: Allocator>(
         &mut self,
         rt: &R,
@@ -250,8 +258,9 @@ impl<A: Allocator, F: Form> Responder<A, F> {
         self.answer(rt, service, view, meaning, out);
     }
 
-    /// Takes the first line of these bytes with its LF, or all of them where none ends, and says how many bytes it took: what
-    /// the service answers is added to the replies. After `quit` nothing is acted on.
+    /// Takes the first line of these bytes with its LF, or all of them if none ends. Returns how many bytes it took.
+    ///
+    /// It appends the answer of the service, at most `TURN_ROOM` bytes, to `out`. After `quit` it answers nothing.
     #[inline(never)]
     pub fn take<R, D: Service<R>, B: Allocator>(
         &mut self,
@@ -280,8 +289,10 @@ impl<A: Allocator, F: Form> Responder<A, F> {
         self.take_slowly(rt, service, view, bytes, out)
     }
 
-    /// Takes lines of these bytes as long as the replies, with room for one more, stay within this many bytes, and says how many bytes
-    /// it took. What it leaves begins where the next call has to go on.
+    /// Takes lines of these bytes while `out`, with `TURN_ROOM` bytes more, stays within `most` bytes. Returns how many
+    /// bytes it took.
+    ///
+    /// It leaves bytes only if `out` has no room for one more turn. The next call takes the bytes from there on.
     pub fn take_some<R, D: Service<R>, B: Allocator>(
         &mut self,
         rt: &R,
@@ -308,7 +319,8 @@ impl<A: Allocator, F: Form> Responder<A, F> {
         at
     }
 
-    /// As `take`, where the transcript goes on, for any line: one that lies whole in these bytes is read where it lies.
+    /// Does what `take` does for any line, while the transcript goes on. A line that is whole in these bytes is not
+    /// copied.
     #[inline(never)]
     fn take_slowly<R, D: Service<R>, B: Allocator>(
         &mut self,
@@ -340,7 +352,7 @@ impl<A: Allocator, F: Form> Responder<A, F> {
         end + 1
     }
 
-    /// Takes the end of the input, where what stands with no LF is a line too if it is not empty.
+    /// Takes the end of the input. Bytes after the last LF are a line too.
     pub fn finish<R, D: Service<R>, B: Allocator>(
         &mut self,
         rt: &R,

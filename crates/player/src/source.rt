@@ -1,4 +1,4 @@
-//! Readers whose calls are counted.
+//! Readers that count their calls.
 
 ghost use Rattle.std.specs.Prelude.{◌≡◌, ℕ, ◌+◌, ◌^◌, ◌<◌};
 ghost use Rattle.std.specs.Io.{ReadsAtMost};
@@ -8,15 +8,19 @@ ghost use Rattle.command_lines.specs.Tries.{read_failures};
 use std::io;
 use std::io::Read;
 
-/// A reader with a count of its calls and of those that failed, which contracts see.
+/// A reader that counts its calls, and those that failed. Contracts alone see the counts.
 pub trait Source: Read {
-    /// How often it was read.
+    /// The number of reads.
     ghost calls: { Self → ℕ };
 
-    /// How many of these calls failed.
+    /// The number of reads that failed.
     ghost failed: { Self → ℕ };
 
-    /// One read, as std's `read`.
+    /// Makes one read, as std's `read` does.
+    ///
+    /// # Errors
+    ///
+    /// Those of the reader's `read`.
     fn read_once(&mut self, buf: &mut [u8]) -> io::Result<usize>
         requires room { calls self.old < 2 ^ 100 }
         ensures bound { ReadsAtMost result buf.new }

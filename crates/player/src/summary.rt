@@ -6,22 +6,22 @@ ghost use Rattle.player.specs.Summary.{one_if_accepted, one_if_refused, one_if_b
 
 use commands::{Bad, Reply};
 
-/// The counts of a run; `quit` counts as accepted.
+/// The counts of a run. `quit` counts as accepted.
 #[derive(Clone, Copy, Debug, Drop, PartialEq, Eq)]
 pub struct Summary {
-    /// The lines that were answered.
+    /// The lines that were answered: `accepted + refused + bad`.
     pub lines: u64,
-    /// Those whose command was accepted.
+    /// The lines whose reply was no refusal.
     pub accepted: u64,
-    /// Those whose command was refused.
+    /// The lines whose reply was a refusal.
     pub refused: u64,
-    /// Those that were bad.
+    /// The lines that were bad.
     pub bad: u64,
     ghost all: { lines ≡ accepted + refused + bad },
 }
 
 impl Summary {
-    /// The counts before the first line.
+    /// Returns the counts before the first line, which are 0.
     pub fn new() -> Summary
         ensures { (result.lines ≡ 0) × (result.accepted ≡ 0) × (result.refused ≡ 0) × (result.bad ≡ 0) }
     {
@@ -33,7 +33,8 @@ impl Summary {
         }
     }
 
-    /// Counts one more reply, whatever view it shows.
+    /// Counts one more reply, as refused if it is a refusal, and otherwise as accepted. At most 2^64 - 1 lines can be
+    /// counted.
     #[inline(always)]
     pub fn count_reply(&mut self, reply: Reply<()>)
         requires { self.old.lines + 1 < 2 ^ 64 }
@@ -57,7 +58,7 @@ impl Summary {
         };
     }
 
-    /// Counts one more bad line, bad for this reason.
+    /// Counts one more bad line. At most 2^64 - 1 lines can be counted.
     pub fn count_bad(&mut self, why: Bad)
         requires { self.old.lines + 1 < 2 ^ 64 }
         ensures lines { self.new.lines ≡ self.old.lines + 1 }

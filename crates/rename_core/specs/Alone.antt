@@ -1,4 +1,4 @@
--- how soon a participant is named while no other steps (this project's profile)
+-- how soon a participant is named in a solo run (this project's profile)
 use Rattle.std.specs.Prelude.{◌≡◌, ℕ, ◌+◌, ◌*◌, ◌<◌, ◌≤◌, ◌⊎◌, true, false, is_some, List, [], ◌∷◌, ◌++◌, None, Ok, Err}
 use Rattle.step_memory.specs.Calls.{Call, steps_of}
 use Rattle.step_memory.specs.Calls.Call.{Began, Stepped}
@@ -24,17 +24,17 @@ pub record HasTwoLeft (terms : RenameTerms) (o : RenameObject) (p : ℕ) : Type 
   pub unspent : o.spent p ≡ false
   pub left : o.count p + 2 ≤ terms.limit
 
--- the most steps of one who runs solo until it is named: to its place, the rest of a scan that began among others, and
--- two rounds, each of an update and a scan
+-- the most steps of a participant in a solo run until it is named. They take it to its place, through the rest of a
+-- scan that it began among others, and through two rounds of an update and a scan
 abbrev pub steps_alone : SnapBounds → ℕ
 steps_alone bounds = bounds.placing bounds.most + 11 * bounds.collecting + 1
 
--- p has a name; or it is not spent, so that its steps go on, and has made fewer than so many among these calls
+-- p has a name. Or it is not spent, so that its steps go on, and it has made fewer than `most` among these calls
 abbrev pub IsNamedWithin : ℕ → RenameObject → ℕ → List (Call StepReply) → Type 0
 IsNamedWithin most now p more = (is_some (now.name p) ≡ true) ⊎ ((now.spent p ≡ false) × (steps_of p more < most))
 
--- cut these calls in two at any point: who has two proposals left there, and alone steps after it, is named once it has made
--- so many steps after it, or earlier
+-- cut these calls in two at any point. A participant that has two proposals left there, and then runs solo, is named by
+-- its `steps_alone`-th step after the cut, or earlier
 abbrev pub IsNamedAlone : RenameTerms → SnapBounds → List (Call StepReply) → Type 0
 IsNamedAlone terms bounds r = (before more : List (Call StepReply)) (o now : RenameObject) (p : ℕ) → before ++ more ≡ r → IsRun terms before o → IsRun terms r now →
     HasTwoLeft terms o p → StepsAlone p more → IsNamedWithin (steps_alone bounds) now p more

@@ -1,4 +1,4 @@
--- over segments in a row, and over a grid, no step wants memory
+-- over segments in a row, and over a grid, no step needs memory
 use Rattle.std.proofs.Common.{◌≡◌, ℕ, true, false, Some, None, refl, sym, ◌∙◌, List, Option}
 use Rattle.step_memory.specs.declared.access.Access.{Access}
 use Rattle.step_memory.specs.Participant.{participant_of}

@@ -1,5 +1,5 @@
--- what is made for so many participants is places in which nothing was written, for so many: clauses `new` of `snapshot_law`, `grid_snapshot_law`
--- and `tree_snapshot_law`
+-- the memory that is made for m participants is places for m in which nothing was written: clauses `new` of
+-- `snapshot_law`, `grid_snapshot_law` and `tree_snapshot_law`
 use Rattle.std.proofs.Common.{◌≡◌, ℕ, ◌≤◌, Option, None, refl}
 use Rattle.std.proofs.Math.ListN.{length-replicate}
 use Rattle.step_memory.specs.declared.record.Record.{Record}

@@ -7,14 +7,14 @@ use Rattle.proposal_rounds.specs.Rounds.{most_proposals}
 use Rattle.rename_core.specs.Reply.{StepReply}
 use Rattle.rename_core.specs.RenameObject.{RenameTerms, RenameObject}
 
--- the most accepted steps of one until it is named, where at most b have begun: those to its place, and those of one round
--- more than b identities make proposals. A round is an update and a scan
+-- the most accepted steps of a participant until it is named, if at most b have begun. They take it to its place, and
+-- through one round more than b identities make proposals. A round is an update and a scan
 abbrev pub steps_among : SnapBounds → ℕ → ℕ
 steps_among bounds b = bounds.placing b + (most_proposals b + 1) * (2 * bounds.scanning b + 1)
 
--- No more have begun than may. Where at most b have, all of them have made at most as many proposals as b identities make.
--- Whoever has begun and made `steps_among` accepted steps is named or spent, whatever the others did. Where the round limit is above that number of
--- proposals nobody is spent
+-- No more have begun than may. If at most b have, all of them together have made at most as many proposals as b
+-- identities make. A participant that has made `steps_among` accepted steps is named or spent, whatever the others did.
+-- If the round limit is above that number of proposals, no participant is spent
 pub record EndsAmong (terms : RenameTerms) (bounds : SnapBounds) (o : RenameObject) (r : List (Call StepReply)) : Type 0 where
   pub roomy : o.many ≤ terms.most
   pub together : (b : ℕ) → o.many ≤ b → o.last ≤ most_proposals b

@@ -1,4 +1,4 @@
--- the law of renaming, over calls and their replies alone
+-- the specification of renaming, over calls and their replies alone
 use Rattle.std.specs.Prelude.{◌≡◌, ℕ, ◌-◌, ◌*◌, ◌≤◌, List, Some}
 use Rattle.step_memory.specs.Calls.{Call}
 use Rattle.step_memory.specs.Distinct.{AreDistinct}
@@ -9,9 +9,9 @@ use Rattle.rename_core.specs.Pace.{IsPaced}
 use Rattle.rename_core.specs.Alone.{IsNamedAlone}
 use Rattle.rename_core.specs.Ends.{EndsAmong}
 
--- The replies are those of the renaming object, in order. No two have one name, and where b have begun, each name is from
--- 1 to 2b - 1. One identity's replies come in their order, and in time; and who
--- steps alone is soon named; and rounds end, whoever steps
+-- The replies are those of the renaming object, in order. No two participants have one name, and if b have begun, each
+-- name is from 1 to 2b - 1. The replies to each identity are in their order, within their bounds. A participant in a
+-- solo run is named within a bound, and rounds end, whatever the others do
 pub record RenameSpec (terms : RenameTerms) (bounds : SnapBounds) (r : List (Call StepReply)) : Type 0 where
   pub object : RenameObject
   pub run : IsRun terms r object

@@ -1,5 +1,5 @@
--- locality: a participant sees of the others what stands in the register that it reads, and leaves of the world what it
--- does not write (this project's profile)
+-- the frame of a step: a participant reads of the others one register alone, and changes of the world nothing but what
+-- it writes (this project's profile)
 use Rattle.std.specs.Prelude.{◌≡◌, ◌≢◌, ℕ, Option, Some, None, Result, IfOk, OnOk}
 use Rattle.step_memory.specs.declared.access.Access.{Access}
 use Rattle.step_memory.specs.declared.access.Answer.{Answer}
@@ -50,8 +50,8 @@ module _ {S R V U K : Type 0} (W : KnownPlaces S R V U K) where
   abbrev pub client_by : ℕ → ℕ → Client U K → Round → Answer V → Client U K
   client_by p limit c r got = wished (follow_by p limit c r got).wish ((clients_over W).resumed c got)
 
-  -- an accepted step of p makes the one access that p's own client names; its reply and p's new local state are functions
-  -- of p's local state, the round limit and the answer; and nothing else changes
+  -- an accepted step of p makes the one access that p's own client names. Its reply and p's new local state are
+  -- functions of p's local state, the round limit and the answer. Nothing else changes
   pub record ChangesOnly (p : ℕ) (old new : RenameState S U K) (result : Result StepReply Refusal) : Type 0 where
     pub access : (c : Client U K) → client_of p old ≡ Some c → OnOk result (new.snap.memory ≡ W.memory.after old.snap.memory (access_of c))
     pub reply : (c : Client U K) (r : Round) → client_of p old ≡ Some c → round_of p old ≡ Some r → IfOk result (λ x. x ≡ (follow_by p old.limit c r (got_in old.snap.memory c)).reply)

@@ -1,4 +1,4 @@
--- renaming as a machine, and what is said of a world after its calls
+-- renaming as a machine, and properties of a world after its calls
 use Rattle.std.specs.Prelude.{◌≡◌, ℕ, ◌+◌, ◌*◌, ◌≤◌, true, if◌then◌else◌, ◌⊎◌, List, Option, Some, None, Err, IsOk}
 use Rattle.step_memory.specs.declared.refusal.Refusal.TheVariants.{NoMemory}
 use Rattle.step_memory.specs.World.{begin_refusal, done_unless}
@@ -20,19 +20,20 @@ use Rattle.rename_core.specs.RenameState.{RenameState}
 use Rattle.rename_core.specs.RenameWorld.{fresh_world, after_rename_begin, step_refusal, rename_answer, after_rename_step, may_lack, LacksMemory}
 
 module _ {S R V U K : Type 0} (W : KnownPlaces S R V U K) where
-  -- the world after a call. A step for which a growth was refused is still to come
+  -- the world after a call. A step that fails with `NoMemory` changes nothing
   abbrev pub next : RenameState S U K → Call StepReply → RenameState S U K
   next w (Began id reply) = after_rename_begin W w id
   next w (Stepped id reply) = if lacked_memory reply then w else after_rename_step W w id
 
-  -- the reply is the one that the call gets, or the refusal of a growth where there may be one and nothing else is due
+  -- the reply is the due one, or `NoMemory` at a step that may lack memory and for which no other refusal is due
   abbrev pub IsReply : RenameState S U K → Call StepReply → Type 0
   IsReply w (Began id reply) = reply ≡ done_unless (begin_refusal w.snap id)
   IsReply w (Stepped id reply) =
       (reply ≡ rename_answer W w id)
       ⊎ ((reply ≡ Err NoMemory) × LacksMemory W w id)
 
-  -- nobody has begun, and nothing was written. There is room for so many, each with so many proposals
+  -- no participant has begun, and nothing was written. There is room for `most` participants, each with at most `limit`
+  -- proposals
   pub record IsFresh (most limit : ℕ) (w : RenameState S U K) : Type 0 where
     pub first : S
     pub new : W.ties.IsNew first
@@ -58,7 +59,7 @@ module _ {S R V U K : Type 0} (W : KnownPlaces S R V U K) where
   abbrev pub terms_of : WorldKind → S × ℕ → RenameTerms
   terms_of kind first = record { most = W.most_of first.0; limit = first.1; grows = is_tree kind }
 
-  -- where b have begun, of whom walks over the segments make so many reads, a scan makes at most b + 1 collects
+  -- if b have begun, a scan makes at most b + 1 collects, each of as many reads as a walk over the segments makes
   abbrev pub bounds_for : S × ℕ → SnapBounds
   bounds_for first = bounds_over W first.0 (λ b. (b + 1) * W.ties.reads (W.most_of first.0) b)
 
@@ -74,7 +75,8 @@ module _ {S R V U K : Type 0} (W : KnownPlaces S R V U K) where
       RefusesAsDue = λ first r. AnswersAsDue after (Allows (terms_of kind first)) new_object r;
     }
 
-    -- every list of calls that leads to this world keeps the law within these bounds, which go by the most participants
+    -- every list of calls that leads to this world satisfies the specification within these bounds, which depend on the
+    -- most participants
     abbrev pub SatisfiesSpecWithin : (ℕ → SnapBounds) → RenameState S U K → Type 0
     SatisfiesSpecWithin bounds w = OnEveryHistory renaming (λ first r. RenameSpec (terms_of kind first) (bounds (W.most_of first.0)) r) w
 

@@ -1,4 +1,4 @@
--- places that names are given over
+-- places over which names are given
 use Rattle.std.specs.Prelude.{◌≡◌, ℕ, ◌==◌, is_some, true}
 use Rattle.snapshot_core.specs.Places.{KnownPlaces}
 use Rattle.snapshot_core.specs.SnapWorld.{SnapState, may_lack_memory}
@@ -6,10 +6,10 @@ use Rattle.commands.specs.Config.{is_tree}
 use Rattle.commands.specs.declared.kind.WorldKind.{WorldKind}
 
 module _ {S R V U K : Type 0} (t : KnownPlaces S R V U K) where
-  -- who begins has a place at once just where no step is needed to one
+  -- a participant begins with a place if and only if no step is needed to reach one
   abbrev pub PlacesAtOnce : Type 0
   PlacesAtOnce = (b q : ℕ) → is_some (t.place_of (t.walker_from b q)) ≡ (t.ties.placing 1 == 0)
 
-  -- a step may want memory only where the world is one over a tree
+  -- a step may need memory only in a world over a tree
   abbrev pub GrowsAsTree : WorldKind → Type 0
   GrowsAsTree kind = (s : SnapState S U K) (p : ℕ) → may_lack_memory t s p ≡ true → is_tree kind ≡ true

@@ -1,4 +1,4 @@
--- in which order one identity's replies come, and how many steps lie between them (this project's profile)
+-- the order of the replies to one identity, and the number of steps between them (this project's profile)
 use Rattle.std.specs.Prelude.{◌≡◌, ℕ, ◌+◌, ◌<◌, ◌≤◌, ◌==◌, if◌then◌else◌, List, Ok, Err}
 use Rattle.step_memory.specs.SetAt.{set_at}
 use Rattle.step_memory.specs.Runs.{Run}
@@ -26,12 +26,11 @@ pub record Pace : Type 0 where
 abbrev pub new_pace : Pace
 new_pace = record { begun = 0; phase = λ p. AtEnd; steps = λ p. 0 }
 
--- who needs no step to its place proposes at once, 1 at first
+-- a participant that needs no step to its place proposes at once, first the number 1
 abbrev pub first_phase : SnapBounds → Phase
 first_phase bounds = if bounds.placing 1 == 0 then ToPropose 1 else ToPlace
 
--- the most steps of what is done next, where so many have begun. Whoever proposes makes one step more than a scan, the
--- one that writes its proposal
+-- the most steps of a phase, if this many have begun. A proposal takes one step more than a scan, the write
 abbrev pub most_steps : SnapBounds → ℕ → Phase → ℕ
 most_steps bounds begun ToPlace = bounds.placing begun
 most_steps bounds begun (ToPropose n) = bounds.scanning begun + 1
@@ -75,7 +74,8 @@ paced bounds t (Began p (Err why)) = t
 paced bounds t (Stepped p (Ok reply)) = paced_step t p reply
 paced bounds t (Stepped p (Err why)) = t
 
--- each identity is placed; then it proposes, 1 at first and then what the rule says by the view shown last, and looks, by
--- turns, until it is named or spent; and each of these within its bound. Quiet and refusals aside, it answers nothing else
+-- Each identity is placed. Then it proposes and looks in turn, until it is named or spent. It proposes first 1, and
+-- then the number that the rule gives for the last view. Each of these is within its bound, and no other reply is
+-- given, quiet ones and refusals aside
 abbrev pub IsPaced : SnapBounds → List (Call StepReply) → Type 0
 IsPaced bounds r = (t : Pace) × Run (paced bounds) (InTime bounds) new_pace r t

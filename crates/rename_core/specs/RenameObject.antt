@@ -18,8 +18,9 @@ pub record RenameTerms : Type 0 where
   pub limit : ℕ
   pub grows : Bool
 
--- who has begun, and how many; places and names; who is spent; the moments, which are maps from identity to proposal, by
--- their numbers from 0 to the last; for each identity the moment of its last proposal, and how many it has made
+-- the identities that have begun, with their places and names, and those that are spent. Moments are maps from identity
+-- to proposal, with numbers from 0 to the last. Of each identity the object has the moment of its last proposal, and
+-- the number of its proposals
 pub record RenameObject : Type 0 where
   pub begun : ℕ → Bool
   pub many : ℕ
@@ -128,7 +129,7 @@ AllowsStep terms o p (Saw view) = (1 ≤ o.count p) × (o.count p < terms.limit)
 AllowsStep terms o p (Named n view) = (1 ≤ o.count p) × ShowsSole o p n view × IsFreeName o n
 AllowsStep terms o p Spent = (o.count p ≡ terms.limit) × HasConflict o p
 
--- a growth may be refused where nothing else is due, to one who has no place yet
+-- a step may fail with `NoMemory` if no other refusal is due, and its participant has no place yet
 pub record MayLack (terms : RenameTerms) (o : RenameObject) (p : ℕ) (why : Refusal) : Type 0 where
   pub is : why ≡ NoMemory
   pub grows : terms.grows ≡ true
@@ -166,7 +167,7 @@ after o (Stepped p (Err why)) = o
 abbrev pub IsRun : RenameTerms → List (Call StepReply) → RenameObject → Type 0
 IsRun terms r o = Run after (Allows terms) new_object r o
 
--- who has the name n, or that no one has
+-- this participant has the name n, or none has
 abbrev pub IsOwner : RenameObject → ℕ → Option ℕ → Type 0
 IsOwner o n None = (p : ℕ) → o.name p ≢ Some n
 IsOwner o n (Some p) = o.name p ≡ Some n

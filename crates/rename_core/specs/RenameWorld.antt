@@ -1,4 +1,4 @@
--- what the calls of a renaming world answer and leave
+-- the replies of a renaming world, and its state after each call
 use Rattle.std.specs.Prelude.{◌≡◌, true, ℕ, if◌then◌else◌, [], ◌∷◌, ◌++◌, Bool, Option, Some, None, Result, Ok, Err, is_some, List}
 use Rattle.step_memory.specs.declared.participant.Participant.{Participant}
 use Rattle.step_memory.specs.declared.refusal.Refusal.{Refusal}
@@ -31,7 +31,7 @@ abbrev pub name_by : Option Round → Option ℕ
 name_by None = None
 name_by (Some r) = name_at r.stage r.proposal
 
--- who has a name, by the rounds
+-- the participant that has a name, by the rounds
 abbrev pub owner_by : ℕ → List (Participant Round) → Option ℕ
 owner_by n [] = None
 owner_by n (v ∷ vs) = if has_name v.program.stage v.program.proposal n then Some v.identity else owner_by n vs
@@ -67,7 +67,7 @@ module _ {S R V U K : Type 0} (W : KnownPlaces S R V U K) where
   abbrev pub begun_snap : RenameState S U K → ℕ → SnapState S U K
   begun_snap w id = after_snap_begin W w.snap id
 
-  -- who has begun has a place at once
+  -- whether a participant begins with a place
   abbrev pub has_place : RenameState S U K → ℕ → Bool
   has_place w id = is_some (place_in W (begun_snap w id) id)
 
@@ -101,7 +101,7 @@ module _ {S R V U K : Type 0} (W : KnownPlaces S R V U K) where
   answer_by w id None = Err NotBegun
   answer_by w id (Some r) = answer_open w id r (stage_refusal r.stage)
 
-  -- what a step answers where no growth is refused
+  -- the reply of a step, if no allocation fails
   abbrev pub rename_answer : RenameState S U K → ℕ → Result StepReply Refusal
   rename_answer w id = answer_by w id (program_of id w.rounds)
 
@@ -128,6 +128,6 @@ module _ {S R V U K : Type 0} (W : KnownPlaces S R V U K) where
   abbrev pub may_lack : RenameState S U K → ℕ → Bool
   may_lack w id = may_lack_memory W w.snap id
 
-  -- a growth may be refused in that step, and nothing else is due
+  -- the step may fail with `NoMemory`, and no other refusal is due
   abbrev pub LacksMemory : RenameState S U K → ℕ → Type 0
   LacksMemory w id = (step_refusal w id ≡ None) × (may_lack w id ≡ true)

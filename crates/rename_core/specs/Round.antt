@@ -1,4 +1,4 @@
--- what follows a step of the snapshot object
+-- a round after each reply of the snapshot object
 use Rattle.std.specs.Prelude.{ℕ, ◌+◌, Bool, false, ◌==◌, nat_le, nat_lt, if◌then◌else◌, List, Option, Some, None}
 use Rattle.step_memory.specs.declared.refusal.Refusal.{Refusal}
 use Rattle.step_memory.specs.declared.refusal.Refusal.TheVariants.{Finished, Spent as IsSpent}
@@ -34,7 +34,7 @@ abbrev pub has_name : Stage → ℕ → ℕ → Bool
 has_name Settled proposal number = proposal == number
 has_name s proposal number = false
 
--- the proposal that stands in the memory
+-- the proposal that is written in the memory
 abbrev pub standing_by : Round → Option ℕ
 standing_by r = if r.count == 0 then None else Some r.proposal
 
@@ -68,7 +68,7 @@ followed r id (HasPlace place) limit = record { round = at_stage r (Proposing 1)
 followed r id Written limit = record { round = written_round r limit; wish = Scan; reply = Proposed (number_of r.stage) }
 followed r id (Viewed view) limit = decided r id view limit
 
--- one who begins: who has a place proposes at once
+-- the round of a participant that begins. With a place it proposes at once
 abbrev pub first_round : Bool → Round
 first_round placed = record { count = 0; proposal = 0; stage = if placed then Proposing 1 else Placing }
 

@@ -1,4 +1,4 @@
--- a step of a participant whose round may go on, by what the snapshot object tells
+-- a step of a participant whose round goes on, by the reply of the snapshot object
 use Rattle.std.specs.Prelude.{◌≡◌, ◌≢◌, ℕ, true, ◌⊎◌, List, Result, Ok, Err}
 use Rattle.step_memory.specs.declared.participant.Participant.{Participant}
 use Rattle.step_memory.specs.declared.refusal.Refusal.{Refusal}
@@ -17,7 +17,7 @@ abbrev pub snap_err : Refusal → Result SnapReply Refusal
 snap_err why = Err why
 
 module _ {S R V U K : Type 0} (W : KnownPlaces S R V U K) (snap new : SnapState S U K) (v u : Participant Round) (limit : ℕ) (result : Result (Reply (Unit {0})) Refusal) (view : List (ℕ × ℕ)) where
-  -- the object told this, and what follows is answered, asked for and stands in the round
+  -- the object gave this reply, and the step's reply, its next request and the new round follow from it
   pub record HasFollowed (reported : SnapReply) : Type 0 where
     pub is_reported : Ok reported ≡ snap_answer W snap v.identity
     pub reply : Reply (Unit {0})

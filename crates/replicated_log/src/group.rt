@@ -19,7 +19,7 @@ use crate::serve_fault::{Cause, ServeFault};
 use std::alloc::{AllocError, Global};
 use std::marker::Model;
 
-/// A log in memory, and replicas of a machine that share it. Contracts see the log, and the replicas.
+/// A log in memory, with the replicas of a machine that share it.
 #[derive(Drop)]
 pub struct Group<M: Machine> {
     alloc: Global,
@@ -36,7 +36,7 @@ impl<M: Machine> Model for Group<M> {
 }
 
 impl<M: Machine + Drop> Group<M> {
-    /// An empty log that no replica follows.
+    /// Makes an empty log that no replica follows.
     pub fn new(alloc: Global) -> Group<M>
         ensures empty { (result.log ≡ []) × (result.replicas ≡ []) }
         ensures history { (start : M) → IsOneHistory M.applies start result.log result.replicas [] }
@@ -48,22 +48,27 @@ impl<M: Machine + Drop> Group<M> {
         }
     }
 
-    /// How many replicas there are.
+    /// Returns the number of replicas.
     pub fn len(&self) -> usize
         ensures { result ≡ length self.now.replicas }
     {
         self.replicas.len()
     }
 
-    /// The log.
+    /// Returns the log.
     pub fn log(&self) -> &MemoryStore
         ensures { result.now ≡ self.now.log }
     {
         &self.store
     }
 
-    /// Adds a replica of a machine, to which no entry of the log was applied. The history is one where all machines that join are the
-    /// same at their start. An error where a growth was refused.
+    /// Adds a replica of a machine that has applied no entry of the log.
+    ///
+    /// All replicas have one history if all machines that join are equal at their start.
+    ///
+    /// # Errors
+    ///
+    /// `AllocError`: an allocation failed. Nothing has changed.
     pub fn join(&mut self, machine: M) -> Result<(), AllocError>
         ensures log { self.new.log ≡ self.old.log }
         ensures joined { OnOk result (self.new.replicas ≡ self.old.replicas ++ record { machine = machine; place = 0; poisoned = false; behind = false } ∷ []) }
@@ -76,7 +81,11 @@ impl<M: Machine + Drop> Group<M> {
         }
     }
 
-    /// One step of a replica for a batch (`Replica::step`).
+    /// Makes one step of replica `at` for a batch (`Replica::step`). The replicas are counted from 0.
+    ///
+    /// # Errors
+    ///
+    /// Those of `Replica::step`, in that order. The log in memory fails with `StoreFault::Memory` or `Gap` alone.
     pub fn step(&mut self, at: usize, batch: &[u8], replies: &mut M::Replies) -> Result<Step, Cause>
         requires in_bounds { at < length self.old.replicas }
         ensures log { (self.new.log ≡ self.old.log) ⊎ (self.new.log ≡ self.old.log ++ batch.now ∷ []) }
@@ -97,7 +106,11 @@ impl<M: Machine + Drop> Group<M> {
         self.replicas[at].step(&mut self.store, batch, replies)
     }
 
-    /// Has a replica serve a batch (`Replica::serve`).
+    /// Has replica `at` serve a batch (`Replica::serve`). The replicas are counted from 0.
+    ///
+    /// # Errors
+    ///
+    /// Those of `Replica::serve`, in that order. The log in memory fails with `StoreFault::Memory` or `Gap` alone.
     pub fn serve(
         &mut self,
         at: usize,

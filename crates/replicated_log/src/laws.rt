@@ -1,4 +1,4 @@
-//! What follows from what replicas promise.
+//! Laws of replicas, which run nothing.
 
 ghost use Rattle.std.specs.Prelude.{◌≡◌, ◌≤◌, ℕ, List, length, false};
 ghost use Rattle.replicated_log.specs.Groups.{IsDetermined, IsDueIn, Reported};
@@ -11,8 +11,11 @@ ghost use Rattle.replicated_log.specs.declared.store.TheConstants.{MOST_PLACES};
 use crate::machine::Machine;
 use crate::store::Store;
 
-/// A law, which runs nothing, of machines that are determined by what is applied to them: replicas at one place of a log, that were led
-/// there from one start, are the same; and what is reported at a place of the log is the same, whoever tells it.
+/// A law of deterministic machines (state machine replication: Schneider 1990).
+///
+/// - `states`: two replicas that started alike, and are at one place of the log, have equal machines, unless one is
+///   poisoned.
+/// - `replies`: all replicas that answer at one place of the log return the same replies.
 pub fn law_of_agreement<M: Machine>()
     ensures states { IsDetermined M.applies → (start : M) (log : List (List ℕ)) (a b : ReplicaState M) →
         IsReplica M.applies (stands_in log) start a → IsReplica M.applies (stands_in log) start b →
@@ -21,8 +24,10 @@ pub fn law_of_agreement<M: Machine>()
         (h : IsDueIn M.applies start log one) (k : IsDueIn M.applies start log other) → length h.before ≡ length k.before → one ≡ other }
 {}
 
-/// A law, which runs nothing, of replicas over a store, before and after a call that keeps what stood: a replica that was led from a start
-/// was led so still; and what it is answered is due at the batch's place, behind all that stands before it from the first place on.
+/// A law of a replica over a store, before and after a call that keeps all entries of the log.
+///
+/// - `still`: a replica that the log led from its start is still one that the log led.
+/// - `due`: its replies are those due at the place of the batch, after all entries before it from place 0 on.
 pub fn law_of_following<M: Machine, S: Store>()
     ensures still { (start : M) (r : ReplicaState M) (s t : S) → Keeps (S.stands s) (S.stands t) →
         IsReplica M.applies (S.stands s) start r → IsReplica M.applies (S.stands t) start r }
@@ -31,12 +36,12 @@ pub fn law_of_following<M: Machine, S: Store>()
         IsDueAt M.applies (S.stands t) start batch replies new }
 {}
 
-/// A law, which runs nothing: a log in memory never tells of one place both that something stands there and that nothing does.
+/// A law: a log in memory never reports of one place both that it has an entry and that it has none.
 pub fn law_of_memory()
     ensures { Contradicts stands_in (λ log place. length log ≤ place) → ⊥ }
 {}
 
-/// A law, which runs nothing: how many places a log has, how long a batch may be, and how many steps are taken for one.
+/// A law: the number of places of a log, the most bytes of a batch, and the most steps for a batch.
 pub fn law_of_limits()
     ensures places { MOST_PLACES ≡ 10000000000000000 }
     ensures batch { MOST_BATCH ≡ 65536 }

@@ -1,17 +1,22 @@
-//! One log that several machines share, and a replica of a machine that follows it.
+//! One log that several machines share, and a replica of a machine that follows it (Schneider 1990).
 //!
-//! A `Store` has places, each of which is written at most once, by whoever comes first: what stands there in order is the log. A
-//! `Replica` applies the entries of the log to its `Machine`, each once, in their order. `Replica::serve` has a batch come to stand in
-//! the log, behind all that stands there, and gives the replies that are due there. So each reply is reported at one place of one
-//! history, whichever replica told it (state machine replication).
+//! A `Store` has places, each of which is written at most once, by the first caller. Its entries in order are the log.
+//! A `Replica` applies the entries of the log to its `Machine`, each once, in their order.
 //!
-//! What a store over a network holds no contract can say. So `Store::stands` and `Store::lacks` say what the store's own value tells: of a `MemoryStore`
-//! everything, and of a store that is reached over sockets nothing. A replica is proved once, for every store.
+//! `Replica::serve` puts a batch into the log, after all entries that are there, and returns the replies that are due
+//! there. So each reply is one at one place of one history, whichever replica returned it.
 //!
-//! At a fault nothing is answered, and the fate of the batch is not known (`ServeFault::Unknown`). The same replica can be asked to
-//! serve the same bytes again: it reads what stands at the place before it offers them once more, and takes an entry of equal bytes
-//! for its own. So two batches that are to be two entries differ in their bytes: let each begin with a token of its own. A machine that was
-//! refused memory while it applied an entry is not known any more: its replica is poisoned, and never answers again (`Cause::Poisoned`).
+//! No contract can say what a store over a network holds. So `Store::stands` and `Store::lacks` say what the store's
+//! own value shows. A `MemoryStore` shows everything, and a store over sockets nothing. The proof of a replica holds
+//! for every store.
+//!
+//! After a fault a replica returns no replies, and the fate of the batch is not known (`ServeFault::Unknown`). A caller
+//! may ask the same replica to serve the same bytes again. The replica reads the place before it offers them there once
+//! more. It takes an entry of equal bytes for its own. So two batches that are meant as two entries must differ: let
+//! each begin with its own token.
+//!
+//! If an allocation fails while a machine applies an entry, nothing is known of the machine. Its replica is poisoned,
+//! and never answers again (`Cause::Poisoned`).
 //!
 //! From `tests_log/src/replica_tests.rt`, over a store that loses the answer to each put:
 //!

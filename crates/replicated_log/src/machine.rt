@@ -1,26 +1,29 @@
-//! What entries are applied to.
+//! State machines.
 
 ghost use Rattle.std.specs.Prelude.{ℕ, List, OnOk};
 
 use std::alloc::AllocError;
 
-/// A state machine to which entries of bytes are applied.
+/// A state machine that applies entries, each a list of bytes.
 pub trait Machine {
-    /// What it says to entries.
+    /// The replies to an entry.
     type Replies;
 
-    /// The machine was so, an entry was applied, this was said to it, and the machine is so.
+    /// The relation of the machine, an entry, the replies to it, and the machine after it.
     ghost applies: { Self → List ℕ → Self.Replies → Self → Type 0 };
 
-    /// Nothing is said.
+    /// These are no replies.
     ghost silent: { Self.Replies → Type 0 };
 
-    /// Applies an entry, and puts what is said to it over what was said before. An error where a growth was refused: then nothing is
-    /// known of the machine.
+    /// Applies an entry, and stores its replies in place of those before.
+    ///
+    /// # Errors
+    ///
+    /// `AllocError`: an allocation failed. Nothing is then known of the machine.
     fn apply(&mut self, entry: &[u8], replies: &mut Self::Replies) -> Result<(), AllocError>
         ensures { OnOk result (applies self.old entry.now replies.new self.new) };
 
-    /// Says nothing.
+    /// Replaces the replies by none.
     fn forget(replies: &mut Self::Replies)
         ensures { silent replies.new };
 }

@@ -1,4 +1,4 @@
-//! Places in memory.
+//! A log in memory.
 
 ghost use Rattle.std.specs.Prelude.{◌≡◌, ◌<◌, ◌≤◌, [], ◌∷◌, ◌++◌, length, Some, None, Ok, Err, true, false, OnOk, OnErr, IfSome, IfNone, slice_get};
 ghost use Rattle.replicated_log.specs.Places.{stands_in};
@@ -11,7 +11,7 @@ use crate::store_fault::StoreFault;
 use std::alloc::{AllocError, Global};
 use std::marker::Model;
 
-/// Places in memory, which are written in their order. Contracts see it as the log: its entries, in order.
+/// A log in memory, whose places are written in their order. Contracts see the list of its entries.
 #[derive(Drop)]
 pub struct MemoryStore {
     alloc: Global,
@@ -27,7 +27,7 @@ impl Model for MemoryStore {
 }
 
 impl MemoryStore {
-    /// A store in which nothing stands.
+    /// Makes an empty log.
     pub fn new(alloc: Global) -> MemoryStore
         ensures { result ≡ [] }
     {
@@ -37,14 +37,14 @@ impl MemoryStore {
         }
     }
 
-    /// How many places are written.
+    /// Returns the number of entries.
     pub fn len(&self) -> usize
         ensures { result ≡ length self.now }
     {
         self.entries.len()
     }
 
-    // Writes the first place that is empty.
+    // Writes an entry at the first place that is empty.
     fn append(&mut self, entry: &[u8]) -> Result<(), AllocError>
         ensures written { OnOk result (self.new ≡ self.old ++ entry.now ∷ []) }
         ensures unchanged_on_error { OnErr result (self.new ≡ self.old) }
@@ -56,7 +56,7 @@ impl MemoryStore {
         }
     }
 
-    /// What stands at a place.
+    /// Returns the entry at a place, or `None` if the place is empty.
     pub fn entry(&self, place: usize) -> Option<&[u8]>
         ensures some { IfSome result (λ e. slice_get self.now place ≡ Some e.now) }
         ensures none { IfNone result (length self.now ≤ place) }

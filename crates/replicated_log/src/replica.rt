@@ -17,25 +17,31 @@ use crate::store::{MOST_PLACES, Put, Store};
 use std::alloc::Global;
 use std::marker::Model;
 
-/// How many bytes a batch has at most.
+/// The most bytes of a batch.
 pub const MOST_BATCH: usize = 65_536;
 
-/// How many steps are taken for a batch, at most.
+/// The most steps for a batch.
 pub const MOST_STEPS: u64 = 1_000_000;
 
-/// What a step came to.
+/// What a step did.
 #[derive(Clone, Copy, Debug, Drop, PartialEq, Eq)]
 pub enum Step {
-    /// The batch stands in the log and was applied: it is answered.
+    /// The batch is in the log, the machine applied it, and its replies are returned.
     Answered,
-    /// Another entry stood there, and was applied.
+    /// Another entry was at the place, and the machine applied it.
     Passed,
-    /// Nothing was applied: the place was taken as the batch was offered, or nothing stood there as it was read.
+    /// The machine applied nothing. The place was taken when the replica offered the batch, or empty when it read.
     Nothing,
 }
 
-/// A machine to which the entries of a log were applied, each once, in their order. Contracts see the machine, how many entries were
-/// applied to it, and whether it is poisoned: it is once memory was refused while it applied an entry, and never answers then.
+/// A machine that applies the entries of a log, each once, in their order (state machine replication: Schneider 1990).
+///
+/// Contracts see four things of it:
+///
+/// - the machine;
+/// - the number of entries that it applied;
+/// - whether it is *poisoned*: an allocation failed while it applied an entry, and it never answers again;
+/// - whether it is *behind*: it must read the next place before it writes there.
 #[derive(Drop)]
 pub struct Replica<M: Machine> {
     alloc: Global,
@@ -55,7 +61,7 @@ impl<M: Machine> Model for Replica<M> {
 }
 
 impl<M: Machine> Replica<M> {
-    /// A replica of a machine, to which no entry of the log was applied.
+    /// Makes a replica of a machine that has applied no entry of the log.
     pub fn new(alloc: Global, machine: M) -> Replica<M>
         ensures { result ≡ record { machine = machine; place = 0; poisoned = false; behind = false } }
     {
@@ -69,28 +75,28 @@ impl<M: Machine> Replica<M> {
         }
     }
 
-    /// How many entries were applied.
+    /// Returns the number of entries that it applied, which is its next place in the log.
     pub fn place(&self) -> u64
         ensures { result ≡ self.now.place }
     {
         self.place
     }
 
-    /// Whether memory was refused while it applied an entry.
+    /// Returns true if and only if an allocation failed while it applied an entry.
     pub fn is_poisoned(&self) -> bool
         ensures { result ≡ self.now.poisoned }
     {
         self.poisoned
     }
 
-    /// The machine.
+    /// Returns the machine.
     pub fn machine(&self) -> &M
         ensures { result.now ≡ self.now.machine }
     {
         &self.machine
     }
 
-    // Reads what stands at the next place, and applies it.
+    // Reads the entry at the next place, and applies it.
     fn follow<S: Store>(
         &mut self,
         store: &mut S,
@@ -128,7 +134,7 @@ impl<M: Machine> Replica<M> {
         }
     }
 
-    // Offers a batch for the next place, and applies it where it stands there by this.
+    // Offers a batch for the next place, and applies it if this call wrote it there.
     fn offer<S: Store>(
         &mut self,
         store: &mut S,
@@ -161,7 +167,7 @@ impl<M: Machine> Replica<M> {
         Ok(Step::Answered)
     }
 
-    // Applies what stands at the next place, and tells whether anything does.
+    // Applies the entry at the next place. Returns false if the place is empty or past the end of the log.
     fn pass<S: Store>(&mut self, store: &mut S, replies: &mut M::Replies) -> Result<bool, Cause>
         requires well { self.old.poisoned ≡ false }
         ensures passed { result ≡ Ok true → OneMore M.applies (S.stands store.new) self.old self.new }
@@ -177,7 +183,7 @@ impl<M: Machine> Replica<M> {
         Ok(self.follow(store, &[], replies)? != Step::Nothing)
     }
 
-    // One step for a batch, as `step`, with whatever replies.
+    // Makes one step for a batch as `step` does, and leaves any replies.
     fn advance<S: Store>(
         &mut self,
         store: &mut S,
@@ -210,9 +216,19 @@ impl<M: Machine> Replica<M> {
         }
     }
 
-    /// One step for a batch, which asks the store once. A replica that is behind reads what stands at its next place and applies it;
-    /// one that is not offers the batch for that place. Answered with its replies where the batch stands there, and with none
-    /// otherwise. One that is poisoned does nothing.
+    /// Makes one step for a batch, which asks the store once. The replies are none unless the result is `Answered`.
+    ///
+    /// A replica that is behind reads the entry at its next place and applies it. Otherwise it offers the batch for
+    /// that place.
+    ///
+    /// # Errors
+    ///
+    /// The first that applies is returned:
+    ///
+    /// - `Poisoned`: the replica was poisoned before. Nothing has changed.
+    /// - `Full`: all 10^16 places of the log are used. Nothing has changed.
+    /// - `Store`: the store failed. The replica is now behind.
+    /// - `Memory`: an allocation failed while it applied an entry. The replica is now poisoned.
     pub fn step<S: Store>(
         &mut self,
         store: &mut S,
@@ -242,8 +258,19 @@ impl<M: Machine> Replica<M> {
         result
     }
 
-    /// Serves a batch: it comes to stand in the log, once by this call, and the replies are those due to it at its place, behind
-    /// all that stands before it. At a fault nothing is answered.
+    /// Serves a batch: puts it into the log, applies all entries before it and then the batch, and returns its replies.
+    ///
+    /// This call writes the batch at most once, also if it fails. After an error the replies are none.
+    ///
+    /// # Errors
+    ///
+    /// The first that applies is returned:
+    ///
+    /// - `TooLong`: the batch has more than 65,536 bytes. Nothing has changed.
+    /// - `Unknown(Poisoned)`: the replica was poisoned before. Nothing has changed.
+    /// - `Unknown` with a cause of `step`, at the step that failed. The batch may be in the log, or get there later.
+    /// - `Unknown(Busy)`: 1,000,000 steps were made. The replica applied at least 333,333 entries of others, or the
+    ///   store contradicts itself.
     pub fn serve<S: Store>(
         &mut self,
         store: &mut S,
@@ -282,7 +309,7 @@ impl<M: Machine> Replica<M> {
         Err(ServeFault::Unknown(Cause::Busy))
     }
 
-    // Applies what stands in the log, as `catch_up`, with whatever replies.
+    // Applies entries of the log as `catch_up` does, and leaves any replies.
     fn pass_all<S: Store>(
         &mut self,
         store: &mut S,
@@ -312,8 +339,17 @@ impl<M: Machine> Replica<M> {
         Ok(most)
     }
 
-    /// Applies what stands in the log behind what was applied, up to so many entries; tells how many they were. The replies to them are
-    /// reported to nobody.
+    /// Applies the next entries of the log, at most `most`, and returns how many they were. It drops their replies.
+    ///
+    /// It applies fewer than `most` only if the store reports the next place as empty, or at the end of the log.
+    ///
+    /// # Errors
+    ///
+    /// The first that applies is returned. Entries that were applied before it stay applied.
+    ///
+    /// - `Poisoned`: the replica was poisoned before. Nothing of it has changed.
+    /// - `Store`: the store failed.
+    /// - `Memory`: an allocation failed while it applied an entry. The replica is now poisoned.
     pub fn catch_up<S: Store>(
         &mut self,
         store: &mut S,

@@ -1,21 +1,22 @@
-//! Why a batch was not answered.
+//! Why a replica does not answer a batch.
 
 use crate::store_fault::StoreFault;
 use std::error::Error;
 use std::fmt;
 
-/// What kept a replica from its next step. What it applied stays applied, and it can go on, but where memory was refused.
+/// What kept a replica from its next step. The entries that it applied stay applied. It can go on unless it is
+/// poisoned.
 #[derive(Clone, Copy, Debug, Drop, PartialEq, Eq)]
 pub enum Cause {
-    /// The store's fault.
+    /// The store failed with this fault.
     Store(StoreFault),
-    /// A growth was refused while an entry of the log was applied: the replica is poisoned by this.
+    /// An allocation failed while the replica applied an entry. This poisons the replica.
     Memory,
-    /// The replica was poisoned before: nothing is known of its machine, and it never goes on.
+    /// The replica was poisoned before. Nothing is known of its machine, and it never goes on.
     Poisoned,
     /// The log has no place left.
     Full,
-    /// Others came first for `MOST_STEPS` steps.
+    /// The replica made `MOST_STEPS` steps, and other replicas wrote first each time.
     Busy,
 }
 
@@ -33,13 +34,15 @@ impl fmt::Display for Cause {
 
 impl Error for Cause {}
 
-/// Why a batch was not answered.
+/// Why a replica does not answer a batch.
 #[derive(Clone, Copy, Debug, Drop, PartialEq, Eq)]
 pub enum ServeFault {
-    /// It is longer than `MOST_BATCH` bytes: it was not offered.
+    /// The batch has more than `MOST_BATCH` bytes. It was not offered to the store.
     TooLong,
-    /// Its fate is not known: it may stand in the log or not, or come to stand there later. The same replica can be asked to serve
-    /// it again, and then it comes to stand there once; a replica that is poisoned never serves it.
+    /// The fate of the batch is not known: it may be in the log, or get there later.
+    ///
+    /// A caller may ask the same replica to serve it again, and it is then in the log once. A poisoned replica never
+    /// serves it.
     Unknown(Cause),
 }
 

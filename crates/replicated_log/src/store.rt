@@ -1,4 +1,4 @@
-//! Places that are written once.
+//! Stores: logs whose places are written once.
 
 ghost use Rattle.std.specs.Prelude.{◌≡◌, ◌<◌, ℕ, List, true, false, Ok, Err, IfErr};
 ghost use Rattle.replicated_log.specs.Places.{Adds, IsTaken, Same};
@@ -7,35 +7,41 @@ ghost use Rattle.replicated_log.specs.declared.store_fault.StoreFault.TheVariant
 
 use crate::store_fault::StoreFault;
 
-/// How many places a store has.
+/// The number of places of a store: 10^16.
 pub const MOST_PLACES: u64 = 10_000_000_000_000_000;
 
-/// What became of an entry that was to be put.
+/// What a put did.
 #[derive(Clone, Copy, Debug, Drop, PartialEq, Eq)]
 pub enum Put {
-    /// It stands at the place, by this call.
+    /// This call wrote the entry at the place.
     Written,
-    /// Something stood there: another entry, or this one by an earlier call whose answer was lost.
+    /// The place had an entry: another one, or this one from an earlier call whose answer was lost.
     Taken,
 }
 
-/// Places, counted from 0, each of which is written at most once, by whoever comes first. A store that is reached over a network
-/// can say nothing of what stands there: its `stands` and its `lacks` say nothing.
+/// Places from 0 on, each of which is written at most once, by the first caller.
+///
+/// No contract can say what a store over a network holds. The relations `stands` and `lacks` of such a store say
+/// nothing.
 pub trait Store {
     ghost use Rattle.replicated_log.specs.declared.store_fault.StoreFault.{StoreFault};
     ghost use Rattle.std.specs.Prelude.{ℕ, List};
 
-    /// An entry stands at a place, as far as this store can tell.
+    /// An entry is at a place, as far as this store can tell.
     ghost stands: { Self → ℕ → List ℕ → Type 0 };
 
-    /// Nothing stands at a place, as far as this store can tell.
+    /// A place is empty, as far as this store can tell.
     ghost lacks: { Self → ℕ → Type 0 };
 
-    /// The faults that it may tell.
+    /// The faults that it may return.
     ghost fails: { StoreFault → Type 0 };
 
-    /// Writes an entry at a place below `MOST_PLACES`, if nothing stands there. At a fault it may stand there, or come to stand there
-    /// later. `Gap` only where nothing stands at a place before this one.
+    /// Writes an entry at a place below `MOST_PLACES`, if the place is empty.
+    ///
+    /// # Errors
+    ///
+    /// After any fault the entry may be at the place, or get there later. The fault is one of `fails`. `Gap` is
+    /// returned only if a place before this one is empty.
     fn put(&mut self, place: u64, entry: &[u8]) -> Result<Put, StoreFault>
         ensures written { result ≡ Ok Written → stands self.new place entry.now }
         ensures taken { result ≡ Ok Taken → Same (stands self.old) (stands self.new) }
@@ -44,7 +50,11 @@ pub trait Store {
         ensures gap { result ≡ Err Gap → (below : ℕ) × (below < place) × lacks self.new below }
         ensures fault { IfErr result fails };
 
-    /// Puts what stands at a place over a list; false where nothing does.
+    /// Stores the entry at a place in `entry`, in place of what it held. Returns false if the place is empty.
+    ///
+    /// # Errors
+    ///
+    /// A fault of `fails`. The log stays as it was.
     fn get(&mut self, place: u64, entry: &mut Vec<u8>) -> Result<bool, StoreFault>
         ensures found { result ≡ Ok true → stands self.new place entry.new.items }
         ensures missed { result ≡ Ok false → lacks self.new place }

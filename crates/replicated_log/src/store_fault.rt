@@ -1,25 +1,25 @@
-//! Why a store did not answer.
+//! Why a store does not answer.
 
 use std::error::Error;
 use std::fmt;
 
-/// Why a store did not answer. Of a put nothing is known then: its entry may stand at its place or not, or come to stand there
-/// later.
+/// Why a store does not answer. After a put that fails its entry may be at its place, or get there later.
 #[derive(Clone, Copy, Debug, Drop, PartialEq, Eq)]
 pub enum StoreFault {
-    /// A growth was refused.
+    /// An allocation failed.
     Memory,
     /// No answer came, or none in time.
     Lost,
-    /// An answer was none that a store gives.
+    /// The answer was not one that a store gives.
     Wrong,
     /// The store takes no entry of this length.
     TooLong,
-    /// Nothing stands at some place before this one.
+    /// A place before this one is empty.
     Gap,
     /// The store has no room for more: its quota is used up.
     NoSpace,
-    /// What was written or read at the place before this one does not stand there: the store was put back to an older state.
+    /// The place before this one does not hold what was written or read there. The store was put back to an older
+    /// state.
     WentBack,
 }
 

@@ -1,10 +1,10 @@
--- the law of the slots, over calls and their replies alone
+-- the specification of the slots, over calls and their replies alone
 use Rattle.std.specs.Prelude.{◌≡◌, ℕ, List, length}
 use Rattle.bit_allocator.specs.Law.{PoolSpec}
 use Rattle.slot_array.specs.SlotCalls.{SlotCall, pool_calls}
 use Rattle.slot_array.specs.SlotsObject.{SlotsObject, IsSlotsRun}
 
--- the replies are those of the pool and slots as one object, in order; the pool's part of them keeps the pool's law; and
+-- The replies are those of the pool and slots as one object, in order. Those of the pool satisfy its specification, and
 -- there is a slot for each number
 pub record SlotsSpec {T : Type 0} (size : ℕ) (values : List T) (r : List (SlotCall T)) : Type 0 where
   pub object : SlotsObject T

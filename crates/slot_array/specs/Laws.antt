@@ -1,4 +1,4 @@
--- what the laws of this crate say, each under a name
+-- the statements of this crate's laws, each under a name
 use Rattle.std.specs.Prelude.{◌≡◌, ℕ, Ok, Some}
 use Rattle.step_memory.specs.Machine.{OnEveryHistory}
 use Rattle.bit_allocator.specs.Pool.{number_answer}

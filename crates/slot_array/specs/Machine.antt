@@ -35,7 +35,7 @@ IsSlotReply s (Stored id value reply) = reply ≡ stored_reply (number_answer s.
 IsSlotReply s (Fetched id reply) = IsFetched s.values (number_answer s.pool id) reply
 IsSlotReply s (Extended more value reply) = IsReply s.pool (Widened more reply)
 
--- slots over a new pool of so many numbers, from 1 to 64, with as many values, and what they keep
+-- slots over a new pool of from 1 to 64 numbers, with as many values, and what they keep
 abbrev pub slots : {T : Type 0} → Machine (ℕ × List T) (SlotsState T) (SlotCall T)
 slots = record {
   MayStart = λ first. (1 ≤ first.0) × (first.0 ≤ 64) × (length first.1 ≡ first.0);

@@ -4,8 +4,8 @@ use Rattle.step_memory.specs.declared.refusal.Refusal.{Refusal}
 use Rattle.bit_allocator.specs.Calls.{Call}
 use Rattle.bit_allocator.specs.Calls.Call.{Widened}
 
--- a call of the pool alone; a value put by an identity; the value that an identity got; and a widening of the pool, with
--- the value that each new slot is to hold
+-- a call of the pool alone; a value that an identity put or got; or a widening of the pool, with the value of each new
+-- slot
 pub data SlotCall (T : Type 0) : Type 0 where
   Pooled : Call → SlotCall T
   Stored : ℕ → T → Result (Unit {0}) Refusal → SlotCall T

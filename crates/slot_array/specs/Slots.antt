@@ -9,17 +9,17 @@ use Rattle.slot_array.specs.SlotsState.{SlotsState}
 abbrev pub slot : {T : Type 0} → ℕ → List T → Option T
 slot number values = slice_get values (number - 1)
 
--- what `put` answers to one who holds this number, or holds none for this reason
+-- the reply of `put` to an identity that holds this number, or holds none for this reason
 abbrev pub stored_reply : Result ℕ Refusal → Result (Unit {0}) Refusal
 stored_reply (Ok number) = Ok tt
 stored_reply (Err refusal) = Err refusal
 
--- the values after `put` by one who holds this number, or none
+-- the values after `put` by an identity that holds this number, or none
 abbrev pub stored_in : {T : Type 0} → Result ℕ Refusal → T → List T → List T
 stored_in (Ok number) value values = slice_set values (number - 1) value
 stored_in (Err refusal) value values = values
 
--- what `get` answers to one who holds this number, or holds none for this reason
+-- the reply of `get` to an identity that holds this number, or holds none for this reason
 abbrev pub IsFetched : {T : Type 0} → List T → Result ℕ Refusal → Result T Refusal → Type 0
 IsFetched values (Ok number) reply = IsOkAnd reply (λ value. slot number values ≡ Some value)
 IsFetched values (Err refusal) reply = reply ≡ Err refusal
@@ -34,7 +34,7 @@ pub record ChangesOwnSlot {T : Type 0} (id : ℕ) (value : T) (old new : SlotsSt
   pub others : (number : ℕ) → 1 ≤ number → number_answer old.pool id ≢ Ok number → slot number new.values ≡ slot number old.values
   pub pool : new.pool ≡ old.pool
 
--- the values after `widen` that is answered so: each new slot holds this value
+-- the values after a `widen` with this reply: each new slot holds this value
 abbrev pub extended_in : {T : Type 0} → Result (Unit {0}) Refusal → ℕ → T → List T → List T
 extended_in (Ok done) more value values = values ++ replicate (more - length values) value
 extended_in (Err refusal) more value values = values
@@ -43,7 +43,7 @@ extended_in (Err refusal) more value values = values
 abbrev pub after_extend : {T : Type 0} → SlotsState T → ℕ → T → SlotsState T
 after_extend s more value = record { pool = after_widen s.pool more; values = extended_in (widen_answer s.pool more) more value s.values }
 
--- `widen` to so many numbers fills the new slots with this value, and leaves the others as they are
+-- `widen` to this many numbers fills the new slots with this value, and leaves the others as they are
 pub record FillsNewSlots {T : Type 0} (more : ℕ) (value : T) (old new : SlotsState T) : Type 0 where
   pub kept : (number : ℕ) → 1 ≤ number → number ≤ old.pool.size → slot number new.values ≡ slot number old.values
   pub filled : (number : ℕ) → old.pool.size < number → number ≤ more → slot number new.values ≡ Some value

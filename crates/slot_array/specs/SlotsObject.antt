@@ -8,7 +8,7 @@ use Rattle.slot_array.specs.SlotCalls.{SlotCall}
 use Rattle.slot_array.specs.SlotCalls.SlotCall.{Pooled, Stored, Fetched, Extended}
 use Rattle.slot_array.specs.Slots.{stored_reply, stored_in, IsFetched, extended_in}
 
--- the pool, and the values: that of number n stands at place n - 1
+-- the pool, and the values: that of number n is at place n - 1
 pub record SlotsObject (T : Type 0) : Type 0 where
   pub pool : PoolObject
   pub values : List T

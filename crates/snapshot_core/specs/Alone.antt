@@ -10,11 +10,11 @@ use Rattle.snapshot_core.specs.SnapWorld.{SnapState, snap_answer, after_snap_ste
 use Rattle.snapshot_core.specs.Standing.{is_quiet}
 
 module _ {S R V U K : Type 0} (t : KnownPlaces S R V U K) where
-  -- p's next step ends what it does: the answer is not quiet
+  -- the next step of p ends what it does: its reply is not quiet
   abbrev pub IsLastStep : SnapState S U K → ℕ → Type 0
   IsLastStep w p = (reply : SnapReply) × (snap_answer t w p ≡ Ok reply) × (is_quiet reply ≡ false)
 
-  -- one of its next so many steps does, if p alone steps
+  -- p ends what it does within its next n steps, if no other participant steps
   abbrev pub EndsAlone : SnapState S U K → ℕ → ℕ → Type 0
   EndsAlone w p zero = ⊥
   EndsAlone w p (suc n) = IsLastStep w p ⊎ EndsAlone (after_snap_step t w p) p n
@@ -36,7 +36,7 @@ module _ {S R V U K : Type 0} (t : KnownPlaces S R V U K) where
   abbrev pub EndsSoonAlone : SnapState S U K → ℕ → Type 0
   EndsSoonAlone w p = OnEveryHistoryFromNew t (λ first r. (bounds : SnapBounds) (law : SnapshotSpec bounds r) → EndsSoon w law.0 p) w
 
-  -- what others do meanwhile changes nothing of this, where they write nothing
+  -- steps of others that write nothing do not change how soon p ends
   abbrev pub EndsAlike : SnapState S U K → SnapState S U K → ℕ → Type 0
   EndsAlike w other p = other.memory ≡ w.memory → participant_of p other.participants ≡ participant_of p w.participants →
       (n : ℕ) → EndsAlone w p n → EndsAlone other p n

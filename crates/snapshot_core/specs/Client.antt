@@ -48,13 +48,13 @@ record_of c value view = record { identity = c.identity; value = value; number =
 abbrev pub with_pending : {U K : Type 0} → Client U K → Pending → Client U K
 with_pending c pending = record c { pending = pending }
 
--- whether a way has come to its place, by what it says
+-- whether a way has reached its place, by its note
 abbrev pub is_placed : Note ℕ → Bool
 is_placed Quiet = false
 is_placed (Said place) = false
 is_placed (Ended place) = true
 
--- what is then said of the step
+-- the note of a step on the way to a place, from the note of the way
 abbrev pub placed_note : Note ℕ → Note SnapReply
 placed_note Quiet = Quiet
 placed_note (Said place) = Quiet

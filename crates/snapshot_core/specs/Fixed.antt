@@ -19,7 +19,7 @@ after_access segments a = segments
 abbrev pub fixed_steps : MemorySteps (List (Option Record)) ℕ (Option Record)
 fixed_steps = record { register = register_of; after = after_access; may_refuse = λ m a. false }
 
--- who has its place needs no access
+-- a participant that has its place makes no access
 abbrev pub walker_steps : ProgramSteps FixedWalker ℕ (Option Record) ℕ
 walker_steps = record { next = λ w. Nothing; resumed = λ w got. w; note = λ w got. Quiet }
 
@@ -41,7 +41,7 @@ fixed_walks = record {
 abbrev pub fixed_place : FixedWalker → Option ℕ
 fixed_place w = Some w.place
 
--- whoever begins after so many others has the place of that number
+-- a participant has as its place the number of those that began before it
 abbrev pub fixed_walker : ℕ → ℕ → FixedWalker
 fixed_walker begun id = record { place = begun }
 

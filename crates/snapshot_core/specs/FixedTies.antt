@@ -12,7 +12,7 @@ pub record IsEmptyRow (segments : List (Option Record)) : Type 0 where
   pub few : length segments ≤ 16
   pub empty : (x : ℕ) → slice_index_or segments x None ≡ None
 
--- so many have begun, no more than there are segments. Their places are the first ones, each of another
+-- this many have begun, no more than there are segments. Their places are the first ones, and no two have one
 pub record IsRowFor (segments : List (Option Record)) (b : ℕ) (ways : ℕ → Option FixedWalker) : Type 0 where
   pub few : length segments ≤ 16
   pub room : b ≤ length segments
@@ -25,7 +25,7 @@ pub record IsWalkAt (segments : List (Option Record)) (k : FixedWalk) (j : ℕ) 
   pub at : k.at ≡ j
   pub inside : j < length segments
 
--- who has begun has its place, and a walk reads each segment once
+-- each participant that has begun has its place, and a walk reads each segment once
 abbrev pub fixed_ties : PlaceTies (List (Option Record)) FixedWalker FixedWalk
 fixed_ties = record {
   IsNew = IsEmptyRow;
@@ -42,10 +42,10 @@ fixed_ties = record {
 abbrev pub fixed_places : KnownPlaces (List (Option Record)) ℕ (Option Record) FixedWalker FixedWalk
 fixed_places = places_by walker_steps fixed_place fixed_walks fixed_steps length fixed_walker fixed_walk fixed_ties
 
--- so many empty segments in a row
+-- a row of empty segments
 abbrev pub fresh_row : ℕ → List (Option Record)
 fresh_row most = replicate most None
 
--- over m of them nobody takes a step to its place, and a scan makes at most m(m + 1) reads
+-- over m segments no participant makes a step to its place, and a scan makes at most m(m + 1) reads
 abbrev pub fixed_bounds : ℕ → SnapBounds
 fixed_bounds m = record { most = m; placing = λ b. 0; scanning = λ b. m * (m + 1); collecting = m }

@@ -1,4 +1,4 @@
--- what places promise: of the ways to them, and of walks over their segments
+-- what places promise of the ways to them, and of walks over their segments
 use Rattle.std.specs.Prelude.{◌≡◌, ◌≢◌, ◌↔◌, ◌⊎◌, ℕ, ◌+◌, ◌*◌, ◌<◌, ◌≤◌, false, Option, Some, None}
 use Rattle.step_memory.specs.SetAt.{set_at}
 use Rattle.step_memory.specs.declared.access.Access.TheVariants.{Read, Write, Nothing}
@@ -9,7 +9,7 @@ use Rattle.step_memory.specs.Steps.{ProgramSteps, MemorySteps, ReadsOrWrites, an
 use Rattle.step_memory.specs.declared.record.Record.{Record}
 use Rattle.snapshot_core.specs.Walks.{WalkSteps}
 
--- what a way says of its next step on a memory, and where it then stands
+-- the note of the next step of a way on a memory, and the way after that step
 module _ {S R V U : Type 0} (way : ProgramSteps U R V ℕ) (memory : MemorySteps S R V) where
   abbrev pub way_note : U → S → Note ℕ
   way_note u s = way.note u (answer_got way memory u s)
@@ -17,15 +17,16 @@ module _ {S R V U : Type 0} (way : ProgramSteps U R V ℕ) (memory : MemorySteps
   abbrev pub way_after : U → S → U
   way_after u s = way.resumed u (answer_got way memory u s)
 
--- what ties a memory of type S to the ways U of those who have begun, and to walks K over its segments
+-- the relations of a memory of type S to the ways U of the participants that have begun, and to walks K over its
+-- segments
 pub record PlaceTies (S U K : Type 0) : Type 1 where
   -- a memory in which nothing was written
   pub IsNew : S → Type 0
-  -- so many have begun, each on its way, and the memory agrees with them
+  -- this many participants have begun, each on its way, and the memory agrees with them
   pub IsConsistent : S → ℕ → (ℕ → Option U) → Type 0
-  -- the most accesses of a way to a place, where so many have begun
+  -- the most accesses of a way to a place, if this many have begun
   pub placing : ℕ → ℕ
-  -- the most reads of a walk over a memory for so many participants, of whom so many have begun
+  -- the most reads of a walk, by the most participants and by how many of them have begun
   pub reads : ℕ → ℕ → ℕ
   -- a count of the accesses of a way, which may run ahead of them
   pub accesses_of : U → ℕ
@@ -33,10 +34,10 @@ pub record PlaceTies (S U K : Type 0) : Type 1 where
   pub IsUpcoming : K → ℕ → Type 0
   -- over this memory a walk will read it
   pub IsAhead : S → K → ℕ → Type 0
-  -- over this memory a walk has made so many reads and goes on
+  -- over this memory a walk has made this many reads, and is not over
   pub HasRead : S → K → ℕ → Type 0
 
--- places: what gives them does, step by step, in one record
+-- places: the ways, the walks and the memory of one implementor, step by step, in one record
 pub record KnownPlaces (S R V U K : Type 0) : Type 1 where
   -- a way to a place, and the place that it has reached
   pub walker : ProgramSteps U R V ℕ
@@ -46,9 +47,9 @@ pub record KnownPlaces (S R V U K : Type 0) : Type 1 where
   pub memory : MemorySteps S R V
   -- the most participants
   pub most_of : S → ℕ
-  -- the way of one who begins after so many others under this identity
+  -- the way of an identity that begins after this many others
   pub walker_from : ℕ → ℕ → U
-  -- a walk from its beginning
+  -- a walk that has read nothing
   pub walk_from : S → K
   pub ties : PlaceTies S U K
 
@@ -57,11 +58,11 @@ abbrev pub places_by : {S R V U K : Type 0} → ProgramSteps U R V ℕ → (U �
 places_by walker place_of walks memory most_of walker_from walk_from ties = record { walker = walker; place_of = place_of; walks = walks; memory = memory; most_of = most_of; walker_from = walker_from; walk_from = walk_from; ties = ties }
 
 module _ {S R V U K : Type 0} (t : KnownPlaces S R V U K) where
-  -- what stands in the segment at a place
+  -- the segment at a place
   abbrev pub segment_in : S → ℕ → Option Record
   segment_in s x = t.walks.content (t.memory.register s (t.walks.segment x)).0
 
-  -- what a walk reads next
+  -- the value that a walk reads next
   abbrev pub value_for : S → K → V
   value_for s k = (t.memory.register s (t.walks.next k)).0
 
@@ -73,8 +74,8 @@ module _ {S R V U K : Type 0} (t : KnownPlaces S R V U K) where
     pub read : (k : K) (j : ℕ) → t.ties.HasRead s k j → t.ties.HasRead new k j
 
 module _ {S R V U K : Type 0} (t : KnownPlaces S R V U K) where
-  -- one who had no place has made its next access, and this is the memory after it: no segment has changed. The way is
-  -- ended where it has reached a place
+  -- a participant without a place has made its next access, and this is the memory after it. No segment has changed,
+  -- and the way has ended if it has reached a place
   pub record HasGoneOn (s new : S) (b : ℕ) (ways : ℕ → Option U) (p : ℕ) (u : U) (got : Answer V) : Type 0 where
     pub consistent : t.ties.IsConsistent new b (set_at ways p (Some (t.walker.resumed u got)))
     pub segments : (x : ℕ) → segment_in t new x ≡ segment_in t s x
@@ -82,15 +83,15 @@ module _ {S R V U K : Type 0} (t : KnownPlaces S R V U K) where
     pub ended : (x : ℕ) → (t.walker.note u got ≡ Ended x) ↔ (t.place_of (t.walker.resumed u got) ≡ Some x)
     pub kept : KeepsWalks t s new
 
-  -- the segment at this place was written: no other has changed
+  -- the segment at this place was written, and no other segment has changed
   pub record HasWritten (s new : S) (b : ℕ) (ways : ℕ → Option U) (x : ℕ) (r : Record) : Type 0 where
     pub consistent : t.ties.IsConsistent new b ways
     pub own : segment_in t new x ≡ Some r
     pub others : (y : ℕ) → y ≢ x → segment_in t new y ≡ segment_in t s y
     pub kept : KeepsWalks t s new
 
-  -- the next read of a walk. Where it stands at a place it reads the segment there, and will not read it again. What is
-  -- ahead stays ahead, and a walk is not over while anything is
+  -- the next read of a walk. A walk at a place reads the segment there, and not again. A segment that is ahead of it
+  -- stays ahead until it is read, and a walk is not over while any is ahead
   pub record ReadsOn (s : S) (k : K) : Type 0 where
     pub here : (x : ℕ) → t.walks.place k ≡ Some x → (t.walks.next k ≡ t.walks.segment x) × t.ties.IsUpcoming k x
     pub once : (x : ℕ) → t.walks.place k ≡ Some x → t.ties.IsUpcoming (t.walks.resumed k (value_for t s k)) x → ⊥
@@ -107,10 +108,10 @@ module _ {S R V U K : Type 0} (t : KnownPlaces S R V U K) where
     pub empty : (s : S) → t.ties.IsNew s → (x : ℕ) → segment_in t s x ≡ None
     pub begun : (s : S) (b : ℕ) (ways : ℕ → Option U) (p : ℕ) → t.ties.IsConsistent s b ways → p ≢ 0 → ways p ≡ None → b < t.most_of s →
         t.ties.IsConsistent s (b + 1) (set_at ways p (Some (t.walker_from b p)))
-    -- no two have one place
+    -- no two participants have one place
     pub distinct : (s : S) (b : ℕ) (ways : ℕ → Option U) → t.ties.IsConsistent s b ways →
         (p q x : ℕ) (u v : U) → ways p ≡ Some u → ways q ≡ Some v → t.place_of u ≡ Some x → t.place_of v ≡ Some x → p ≡ q
-    -- who has no place has accesses left
+    -- a participant without a place has accesses left
     pub unplaced : (s : S) (b : ℕ) (ways : ℕ → Option U) → t.ties.IsConsistent s b ways →
         (p : ℕ) (u : U) → ways p ≡ Some u → t.place_of u ≡ None → t.ties.accesses_of u + 1 ≤ t.ties.placing b
     pub gone_on : (s : S) (b : ℕ) (ways : ℕ → Option U) → t.ties.IsConsistent s b ways →
@@ -121,7 +122,7 @@ module _ {S R V U K : Type 0} (t : KnownPlaces S R V U K) where
         HasWritten t s (t.memory.after s (Write (t.walks.segment x) (t.walks.stored (Some r)))) b ways x r
     -- a read changes nothing
     pub looked : (s : S) (r : R) → t.memory.after s (Read r) ≡ s
-    -- from its beginning a walk has made no read, and the segment of each who has a place is ahead
+    -- a walk starts with no read, and with the segment of each participant with a place ahead
     pub starts : (s : S) (b : ℕ) (ways : ℕ → Option U) → t.ties.IsConsistent s b ways →
         (p : ℕ) (u : U) → ways p ≡ Some u →
         t.ties.HasRead s (t.walk_from s) 0 × ((x : ℕ) → t.place_of u ≡ Some x → t.ties.IsAhead s (t.walk_from s) x)
@@ -129,23 +130,23 @@ module _ {S R V U K : Type 0} (t : KnownPlaces S R V U K) where
         (k : K) (j : ℕ) → t.ties.HasRead s k j → (j + 1 ≤ t.ties.reads (t.most_of s) b) × ReadsOn t s k
     pub rising : (most b : ℕ) → t.ties.reads most b ≤ t.ties.reads most (b + 1)
     pub farther : (b : ℕ) → t.ties.placing b ≤ t.ties.placing (b + 1)
-    -- who begins has no place yet, or nobody takes a step to its place
+    -- a participant begins without a place, or no participant makes a step to its place
     pub waits : (b p : ℕ) → (t.place_of (t.walker_from b p) ≡ None) ⊎ ((c : ℕ) → t.ties.placing c ≡ 0)
     -- an access on the way to a place is a read, a write or none
     pub plain : (u : U) → ReadsOrWrites (t.walker.next u)
-    -- and only such an access may want memory: no read does, nor the write of a segment, nor an access that is none
+    -- no other access may need memory: not a read, nor the write of a segment, nor an access that is none
     pub sure_nothing : (s : S) → t.memory.may_refuse s Nothing ≡ false
     pub sure_reads : (s : S) (r : R) → t.memory.may_refuse s (Read r) ≡ false
     pub sure_writes : (s : S) (x : ℕ) (segment : Option Record) → t.memory.may_refuse s (Write (t.walks.segment x) (t.walks.stored segment)) ≡ false
 
--- places that do not go by the order of beginning: a way is a function of the identity alone, and a walk's beginning one of
--- the size
+-- places that do not depend on the order of beginning: a way is a function of the identity alone, and a fresh walk one
+-- of the size
 pub record BeginsAlike {S R V U K : Type 0} (t : KnownPlaces S R V U K) : Type 0 where
   pub way : (b c p : ℕ) → t.walker_from b p ≡ t.walker_from c p
   pub walk : (s other : S) (b c : ℕ) (ways others : ℕ → Option U) → t.ties.IsConsistent s b ways → t.ties.IsConsistent other c others →
       t.most_of s ≡ t.most_of other → t.walk_from s ≡ t.walk_from other
 
--- at most this many steps of a scan, where b have begun and b is not 0: as many collects as there may be, each of as many
--- reads as a walk may make
+-- scanning b bounds the steps of a scan, for each b from 1 to the most participants. It leaves room for b + 1 collects,
+-- each of as many reads as a walk may make
 abbrev pub BoundsScans : {S R V U K : Type 0} → KnownPlaces S R V U K → ℕ → (ℕ → ℕ) → Type 0
 BoundsScans t most scanning = (b : ℕ) → 1 ≤ b → b ≤ most → (b + 1) * t.ties.reads most b ≤ scanning b

@@ -26,7 +26,7 @@ abbrev pub index_of : ℕ → List Sighting → Option ℕ
 index_of place [] = None
 index_of place (s ∷ ss) = if s.place == place then Some 0 else option_map (λ k. k + 1) (index_of place ss)
 
--- no place stands twice
+-- no place occurs twice
 abbrev pub AreDistinct : List Sighting → Type 0
 AreDistinct [] = Unit {0}
 AreDistinct (s ∷ ss) = (is_some (index_of s.place ss) ≡ false) × AreDistinct ss

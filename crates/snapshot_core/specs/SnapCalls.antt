@@ -20,14 +20,14 @@ abbrev pub fresh_over : {S R V U K : Type 0} → KnownPlaces S R V U K → S →
 fresh_over t first = record { memory = first; most = t.most_of first; participants = [] }
 
 module _ {S R V U K : Type 0} (t : KnownPlaces S R V U K) where
-  -- the object after a call. A step for which a growth was refused is still to come
+  -- the object after a call. A step that fails with `NoMemory` changes nothing
   abbrev pub next : SnapState S U K → SnapCall → SnapState S U K
   next w (Began id reply) = after_snap_begin t w id
   next w (Updated id value reply) = after_update w id value
   next w (Scanned id reply) = after_scan w id
   next w (Stepped id reply) = if lacked_memory reply then w else after_snap_step t w id
 
-  -- the reply is the one that the call gets, or the refusal of a growth where there may be one
+  -- the reply is the due one, or `NoMemory` at a step that may lack memory
   abbrev pub IsReply : SnapState S U K → SnapCall → Type 0
   IsReply w (Began id reply) = reply ≡ done_unless (begin_refusal w id)
   IsReply w (Updated id value reply) = reply ≡ done_unless (update_refusal w id)

@@ -34,11 +34,11 @@ abbrev pub way_now : {U K : Type 0} → Option (Participant (Client U K)) → Op
 way_now None = None
 way_now (Some v) = Some v.program.walker
 
--- the ways of those who have begun
+-- the ways of the participants that have begun
 abbrev pub ways_of : {U K : Type 0} → List (Participant (Client U K)) → ℕ → Option U
 ways_of ps p = way_now (participant_of p ps)
 
--- one who begins after so many others, on this memory
+-- the participant that begins on this object with this identity
 abbrev pub beginner_at : {S R V U K : Type 0} → KnownPlaces S R V U K → SnapState S U K → ℕ → Client U K
 beginner_at t w id = client_at t.place_of id (t.walker_from (length w.participants) id) (t.walk_from w.memory)
 
@@ -76,13 +76,13 @@ module _ {S U K : Type 0} where
   abbrev pub after_update : SnapState S U K → ℕ → ℕ → SnapState S U K
   after_update w id value = asked w id (λ c. updating c value) (program_of id w.participants) (update_refusal w id)
 
--- what a step tells
+-- the reply of a step, from the note of the participant's program
 abbrev pub reported : Note SnapReply → SnapReply
 reported Quiet = Silent
 reported (Said reply) = reply
 reported (Ended reply) = reply
 
--- and of a way that says this
+-- the reply of a step on the way to a place, from the note of the way
 abbrev pub reported_of_way : Note ℕ → SnapReply
 reported_of_way note = reported (placed_note note)
 
@@ -99,7 +99,7 @@ module _ {S R V U K : Type 0} (t : KnownPlaces S R V U K) where
   after_snap_by w id None = w
   after_snap_by w id (Some c) = if is_idle c.pending then w else after_step clients_over t.memory w id
 
-  -- what a step answers where no growth is refused
+  -- the reply of a step, if no allocation fails
   abbrev pub snap_answer : SnapState S U K → ℕ → Result SnapReply Refusal
   snap_answer w id = snap_answer_by w id (program_of id w.participants)
 
@@ -111,12 +111,12 @@ module _ {S R V U K : Type 0} (t : KnownPlaces S R V U K) where
   abbrev pub may_lack_memory : SnapState S U K → ℕ → Bool
   may_lack_memory w id = may_refuse_step clients_over t.memory w id
 
-  -- no segment is another after this access
+  -- this access changes no segment
   abbrev pub SparesSegments : S → Access R V → Type 0
   SparesSegments s a = (x : ℕ) → segment_in t (t.memory.after s a) x ≡ segment_in t s x
 
-  -- an access to a memory of a participant that has this to do: on its way to a place a read, a write or none, which leaves
-  -- each segment as it is; in a scan a read; and at the end of an update the write of its own segment
+  -- an access for what is pending. On the way to a place it is a read, a write or none, and leaves each segment as it
+  -- is. In a scan it is a read, and at the end of an update the write of the participant's own segment
   abbrev pub IsAccessFor : S → Client U K → Pending → Access R V → Type 0
   IsAccessFor s c Nothing a = a ≡ Idle
   IsAccessFor s c Placing a = ReadsOrWrites a × SparesSegments s a
@@ -128,14 +128,14 @@ module _ {S R V U K : Type 0} (t : KnownPlaces S R V U K) where
   abbrev pub IsOnWay : SnapState S U K → ℕ → Type 0
   IsOnWay w p = (c : Client U K) × (program_of p w.participants ≡ Some c) × (c.pending ≡ Placing)
 
-  -- of p's steps only one on its way to its place may be refused because an allocation failed
+  -- only a step of p on the way to its place may fail because an allocation failed
   abbrev pub LacksOnWay : SnapState S U K → ℕ → Type 0
   LacksOnWay w p = may_lack_memory w p ≡ true → IsOnWay w p
 
-  -- in each object that looks alike to p the answer is the same
+  -- in each object that p cannot distinguish from this one, the reply to its step is the same
   abbrev pub AnswersAlike : SnapState S U K → ℕ → Result SnapReply Refusal → Type 0
   AnswersAlike w p reply = (other : SnapState S U K) → Indistinguishable clients_over t.memory p w other → reply ≡ snap_answer other p
 
-  -- and p, which stands in this new object, then stands alike there
+  -- in each object that p cannot distinguish from the old one, the step leaves p in the same state as in the new one
   abbrev pub StaysAlike : SnapState S U K → SnapState S U K → ℕ → Type 0
   StaysAlike w new p = (other : SnapState S U K) → Indistinguishable clients_over t.memory p w other → StandAlike p new (after_snap_step other p)

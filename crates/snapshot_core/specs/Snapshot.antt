@@ -1,6 +1,6 @@
--- the law of the snapshot object (Afek et al. 1993), over its calls with their replies alone: what a scan shows stood in
--- the object at one moment within the scan; and a scan ends whatever the others do. That steps are counted, and so
--- bounded, is this project's profile
+-- the specification of the snapshot object (Afek et al. 1993), over its calls with their replies alone. A scan returns
+-- what the object held at one moment within the scan, and it ends whatever the others do. That steps are counted, and
+-- so bounded, is this project's profile
 use Rattle.std.specs.Prelude.{◌≡◌, ◌≢◌, ◌⊎◌, ℕ, ◌+◌, ◌<◌, ◌≤◌, ◌==◌, nat_lt, nat_le, if◌then◌else◌, Bool, true, false, List, ◌++◌, length, Option, Some, None, Ok, Err}
 use Rattle.step_memory.specs.SetAt.{set_at}
 use Rattle.step_memory.specs.declared.refusal.Refusal.{Refusal}
@@ -14,7 +14,7 @@ use Rattle.snapshot_core.specs.Places.{KnownPlaces}
 use Rattle.snapshot_core.specs.SnapCalls.{SnapCall}
 use Rattle.snapshot_core.specs.SnapCalls.SnapCall.{Began, Updated, Scanned, Stepped}
 
--- whether an identity has begun, and what it was asked for and has not done yet
+-- whether an identity has begun, and what it still has to do
 pub data Task : Type 0 where
   Absent : Task
   Idle : Task
@@ -22,9 +22,9 @@ pub data Task : Type 0 where
   Scanning : Task
   Updating : ℕ → Task
 
--- the object: how many have begun, what each identity has to do, how many updates it was asked for, how many steps it has
--- made of what it has to do, which moment was the last at the first of them, and the place that it has told. Moments are
--- maps from identity to value, by their numbers from 0 to the last
+-- the object. It has the number that have begun, and moments: maps from identity to value, with numbers from 0 to the
+-- last. Of each identity it has its task, the updates asked of it, the steps of its task, the last moment at the first
+-- of these, and its place
 pub record SnapObject : Type 0 where
   pub begun : ℕ
   pub task : ℕ → Task
@@ -35,7 +35,7 @@ pub record SnapObject : Type 0 where
   pub last : ℕ
   pub moment : ℕ → ℕ → Option ℕ
 
--- no one has written
+-- the moment in which no participant has written
 abbrev pub no_values : ℕ → Option ℕ
 no_values q = None
 
@@ -50,7 +50,7 @@ value_written t = None
 abbrev pub since_of : SnapObject → ℕ → ℕ
 since_of o p = if o.steps p == 0 then o.last else o.since p
 
--- p has this to do, of which it has made so many steps since this moment
+-- p has this task, of which it has made this many steps since this moment
 abbrev pub with_task : SnapObject → ℕ → Task → ℕ → ℕ → SnapObject
 with_task o p task steps since = record o { task = set_at o.task p task; steps = set_at o.steps p steps; since = set_at o.since p since }
 
@@ -61,7 +61,7 @@ asked_for o p task = with_task o p task 0 0
 abbrev pub with_update : SnapObject → ℕ → SnapObject
 with_update o p = record o { updates = set_at o.updates p (o.updates p + 1) }
 
--- one more step of p, which has then this to do
+-- p has made one more step, and then has this task
 abbrev pub stepped_to : SnapObject → ℕ → Task → SnapObject
 stepped_to o p task = with_task o p task (o.steps p + 1) (since_of o p)
 
@@ -71,7 +71,7 @@ with_begun o = record o { begun = o.begun + 1 }
 abbrev pub with_place : SnapObject → ℕ → ℕ → SnapObject
 with_place o p place = record o { place = set_at o.place p (Some place) }
 
--- a write makes a new moment, in which p has this value and every other what it had
+-- a write makes a new moment, in which p has this value, and each other identity the value that it had
 abbrev pub with_moment : SnapObject → ℕ → Option ℕ → SnapObject
 with_moment o p value = record o { last = o.last + 1; moment = set_at o.moment (o.last + 1) (set_at (o.moment o.last) p value) }
 
@@ -102,15 +102,15 @@ pub record ShowsMoment (o : SnapObject) (since : ℕ) (view : List (ℕ × ℕ))
   pub is : IsMoment view (o.moment index)
   pub few : length view ≤ o.begun
 
--- the most participants; the most steps to a place, and of a scan, where so many have begun; and the most reads of one
--- collect
+-- the most participants, the most reads of one collect, and the most steps to a place and of a scan, by how many have
+-- begun
 pub record SnapBounds : Type 0 where
   pub most : ℕ
   pub placing : ℕ → ℕ
   pub scanning : ℕ → ℕ
   pub collecting : ℕ
 
--- the most steps of a task. After its scan an update writes once
+-- the most steps of a task. An update writes once after its scan
 abbrev pub most_steps : SnapBounds → ℕ → Task → ℕ
 most_steps bounds begun Absent = 0
 most_steps bounds begun Idle = 0
@@ -118,7 +118,7 @@ most_steps bounds begun Placing = bounds.placing begun
 most_steps bounds begun Scanning = bounds.scanning begun
 most_steps bounds begun (Updating value) = bounds.scanning begun + 1
 
--- p has told no place, and no one this one
+-- no step has returned a place of p, nor this place of any identity
 pub record IsNewPlace (o : SnapObject) (p place : ℕ) : Type 0 where
   pub first : o.place p ≡ None
   pub free : (q : ℕ) → o.place q ≢ Some place
@@ -131,7 +131,7 @@ IsUpdating t = ⊥
 abbrev pub IsStepOf : SnapBounds → SnapObject → ℕ → Type 0
 IsStepOf bounds o p = o.steps p + 1 ≤ most_steps bounds o.begun (o.task p)
 
--- what a step may answer. Where it goes on, steps are left: so it does not go on for ever
+-- the replies that a step may return. If the task goes on, steps of it are left, so that it ends
 abbrev pub AllowsStep : SnapBounds → SnapObject → ℕ → SnapReply → Type 0
 AllowsStep bounds o p Quiet = o.steps p + 1 < most_steps bounds o.begun (o.task p)
 AllowsStep bounds o p (Placed place) = (o.task p ≡ Placing) × IsStepOf bounds o p × IsNewPlace o p place
@@ -143,11 +143,11 @@ has_begun Absent = false
 has_begun t = true
 
 module _ (bounds : SnapBounds) (o : SnapObject) (p : ℕ) where
-  -- nothing of p is pending: what it has to do takes no step. So is a way to a place that takes none
+  -- nothing of p is pending: its task takes no step. A way to a place that takes none counts as ended
   abbrev pub has_nothing_pending : Bool
   has_nothing_pending = most_steps bounds o.begun (o.task p) == 0
 
-  -- why each call of p is due to be refused: the first of these that holds
+  -- the error that is due to each call of p: the first of these that holds
   abbrev pub begin_due : Option Refusal
   begin_due =
       if p == 0 then Some ZeroIdentity
@@ -174,7 +174,7 @@ module _ (bounds : SnapBounds) (o : SnapObject) (p : ℕ) where
   abbrev pub LacksMemory : Refusal → Type 0
   LacksMemory why = (why ≡ NoMemory) × (step_due ≡ None) × (o.task p ≡ Placing)
 
--- what a call may answer. It is refused exactly where that is due, but for failed allocations
+-- the replies that a call may return. It returns an error if and only if that error is due, failed allocations aside
 abbrev pub Allows : SnapBounds → SnapObject → SnapCall → Type 0
 Allows bounds o (Began p reply) = reply ≡ done_unless (begin_due bounds o p)
 Allows bounds o (Updated p value reply) = reply ≡ done_unless (update_due bounds o p)
@@ -182,7 +182,7 @@ Allows bounds o (Scanned p reply) = reply ≡ done_unless (scan_due bounds o p)
 Allows bounds o (Stepped p (Ok reply)) = AllowsStep bounds o p reply
 Allows bounds o (Stepped p (Err why)) = (step_due bounds o p ≡ Some why) ⊎ LacksMemory bounds o p why
 
--- these calls, with these replies, are those of a snapshot object whose steps keep these bounds
+-- these calls with these replies are those of a snapshot object whose steps keep these bounds
 abbrev pub SnapshotSpec : SnapBounds → List SnapCall → Type 0
 SnapshotSpec bounds r = (o : SnapObject) × Run observed (Allows bounds) new_object r o
 
@@ -195,6 +195,6 @@ bounds_over t first scanning = record {
   collecting = t.ties.reads (t.most_of first) (t.most_of first);
 }
 
--- every prefix of a list that keeps the law within these bounds keeps it
+-- every prefix of a list that satisfies the specification within these bounds satisfies it
 abbrev pub HoldsOfPrefixes : SnapBounds → Type 0
 HoldsOfPrefixes bounds = (r more : List SnapCall) → SnapshotSpec bounds (r ++ more) → SnapshotSpec bounds r

@@ -1,4 +1,5 @@
--- a participant of a snapshot object from outside: whether something of it is pending, and how many updates were asked of it
+-- a participant of a snapshot object from outside: whether something of it is pending, and how many updates it was
+-- asked for
 use Rattle.std.specs.Prelude.{◌≡◌, ◌≢◌, ℕ, ◌+◌, Bool, true, false, not, is_some, ◌<◌, ◌≤◌, length, Some, None, Ok, Err}
 use Rattle.step_memory.specs.declared.participant.Participant.{Participant}
 use Rattle.step_memory.specs.declared.refusal.Refusal.TheVariants.{AlreadyBegun, Finished, Spent}
@@ -15,7 +16,7 @@ abbrev pub is_quiet : SnapReply → Bool
 is_quiet Quiet = true
 is_quiet s = false
 
--- p takes part, has nothing pending or something, and was asked for so many updates
+-- p takes part, something of it is pending or not, and it was asked for this many updates
 pub record StandsAt {S U K : Type 0} (w : SnapState S U K) (p : ℕ) (idle : Bool) (updates : ℕ) : Type 0 where
   pub who : Participant (Client U K)
   pub is : participant_of p w.participants ≡ Some who
@@ -23,20 +24,21 @@ pub record StandsAt {S U K : Type 0} (w : SnapState S U K) (p : ℕ) (idle : Boo
   pub idle_is : is_idle who.program.pending ≡ idle
   pub updates_is : who.program.updates ≡ updates
 
--- p stands so in the new object, which is as large as the old one, and each other as before
+-- p is in this state in the new object, which is as large as the old one. No other participant has changed
 pub record ComesTo {S U K : Type 0} (w new : SnapState S U K) (p : ℕ) (idle : Bool) (updates : ℕ) : Type 0 where
   pub stands : StandsAt new p idle updates
   pub others : (q : ℕ) → q ≢ p → participant_of q new.participants ≡ participant_of q w.participants
   pub most : new.most ≡ w.most
   pub many : length new.participants ≡ length w.participants
 
--- p begins on this object: it has nothing pending exactly where it has its place at once, and each other stands as before
+-- p begins on this object. It has nothing pending if and only if it has its place at once, and no other participant
+-- changes
 pub record HasBegun {S R V U K : Type 0} (t : KnownPlaces S R V U K) (w : SnapState S U K) (p : ℕ) : Type 0 where
   pub stands : StandsAt (after_snap_begin t w p) p (is_some (t.place_of (t.walker_from (length w.participants) p))) 0
   pub others : (q : ℕ) → q ≢ p → participant_of q (after_snap_begin t w p).participants ≡ participant_of q w.participants
   pub many : length (after_snap_begin t w p).participants ≡ length w.participants + 1
 
--- what p is answered while nothing of it is pending: a scan is not refused, and an update exactly after 1,000,000
+-- the replies to p while nothing of it is pending. A scan is accepted, and an update unless 1,000,000 were asked for
 pub record GoesIdle {S R V U K : Type 0} (t : KnownPlaces S R V U K) (w : SnapState S U K) (p updates : ℕ) : Type 0 where
   pub scan : scan_refusal w p ≡ None
   pub scans : ComesTo w (after_scan w p) p false updates
@@ -45,7 +47,7 @@ pub record GoesIdle {S R V U K : Type 0} (t : KnownPlaces S R V U K) (w : SnapSt
   pub spent : 1000000 ≤ updates → update_refusal w p ≡ Some Spent
   pub finished : snap_answer t w p ≡ Err Finished
 
--- what p is answered while something of it is pending: a step is not refused, and leaves nothing pending exactly where the
+-- the replies to p while something of it is pending. A step is accepted, and leaves nothing pending if and only if its
 -- reply is not quiet
 pub record GoesBusy {S R V U K : Type 0} (t : KnownPlaces S R V U K) (w : SnapState S U K) (p updates : ℕ) : Type 0 where
   pub scan : scan_refusal w p ≡ Some AlreadyBegun

@@ -19,21 +19,21 @@ use step_memory::{
 /// The most updates for which one participant may be asked.
 pub const MOST_UPDATES: u32 = 1_000_000;
 
-/// What a step of a snapshot object tells.
+/// What one step of a snapshot object returns.
 #[derive(Clone, Copy, Debug, Drop)]
 pub enum SnapReply {
-    /// Nothing.
+    /// The operation goes on.
     Quiet,
-    /// The participant has reached this place.
+    /// The participant has reached its place, which is this one.
     Placed(Place),
-    /// The update has taken effect.
+    /// The update has ended: its value is written.
     Written,
-    /// The scan has ended with this view.
+    /// The scan has ended, with this view.
     View(View),
 }
 
 impl SnapReply {
-    /// What a step of a way tells, of which the way says this.
+    /// Returns the reply of a step on the way to a place, from the note of the way.
     pub fn of_way(note: Note<Place>) -> Self
         ensures { result ≡ reported_of_way note }
     {
@@ -44,7 +44,7 @@ impl SnapReply {
         }
     }
 
-    /// What a step tells, of which the participant says this.
+    /// Returns the reply of a step, from the note of the participant's program.
     #[inline(always)]
     pub fn of_step(note: Note<SnapReply>) -> Self
         ensures { result ≡ reported note }
@@ -56,7 +56,7 @@ impl SnapReply {
         }
     }
 
-    /// The view with which a scan has ended.
+    /// Returns the view of a scan that has ended, or `None` for any other reply.
     pub fn view(&self) -> Option<View>
         ensures { result ≡ view_reported self.now }
     {
@@ -72,32 +72,34 @@ impl SnapReply {
 /// What a participant has still to do.
 #[derive(Clone, Copy, Debug, Drop)]
 pub enum Pending {
-    /// Nothing.
+    /// Nothing is pending.
     Nothing,
-    /// To reach its place.
+    /// The participant has to reach its place.
     Placing,
-    /// To scan.
+    /// It has to scan.
     Scan,
-    /// To scan, and then to write this value.
+    /// It has to scan, and then to write this value.
     Update(u64),
-    /// To write this value with the view that was scanned.
+    /// It has scanned this view, and has to write this value with it.
     Write(u64, View),
 }
 
-/// A participant: its way to its place, what it has still to do, and how many updates it was asked for.
+/// A participant of a snapshot object, as a program that makes one access a step.
+///
+/// It has a way to its place, one operation that is pending, and a count of its updates.
 #[derive(Debug, Drop)]
 pub struct Client<U, K> {
-    /// Who it is.
+    /// The identity.
     pub identity: u64,
-    /// Its way to its place.
+    /// The way to its place.
     pub walker: U,
-    /// A walk from its beginning, which each collect takes.
+    /// A walk that has read nothing. Each collect takes a copy of it.
     pub walk: K,
-    /// How many updates it was asked for.
+    /// How many updates it was asked for: from 0 to 1,000,000.
     pub updates: u32,
     /// What it has still to do.
     pub pending: Pending,
-    /// The scan under way, where there is one.
+    /// The scan of the operation that is pending. It means nothing in a participant that neither scans nor updates.
     pub scan: Scan<K>,
 }
 
@@ -105,7 +107,7 @@ impl<U: PlaceWalker + Copy, K: SegmentWalk<Reg = U::Reg, Value = U::Value> + Cop
 where
     U::Value: Drop,
 {
-    /// A participant that begins, on this way to its place.
+    /// Makes a participant that begins, on this way to its place. Nothing is pending if the way has a place already.
     pub fn new(identity: u64, walker: U, walk: K) -> Self
         ensures { result ≡ client_at U.place_of identity walker walk }
     {
@@ -123,14 +125,14 @@ where
         }
     }
 
-    /// Whether there is nothing to do.
+    /// Returns true if and only if nothing is pending.
     pub fn is_idle(&self) -> bool
         ensures { result ≡ is_idle self.now.pending }
     {
         matches!(self.pending, Pending::Nothing)
     }
 
-    /// Takes the answer to an access on the way to the place.
+    /// Takes the answer to an access on the way to the place, and returns the note of the step.
     fn resume_placing(&mut self, got: Answer<U::Value>) -> Note<SnapReply>
         ensures after { self.new ≡ placing_resumed U.steps self.old got }
         ensures note { result ≡ placing_note U.steps self.old got }
@@ -145,7 +147,7 @@ where
         }
     }
 
-    /// Takes the answer to a read of a scan.
+    /// Takes the answer to a read of a scan, and returns the note of the step. An update goes on to its write.
     fn resume_scan(&mut self, got: &U::Value, updates_with: Option<u64>) -> Note<SnapReply>
         ensures after { self.new ≡ scan_resumed K.walks self.old got.now updates_with }
         ensures note { result ≡ scan_note K.walks self.old got.now updates_with }
@@ -251,7 +253,7 @@ where
     }
 }
 
-/// The request of a scan.
+/// The request of a scan. It replaces what was pending.
 #[derive(Clone, Copy, Debug, Drop, PartialEq, Eq)]
 pub struct ToScan;
 
@@ -268,10 +270,12 @@ impl<U, K: SegmentWalk + Copy> Request<Client<U, K>> for ToScan {
     }
 }
 
-/// The request of an update of one's segment with a value.
+/// The request of an update: a scan, and then a write of the value.
+///
+/// A participant may be asked for at most 1,000,000 updates.
 #[derive(Clone, Copy, Debug, Drop, PartialEq, Eq)]
 pub struct ToUpdate {
-    /// What is to be written.
+    /// The value to write.
     pub value: u64,
 }
 
@@ -290,7 +294,7 @@ impl<U, K: SegmentWalk + Copy> Request<Client<U, K>> for ToUpdate {
     }
 }
 
-/// The step of a participant on its way to its place, taken by the places.
+/// A step of a participant on the way to its place, which the places make without a copy of a value.
 #[derive(Clone, Copy, Debug, Drop, PartialEq, Eq)]
 pub struct OnWay;
 

@@ -15,8 +15,9 @@ use step_memory::{
     Access, Answer, NoMemory, Note, Place, Record, Refusal, Segment, StepMemory, StepProgram,
 };
 
-/// Segments in a row, as many as there may be participants. Whoever is the j-th to begin has the place j - 1, at once and
-/// without an access.
+/// Segments in a row, one for each of at most 16 participants.
+///
+/// The `j`-th participant that begins has the place `j - 1` at once, without an access.
 #[derive(Drop)]
 pub struct Fixed<A: Allocator> {
     segments: Vec<Segment, A>,
@@ -32,8 +33,14 @@ impl<A: Allocator> Model for Fixed<A> {
 }
 
 impl<A: Allocator> Fixed<A> {
-    /// So many segments, from 1 to 16, which are empty. Refused where they are too many or none, then where the room for
-    /// them was refused.
+    /// Makes a row of `most` segments, which are empty. No other call allocates.
+    ///
+    /// # Errors
+    ///
+    /// The first that applies is returned:
+    ///
+    /// - `OutOfRange`: `most` is not from 1 to 16.
+    /// - `NoMemory`: an allocation failed.
     pub fn new(alloc: A, most: usize) -> Result<Self, Refusal>
         ensures empty { IfOk result (λ s. s ≡ replicate most None) }
         ensures fresh { IfOk result IsEmptyRow }
@@ -48,7 +55,7 @@ impl<A: Allocator> Fixed<A> {
         Ok(Fixed { segments })
     }
 
-    /// The segment at a place, for what watches from outside. It is empty where there is none.
+    /// Returns the segment at a place, for observers. It is empty if the row has no such place.
     pub fn segment_at(&self, place: Place) -> Segment
         ensures { result ≡ (register_of self.now place).0 }
     {
@@ -102,10 +109,10 @@ impl<A: Allocator> StepMemory for Fixed<A> {
     ghost others = { others_kept };
 }
 
-/// One who has its place from the beginning.
+/// A way to a place that has reached it already.
 #[derive(Clone, Copy, Debug, Drop, PartialEq, Eq)]
 pub struct FixedWalker {
-    /// The place.
+    /// The place, from 0.
     pub place: Place,
 }
 
@@ -140,12 +147,12 @@ impl PlaceWalker for FixedWalker {
     }
 }
 
-/// A walk over segments in a row, by rising place: the next place, and how many segments there are.
+/// A walk over segments in a row, by rising place. It reads each segment once.
 #[derive(Clone, Copy, Debug, Drop, PartialEq, Eq)]
 pub struct FixedWalk {
-    /// The place whose segment is read next.
+    /// The place whose segment the walk reads next, from 0.
     pub at: Place,
-    /// How many segments there are.
+    /// The number of segments.
     pub most: Place,
 }
 

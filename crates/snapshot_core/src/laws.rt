@@ -12,13 +12,18 @@ ghost use Rattle.snapshot_core.specs.Standing.{BeginsSo, GoesSoIdle, GoesSoBusy}
 use crate::places::{Known, PlaceWalker, Places};
 use crate::walk::SegmentWalk;
 
-/// What structures over a snapshot object stand on, over any places: it is a machine whose calls lead on, and whose lists of
-/// calls keep the law, where nothing was written at first and the bound on scans leaves room for as many collects as have
-/// begun and one more. Every prefix of a list that keeps the law keeps it. No two have one place, who got its place has
-/// it, the memory agrees with the ways of those who have begun, only a step on a way to a place may want memory, and each
-/// access is one for what its participant has to do. A step that is answered leads on, and what it answers, and where the
-/// participant then stands, depends on what this one sees. Over places that do not go by the order of beginning, all who
-/// begin under one identity are alike.
+/// A law: a snapshot object over any places is a machine whose calls extend its history.
+///
+/// - Each history that begins with places in which nothing was written satisfies the specification of a snapshot
+///   object. Where b have begun, the bound on scans leaves room for b + 1 collects.
+/// - Every prefix of a history that satisfies the specification satisfies it.
+/// - No two participants have one place. If a step has returned a place, the participant has that place.
+/// - The memory agrees with the ways of the participants that have begun.
+/// - Only a step on the way to a place may fail because an allocation failed. Each access is one for what is pending.
+/// - A step that returns its due reply extends the history. Its reply and the participant's new state depend on nothing
+///   that the participant cannot distinguish.
+/// - If the places do not depend on the order of beginning, an identity begins in the same state in any two objects of
+///   one size.
 pub fn law_of_snapshot_calls<W: Places>()
     ensures machine { IsProved (snapshot ⟦<W as Known>⟧.places) }
     ensures prefix { (bounds : SnapBounds) → HoldsOfPrefixes bounds }
@@ -33,20 +38,25 @@ pub fn law_of_snapshot_calls<W: Places>()
     ensures alike { BeginsAlike ⟦<W as Known>⟧.places → (p : ℕ) → BeginsTheSame ⟦<W as Known>⟧.places p }
 {}
 
-/// What the calls of a snapshot object do to those who take part, over any places: who begins has nothing pending exactly
-/// where it has its place at once; a scan of one who has nothing pending is not refused, and an update exactly after
-/// 1,000,000; one who has something pending is asked for nothing more, and its step is answered, which leaves nothing
-/// pending exactly where the reply is not quiet. Whoever else takes part stands as before.
+/// A law: what each call does to the participants of a snapshot object over any places. A call changes no other
+/// participant.
+///
+/// - A participant that begins has nothing pending if and only if it has its place at once.
+/// - If nothing is pending, a scan is accepted. An update is accepted unless 1,000,000 were asked for.
+/// - If something is pending, a scan or an update fails, and a step succeeds unless an allocation fails. The step
+///   leaves nothing pending if and only if its reply is not `Quiet`.
 pub fn law_of_clients<W: Places>()
     ensures begun { (w : SnapState W W.Walker W.Walk) (p : ℕ) → BeginsSo ⟦<W as Known>⟧.places w p }
     ensures idle { (w : SnapState W W.Walker W.Walk) (p : ℕ) → GoesSoIdle ⟦<W as Known>⟧.places w p }
     ensures busy { (w : SnapState W W.Walker W.Walk) (p : ℕ) → GoesSoBusy ⟦<W as Known>⟧.places w p }
 {}
 
-/// How soon one ends what it does who alone steps, over any places, where a collect makes at most c reads: a scan within 2c
-/// steps from its beginning, and within 3c - 1 from any point of it, whatever others did before; an update one step later.
-/// So it does not make as many collects as it might among others. What others do meanwhile changes nothing of this, where
-/// they write nothing.
+/// A law: how soon an operation ends in a solo run, over any places in which a collect makes at most c reads.
+///
+/// - A scan ends within 2c steps from its beginning, and within 3c - 1 from any point of it. What others did before
+///   does not matter.
+/// - An update ends one step later.
+/// - Steps of others that write nothing do not change these bounds.
 pub fn law_of_steps_alone<W: Places>()
     ensures soon { (w : SnapState W W.Walker W.Walk) (p : ℕ) → EndsSoonAlone ⟦<W as Known>⟧.places w p }
     ensures alike { (w other : SnapState W W.Walker W.Walk) (p : ℕ) → EndsAlike ⟦<W as Known>⟧.places w other p }

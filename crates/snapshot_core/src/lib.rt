@@ -1,30 +1,41 @@
-//! A snapshot object whose updates help scans: the unbounded single-writer snapshot of Afek et al. 1993 (Atomic snapshots
-//! of shared memory), taken step by step over places that participants get.
+//! A snapshot object whose updates help scans, made step by step over places that participants get.
 //!
-//! Each participant has a place, and at it a *segment* that it alone writes. An *update* is a scan and then one write of
-//! the value, with a sequence number and the view that was scanned. A *scan* collects the segments, one read a step, until
-//! a collect shows no change since the one before; or until it sees a segment change for the second time, whose record
-//! then holds a view that was scanned within this scan. Which registers a collect reads, and in which order, is the
-//! business of the *places* (`Places`): what it reads next may depend on what it read.
+//! It is the unbounded single-writer snapshot of Afek et al. 1993 (Atomic snapshots of shared memory).
 //!
-//! The law, over every list of calls with their replies and over each of its prefixes: *moments* are the maps from identity
-//! to value, the empty one first and a new one for each write. A view that a scan shows is a moment, at or after the one
-//! that was the last at the scan's first read, and no later than its last read; it has no more pairs than have begun. Where
-//! b have begun, of whom walks over the segments make at most r reads, a scan takes at most (b + 1)r steps whatever the
-//! others do, each a read, and an update takes one step more, its write. A call is refused exactly where that is due, and
-//! because an allocation failed only on the way to a place. A step makes one access, which the participant's own state names.
-//! (Counting steps, the sequence numbers' beginning at 1 and the limit of updates are this project's profile.)
+//! Each participant has a place, and at it a *segment* that it alone writes. An *update* is a scan and then one write.
+//! It writes the value with a sequence number and the view of that scan. A *scan* collects the segments, one read a
+//! step. It ends in one of two ways:
 //!
-//! Here are the participants, each a program of one access a step (`Client`), and the laws of the machine that their calls
-//! are, and the object itself, `SnapWorld`. What places promise stands in `specs/Places.antt`, and each
-//! implementor of `Places` proves it. Contracts name it by one record, `⟦<W as Known>⟧.places`: what the ways to places, the
-//! walks and the memory do. `Fixed` has segments in a row, `snapshot_places` a grid and a tree. What structures above
-//! stand on is stated by `law_of_snapshot_calls`, `law_of_clients` and `law_of_steps_alone`.
+//! - A collect shows no change since the one before. Its values are the view.
+//! - A segment changes for the second time in this scan. Its record then has a view that was scanned within this scan,
+//!   and the scan returns that view.
 //!
-//! `SnapWorld` is a world (`step_memory`) of such participants over any places, and keeps this law: each of its calls leads
-//! on in the machine, a step makes one access, and a read of a scan copies no segment. `Fixed`
-//! gives the j-th to begin the j-th segment, at once; over it the law has the numbers of `snapshot_law`. The crate
-//! `snapshot_places` has a grid and a tree.
+//! The *places* (`Places`) say which registers a collect reads, and in which order. The next register may depend on
+//! what was read.
+//!
+//! What is proved, over every list of calls with their replies and over each of its prefixes:
+//!
+//! - *Moments* are the maps from identity to value: the empty one first, and a new one for each write. A view that a
+//!   scan returns is a moment. It is the last one at the scan's first read, or a later one, but none after its last
+//!   read.
+//! - A view has no more pairs than participants have begun.
+//! - Let b have begun, and a walk over the segments make at most r reads. A scan takes at most (b + 1)r steps, each a
+//!   read, whatever the others do. An update takes one step more, its write.
+//! - A call returns an error if and only if that error is due. A step on the way to a place may also fail because an
+//!   allocation failed.
+//! - A step makes one access, which the participant's own state names.
+//!
+//! (The count of steps, the first sequence number 1 and the limit of updates are not in the paper.)
+//!
+//! `Client` is a participant, as a program that makes one access a step. `SnapWorld` is the object: a world
+//! (`step_memory`) of such participants over any places. Each call of it extends its history, and a read of a scan
+//! copies no segment. `law_of_snapshot_calls`, `law_of_clients` and `law_of_steps_alone` state what the crates above
+//! use.
+//!
+//! `specs/Places.antt` states what places promise, and each implementor of `Places` proves it. Contracts name what
+//! ways, walks and memory do by one record, `⟦<W as Known>⟧.places`. `Fixed` has segments in a row, and gives the
+//! `j`-th participant that begins the `j`-th segment at once. Over it `snapshot_law` gives the bounds as numbers. The
+//! crate `snapshot_places` has a grid and a tree.
 //!
 //! From `tests_objects/src/snapshot_tests.rt`, over segments in a row:
 //!

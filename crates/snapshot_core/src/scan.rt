@@ -7,23 +7,26 @@ use crate::sightings::{Met, Sighting, Sightings};
 use crate::walk::SegmentWalk;
 use step_memory::{Place, Record, View};
 
-/// A scan under way, of the form of the unbounded snapshot of Afek et al. 1993: collects follow each other until one
-/// shows no change, whose values are then a moment; or until a segment is seen to change for the second time, whose
-/// record then holds a view that was scanned within this scan.
+/// A scan under way, in the form of the unbounded snapshot (Afek et al. 1993).
+///
+/// Collects follow each other until the scan has a view:
+///
+/// - A collect shows no change since the one before. Its values are the view.
+/// - A segment changes for the second time in this scan. Its record then has a view that was scanned within this scan.
 #[derive(Debug, Drop)]
 pub struct Scan<K> {
     /// The walk of the present collect.
     pub walk: K,
-    /// Whether the present collect is the first, which is compared with nothing.
+    /// Whether the present collect is the first. No collect is before it to compare with.
     pub is_first: bool,
     /// Whether the present collect differs from the one before.
     pub differs: bool,
-    /// What is known of the segments that were met.
+    /// What the scan knows of each segment that it met.
     pub sightings: Sightings,
 }
 
 impl<K: SegmentWalk + Copy> Scan<K> {
-    /// A scan that has read nothing, whose collects take this walk.
+    /// Makes a scan that has read nothing. Its first collect takes this walk.
     pub fn new(walk: K) -> Self
         ensures { result ≡ scan_from walk }
     {
@@ -35,7 +38,7 @@ impl<K: SegmentWalk + Copy> Scan<K> {
         }
     }
 
-    /// Makes this a scan that has read nothing, whose collects take this walk.
+    /// Makes this a scan that has read nothing. Its first collect takes this walk.
     pub fn restart(&mut self, walk: K)
         ensures { self.new ≡ scan_from walk }
     {
@@ -45,10 +48,12 @@ impl<K: SegmentWalk + Copy> Scan<K> {
         self.sightings.clear();
     }
 
-    /// Meets a segment that was written. False where its record shows that it changed twice: then nothing has changed. (To
-    /// compare each segment as it is met tells what a comparison of all numbers at the collect's end would, in which one
-    /// that was not reached counts as 0: a segment that one collect met was written before the next began, and a walk meets
-    /// it again.)
+    /// Notes a record that was read at a place. Returns false if the record shows the segment's second change: then
+    /// nothing has changed.
+    ///
+    /// The scan compares each record as it meets it, and not all numbers at the end of a collect. Both give the same
+    /// result. A segment that the collect before did not reach counts as number 0. One that it met was written before
+    /// this collect began, so this collect meets it again.
     #[inline(never)]
     fn meet(&mut self, place: Place, found: &Record) -> bool
         ensures after { self.new ≡ met self.old place found.now }
@@ -71,8 +76,8 @@ impl<K: SegmentWalk + Copy> Scan<K> {
         true
     }
 
-    /// Meets the segment that was read, where it is one and was written. False where it is seen to have changed twice: then
-    /// nothing has changed.
+    /// Notes the record that was read, if there is one. Returns false if it shows a second change: then nothing has
+    /// changed.
     #[inline(always)]
     fn meet_read(&mut self, got: &K::Value) -> bool
         ensures after { self.new ≡ met_at K.walks self.old (K.walks.place self.old.walk) (K.walks.content got.now) }
@@ -88,7 +93,7 @@ impl<K: SegmentWalk + Copy> Scan<K> {
         self.meet(place, found)
     }
 
-    /// Another collect begins, which takes this walk. A function of its own, since few reads end a collect.
+    /// Begins another collect, which takes this walk. It is a function of its own, since few reads end a collect.
     #[inline(never)]
     fn begin_collect(&mut self, walk: K)
         ensures { self.new ≡ next_collect self.old walk }
@@ -99,7 +104,7 @@ impl<K: SegmentWalk + Copy> Scan<K> {
         self.sightings.carry_over();
     }
 
-    /// Ends a collect: the values that it met, where it is equal to the one before; else another begins.
+    /// Ends a collect. Returns its values if it equals the one before; otherwise another collect begins.
     fn end_collect(&mut self, walk: K) -> Option<View>
         ensures after { self.new ≡ ended_collect self.old walk }
         ensures view { result ≡ ended_view self.old }
@@ -111,7 +116,8 @@ impl<K: SegmentWalk + Copy> Scan<K> {
         None
     }
 
-    /// Takes what the walk's next read gave. The view, once the scan has ended; further collects take this walk.
+    /// Takes the value that the walk read, and returns the view if the scan has ended. The next collect takes this
+    /// walk.
     pub fn resume(&mut self, got: &K::Value, walk: K) -> Option<View>
         ensures after { self.new ≡ scan_after K.walks self.old got.now walk }
         ensures view { result ≡ scan_view K.walks self.old got.now }
@@ -130,8 +136,9 @@ impl<K: SegmentWalk + Copy> Scan<K> {
         }
     }
 
-    /// Takes what the walk's next read gave, where the scan goes on. Tells whether it did; where not, nothing has changed,
-    /// and `resume` takes it.
+    /// Takes the value that the walk read, without a copy, if the scan then goes on. The next collect takes this walk.
+    ///
+    /// Returns whether it did. If not, nothing has changed, and `resume` takes the value.
     #[inline(always)]
     pub fn read_on(&mut self, got: &K::Value, walk: K) -> bool
         ensures after { result ≡ true → self.new ≡ scan_after K.walks self.old got.now walk }

@@ -6,19 +6,19 @@ ghost use Rattle.snapshot_core.specs.Sightings.{met_in, unknown, sighting_of, in
 use std::marker::Model;
 use step_memory::{Place, Record, View};
 
-/// What a collect met in a segment: the identity, the value and the sequence number of its record.
+/// What a collect keeps of the record of a segment: its identity, value and sequence number.
 #[derive(Clone, Copy, Debug, Drop)]
 pub struct Met {
-    /// Whose record it was.
+    /// The identity that wrote the record.
     pub identity: u64,
-    /// The value.
+    /// The value that it wrote.
     pub value: u64,
-    /// Which write of the segment it was.
+    /// The sequence number of the write in its segment, from 1.
     pub number: u32,
 }
 
 impl Met {
-    /// What a collect keeps of a record.
+    /// Returns what a collect keeps of this record.
     pub fn of(found: &Record) -> Self
         ensures { result ≡ met_in found.now }
     {
@@ -35,16 +35,16 @@ impl Met {
 pub struct Sighting {
     /// The place of the segment.
     pub place: Place,
-    /// Its sequence number in the collect before; 0 where it was empty or not reached.
+    /// The sequence number in the collect before, or 0 if the segment was empty or not reached.
     pub before: u32,
-    /// What the present collect met in it; `None` where it was empty or is not reached.
+    /// What the present collect met, or `None` if the segment was empty or is not reached.
     pub now: Option<Met>,
-    /// Whether it was seen to change.
+    /// Whether the scan has seen the segment change.
     pub changed: bool,
 }
 
 impl Sighting {
-    /// Of the segment at a place nothing is known.
+    /// Returns what a scan knows of a segment that it has not met.
     fn unknown(place: Place) -> Self
         ensures { result ≡ unknown place }
     {
@@ -56,7 +56,7 @@ impl Sighting {
         }
     }
 
-    /// Another collect begins: the present one is the collect before.
+    /// Goes on to the next collect: the present one becomes the collect before.
     fn carry_over(&mut self)
         ensures { self.new ≡ carried_over self.old }
     {
@@ -68,12 +68,14 @@ impl Sighting {
     }
 }
 
-/// What a scan knows of at most 64 segments, in the value itself. Contracts see the list.
+/// What a scan knows of at most 64 segments, each at most once. They are stored in the value itself, without
+/// allocation.
 #[derive(Debug, Drop)]
 pub struct Sightings {
     entries: [Sighting; 64],
     len: usize,
-    // Where `find` looks first: after the entry that was put last, since each collect meets the segments in one order.
+    // The index at which `find` looks first. It is after the entry that was put last, since each collect meets the
+    // segments in one order.
     next: usize,
 }
 
@@ -89,7 +91,7 @@ impl Model for Sightings {
     ghost invariant = { λ s. (s.len ≤ 64) × (length s.entries ≡ 64) × AreDistinct (take s.len s.entries) };
 }
 
-/// Where the segment at a place is noted.
+/// Returns the index of the segment at a place.
 fn find(entries: &[Sighting], place: Place) -> Option<usize>
     ensures { result ≡ index_of place entries.now }
 {
@@ -121,7 +123,7 @@ fn show(view: &mut View, met: Option<Met>)
 }
 
 impl Sightings {
-    /// Nothing is known: every segment counts as empty and unchanged.
+    /// Makes sightings of no segment. Each segment counts as empty and unchanged.
     pub fn new() -> Self
         ensures { result ≡ [] }
     {
@@ -132,7 +134,7 @@ impl Sightings {
         }
     }
 
-    /// Where the segment at a place is noted, for `get` and `put`.
+    /// Returns the index of the segment at a place, for `get` and `put`, or `None` if nothing is known of it.
     pub fn find(&self, place: Place) -> Option<usize>
         ensures { result ≡ index_of place self.now }
     {
@@ -142,7 +144,7 @@ impl Sightings {
         find(&self.entries[..self.len], place)
     }
 
-    /// What is known of the segment at a place, which is noted there.
+    /// Returns what is known of the segment at a place, where `at` is what `find` returns for it.
     pub fn get(&self, place: Place, at: Option<usize>) -> Sighting
         requires { at ≡ index_of place self.now }
         ensures { result ≡ sighting_of place self.now }
@@ -153,7 +155,8 @@ impl Sightings {
         }
     }
 
-    /// Notes this of a segment, in place of what was known of it, which is noted there. Of a 65th segment nothing is noted.
+    /// Puts this in place of what was known of its segment, where `at` is what `find` returns for it. A 65th segment is
+    /// left out.
     pub fn put(&mut self, at: Option<usize>, sighting: Sighting)
         requires { at ≡ index_of sighting.place self.old }
         ensures { self.new ≡ noted sighting self.old }
@@ -173,7 +176,7 @@ impl Sightings {
         }
     }
 
-    /// Nothing is known any more.
+    /// Removes all that is known.
     pub fn clear(&mut self)
         ensures { self.new ≡ [] }
     {
@@ -181,7 +184,7 @@ impl Sightings {
         self.next = 0;
     }
 
-    /// The view that the present collect met.
+    /// Returns the view that the present collect met.
     pub fn view(&self) -> View
         ensures { result ≡ shown_by [] self.now }
     {
@@ -192,7 +195,7 @@ impl Sightings {
         view
     }
 
-    /// Another collect begins: the present one is the collect before.
+    /// Goes on to the next collect: the present one becomes the collect before.
     pub fn carry_over(&mut self)
         ensures { self.new ≡ map carried_over self.old }
     {

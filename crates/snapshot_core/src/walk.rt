@@ -5,40 +5,41 @@ ghost use Rattle.snapshot_core.specs.Walks.{WalkSteps};
 
 use step_memory::{Place, Record, Segment};
 
-/// A walk over all segments that may be in use, one read after another. Which register it reads next may depend on what
-/// it read. Not every read has to be of a segment.
+/// A walk over all segments that may be in use, one read after another.
+///
+/// The next register may depend on what the walk has read. Not every read is of a segment.
 pub trait SegmentWalk {
     /// What names a register.
     type Reg;
 
-    /// What stands in a register.
+    /// What a register holds.
     type Value;
 
-    /// What a walk reads next, and what comes of it.
+    /// What a walk reads next, and its state after each read.
     ghost walks: { WalkSteps Self Self.Reg Self.Value };
 
-    /// The register that is read next.
+    /// Returns the register of the next read.
     fn next(&self) -> Self::Reg
         ensures { result ≡ walks.next self.now };
 
-    /// The place whose segment that register is, where it is one.
+    /// Returns the place whose segment the next read reads, or `None` if it reads no segment.
     fn place(&self) -> Option<Place>
         ensures { result ≡ walks.place self.now };
 
-    /// Takes what was read. Tells whether the walk is over.
+    /// Takes the value that was read, and returns true if and only if the walk is over.
     fn resume(&mut self, got: &Self::Value) -> bool
         ensures after { self.new ≡ walks.resumed self.old got.now }
         ensures over { result ≡ walks.is_over self.old got.now };
 
-    /// The register of the segment at a place.
+    /// Returns the register of the segment at a place.
     fn segment(place: Place) -> Self::Reg
         ensures { result ≡ walks.segment place };
 
-    /// What to write into the register of a segment.
+    /// Returns the value that a register holds for this segment.
     fn stored(segment: Segment) -> Self::Value
         ensures { result ≡ walks.stored segment };
 
-    /// What a segment holds, whose register holds this.
+    /// Returns the record of the segment for which a register holds this value, or `None` if the segment is empty.
     fn content(value: &Self::Value) -> Option<&Record>
         ensures { option_copied result ≡ walks.content value.now };
 }

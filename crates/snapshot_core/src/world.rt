@@ -17,7 +17,7 @@ use std::alloc::Allocator;
 use std::marker::Model;
 use step_memory::{NoMemory, Note, Place, Refusal, World};
 
-/// Participants that update and scan, over places.
+/// A snapshot object over places, whose participants update and scan step by step (Afek et al. 1993).
 #[derive(Drop)]
 pub struct SnapWorld<W: Places, A: Allocator> {
     world: World<Client<W::Walker, W::Walk>, W, A>,
@@ -33,39 +33,39 @@ impl<W: Places, A: Allocator> Model for SnapWorld<W, A> {
 }
 
 impl<W: Places, A: Allocator> SnapWorld<W, A> {
-    /// The most participants.
+    /// Returns the most participants.
     pub fn most(&self) -> usize
         ensures { result ≡ self.now.most }
     {
         self.world.most()
     }
 
-    /// Why an identity may not begin: what `begin` would be refused. It changes nothing.
+    /// Returns the error that `begin` would return, or `None` if it would succeed.
     pub fn begin_refusal(&self, id: u64) -> Option<Refusal>
         ensures { result ≡ begin_refusal self.now id }
     {
         self.world.begin_refusal(id)
     }
 
-    /// The place of a participant, once it has one.
+    /// Returns the place of a participant, or `None` if it has not reached one or has not begun.
     pub fn place_of(&self, id: u64) -> Option<Place>
         ensures value { result ≡ place_in ⟦<W as Known>⟧.places self.now id }
 
-        // No two have one place, and where a step has told a place, it is that one.
+        // No two participants have one place. If a step has returned a place, it is that one.
         ensures distinct { HasDistinctPlaces ⟦<W as Known>⟧.places self.now }
         ensures reported { KeepsReported ⟦<W as Known>⟧.places self.now id }
     {
         self.world.program(id)?.walker.place()
     }
 
-    /// A participant, for what watches from outside: `next` says which register it accesses next, and how.
+    /// Returns a participant, for observers, or `None` if the identity has not begun. Its `next` is its next access.
     pub fn client(&self, id: u64) -> Option<&Client<W::Walker, W::Walk>>
         ensures { option_copied result ≡ program_of id self.now.participants }
     {
         self.world.program(id)
     }
 
-    /// The places and their segments, for what watches from outside.
+    /// Returns the places with their segments, for observers.
     pub fn places(&self) -> &W
         ensures { result.now ≡ self.now.memory }
     {
@@ -79,8 +79,11 @@ where
     W::Walk: Copy,
     W::Value: Drop,
 {
-    /// A snapshot object over these places, in which nobody has begun. Refused where the room for the participants was
-    /// refused.
+    /// Makes a snapshot object over these places, in which no participant has begun.
+    ///
+    /// # Errors
+    ///
+    /// `NoMemory`: the allocation of room for the participants failed.
     pub fn new(alloc: A, places: W) -> Result<Self, Refusal>
         ensures fresh { IfOk result (λ w. w ≡ fresh_over ⟦<W as Known>⟧.places places) }
         ensures after { IfOk result (λ w. Reaches (snapshot ⟦<W as Known>⟧.places) places w []) }
@@ -93,8 +96,15 @@ where
         })
     }
 
-    /// A participant begins. Refused where the identity is 0, then where it has begun, then where the object is full. It makes
-    /// no access.
+    /// Adds participant `id`, at the start of its way to a place. This makes no access.
+    ///
+    /// # Errors
+    ///
+    /// An error changes nothing. The first that applies is returned:
+    ///
+    /// - `ZeroIdentity`: `id` is 0.
+    /// - `AlreadyBegun`: `id` has begun.
+    /// - `Full`: as many participants as the object takes have begun.
     pub fn begin(&mut self, id: u64) -> Result<(), Refusal>
         ensures answer { result ≡ done_unless (begin_refusal self.old id) }
         ensures state { self.new ≡ after_snap_begin ⟦<W as Known>⟧.places self.old id }
@@ -109,8 +119,15 @@ where
         self.world.begin(id, client)
     }
 
-    /// Asks for an update with this value, which the next steps make. Refused where the identity has not begun, then where
-    /// something of it is pending, then where it was asked for 1,000,000 updates.
+    /// Asks for an update of the segment of `id` with `value`, which the next steps make. This makes no access.
+    ///
+    /// # Errors
+    ///
+    /// An error changes nothing. The first that applies is returned:
+    ///
+    /// - `NotBegun`: `id` has not begun.
+    /// - `AlreadyBegun`: an operation of `id`, or its way to a place, is pending.
+    /// - `Spent`: `id` was asked for 1,000,000 updates.
     pub fn update(&mut self, id: u64, value: u64) -> Result<(), Refusal>
         ensures answer { result ≡ done_unless (update_refusal self.old id) }
         ensures state { self.new ≡ after_update self.old id value }
@@ -131,8 +148,14 @@ where
         self.world.ask(id, ToUpdate { value })
     }
 
-    /// Asks for a scan, which the next steps make. Refused where the identity has not begun, then where something of it is
-    /// pending.
+    /// Asks for a scan of `id`, which the next steps make. This makes no access.
+    ///
+    /// # Errors
+    ///
+    /// An error changes nothing. The first that applies is returned:
+    ///
+    /// - `NotBegun`: `id` has not begun.
+    /// - `AlreadyBegun`: an operation of `id`, or its way to a place, is pending.
     pub fn scan(&mut self, id: u64) -> Result<(), Refusal>
         ensures answer { result ≡ done_unless (scan_refusal self.old id) }
         ensures state { self.new ≡ after_scan self.old id }
@@ -150,8 +173,10 @@ where
         self.world.ask(id, ToScan)
     }
 
-    /// One step of a participant, if it is a read of a scan that goes on: it copies no segment, and answers `Quiet`. Tells
-    /// whether it was made; where not, nothing has changed, and `walk_on` or `step` makes it, or `step` refuses it.
+    /// Makes the step of participant `id`, without a copy of the segment, if it is a read after which its scan goes on.
+    ///
+    /// Returns whether it did; the step's reply is then `Quiet`. If not, nothing has changed, and `step` makes the
+    /// step.
     #[inline(always)]
     pub fn read_on(&mut self, id: u64) -> bool
         ensures answer { result ≡ true → snap_answer ⟦<W as Known>⟧.places self.old id ≡ Ok SnapReply.Quiet }
@@ -164,9 +189,14 @@ where
         self.world.read_on(id)
     }
 
-    /// One step of a participant, if it is one of its way to its place: it copies no segment. What the way says; `None` where
-    /// the step was not made: then nothing has changed, and `step` makes it or refuses it. An error where the memory refused a
-    /// growth: then nothing has changed, and the same step may be asked again.
+    /// Makes the step of participant `id`, without a copy of a value, if it is one of its way to a place.
+    ///
+    /// Returns the note of that step, or `None` if it made none. Nothing has changed then, and `step` makes the step.
+    ///
+    /// # Errors
+    ///
+    /// `NoMemory`: the access needed memory and the allocation failed. Nothing has changed, and the caller may repeat
+    /// the step.
     pub fn walk_on(&mut self, id: u64) -> Result<Option<Note<Place>>, NoMemory>
         ensures answer { IfSome (reported_in result) (λ note. snap_answer ⟦<W as Known>⟧.places self.old id ≡ Ok (reported_of_way note)) }
         ensures state { IfSome (reported_in result) (λ _. self.new ≡ after_snap_step ⟦<W as Known>⟧.places self.old id) }
@@ -179,7 +209,8 @@ where
         self.world.take::<OnWay>(id)
     }
 
-    /// Any other step. A function of its own, so that a read of a scan that goes on has no room of a segment to clear.
+    /// Makes any other step. It is a function of its own, so that a read of a scan that goes on has no room of a
+    /// segment to clear.
     #[inline(never)]
     fn take_step(&mut self, id: u64) -> Result<SnapReply, Refusal>
         ensures answer { result ≢ Err Refusal.NoMemory → result ≡ snap_answer ⟦<W as Known>⟧.places self.old id }
@@ -201,8 +232,20 @@ where
         }
     }
 
-    /// One step of a participant: one access. Refused where the identity has not begun, then where nothing of it is
-    /// pending, then where the memory refused a growth: then the same step may be asked again.
+    /// Makes one step of participant `id`: one access. Returns what the step completed.
+    ///
+    /// # Errors
+    ///
+    /// An error changes nothing. The first that applies is returned:
+    ///
+    /// - `NotBegun`: `id` has not begun.
+    /// - `Finished`: nothing of `id` is pending.
+    /// - `NoMemory`: the step is on the way to a place, and an allocation failed. The caller may repeat the step.
+    ///
+    /// # Steps
+    ///
+    /// Let b have begun, and a walk over the segments make at most r reads. A scan takes at most (b + 1)r steps, each a
+    /// read. An update takes at most one step more, its write. A solo run takes fewer (`law_of_steps_alone`).
     #[inline(always)]
     pub fn step(&mut self, id: u64) -> Result<SnapReply, Refusal>
         ensures answer { result ≢ Err Refusal.NoMemory → result ≡ snap_answer ⟦<W as Known>⟧.places self.old id }
@@ -213,10 +256,11 @@ where
         ensures after { Extends (snapshot ⟦<W as Known>⟧.places) self.old self.new (Stepped id result) }
         ensures law { SatisfiesSpec (snapshot ⟦<W as Known>⟧.places) self.new }
 
-        // Nothing of the object changes but this participant and the register that it names, and in another one that
-        // looks alike to this participant the answer is the same, and where the participant then stands. The access is
-        // one for what it has to do: on its way to its place a read, a write or none, which leaves each segment as it is, in
-        // a scan a read, at the end of an update the write of its own segment.
+        // Nothing of the object changes except this participant and the register that it names. In another object that
+        // this participant cannot distinguish, the reply and its new state are the same.
+        //
+        // Its access is one for what is pending. On the way to a place it is a read, a write or none, and changes no
+        // segment. In a scan it is a read, and at the end of an update the write of its own segment.
         ensures local { ChangesOnly (clients_over ⟦<W as Known>⟧.places) W.steps id self.old self.new }
         ensures alike { result ≢ Err Refusal.NoMemory → AnswersAlike ⟦<W as Known>⟧.places self.old id result }
         ensures stands_alike { result ≢ Err Refusal.NoMemory → StaysAlike ⟦<W as Known>⟧.places self.old self.new id }

@@ -10,10 +10,13 @@ use crate::fixed::Fixed;
 use crate::world::SnapWorld;
 use std::alloc::Allocator;
 
-/// A law, which runs nothing. Over at most 16 segments in a row, which were empty at first, the calls of a snapshot object
-/// with their replies are those of the object of the law, after every list of calls: a view shows a moment from the last
-/// one at the scan's first read on, and over m segments a scan takes at most m(m + 1) steps and an update one more.
-/// Nobody takes a step to its place, and no step wants memory. A fresh row is one in which nothing was written.
+/// A law: over at most 16 segments in a row, empty at first, a snapshot object satisfies its specification after every
+/// list of calls.
+///
+/// - A view is a moment: the last one at the scan's first read, or a later one.
+/// - Over m segments a scan takes at most m(m + 1) steps, and an update one more.
+/// - No participant makes a step to its place, and no step allocates.
+/// - A fresh row is one in which nothing was written.
 pub fn snapshot_law<A: Allocator>(world: &SnapWorld<Fixed<A>, A>)
     ensures law { world.now.most ≤ 16 → SatisfiesSpecFrom fixed_places (fresh_row world.now.most) (fixed_bounds world.now.most) world.now }
     ensures fits { BoundsScans fixed_places world.now.most (fixed_bounds world.now.most).scanning }

@@ -1,11 +1,12 @@
--- the law of the splitter (Moir and Anderson 1995), of the set that entered and of the way that each took
+-- the specification of the splitter (Moir and Anderson 1995), by the participants that entered and the way that each
+-- took
 use Rattle.std.specs.Prelude.{◌≡◌, ◌≢◌, ℕ, ◌<◌, ◌≤◌, List, Option, Some, IsSome, is_some}
 use Rattle.step_memory.specs.Calls.{Call, steps_of, outcome_of}
 use Rattle.step_memory.specs.Due.{EndsOnce}
 use Rattle.splitter.specs.declared.way.Way.{Way}
 use Rattle.splitter.specs.declared.way.Way.TheVariants.{Stop, Right, Down}
 
--- no two stopped
+-- at most one participant stopped
 abbrev pub AtMostOneStopped : (ℕ → Way → Type 0) → Type 0
 AtMostOneStopped Took = (p q : ℕ) → Took p Stop → Took q Stop → p ≡ q
 
@@ -13,13 +14,13 @@ AtMostOneStopped Took = (p q : ℕ) → Took p Stop → Took q Stop → p ≡ q
 abbrev pub NotAllTook : Way → (ℕ → Type 0) → (ℕ → Way → Type 0) → Type 0
 NotAllTook way Entered Took = (p : ℕ) → Entered p → (q : ℕ) × Entered q × (¬ Took q way)
 
--- at most one of those who entered stopped; not all of them went right, and not all of them went down
+-- at most one of the participants that entered stopped; not all of them went right, and not all of them went down
 pub record IsSplit (Entered : ℕ → Type 0) (Took : ℕ → Way → Type 0) : Type 0 where
   pub one_stops : AtMostOneStopped Took
   pub not_all_right : NotAllTook Right Entered Took
   pub not_all_down : NotAllTook Down Entered Took
 
--- p has entered: it has made an accepted step. Those in the middle of a visit are counted
+-- p has entered: it has made an accepted step. A visit that has not ended counts
 abbrev pub HasEntered : List (Call (Option Way)) → ℕ → Type 0
 HasEntered r p = 0 < steps_of p r
 
@@ -27,9 +28,9 @@ HasEntered r p = 0 < steps_of p r
 abbrev pub WentBy : List (Call (Option Way)) → ℕ → Way → Type 0
 WentBy r p way = outcome_of p r ≡ Some way
 
--- the law over calls and replies: those who entered are split, and who enters alone stops; a visit ends at its fourth
--- step or earlier, at its second where it goes right and else at its fourth; and no one makes a step after its visit has
--- ended
+-- The specification over calls and replies. The participants that entered are split, and one that enters alone stops. A
+-- visit that goes right ends at its second step, and any other at its fourth. No participant makes a step after its
+-- visit has ended
 pub record SplitterSpec (r : List (Call (Option Way))) : Type 0 where
   pub split : IsSplit (HasEntered r) (WentBy r)
   pub at_most_four : (p : ℕ) → steps_of p r ≤ 4

@@ -1,4 +1,4 @@
--- what the calls of a splitter's world answer and leave
+-- the replies of a splitter's world, and its state after each call
 use Rattle.std.specs.Prelude.{ℕ, [], Option, Result, replicate, false, is_some}
 use Rattle.step_memory.specs.declared.refusal.Refusal.{Refusal}
 use Rattle.step_memory.specs.RegisterState.{Registers}

@@ -1,4 +1,4 @@
--- how far a visit has come, and what its next access does to X, to Y and to itself
+-- the stages of a visit, and the effect of its next access on X, on Y and on its stage
 use Rattle.std.specs.Prelude.{ℕ, Bool, true, false, ◌==◌, if◌then◌else◌}
 use Rattle.splitter.specs.declared.way.Way.TheVariants.{Stop, Right, Down}
 use Rattle.splitter.specs.declared.stage.Stage.{Stage}
@@ -39,12 +39,12 @@ abbrev pub went_down : Stage → Bool
 went_down (Gone Down) = true
 went_down s = false
 
--- what stands in X after the next access of p, where x stood there
+-- X after the next access of p, by what it held before
 abbrev pub x_after : ℕ → Stage → ℕ → ℕ
 x_after p Outside x = p
 x_after p s x = x
 
--- what stands in Y after it, where y stood there; 0 is clear
+-- Y after that access, by what it held before; 0 is clear
 abbrev pub y_after : Stage → ℕ → ℕ
 y_after Outside y = y
 y_after WroteX y = y
@@ -52,7 +52,7 @@ y_after SawClear y = 1
 y_after WroteY y = y
 y_after (Gone way) y = y
 
--- how far p has come after it
+-- the stage of p after that access
 abbrev pub stage_after : ℕ → Stage → ℕ → ℕ → Stage
 stage_after p Outside x y = WroteX
 stage_after p WroteX x y = if y == 0 then SawClear else Gone Right

@@ -1,4 +1,4 @@
--- the accesses of a visit, and what their answers make of it
+-- the accesses of a visit, and the visit after each answer
 use Rattle.std.specs.Prelude.{◌≡◌, ◌≢◌, ℕ, length}
 use Rattle.step_memory.specs.declared.access.Access.{Access}
 use Rattle.step_memory.specs.declared.access.Access.TheVariants.{Read, Write, Nothing}
@@ -36,7 +36,7 @@ value_in (Value value) = value
 value_in (WasSet was) = 0
 value_in Done = 0
 
--- how far it comes by an answer: one access reads X or Y, so the answer stands for both
+-- the stage of a visit after an answer. One access reads X or Y, so the answer is the value of either
 abbrev pub stage_by : {R : Type 0} → Visitor R → Answer ℕ → Stage
 stage_by v got = stage_after v.identity v.stage (value_in got) (value_in got)
 
@@ -60,8 +60,7 @@ visitor_steps = record { next = access_of; resumed = visitor_after; note = note_
 abbrev pub word_of : Registers ℕ → ℕ → ℕ
 word_of m r = (register_of m r).0
 
--- the next access of a visit to registers in a row does to X, to Y and to the visit what is said of them, and leaves
--- every other register
+-- the next access of a visit changes X, Y and the visit as stated above, and no other register
 pub record IsAccessOf (m : Registers ℕ) (v : Visitor ℕ) : Type 0 where
   pub stage : stage_by v (answer_of m (access_of v)) ≡ stage_after v.identity v.stage (word_of m v.x) (word_of m v.y)
   pub x : word_of (after_access m (access_of v)) v.x ≡ x_after v.identity v.stage (word_of m v.x)

@@ -1,5 +1,5 @@
--- a walk from door to door, each of which has a splitter: what it is, says and has, by how far the visit to its door has
--- come (Moir and Anderson 1995)
+-- a walk from door to door, each of which has a splitter: its note and its place, by the stage of the visit to its door
+-- (Moir and Anderson 1995)
 use Rattle.std.specs.Prelude.{ℕ, Option, Some, None}
 use Rattle.step_memory.specs.declared.note.Note.{Note}
 use Rattle.step_memory.specs.declared.note.Note.TheVariants.{Quiet, Ended}
@@ -27,7 +27,7 @@ abbrev pub place_at_door : ℕ → Stage → Option ℕ
 place_at_door k (Gone Stop) = Some k
 place_at_door k s = None
 
--- the most accesses that a visit has made which has come this far
+-- the most accesses of a visit up to this stage
 abbrev pub accesses_at : Stage → ℕ
 accesses_at Outside = 0
 accesses_at WroteX = 1

@@ -1,5 +1,5 @@
--- which doors were entered over a list of calls. Moves are quiet, so the calls and replies alone do not tell: one goes
--- along them with the worlds between
+-- the doors that a list of calls enters. Moves are quiet, so calls and replies alone do not show it, and the worlds
+-- between them are needed
 use Rattle.std.specs.Prelude.{◌≡◌, ◌≢◌, ◌↔◌, ℕ, List, Option, Some, Ok, Err}
 use Rattle.step_memory.specs.Count.{count_to}
 use Rattle.step_memory.specs.Participant.{program_of}
@@ -14,7 +14,7 @@ use Rattle.splitter_grid.specs.Walk.{walk_of, walker_steps}
 use Rattle.splitter_grid.specs.Invariant.{x_in, was_entered}
 use Rattle.splitter_grid.specs.Machine.{GridState, fresh, grid, doors_for}
 
--- the call is an accepted step, made by one who stands at door k
+-- the call is an accepted step of a participant at door k
 abbrev pub Enters : GridState → Call (Option ℕ) → ℕ → Type 0
 Enters w (Began id reply) k = ⊥
 Enters w (Stepped id (Err refusal)) k = ⊥
@@ -28,7 +28,7 @@ EntersFrom w r k = HappensFrom (next walker_steps memory_steps outcome_in walk_o
 abbrev pub WasEntered : ℕ → List (Call (Option ℕ)) → ℕ → Type 0
 WasEntered most r k = EntersFrom (fresh most) r k
 
--- after any calls that lead to this world X of a door is not 0 exactly where the door was entered
+-- after any calls that lead to this world, X of a door is not 0 if and only if the door was entered
 abbrev pub ShowsWhatWasEntered : GridState → Type 0
 ShowsWhatWasEntered w = OnEveryHistory grid (λ most r. (k : ℕ) → (x_in w.memory k ≢ 0) ↔ WasEntered most r k) w
 

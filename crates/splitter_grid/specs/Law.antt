@@ -1,13 +1,13 @@
--- the law of the grid (Moir and Anderson 1995), over calls and their replies
+-- the specification of the grid (Moir and Anderson 1995), over calls and their replies
 use Rattle.std.specs.Prelude.{◌≡◌, ℕ, ◌*◌, ◌<◌, ◌≤◌, List, Option, Some, IsSome, is_some}
 use Rattle.step_memory.specs.Calls.{Call, outcome_of, steps_of, begun_in}
 pub use Rattle.step_memory.specs.Distinct.{AreDistinct}
 use Rattle.step_memory.specs.Due.{EndsOnce}
 use Rattle.splitter_grid.specs.Door.{IsDoorWithin}
 
--- Where b have begun: places are distinct. Row and column of the door of a place are together at most b - 1. Nobody makes
--- more than 4b accepted steps, and who has made so many, and any, has a place. No one makes a step after it got its
--- place
+-- Let b have begun. Places are distinct. Row and column of the door of a place are together at most b - 1. No
+-- participant makes more than 4b accepted steps, and one that has made 4b, and any at all, has a place. No participant
+-- makes a step after it got its place
 pub record GridSpec (r : List (Call (Option ℕ))) : Type 0 where
   pub distinct : AreDistinct (λ p. outcome_of p r)
   pub within : (p place : ℕ) → outcome_of p r ≡ Some place → IsDoorWithin (begun_in r) place

@@ -1,4 +1,4 @@
--- what the laws of this crate say, each under a name
+-- the statements of this crate's laws, each under a name
 use Rattle.step_memory.specs.Locality.{Indistinguishable, StandAlike}
 use Rattle.std.specs.Prelude.{◌≡◌, ◌≢◌, ℕ, ◌+◌, ◌*◌, ◌≤◌, ◌<◌, length, Option, Some, None, ◌∷◌, ◌++◌, List, Ok, Err, false, is_some}
 use Rattle.splitter.specs.Visitor.{word_of}
@@ -40,7 +40,7 @@ ComesNearer =
     (most b : ℕ) (m : Registers ℕ) (walker : ℕ → Option Walker) (p : ℕ) (u : Walker) (got : Answer ℕ) → IsConsistent most b m walker →
     walker p ≡ Some u → place_of u ≡ None → accesses_of u + 1 ≤ accesses_of (walker_after u got)
 
--- who has no place has accesses left
+-- a participant without a place has accesses left
 abbrev pub HasAccessesLeft : Type 0
 HasAccessesLeft =
     (most b : ℕ) (m : Registers ℕ) (walker : ℕ → Option Walker) (p : ℕ) (u : Walker) → IsConsistent most b m walker → walker p ≡ Some u →
@@ -61,6 +61,7 @@ abbrev pub LetsTheFirstIn : Type 0
 LetsTheFirstIn =
     (most p : ℕ) (why : Refusal) (rest : List (Call (Option ℕ))) → 1 ≤ most → p ≢ 0 → RefusesAsDue is_some most false (Began p (Err why) ∷ rest) → ⊥
 
--- who stands in the new world stands alike after its step in each world that looks alike to it
+-- in each world that the participant cannot distinguish from the old one, its step leaves it in the same state as in
+-- the new one
 abbrev pub StaysAlike : GridState → GridState → ℕ → Type 0
 StaysAlike old new id = (other : GridState) → Indistinguishable walker_steps memory_steps id old other → StandAlike id new (world_after_step other id)

@@ -1,4 +1,4 @@
--- what the calls of a grid's world answer and leave
+-- the replies of a grid's world, and its state after each call
 use Rattle.std.specs.Prelude.{◌≤◌, ℕ, ◌+◌, ◌*◌, ◌/◌, false, [], Option, Result, replicate, is_some}
 use Rattle.step_memory.specs.declared.refusal.Refusal.{Refusal}
 use Rattle.step_memory.specs.RegisterState.{Registers}
@@ -54,6 +54,6 @@ grid = world_machine grid_parts
 abbrev pub place_in : GridState → ℕ → Option ℕ
 place_in w id = place_by (program_of id w.participants)
 
--- the doors of a grid for so many participants
+-- the number of doors of a grid for this many participants
 abbrev pub doors_for : ℕ → ℕ
 doors_for most = most * (most + 1) / 2

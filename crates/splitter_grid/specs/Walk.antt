@@ -11,7 +11,7 @@ use Rattle.splitter_grid.specs.declared.door.Door.{Door}
 use Rattle.splitter_grid.specs.declared.walker.Walker.{Walker}
 use Rattle.splitter_grid.specs.Door.{number_of, right_of, down_of, corner}
 
--- a walk that stands before a door: door k has registers 2k and 2k + 1
+-- a walk before a door: door k has registers 2k and 2k + 1
 abbrev pub walker_at : ℕ → Door → Walker
 walker_at id door = record { visitor = visitor_at id (2 * number_of door) (2 * number_of door + 1); door = door }
 
@@ -26,7 +26,7 @@ next_access u = access_of u.visitor
 abbrev pub visit_on : Walker → Stage → Walker
 visit_on u s = record u { visitor = record u.visitor { stage = s } }
 
--- the walk whose visit has come this far: from a visit that ends right or down it stands before the next door
+-- the walk whose visit is at this stage. After a visit that ends right or down it is before the next door
 abbrev pub walked_to : Walker → Stage → Walker
 walked_to u s = gone_on (visit_on u) (walker_at u.visitor.identity (right_of u.door)) (walker_at u.visitor.identity (down_of u.door)) s
 
@@ -48,7 +48,7 @@ place_of u = place_at_door (number_of u.door) u.visitor.stage
 abbrev pub place_by : Option Walker → Option ℕ
 place_by walk = option_and_then place_of walk
 
--- the most accesses that a walk which stands here has made: four at each door that it passed, and those at its door
+-- the most accesses of a walk up to here: four at each door that it passed, and those at its door
 abbrev pub accesses_of : Walker → ℕ
 accesses_of u = 4 * u.door.depth + accesses_at u.visitor.stage
 

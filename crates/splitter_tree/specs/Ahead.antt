@@ -1,4 +1,4 @@
--- what a walk over a tree still comes to, and how far it has come. Marks are never taken back
+-- the nodes that a walk over a tree has still to read, and those that it has read. No mark is ever cleared
 use Rattle.std.specs.Prelude.{◌≡◌, ℕ, ◌+◌, ◌*◌, ◌/◌, ◌%◌, ◌<◌, ◌≤◌, Bool, true, false, ◌&&◌, ◌==◌, nat_lt, if◌then◌else◌}
 use Rattle.std.proofs.Common.{zero, suc}
 use Rattle.step_memory.specs.Steps.{MemorySteps}
@@ -15,11 +15,11 @@ module _ {S : Type 0} (memory : MemorySteps S TreeRegister TreeValue) where
   abbrev pub marked_in : S → ℕ → Bool
   marked_in s k = mark_at memory s k == 1
 
-  -- what a walk's next read gives
+  -- the value that the next read of a walk gives
   abbrev pub found_by : S → CollectWalk → TreeValue
   found_by s w = (memory.register s (register_read w)).0
 
--- what a walk reads in a mark tells whether its node is marked
+-- the value that a walk reads in a mark shows whether the node is marked
 abbrev pub Sees : (ℕ → Bool) → CollectWalk → TreeValue → Type 0
 Sees marked w got = w.is_reading_contents ≡ false → is_mark got ≡ marked w.at
 
@@ -38,7 +38,7 @@ pub record IsUpcoming (w : CollectWalk) (q : ℕ) : Type 0 where
   pub goes_on : 1 ≤ w.at
   pub is : IsFrom w.at q
 
--- it surely will
+-- the walk will read the segment of node q
 pub record IsAhead (marked : ℕ → Bool) (w : CollectWalk) (q : ℕ) : Type 0 where
   pub upcoming : IsUpcoming w q
   pub marks : IsPathMarked marked q
@@ -51,7 +51,7 @@ open_in (suc n) p = (if (p % 2 == 0) && nat_lt 1 p then 1 else 0) + open_in n (p
 abbrev pub open_at : ℕ → ℕ
 open_at p = open_in p p
 
--- the walk has made so many reads, and found so many nodes marked, all of which it has passed
+-- the walk has made this many reads, and has found this many nodes marked, all of which it has passed
 pub record HasRead (marked : ℕ → Bool) (w : CollectWalk) (nodes reads : ℕ) : Type 0 where
   pub goes_on : 1 ≤ w.at
   pub found : ℕ → Bool

@@ -1,4 +1,4 @@
--- what a participant of a tree does
+-- a participant of a tree, as a program
 use Rattle.std.specs.Prelude.{ℕ, Bool, true, false, if◌then◌else◌, List, [], Option, Some, None}
 use Rattle.step_memory.specs.declared.access.Access.{Access}
 use Rattle.step_memory.specs.declared.access.Access.TheVariants.{Read, Write, Nothing as Idle}
@@ -21,7 +21,7 @@ use Rattle.splitter_tree.specs.declared.client.TreeReply.TheVariants.{Placed, St
 use Rattle.splitter_tree.specs.Walk.{walk_of, next_access, walker_after, walker_note, place_of}
 use Rattle.splitter_tree.specs.Collect.{first_collect, collect_reads, collect_after, collect_view}
 
--- the place and the view that a step tells
+-- the place and the view that a step returns
 abbrev pub place_in : TreeReply → Option ℕ
 place_in (Placed place) = Some place
 place_in Stored = None
@@ -69,7 +69,7 @@ storing c value = with_task c (Storing value)
 abbrev pub collecting : Client → Client
 collecting c = with_task c (Collecting first_collect)
 
--- what it writes into its segment
+-- the record that it writes into its segment
 abbrev pub record_of : Client → ℕ → Record
 record_of c value = record { identity = c.walker.visitor.identity; value = value; number = 0; view = [] }
 
@@ -97,14 +97,14 @@ placed_note Quiet = Quiet
 placed_note (Said place) = Quiet
 placed_note (Ended place) = Said (Placed place)
 
--- what comes of an answer on the way to the place
+-- the participant after an answer on the way to its place, and the note of the step
 abbrev pub placing_after : Client → Answer TreeValue → Client
 placing_after c got = record { walker = walker_after c.walker got; task = if is_placed (walker_note c.walker got) then Nothing else c.task }
 
 abbrev pub placing_note : Client → Answer TreeValue → Note TreeReply
 placing_note c got = placed_note (walker_note c.walker got)
 
--- what comes of a read of a collect
+-- the participant after a read of a collect, and the note of the step
 abbrev pub task_after : Collect → Option (List (ℕ × ℕ)) → Task
 task_after collect None = Collecting collect
 task_after collect (Some view) = Nothing

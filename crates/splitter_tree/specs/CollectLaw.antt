@@ -1,6 +1,6 @@
--- the law of collects, over the calls of a tree's world with their replies alone: what a collect shows of each was
--- stored last at some moment within the collect, and who had stored before is shown. That steps are counted, and so
--- bounded, is this project's profile
+-- the specification of collects, over the calls of a tree's world with their replies alone. A collect shows of each
+-- identity a value that was its last at some moment within the collect. It shows each that had stored before. That
+-- steps are counted, and so bounded, is this project's profile
 use Rattle.std.specs.Prelude.{◌≡◌, ℕ, ◌+◌, ◌-◌, ◌*◌, ◌<◌, ◌≤◌, Bool, true, false, List, Option, Some, None, IsSome, Ok}
 use Rattle.step_memory.specs.Runs.{Run}
 use Rattle.step_memory.specs.SetAt.{set_at}
@@ -8,8 +8,8 @@ use Rattle.step_memory.specs.View.{IsRising, value_of}
 use Rattle.splitter_tree.specs.TreeCalls.{TreeCall}
 use Rattle.splitter_tree.specs.TreeCalls.TreeCall.{Began, Stored, CollectBegan, CollectStepped}
 
--- the object: how many have begun; the moments, which are maps from identity to the value stored last, by their numbers
--- from 0 to the last; and of each identity whether it collects, since which moment, and with how many steps
+-- the object. It has the number that have begun, and moments: maps from identity to the value stored last, with numbers
+-- from 0 to the last. Of each identity it has whether it collects, since which moment, and with how many steps
 pub record CollectObject : Type 0 where
   pub begun : ℕ
   pub last : ℕ
@@ -25,7 +25,7 @@ new_object = record { begun = 0; last = 0; moment = λ i q. None; collects = λ 
 abbrev pub one_begun : CollectObject → CollectObject
 one_begun o = record { begun = o.begun + 1; last = o.last; moment = o.moment; collects = o.collects; since = o.since; steps = o.steps }
 
--- a store makes a new moment, in which p has this value and every other what it had
+-- a store makes a new moment, in which p has this value, and each other identity the value that it had
 abbrev pub with_moment : CollectObject → ℕ → ℕ → CollectObject
 with_moment o p value = record {
   begun = o.begun;
@@ -56,8 +56,8 @@ observed o (CollectBegan p (Ok done)) = collect_begun o p
 observed o (CollectStepped p (Ok shown)) = collect_stepped o p shown
 observed o t = o
 
--- a view of a collect since this moment: by rising identity, one pair for each identity that it has; the value of a pair
--- was that identity's in some moment of the collect; and whoever had stored when the collect began has a pair
+-- a view of a collect since this moment, with one pair for each identity in it, in rising order. The value of a pair
+-- was that identity's in some moment of the collect. Each identity that had stored when the collect began has a pair
 pub record ShowsValues (o : CollectObject) (since : ℕ) (view : List (ℕ × ℕ)) : Type 0 where
   pub rising : IsRising view
   pub stored : (q value : ℕ) → value_of q view ≡ Some value → (i : ℕ) × (since ≤ i) × (i ≤ o.last) × (o.moment i q ≡ Some value)
@@ -67,18 +67,19 @@ pub record ShowsValues (o : CollectObject) (since : ℕ) (view : List (ℕ × �
 abbrev pub most_steps : ℕ → ℕ
 most_steps b = 6 * b - 2
 
--- what a collect's step may show. Where it shows nothing, steps are left: so it does not go on for ever
+-- the results that a step of a collect may show. If it shows no view, steps of the collect are left, so that it ends
 abbrev pub AllowsStep : CollectObject → ℕ → Option (List (ℕ × ℕ)) → Type 0
 AllowsStep o p None = o.steps p + 1 < most_steps o.begun
 AllowsStep o p (Some view) = (o.steps p + 1 ≤ most_steps o.begun) × ShowsValues o (o.since p) view
 
--- who collects neither stores nor begins another collect, and who does not collect takes no step of one
+-- a participant that collects neither stores nor begins another collect, and one that does not collect makes no step of
+-- one
 abbrev pub Allows : CollectObject → TreeCall → Type 0
 Allows o (Stored p value (Ok done)) = o.collects p ≡ false
 Allows o (CollectBegan p (Ok done)) = o.collects p ≡ false
 Allows o (CollectStepped p (Ok shown)) = (o.collects p ≡ true) × AllowsStep o p shown
 Allows o t = Unit {0}
 
--- these calls, with these replies, keep the law of collects
+-- these calls, with these replies, satisfy the specification of collects
 abbrev pub CollectSpec : List TreeCall → Type 0
 CollectSpec r = (o : CollectObject) × Run observed Allows new_object r o

@@ -25,11 +25,11 @@ register_read w = if w.is_reading_contents then Contents w.at else Mark w.at
 abbrev pub place_read : CollectWalk → Option ℕ
 place_read w = if w.is_reading_contents then Some w.at else None
 
--- whether this stands in the mark of a node that was made
+-- whether this is the value of a mark of a node that was made
 abbrev pub is_mark : TreeValue → Bool
 is_mark value = word_in value == 1
 
--- from a right child to its parent, and on, so many times at most
+-- the node reached from p by going from a right child to its parent, at most n times
 abbrev pub climbed_in : ℕ → ℕ → ℕ
 climbed_in zero p = p
 climbed_in (suc n) p = if (p % 2 == 1) && nat_lt 1 p then climbed_in n (p / 2) else p
@@ -52,7 +52,7 @@ child_or p other = if nat_lt (p * 2) numbers then Some (p * 2) else other
 abbrev pub node_next : CollectWalk → Option ℕ
 node_next w = if w.is_reading_contents then child_or w.at (node_after w.at) else node_after w.at
 
--- the walk goes on there. Over, it stands at 0, which is no node
+-- the walk goes on at this node. A walk that is over is at 0, which is no node
 abbrev pub goes_to : Option ℕ → CollectWalk
 goes_to None = walk_at 0 false
 goes_to (Some p) = walk_at p false

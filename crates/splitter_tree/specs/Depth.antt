@@ -2,12 +2,12 @@
 use Rattle.std.specs.Prelude.{ℕ, ◌/◌, ◌^◌, ◌≤◌, ◌<◌, nat_le, if◌then◌else◌}
 use Rattle.std.proofs.Common.{zero, suc}
 
--- the depth of node k, seen from so many levels above it at most
+-- the depth of node k, or n if it is deeper
 abbrev pub depth_in : ℕ → ℕ → ℕ
 depth_in zero k = 0
 depth_in (suc n) k = if nat_le k 1 then 0 else suc (depth_in n (k / 2))
 
--- how many nodes lie above node k
+-- the number of nodes above node k
 abbrev pub depth_of : ℕ → ℕ
 depth_of k = depth_in k k
 

@@ -1,4 +1,4 @@
--- what ties the nodes of a tree to the walks in it: the relation that structures over the tree stand on
+-- the invariant that relates the nodes of a tree to the walks in it, which structures over the tree use
 use Rattle.std.specs.Prelude.{◌≡◌, ◌≢◌, ℕ, ◌+◌, ◌-◌, ◌*◌, ◌<◌, ◌≤◌, Bool, true, false, not, ◌==◌, if◌then◌else◌, List, length, Option, Some, None, IsSome}
 use Rattle.std.proofs.Common.{get_or}
 use Rattle.step_memory.specs.Steps.{MemorySteps}
@@ -18,8 +18,8 @@ use Rattle.splitter_tree.specs.Depth.{depth_of, IsNodeWithin}
 use Rattle.splitter_tree.specs.NodeOrder.{IsUnder}
 use Rattle.step_memory.specs.Distinct.{AreDistinct}
 
--- the walk of p agrees with the visits: it stands at a node that it came to, has written its mark before it visits it, has
--- not left it, and has entered no node of a larger number
+-- the walk of p agrees with the visits. It is at a node that it reached, writes the mark before it visits, has not left
+-- the node, and has entered no node of a larger number
 pub record IsWalkOf (mark : ℕ → ℕ) (stage : ℕ → ℕ → Stage) (came : ℕ → ℕ → Bool) (p : ℕ) (u : Walker) : Type 0 where
   pub identity : u.visitor.identity ≡ p
   pub x : u.visitor.x ≡ X u.place
@@ -32,32 +32,32 @@ pub record IsWalkOf (mark : ℕ → ℕ) (stage : ℕ → ℕ → Stage) (came :
   pub not_down : went_down u.visitor.stage ≡ false
   pub below : (k : ℕ) → u.place < k → stage k p ≡ Outside
 
--- b have begun. Node k has this mark, this in X and this in Y. The past is in two of the fields: how far p's visit to
--- node k came, and whether p came to it: it stands before it, visits it, or has passed it
+-- b have begun, and the mark, X and Y of node k hold these values. Two fields have the past: the stage of p's visit to
+-- node k, and whether p reached it. If it did, it is before it, visits it, or has passed it
 pub record NodesAgree (b : ℕ) (mark x_of y_of : ℕ → ℕ) (walker : ℕ → Option Walker) : Type 0 where
   pub stage : ℕ → ℕ → Stage
   pub came : ℕ → ℕ → Bool
-  -- who has begun
+  -- the participants that have begun
   pub identities : List ℕ
   pub many : length identities ≡ b
   pub nobody : walker 0 ≡ None
-  -- each walk agrees with the visits, and who has not begun made none
+  -- each walk agrees with the visits, and a participant that has not begun made none
   pub walks : (p : ℕ) (u : Walker) → walker p ≡ Some u → IsWalkOf mark stage came p u
   pub absent : (p : ℕ) → walker p ≡ None → (k : ℕ) → stage k p ≡ Outside
-  -- each node has a lawful splitter
+  -- the splitter of each node keeps its invariant
   pub splitters : (k : ℕ) → DoorSatisfiesSpec (x_of k) (y_of k) (stage k)
-  -- who entered a node's splitter came to the node, and who came to a node has begun
+  -- a participant that entered the splitter of a node reached the node, and one that reached a node has begun
   pub entered : (k p : ℕ) → has_entered (stage k p) ≡ true → came k p ≡ true
   pub listed : (k p : ℕ) → came k p ≡ true → (i : ℕ) × (i < length identities) × (get_or identities i 0 ≡ p)
-  -- it came to the root, or down or right from the node above
+  -- a participant reached the root, or went down or right from the node above
   pub node : (k p : ℕ) → came k p ≡ true → 1 ≤ k
   pub came_down : (k p : ℕ) → 1 ≤ k → came (2 * k) p ≡ true → went_down (stage k p) ≡ true
   pub came_right : (k p : ℕ) → 1 ≤ k → came (2 * k + 1) p ≡ true → went_right (stage k p) ≡ true
-  -- a node whose splitter was entered is marked, and to one that is marked someone came
+  -- a node whose splitter was entered is marked, and a node that is marked was reached
   pub marked : (k p : ℕ) → has_entered (stage k p) ≡ true → mark k ≡ 1
   pub marker : (k : ℕ) → mark k ≢ 0 → (p : ℕ) × (came k p ≡ true)
 
--- the most accesses that a walk which stands here has made: five at each node that it passed, and those at its node
+-- the most accesses of a walk up to here: five at each node that it passed, and those at its node
 abbrev pub accesses_of : Walker → ℕ
 accesses_of u = 5 * depth_of u.place + (if u.is_marking then 0 else accesses_at u.visitor.stage + 1)
 
@@ -72,14 +72,14 @@ module _ {S : Type 0} (memory : MemorySteps S TreeRegister TreeValue) where
     pub room : b ≤ most
     pub agree : NodesAgree b (mark_at memory s) (x_at memory s) (y_at memory s) walker
 
-  -- whether anyone has marked node k, by which it is made
+  -- whether node k is marked, by which it is made
   abbrev pub was_made : S → ℕ → Bool
   was_made s k = not (mark_at memory s k == 0)
 
-  -- the law of the tree, of b walks and the nodes in this memory: the places at which walks have ended are distinct nodes;
-  -- these, and all nodes that were made, have depths below b; at most 2b - 1 nodes were made, and of a node that was made,
-  -- so of each place, all nodes from the root down to it; nobody makes more than 5b accesses, and who has made so many,
-  -- and any, has a place
+  -- the invariant of the tree, of b walks and the nodes in this memory. The places at which walks have ended are
+  -- distinct nodes. These, and all nodes that were made, have depths below b. At most 2b - 1 nodes were made, and with
+  -- each node all nodes from the root down to it. No walk makes more than 5b accesses, and one that has made 5b, and
+  -- any at all, has a place
   pub record IsTree (b : ℕ) (s : S) (walker : ℕ → Option Walker) : Type 0 where
     pub distinct : AreDistinct (λ p. place_by (walker p))
     pub within : (p place : ℕ) → place_by (walker p) ≡ Some place → IsNodeWithin b place

@@ -1,12 +1,13 @@
--- the law of the tree's places, over calls and their replies
+-- the specification of the tree's places, over calls and their replies
 use Rattle.std.specs.Prelude.{◌≡◌, ℕ, ◌*◌, ◌<◌, ◌≤◌, List, Option, Some, IsSome, is_some}
 use Rattle.step_memory.specs.Calls.{Call, outcome_of, steps_of, begun_in}
 use Rattle.step_memory.specs.Distinct.{AreDistinct}
 use Rattle.step_memory.specs.Due.{EndsOnce}
 use Rattle.splitter_tree.specs.Depth.{IsNodeWithin}
 
--- Where b have begun: places are distinct, and nodes of depths below b. Nobody makes more than 5b accepted steps on the way
--- to its place, and who has made so many, and any, has a place. No one makes such a step after it got its place
+-- Let b have begun. Places are distinct, and are nodes of depths below b. No participant makes more than 5b accepted
+-- steps on the way to its place, and one that has made 5b, and any at all, has a place. No participant makes such a
+-- step after it got its place
 pub record TreeSpec (r : List (Call (Option ℕ))) : Type 0 where
   pub distinct : AreDistinct (λ p. outcome_of p r)
   pub within : (p place : ℕ) → outcome_of p r ≡ Some place → IsNodeWithin (begun_in r) place

@@ -1,4 +1,4 @@
--- what the laws of this crate say, each under a name
+-- the statements of this crate's laws, each under a name
 use Rattle.std.specs.Prelude.{◌≡◌, ◌≢◌, ℕ, ◌+◌, ◌*◌, ◌≤◌, ◌<◌, true, ◌⊎◌, ◌↔◌, Option, Some, None, ◌-◌, Bool, false, if◌then◌else◌}
 use Rattle.splitter_tree.specs.Ahead.{HasGrown, HasRead, marked_in, IsAhead, IsPathMarked, IsUpcoming, Sees}
 use Rattle.splitter_tree.specs.CollectWalk.{first_walk, place_read, finds_mark, walk_resumed, walk_is_over}
@@ -49,7 +49,7 @@ AgreesElsewhere S =
     ((k : ℕ) → (mark_at memory other k ≡ mark_at memory s k) × (x_at memory other k ≡ x_at memory s k) × (y_at memory other k ≡ y_at memory s k)) →
     IsConsistent memory most b other walker
 
--- nodes and walks that agree keep the law of the tree
+-- nodes and walks that agree keep the invariant of the tree
 abbrev pub WalksKeepTreeLaw : (S : Type 0) → Type 0
 WalksKeepTreeLaw S =
     (memory : MemorySteps S TreeRegister TreeValue) (most b : ℕ) (s : S) (walker : ℕ → Option Walker) → IsConsistent memory most b s walker →
@@ -61,7 +61,7 @@ ComesNearer S =
     (memory : MemorySteps S TreeRegister TreeValue) (most b : ℕ) (s : S) (walker : ℕ → Option Walker) (p : ℕ) (u : Walker) (got : Answer TreeValue) →
     IsConsistent memory most b s walker → walker p ≡ Some u → place_of u ≡ None → accesses_of u + 1 ≤ accesses_of (walker_after u got)
 
--- who has no place has accesses left
+-- a participant without a place has accesses left
 abbrev pub HasAccessesLeft : (S : Type 0) → Type 0
 HasAccessesLeft S =
     (memory : MemorySteps S TreeRegister TreeValue) (most b : ℕ) (s : S) (walker : ℕ → Option Walker) (p : ℕ) (u : Walker) →
@@ -115,7 +115,7 @@ abbrev pub FindsFewNodes : Type 0
 FindsFewNodes =
     (marked : ℕ → Bool) (w : CollectWalk) (nodes reads most : ℕ) → HasRead marked w nodes reads → ((n : ℕ) → count_to marked n ≤ most) → nodes ≤ most
 
--- from its beginning a collect has every place ahead
+-- a fresh collect has every place ahead
 abbrev pub PlacesAreAhead : (S : Type 0) → Type 0
 PlacesAreAhead S =
     (memory : MemorySteps S TreeRegister TreeValue) (most b : ℕ) (s : S) (walker : ℕ → Option Walker) (p k : ℕ) →
@@ -127,23 +127,23 @@ ReadsFew S =
     (memory : MemorySteps S TreeRegister TreeValue) (most b : ℕ) (s : S) (walker : ℕ → Option Walker) (w : CollectWalk) (nodes reads : ℕ) →
     IsConsistent memory most b s walker → HasRead (marked_in memory s) w nodes reads → reads + 1 ≤ 3 * (2 * b - 1) + 1
 
--- an access of a walk takes no mark back
+-- an access of a walk clears no mark
 abbrev pub WalkAddsMarks : (S : Type 0) → Type 0
 WalkAddsMarks S =
     (memory : MemorySteps S TreeRegister TreeValue) (most b : ℕ) (s : S) (walker : ℕ → Option Walker) (p : ℕ) (u : Walker) → IsTreeMemory memory →
     IsConsistent memory most b s walker → walker p ≡ Some u → HasGrown (marked_in memory s) (marked_in memory (memory.after s (next_access u)))
 
--- nor does the write of a segment
+-- the write of a segment clears no mark
 abbrev pub WriteAddsMarks : (S : Type 0) → Type 0
 WriteAddsMarks S =
     (memory : MemorySteps S TreeRegister TreeValue) (s : S) (k : ℕ) (segment : Option Record) → IsTreeMemory memory →
     HasGrown (marked_in memory s) (marked_in memory (memory.after s (Write (Contents k) (Held segment))))
 
--- what a walk says of an answer tells its place
+-- the outcome in the note of a walk is the place that the walk then has, if any
 abbrev pub TellsItsPlace : Type 0
 TellsItsPlace = (u : Walker) (got : Answer TreeValue) → place_of u ≡ None → outcome_in (walker_note u got) ≡ place_of (walker_after u got)
 
--- a walk that reads a segment stands at its node
+-- a walk that reads a segment is at its node
 abbrev pub StandsWhereItReads : Type 0
 StandsWhereItReads = (w : CollectWalk) (q : ℕ) → place_read w ≡ Some q → (w.is_reading_contents ≡ true) × (w.at ≡ q)
 
@@ -153,7 +153,7 @@ PathsAreMarked S =
     (memory : MemorySteps S TreeRegister TreeValue) (most b : ℕ) (s : S) (walker : ℕ → Option Walker) (p k : ℕ) →
     IsConsistent memory most b s walker → place_by (walker p) ≡ Some k → IsPathMarked (marked_in memory s) k
 
--- where b have begun at most 2b - 1 nodes are marked
+-- if b have begun, at most 2b - 1 nodes are marked
 abbrev pub MarksFew : (S : Type 0) → Type 0
 MarksFew S =
     (memory : MemorySteps S TreeRegister TreeValue) (most b : ℕ) (s : S) (walker : ℕ → Option Walker) (n : ℕ) →

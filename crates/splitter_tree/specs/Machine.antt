@@ -1,4 +1,4 @@
--- the world of a tree as a machine, and what is said of its nodes after its calls
+-- the world of a tree as a machine, and properties of its nodes after its calls
 use Rattle.std.specs.Prelude.{ℕ, ◌≤◌, List, []}
 use Rattle.step_memory.specs.Machine.{Machine, OnEveryHistory}
 use Rattle.step_memory.specs.Steps.{MemorySteps}
@@ -14,13 +14,13 @@ use Rattle.splitter_tree.specs.TreeSteps.{NodeMap, tree_steps}
 use Rattle.splitter_tree.specs.TreeWorld.{TreeState}
 use Rattle.splitter_tree.specs.TreeCalls.{TreeCall, next, IsReply}
 
--- a memory that is a tree, of no nodes at first, and room for so many, at most 64
+-- a memory that is a tree, of no nodes at first, and room for at most 64 participants
 pub record IsTreeStart {S : Type 0} (memory : MemorySteps S TreeRegister TreeValue) (first : S) (most : ℕ) : Type 0 where
   pub tree : IsTreeMemory memory
   pub empty : IsEmptyTree memory first
   pub few : most ≤ 64
 
--- the law over calls and replies: that of the places, and that of the collects
+-- the specification over calls and replies: that of the places, and that of the collects
 pub record TreeCallsSpec (r : List TreeCall) : Type 0 where
   pub places : PlacesSpec r
   pub collects : CollectSpec r
@@ -48,6 +48,6 @@ TreeWorldState = TreeState NodeMap
 abbrev pub tree : Machine (NodeMap × ℕ) TreeWorldState TreeCall
 tree = tree_over tree_steps
 
--- after every list of calls nodes and walks keep the law of the tree
+-- after every list of calls nodes and walks satisfy the invariant of the tree
 abbrev pub HasLawfulNodes : TreeWorldState → Type 0
 HasLawfulNodes w = OnEveryHistory tree (λ first r. IsTree tree_steps (begun_in (way_calls r)) w.memory (walkers w.participants)) w

@@ -1,5 +1,5 @@
--- which nodes were made over a list of calls. Moves are quiet, so the calls and replies alone do not tell: one goes along
--- them with the worlds between
+-- the nodes that a list of calls makes. Moves are quiet, so calls and replies alone do not show it, and the worlds
+-- between them are needed
 use Rattle.std.specs.Prelude.{◌≡◌, ℕ, true, List, [], Some, Ok}
 use Rattle.step_memory.specs.Runs.{HappensFrom}
 use Rattle.step_memory.specs.Steps.{MemorySteps}
@@ -12,7 +12,7 @@ use Rattle.splitter_tree.specs.TreeCalls.TreeCall.{Stepped}
 use Rattle.splitter_tree.specs.PlacesLaw.{walkers}
 
 module _ {S : Type 0} (memory : MemorySteps S TreeRegister TreeValue) where
-  -- the call is an accepted step that marks node k, by one who stands before it: the first of these makes the node
+  -- the call is an accepted step of a participant before node k, and marks the node. The first of these makes it
   abbrev pub Marks : TreeState S → TreeCall → ℕ → Type 0
   Marks w (Stepped id (Ok place)) k = (u : Walker) × (walkers w.participants id ≡ Some u) × (u.is_marking ≡ true) × (u.place ≡ k)
   Marks w t k = ⊥
@@ -21,6 +21,6 @@ module _ {S : Type 0} (memory : MemorySteps S TreeRegister TreeValue) where
   abbrev pub MarksFrom : TreeState S → List TreeCall → ℕ → Type 0
   MarksFrom w r k = HappensFrom (next memory) (λ u h. Marks u h k) w r
 
-  -- node k was made over these calls to a world of at most so many participants over this memory
+  -- these calls made node k, in a world over this memory for at most this many participants
   abbrev pub WasMade : S → ℕ → List TreeCall → ℕ → Type 0
   WasMade first most r k = MarksFrom (record { memory = first; most = most; participants = [] }) r k

@@ -1,4 +1,5 @@
--- the order in which a collect reads the nodes of a tree: each before its left subtree, and that before its right one
+-- the order in which a collect reads the nodes of a tree: each before its left subtree, and its left subtree before its
+-- right one
 use Rattle.std.specs.Prelude.{◌≡◌, ℕ, ◌+◌, ◌/◌, ◌%◌, ◌<◌, ◌⊎◌}
 use Rattle.std.proofs.Common.{zero, suc}
 

@@ -23,12 +23,12 @@ abbrev pub entries_below : {A B : Type 0} → ℕ → Option (Box (Node A) B) �
 entries_below p None = []
 entries_below p (Some b) = entries_in p b.value
 
--- the node with number q, where it is there from this link on, whose node has number p
+-- the node with number q, if the nodes from this link on have it. The node of the link has number p
 abbrev pub registers_below : {A B : Type 0} → ℕ → Option (Box (Node A) B) → ℕ → Option NodeRegisters
 registers_below p link q = map.find nat_cmp q (entries_below p link)
 
--- a way of so many levels, told by the last digits of `way`, leads from one link to another: at a place with these digits,
--- so many of its own before its last, is found from there what is found from here
+-- a way of `depth` levels, with the last digits `way`, leads from one link to another. Both links find the same node
+-- for a place whose digits before its last `by` end in these
 abbrev pub LeadsTo : {A B C : Type 0} → Option (Box (Node A) B) → Option (Box (Node A) C) → ℕ → ℕ → Type 0
 LeadsTo from to way depth = (place by : ℕ) → place / 2 ^ by % 2 ^ 64 ≡ way → 0 < place / 2 ^ (by + depth) → registers_below (place / 2 ^ by) to place ≡ registers_below (place / 2 ^ (by + depth)) from place
 
@@ -36,11 +36,11 @@ LeadsTo from to way depth = (place by : ℕ) → place / 2 ^ by % 2 ^ 64 ≡ way
 abbrev pub nodes_of : {A B : Type 0} → Option (Box (Node A) B) → NodeMap
 nodes_of root = map.from_entries (entries_below 1 root)
 
--- the way to a node goes right, where it has come to so many levels above the node
+-- whether the way to a node goes right, this many levels above the node
 abbrev pub is_right : ℕ → ℕ → Bool
 is_right place depth = (place / 2 ^ (depth - 1)) % 2 == 1
 
--- the node with this number, so many levels below a link, is not there and can be made: it is the link's own, or its
+-- the node with this number, this many levels below a link, is not there and can be made. It is the link's own, or its
 -- parent is there
 abbrev pub is_lacking : (ℕ → Option NodeRegisters) → ℕ → ℕ → Bool
 is_lacking registers place depth = not (is_some (registers place)) && ((depth == 0) || is_some (registers (place / 2)))
@@ -53,6 +53,6 @@ grown registers place depth = if is_lacking registers place depth then Some fres
 abbrev pub IsWritten : (ℕ → Option NodeRegisters) → (ℕ → Option NodeRegisters) → TreeRegister → TreeValue → Type 0
 IsWritten old new register value = (q : ℕ) → new q ≡ set_at old (number_in register) (written register value (old (number_in register))) q
 
--- and after the node so many levels below it has grown
+-- below a link, what nodes hold after the node this many levels below it was made, if it could be
 abbrev pub IsGrown : (ℕ → Option NodeRegisters) → (ℕ → Option NodeRegisters) → ℕ → ℕ → Type 0
 IsGrown old new place depth = (q : ℕ) → new q ≡ set_at old place (grown old place depth) q

@@ -19,7 +19,7 @@ way_calls (Stored id value reply ∷ r) = way_calls r
 way_calls (CollectBegan id reply ∷ r) = way_calls r
 way_calls (CollectStepped id reply ∷ r) = way_calls r
 
--- the law of the places: stores and collects have no part in it
+-- the specification of the places, which does not depend on stores and collects
 abbrev pub PlacesSpec : List TreeCall → Type 0
 PlacesSpec r = TreeSpec (way_calls r)
 

@@ -18,7 +18,7 @@ pub data TreeCall : Type 0 where
   CollectStepped : ℕ → Result (Option (List (ℕ × ℕ))) Refusal → TreeCall
 
 module _ {S : Type 0} (memory : MemorySteps S TreeRegister TreeValue) where
-  -- the world after a call. A step for which a growth was refused is still to come
+  -- the world after a call. A step that fails with `NoMemory` changes nothing
   abbrev pub next : TreeState S → TreeCall → TreeState S
   next w (Began id reply) = after_tree_begin w id
   next w (Stepped id reply) = if lacked_memory reply then w else after_placing memory w id
@@ -26,7 +26,7 @@ module _ {S : Type 0} (memory : MemorySteps S TreeRegister TreeValue) where
   next w (CollectBegan id reply) = after_collect_begin w id
   next w (CollectStepped id reply) = after_collecting memory w id
 
-  -- the reply is the one that the call gets, or the refusal of a growth where there may be one
+  -- the reply is the due one, or `NoMemory` at a step that may lack memory
   abbrev pub IsReply : TreeState S → TreeCall → Type 0
   IsReply w (Began id reply) = reply ≡ done_unless (begin_refusal w id)
   IsReply w (Stepped id reply) = (reply ≡ place_answer memory w id) ⊎ ((reply ≡ Err NoMemory) × (may_lack_memory memory w id ≡ true))

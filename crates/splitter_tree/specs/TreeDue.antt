@@ -1,4 +1,4 @@
--- when the calls of a tree's world are refused, over calls with their replies alone (this project's profile)
+-- the errors that are due to the calls of a tree's world, over calls with their replies alone (this project's profile)
 use Rattle.std.specs.Prelude.{◌≡◌, ◌==◌, ◌&&◌, not, ℕ, Bool, true, false, if◌then◌else◌, List, [], ◌∷◌, ◌++◌, Option, Some, None, Ok, Err, is_some}
 use Rattle.step_memory.specs.declared.refusal.Refusal.{Refusal}
 use Rattle.step_memory.specs.declared.refusal.Refusal.TheVariants.{AlreadyBegun, NotBegun, Finished}
@@ -35,8 +35,8 @@ asking_due r p = if has_begun p (way_calls r) then (if has_place p r && not (col
 abbrev pub collect_due : List TreeCall → ℕ → Option Refusal
 collect_due r p = if has_begun p (way_calls r) then (if collects p r then None else Some Finished) else Some NotBegun
 
--- after these calls, a call is refused exactly where a refusal is due, and by that one. A step on the way to a place that
--- is not due to be refused may be refused because an allocation failed
+-- after these calls, a call returns an error if and only if that error is due. A step on the way to a place for which
+-- none is due may fail because an allocation failed
 abbrev pub IsTreeRefusedAsDue : ℕ → List TreeCall → TreeCall → Type 0
 IsTreeRefusedAsDue most r (Began p reply) = IsRefusedAsDue is_some most true (way_calls r) (WayBegan p reply)
 IsTreeRefusedAsDue most r (Stepped p reply) = IsRefusedAsDue is_some most true (way_calls r) (WayStepped p reply)
@@ -45,6 +45,6 @@ IsTreeRefusedAsDue most r (CollectBegan p reply) = reply ≡ done_unless (asking
 IsTreeRefusedAsDue most r (CollectStepped p (Ok shown)) = collect_due r p ≡ None
 IsTreeRefusedAsDue most r (CollectStepped p (Err why)) = collect_due r p ≡ Some why
 
--- so is each call of the list after those before it
+-- this holds of each call of the list, after those before it
 abbrev pub TreeRefusesAsDue : ℕ → List TreeCall → Type 0
 TreeRefusesAsDue most r = (before : List TreeCall) (h : TreeCall) (rest : List TreeCall) → r ≡ before ++ h ∷ rest → IsTreeRefusedAsDue most before h

@@ -1,4 +1,4 @@
--- what a memory does that holds a growing tree of nodes, told by what stands in each node's registers
+-- a memory that holds a growing tree of nodes, by the values of each node's registers
 use Rattle.std.specs.Prelude.{◌≡◌, ℕ, ◌/◌, ◌⊎◌, true, Option, None}
 use Rattle.step_memory.specs.declared.access.Access.{Access}
 use Rattle.step_memory.specs.declared.access.Access.TheVariants.{Write}
@@ -9,34 +9,34 @@ use Rattle.splitter_tree.specs.declared.register.TreeRegister.TheVariants.{Mark,
 use Rattle.splitter_tree.specs.declared.register.TreeValue.{TreeValue}
 use Rattle.splitter_tree.specs.declared.register.TreeValue.TheVariants.{Word, Contents as Held}
 
--- the word in a value, 0 where it is a segment
+-- the word in a value, or 0 if it is a segment
 abbrev pub word_in : TreeValue → ℕ
 word_in (Word word) = word
 word_in (Held segment) = 0
 
--- the segment in a value, empty where it is a word
+-- the segment in a value, or an empty one if it is a word
 abbrev pub segment_in : TreeValue → Option Record
 segment_in (Word word) = None
 segment_in (Held segment) = segment
 
 module _ {S : Type 0} (memory : MemorySteps S TreeRegister TreeValue) where
-  -- what stands in the mark of node k: 1 where anyone has come to it
+  -- the mark of node k: 1 if a participant has reached it
   abbrev pub mark_at : S → ℕ → ℕ
   mark_at s k = word_in (memory.register s (Mark k)).0
 
-  -- what stands in X of node k
+  -- X of node k
   abbrev pub x_at : S → ℕ → ℕ
   x_at s k = word_in (memory.register s (X k)).0
 
-  -- what stands in Y of node k
+  -- Y of node k
   abbrev pub y_at : S → ℕ → ℕ
   y_at s k = word_in (memory.register s (Y k)).0
 
-  -- what stands in the segment of node k
+  -- the segment of node k
   abbrev pub segment_at : S → ℕ → Option Record
   segment_at s k = segment_in (memory.register s (Contents k)).0
 
-  -- a value that is written into this register stands in it afterwards
+  -- a value that is written into this register is its value afterwards
   abbrev pub Takes : S → TreeRegister → TreeValue → Type 0
   Takes s r v = (memory.register (memory.after s (Write r v)) r).0 ≡ v
 
@@ -44,9 +44,9 @@ module _ {S : Type 0} (memory : MemorySteps S TreeRegister TreeValue) where
   abbrev pub IsWithinReach : S → ℕ → Type 0
   IsWithinReach s k = (k ≡ 1) ⊎ (mark_at s (k / 2) ≡ 1)
 
-  -- marks, X and Y hold words, and a mark 0 or 1; segments hold segments. An access changes no register but the one that
-  -- it names. A node within reach can be marked, and what is written to a node that is marked stands there. A growth may
-  -- be refused only where a node is marked that was not
+  -- Marks, X and Y hold words, a mark 0 or 1, and segments hold segments. An access changes no register but the one
+  -- that it names. A node within reach can be marked, and a marked node holds what is written to it. An allocation may
+  -- fail only at an access that marks a node for the first time
   pub record IsTreeMemory : Type 0 where
     pub marks : (s : S) (k : ℕ) → (memory.register s (Mark k)).0 ≡ Word (mark_at s k)
     pub xs : (s : S) (k : ℕ) → (memory.register s (X k)).0 ≡ Word (x_at s k)

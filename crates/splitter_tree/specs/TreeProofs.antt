@@ -48,7 +48,7 @@ kept_beside : (r q : TreeRegister) (v : TreeValue) (o : Option NodeRegisters) �
 kept_beside r q v None h e = refl
 kept_beside r q v (Some registers) h e = kept_in_node r q v registers h e
 
--- a node that has just been made has the values that its registers had but for its mark
+-- the registers of a node that was made just now have the values that they had before, except its mark
 fresh_as_none : (r q : TreeRegister) (v : TreeValue) → sets_mark r v ≡ true → q ≢ r → number_in q ≡ number_in r → value_in q (Some fresh_registers) ≡ value_in q None
 fresh_as_none (Mark p) (Mark k) v m h e = absurd (h (ap Mark e))
 fresh_as_none (Mark p) q v m h e = refl

@@ -1,5 +1,5 @@
--- what an access to a tree of nodes does. A register of a node that is not there reads as never written, and what is
--- written to it is lost, but for the mark that makes the node (this project's profile)
+-- the effect of an access to a tree of nodes. A register of a node that is not there reads as never written. What is
+-- written to it is lost, except the mark that makes the node (this project's profile)
 use Rattle.std.specs.Prelude.{ℕ, ◌/◌, Bool, false, ◌&&◌, ◌||◌, not, ◌==◌, if◌then◌else◌, Option, Some, None, is_some}
 use Rattle.std.specs.Ordering.{nat_cmp}
 use Rattle.std.specs.FinMap as map
@@ -26,11 +26,11 @@ number_in (X p) = p
 number_in (Y p) = p
 number_in (Contents p) = p
 
--- a node that has just been made
+-- a node after it is made
 abbrev pub fresh_registers : NodeRegisters
 fresh_registers = record { x = 0; y = 0; segment = None }
 
--- what stands in a register of a node
+-- the value of a register of a node
 abbrev pub value_in : TreeRegister → Option NodeRegisters → TreeValue
 value_in (Mark p) None = value.Word 0
 value_in (Mark p) (Some registers) = value.Word 1
@@ -46,7 +46,7 @@ abbrev pub value_of : WrittenValue → TreeValue
 value_of (to_write.Word w) = value.Word w
 value_of (to_write.Contents s) = value.Contents s.now
 
--- the value that stands in a register; there is no bit
+-- the value of a register. It has no bit
 abbrev pub register_of : NodeMap → TreeRegister → TreeValue × Bool
 register_of m r = (value_in r (map.get m (number_in r)), false)
 
@@ -86,13 +86,13 @@ abbrev pub written : TreeRegister → TreeValue → Option NodeRegisters → Opt
 written r v None = None
 written r v (Some registers) = Some (registers_after_write r v registers)
 
--- what a write leaves
+-- the nodes after a write
 abbrev pub after_write : NodeMap → TreeRegister → TreeValue → NodeMap
 after_write m r v =
     if makes_node m r v then map.insert m (number_in r) fresh_registers
     else with_registers m (number_in r) (written r v (map.get m (number_in r)))
 
--- what an access leaves
+-- the nodes after an access
 abbrev pub after_access : NodeMap → Access TreeRegister TreeValue → NodeMap
 after_access m (Write r v) = after_write m r v
 after_access m a = m
@@ -102,7 +102,7 @@ abbrev pub may_refuse : NodeMap → Access TreeRegister TreeValue → Bool
 may_refuse m (Write r v) = makes_node m r v
 may_refuse m a = false
 
--- what an access answers
+-- the answer to an access
 abbrev pub answer_of : NodeMap → Access TreeRegister TreeValue → Answer TreeValue
 answer_of m a = answer_from (register_of m) a
 

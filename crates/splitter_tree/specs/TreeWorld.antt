@@ -1,4 +1,4 @@
--- what the calls of a tree's world answer and leave
+-- the replies of a tree's world, and its state after each call
 use Rattle.std.specs.Prelude.{◌≡◌, ◌≢◌, option_and_then, ℕ, Bool, if◌then◌else◌, List, Option, Some, None, Result, Err}
 use Rattle.step_memory.specs.declared.refusal.Refusal.{Refusal}
 use Rattle.step_memory.specs.declared.refusal.Refusal.TheVariants.{AlreadyBegun, NotBegun, Finished}
@@ -47,7 +47,7 @@ module _ {S : Type 0} (memory : MemorySteps S TreeRegister TreeValue) where
   after_placing_by w id None = w
   after_placing_by w id (Some c) = if is_placing c.task then after_step client_steps memory w id else w
 
-  -- what `step` answers where no growth is refused, and the world after it
+  -- the reply of `step` if no allocation fails, and the world after it
   abbrev pub place_answer : TreeState S → ℕ → Result (Option ℕ) Refusal
   place_answer w id = place_answer_by w id (program_of id w.participants)
 

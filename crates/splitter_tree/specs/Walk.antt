@@ -24,7 +24,7 @@ left_child k = min (k * 2) (2 ^ 128 - 1)
 abbrev pub right_child : ℕ → ℕ
 right_child k = min (left_child k + 1) (2 ^ 128 - 1)
 
--- a walk that stands before node k, whose mark it writes next
+-- a walk before node k, whose mark it writes next
 abbrev pub walker_at : ℕ → ℕ → Walker
 walker_at id k = record { visitor = visitor_at id (X k) (Y k); place = k; is_marking = true }
 
@@ -40,7 +40,7 @@ in_words (TestAndSet r) = TestAndSet r
 in_words (Clear r) = Clear r
 in_words Nothing = Nothing
 
--- what a visit learns from an answer: a word. A segment tells it nothing
+-- the word in an answer, which a visit takes. A segment has none
 abbrev pub reported : Answer TreeValue → Answer ℕ
 reported (Value (Word word)) = Value word
 reported (Value (Held segment)) = Done
@@ -54,7 +54,7 @@ next_access u = if u.is_marking then Write (Mark u.place) (Word 1) else in_words
 abbrev pub visit_on : Walker → Stage → Walker
 visit_on u s = record u { visitor = record u.visitor { stage = s } }
 
--- the walk whose visit has come this far: from a visit that ends right or down it stands before the next node
+-- the walk whose visit is at this stage. After a visit that ends right or down it is before the next node
 abbrev pub walked_to : Walker → Stage → Walker
 walked_to u s = gone_on (visit_on u) (walker_at u.visitor.identity (right_child u.place)) (walker_at u.visitor.identity (left_child u.place)) s
 
@@ -62,7 +62,7 @@ walked_to u s = gone_on (visit_on u) (walker_at u.visitor.identity (right_child 
 abbrev pub walker_after : Walker → Answer TreeValue → Walker
 walker_after u got = if u.is_marking then record u { is_marking = false } else walked_to u (stage_by u.visitor (reported got))
 
--- what a walk says after an answer
+-- the note of a walk after an answer
 abbrev pub walker_note : Walker → Answer TreeValue → Note ℕ
 walker_note u got = if u.is_marking then Quiet else note_at_door u.place (stage_by u.visitor (reported got))
 
@@ -76,7 +76,7 @@ place_of u = place_at_door u.place u.visitor.stage
 abbrev pub place_by : Option Walker → Option ℕ
 place_by walk = option_and_then place_of walk
 
--- the walk's visit is to the registers of the node before which it stands
+-- the walk visits the registers of the node before which it is
 pub record StandsAtNode (u : Walker) : Type 0 where
   pub x : u.visitor.x ≡ X u.place
   pub y : u.visitor.y ≡ Y u.place

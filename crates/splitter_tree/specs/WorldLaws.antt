@@ -1,4 +1,4 @@
--- what the laws of this crate say, each under a name
+-- the statements of this crate's laws, each under a name
 use Rattle.step_memory.specs.declared.refusal.Refusal.{Refusal}
 use Rattle.splitter_tree.specs.TreeSteps.{tree_steps}
 use Rattle.step_memory.specs.Locality.{Indistinguishable, StandAlike}
@@ -52,19 +52,19 @@ NodesAgreeWithWalks S =
     (memory : MemorySteps S TreeRegister TreeValue) (w : TreeState S) →
     OnEveryHistory (tree_over memory) (λ first r. IsConsistent memory w.most (length w.participants) w.memory (walkers w.participants)) w
 
--- the nodes are a tree for as many as have begun
+-- the nodes satisfy the invariant of a tree for the participants that have begun
 abbrev pub NodesAreTree : (S : Type 0) → Type 0
 NodesAreTree S =
     (memory : MemorySteps S TreeRegister TreeValue) (w : TreeState S) →
     OnEveryHistory (tree_over memory) (λ first r. IsTree memory (begun_in (way_calls r)) w.memory (walkers w.participants)) w
 
--- who has a place was given it
+-- the place of a participant is the one that a step returned, if any
 abbrev pub PlacesAreReported : (S : Type 0) → Type 0
 PlacesAreReported S =
     (memory : MemorySteps S TreeRegister TreeValue) (w : TreeState S) (p : ℕ) →
     OnEveryHistory (tree_over memory) (λ first r. place_by (walkers w.participants p) ≡ outcome_of p (way_calls r)) w
 
--- who has no place is on its way
+-- a participant is on its way if and only if it has no place
 abbrev pub IsOnTheWay : (S : Type 0) → Type 0
 IsOnTheWay S =
     (memory : MemorySteps S TreeRegister TreeValue) (w : TreeState S) (p : ℕ) (v : Participant Client) → participant_of p w.participants ≡ Some v →
@@ -76,19 +76,19 @@ NeverEnds S =
     (memory : MemorySteps S TreeRegister TreeValue) (w : TreeState S) (p : ℕ) (v : Participant Client) → participant_of p w.participants ≡ Some v →
     OnEveryHistory (tree_over memory) (λ first r. v.ended ≡ false) w
 
--- a node is marked exactly where a call has made it
+-- a node is marked if and only if a call has made it
 abbrev pub MarksWhatWasMade : (S : Type 0) → Type 0
 MarksWhatWasMade S =
     (memory : MemorySteps S TreeRegister TreeValue) (w : TreeState S) (k : ℕ) →
     OnEveryHistory (tree_over memory) (λ first r. (mark_at memory w.memory k ≡ 1) ↔ WasMade memory first.0 first.1 r k) w
 
--- nodes are made within the bound of as many as have begun
+-- if b have begun, each node that was made is within the bound of b
 abbrev pub MakesNodesWithin : (S : Type 0) → Type 0
 MakesNodesWithin S =
     (memory : MemorySteps S TreeRegister TreeValue) (w : TreeState S) (k : ℕ) →
     OnEveryHistory (tree_over memory) (λ first r. WasMade memory first.0 first.1 r k → IsNodeWithin (begun_in (way_calls r)) k) w
 
--- nobody gets a second place
+-- no participant gets a second place
 abbrev pub TellsOnePlace : Type 0
 TellsOnePlace =
     (p a b : ℕ) (before between rest : List TreeCall) →
@@ -100,22 +100,22 @@ WritesOwnSegment =
     (c : Client) (place : ℕ) (value : TreeValue) → StandsAtNode c.walker → client_access c ≡ Write (Contents place) value →
     place_of c.walker ≡ Some place
 
--- after every list of calls each walk stands at its node
+-- after every list of calls each walk is at its node
 abbrev pub StandsAtItsNode : Type 0
 StandsAtItsNode =
     (w : TreeWorldState) (p : ℕ) (v : Participant Client) → participant_of p w.participants ≡ Some v →
     OnEveryHistory tree (λ first r. StandsAtNode v.program.walker) w
 
--- what a step to a place answers is answered in each world that looks alike to the client
+-- in each world that the participant cannot distinguish, the reply to its step on the way to a place is the same
 abbrev pub AnswersPlaceAlike : TreeWorldState → ℕ → Result (Option ℕ) Refusal → Type 0
 AnswersPlaceAlike old id reply = (other : TreeWorldState) → Indistinguishable client_steps tree_steps id old other → reply ≡ place_answer tree_steps other id
 
--- and the client then stands alike
+-- in each such world that step leaves it in the same state
 abbrev pub StaysAlikeOnWay : TreeWorldState → TreeWorldState → ℕ → Type 0
 StaysAlikeOnWay old new id =
     (other : TreeWorldState) → Indistinguishable client_steps tree_steps id old other → StandAlike id new (after_placing tree_steps other id)
 
--- so it does after a step of its collect
+-- in each such world a step of its collect leaves it in the same state
 abbrev pub StaysAlikeCollecting : TreeWorldState → TreeWorldState → ℕ → Type 0
 StaysAlikeCollecting old new id =
     (other : TreeWorldState) → Indistinguishable client_steps tree_steps id old other → StandAlike id new (after_collecting tree_steps other id)

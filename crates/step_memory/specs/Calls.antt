@@ -9,7 +9,7 @@ use Rattle.step_memory.specs.Steps.{ProgramSteps, MemorySteps}
 use Rattle.step_memory.specs.WorldState.{WorldState}
 use Rattle.step_memory.specs.World.{begin_refusal, done_unless, after_begin, step_answer, after_step, may_refuse_step}
 
--- a call with its reply, where an accepted step answers an X
+-- a call with its reply. An accepted step returns an X
 pub data Call (X : Type 0) : Type 0 where
   Began : ℕ → Result (Unit {0}) Refusal → Call X
   Stepped : ℕ → Result X Refusal → Call X
@@ -52,7 +52,7 @@ abbrev pub first_of : {O : Type 0} → Option O → Option O → Option O
 first_of None later = later
 first_of (Some outcome) later = Some outcome
 
--- where a step answers the outcome of a program that ends with it: the outcome of p's program
+-- the outcome of p's program, if a step returns the outcome with which the program ends
 abbrev pub outcome_of : {O : Type 0} → ℕ → List (Call (Option O)) → Option O
 outcome_of p [] = None
 outcome_of p (h ∷ r) = first_of (outcome_by p h) (outcome_of p r)
@@ -63,24 +63,24 @@ outcome_in Quiet = None
 outcome_in (Said said) = None
 outcome_in (Ended outcome) = Some outcome
 
--- what a world answers where its program says this
+-- the reply of a world to a step, from the note of its program
 abbrev pub reply_of : {O X : Type 0} → (Note O → X) → Result (Note O) Refusal → Result X Refusal
 reply_of shown (Ok note) = Ok (shown note)
 reply_of shown (Err refusal) = Err refusal
 
--- whether a growth was refused
+-- whether the reply is `NoMemory`
 abbrev pub lacked_memory : {X : Type 0} → Result X Refusal → Bool
 lacked_memory (Ok said) = false
 lacked_memory (Err refusal) = refusal_number refusal == 12
 
--- `shown` is what a world answers of a note, and `start` the program of an identity that begins
+-- `shown` is the reply of a world for a note, and `start` the program of an identity that begins
 module _ {P S R V O X : Type 0} (program : ProgramSteps P R V O) (memory : MemorySteps S R V) (shown : Note O → X) (start : ℕ → P) where
-  -- the world after a call. A step for which a growth was refused is still to come
+  -- the world after a call. A step that fails with `NoMemory` changes nothing
   abbrev pub next : WorldState S P → Call X → WorldState S P
   next w (Began id reply) = after_begin w id (start id)
   next w (Stepped id reply) = if lacked_memory reply then w else after_step program memory w id
 
-  -- the reply is the one that the call gets, or the refusal of a growth where there may be one
+  -- the reply is the due one, or `NoMemory` at a step that may lack memory
   abbrev pub IsReply : WorldState S P → Call X → Type 0
   IsReply w (Began id reply) = reply ≡ done_unless (begin_refusal w id)
   IsReply w (Stepped id reply) =

@@ -1,4 +1,4 @@
--- when a call is refused, over calls with their replies alone (this project's profile)
+-- the errors that are due to calls, over calls with their replies alone (this project's profile)
 use Rattle.std.specs.Prelude.{◌≡◌, ◌==◌, ◌&&◌, ◌||◌, ℕ, Bool, true, false, ◌⊎◌, if◌then◌else◌, nat_le, List, [], ◌∷◌, ◌++◌, Option, Some, None, Ok, Err}
 use Rattle.step_memory.specs.declared.refusal.Refusal.{Refusal}
 use Rattle.step_memory.specs.declared.refusal.Refusal.TheVariants.{ZeroIdentity, AlreadyBegun, Full, NotBegun, Finished, NoMemory}
@@ -20,8 +20,8 @@ abbrev pub has_begun : {X : Type 0} → ℕ → List (Call X) → Bool
 has_begun p [] = false
 has_begun p (h ∷ r) = begins p h || has_begun p r
 
--- what holds of a world of at most `most` participants, where `last` says of the answer to an accepted step whether the
--- program has ended with it, and `grows` whether a growth may be refused
+-- in a world of at most `most` participants. `last` says whether the reply of an accepted step ends the program, and
+-- `grows` whether an allocation may fail
 module _ {X : Type 0} (last : X → Bool) where
   abbrev pub ends_by : ℕ → Call X → Bool
   ends_by p (Began q reply) = false
@@ -33,7 +33,7 @@ module _ {X : Type 0} (last : X → Bool) where
   has_ended p [] = false
   has_ended p (h ∷ r) = ends_by p h || has_ended p r
 
-  -- why `begin` of p is refused after these calls: the first of these that holds
+  -- the error that is due to `begin` of p after these calls: the first of these that holds
   abbrev pub begin_due : ℕ → List (Call X) → ℕ → Option Refusal
   begin_due most r p =
       if p == 0 then Some ZeroIdentity
@@ -41,29 +41,29 @@ module _ {X : Type 0} (last : X → Bool) where
       else if nat_le most (begun_in r) then Some Full
       else None
 
-  -- why a step of p is refused after these calls: the first of these that holds
+  -- the error that is due to a step of p after these calls: the first of these that holds
   abbrev pub step_due : List (Call X) → ℕ → Option Refusal
   step_due r p = if has_begun p r then (if has_ended p r then Some Finished else None) else Some NotBegun
 
-  -- after these calls, a call is refused exactly where a refusal is due, and by that one. A step that is not due to be
-  -- refused may be refused because an allocation failed, where it grows
+  -- after these calls, a call returns an error if and only if that error is due. If `grows`, a step for which none is
+  -- due may fail because an allocation failed
   abbrev pub IsRefusedAsDue : ℕ → Bool → List (Call X) → Call X → Type 0
   IsRefusedAsDue most grows r (Began p reply) = reply ≡ done_unless (begin_due most r p)
   IsRefusedAsDue most grows r (Stepped p (Ok said)) = step_due r p ≡ None
   IsRefusedAsDue most grows r (Stepped p (Err why)) = (step_due r p ≡ Some why) ⊎ ((step_due r p ≡ None) × (why ≡ NoMemory) × (grows ≡ true))
 
-  -- so is each call of the list after those before it
+  -- this holds of each call of the list, after those before it
   abbrev pub RefusesAsDue : ℕ → Bool → List (Call X) → Type 0
   RefusesAsDue most grows r = (before : List (Call X)) (h : Call X) (rest : List (Call X)) → r ≡ before ++ h ∷ rest → IsRefusedAsDue most grows before h
 
-  -- nothing after the end: whose program has ended makes no accepted step
+  -- a participant whose program has ended makes no accepted step
   abbrev pub EndsOnce : List (Call X) → Type 0
   EndsOnce r = (before : List (Call X)) (p : ℕ) (said : X) (rest : List (Call X)) → r ≡ before ++ Stepped p (Ok said) ∷ rest → has_ended p before ≡ false
 
--- `last` says of what is shown of a note whether the note ends the program
+-- `last` says of the reply for a note whether the note ends the program
 abbrev pub TellsTheEnd : {O X : Type 0} → (Note O → X) → (X → Bool) → Type 0
 TellsTheEnd {O} shown last = (note : Note O) → last (shown note) ≡ ends note
 
--- only where `grows` may the memory refuse a growth
+-- an allocation of the memory may fail only if `grows`
 abbrev pub GrowsOnly : {S R V : Type 0} → MemorySteps S R V → Bool → Type 0
 GrowsOnly {S} {R} {V} memory grows = (m : S) (a : Access R V) → memory.may_refuse m a ≡ true → grows ≡ true

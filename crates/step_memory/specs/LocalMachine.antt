@@ -1,5 +1,6 @@
--- machines each of whose steps is one access of one participant's program to registers in a row, and what has to be proved of
--- them. Threads can take such a program access by access over a memory that they share (this project's profile)
+-- machines each of whose steps is one access of one participant's program to registers in a row, with what has to be
+-- proved of them. Threads can run such a program access by access over a memory that they share (this project's
+-- profile)
 use Rattle.std.specs.Prelude.{◌≡◌, ◌≢◌, ℕ, ◌+◌, ◌<◌, ◌≤◌, false, List, [], Option, Some, None, replicate, slice_index_or, slice_set}
 use Rattle.step_memory.specs.declared.access.Access.{Access}
 use Rattle.step_memory.specs.declared.access.Access.TheVariants.{Read, Write}
@@ -11,8 +12,9 @@ use Rattle.step_memory.specs.Steps.{ProgramSteps}
 use Rattle.step_memory.specs.Calls.{Call, outcome_in, steps_of, begun_in}
 use Rattle.step_memory.specs.Machine.{Machine, Reaches}
 
--- the machine and how it starts for so many, what stands in its registers, and where each identity stands; what its calls told an identity at
--- its end; for how many it may start, its registers for so many, the program of an identity, and the most accesses of one
+-- The machine with its starts, the values of its registers, the participant of each identity, and the outcome that the
+-- calls gave to an identity. Then the numbers of participants for which it may start, its registers for them, the
+-- program of an identity, and the most accesses of one
 pub record LocalMachine (P V O : Type 0) : Type 1 where
   pub State : Type 0
   pub Start : Type 0
@@ -27,39 +29,39 @@ pub record LocalMachine (P V O : Type 0) : Type 1 where
   pub start : ℕ → P
   pub bound : ℕ → ℕ
 
--- the access reads or writes one of so many registers
+-- the access reads or writes one of the first `registers` registers
 abbrev pub IsWithin : {V : Type 0} → ℕ → Access ℕ V → Type 0
 IsWithin registers (Read r) = r < registers
 IsWithin registers (Write r v) = r < registers
 IsWithin registers a = ⊥
 
--- what it leaves
+-- the values after an access
 abbrev pub values_after : {V : Type 0} → List V → Access ℕ V → List V
 values_after values (Write r v) = slice_set values r v
 values_after values a = values
 
--- what it answers, where this stands in a register that is not there
+-- the answer to an access. A register that is not there has the value `first`
 abbrev pub answer_in : {V : Type 0} → V → List V → Access ℕ V → Answer V
 answer_in first values (Read r) = Value (slice_index_or values r first)
 answer_in first values a = Done
 
--- who has begun has not ended
+-- a participant that has begun has not ended
 abbrev pub GoesOn : {P : Type 0} → Option (Participant P) → Type 0
 GoesOn None = Unit {0}
 GoesOn (Some v) = v.ended ≡ false
 
--- one more begins where there was none
+-- the number of participants that begin: one if there was none
 abbrev pub one_more : {P : Type 0} → Option (Participant P) → ℕ
 one_more None = 1
 one_more (Some v) = 0
 
 module _ {P V O : Type 0} (program : ProgramSteps P ℕ V O) (first : V) (local : LocalMachine P V O) where
-  -- the program of an identity: that of who begins, until it does
+  -- the program of an identity: the one with which it begins, until it does
   abbrev pub program_at : ℕ → Option (Participant P) → P
   program_at p None = local.start p
   program_at p (Some v) = v.program
 
-  -- what a program gets for its next access
+  -- the answer to the next access of a program
   abbrev pub got : local.State → P → Answer V
   got w u = answer_in first (local.memory w) (program.next u)
 
@@ -67,8 +69,8 @@ module _ {P V O : Type 0} (program : ProgramSteps P ℕ V O) (first : V) (local 
   abbrev pub moved : ℕ → P → Answer V → Participant P
   moved p u answer = record { identity = p; program = program.resumed u answer; ended = ends (program.note u answer) }
 
-  -- Some calls later p, which stood so, has made one access more: the registers are as that access left them, p's program got its
-  -- answer, and each other stands where it did
+  -- after some more calls p has made one access more. The registers are as that access left them, p's program got its
+  -- answer, and no other participant has changed
   pub record IsOnce (most : ℕ) (w0 : local.State) (r0 : List (Call local.X)) (p : ℕ) (o : Option (Participant P)) (u : P) : Type 0 where
     pub w : local.State
     pub r : List (Call local.X)
@@ -82,16 +84,16 @@ module _ {P V O : Type 0} (program : ProgramSteps P ℕ V O) (first : V) (local 
     pub outcomes : (q : ℕ) → q ≢ p → local.outcome_of q r ≡ local.outcome_of q r0
     pub begun : begun_in r ≡ begun_in r0 + one_more o
 
-  -- it starts with what nobody wrote in each register, and nobody has begun
+  -- it starts with the first value in each register, and with no participant
   pub record IsFresh (most : ℕ) : Type 0 where
     pub after : Reaches local.machine (local.start_of most) (local.machine.first (local.start_of most)) []
     pub blank : local.memory (local.machine.first (local.start_of most)) ≡ replicate (local.registers most) first
     pub nobody : (q : ℕ) → local.self (local.machine.first (local.start_of most)) q ≡ None
     pub unreported : (q : ℕ) → local.outcome_of q [] ≡ None
 
-  -- What is proved of it. `takes`: who stands somewhere and has not ended makes one access, as its program says, and begins with it where
-  -- it has not begun and there is room. `few`: nobody makes more accesses than the bound. `begins`, `own`: each access of who has not
-  -- ended is to one of the registers
+  -- What is proved of such a machine. `takes`: a participant that has not ended makes the one access that its program
+  -- names, and begins with it if it has not begun and there is room. `few`: no participant makes more accesses than the
+  -- bound. `begins`, `own`: each access of one that has not ended is to one of the registers
   pub record ChangesOnly : Type 0 where
     pub fresh : (most : ℕ) → local.MayStart most → IsFresh most
     pub takes : (most : ℕ) (w : local.State) (r : List (Call local.X)) → Reaches local.machine (local.start_of most) w r → (p : ℕ) (o : Option (Participant P)) → p ≢ 0 → local.self w p ≡ o → GoesOn o →

@@ -12,8 +12,8 @@ use Rattle.step_memory.specs.WorldMachine.{WorldParts, world_machine}
 use Rattle.step_memory.specs.Machine.{Reaches}
 use Rattle.step_memory.specs.LocalMachine.{LocalMachine, GoesOn, one_more, program_at, IsOnce}
 
--- a world of such programs: for how many it may start, the registers for so many, what nobody wrote in them, the program of an identity, the
--- most accesses of one, and what the lists of calls keep
+-- a world of such programs. It has the numbers of participants for which it may start, its registers for them, their
+-- first value, the program of an identity, the most accesses of one, and the specification of its calls
 pub record LocalParts (P V O : Type 0) : Type 1 where
   pub MayStart : ℕ → Type 0
   pub registers : ℕ → ℕ
@@ -23,7 +23,7 @@ pub record LocalParts (P V O : Type 0) : Type 1 where
   pub Spec : List (Call (Option O)) → Type 0
 
 module _ {P V O : Type 0} (program : ProgramSteps P ℕ V O) (parts : LocalParts P V O) where
-  -- the world as any other: a step answers what its program has ended with
+  -- the world as any other, in which a step returns the outcome with which its program ended
   abbrev pub parts_of_world : WorldParts P (Registers V) ℕ V O (Option O)
   parts_of_world = record {
     program = program;
@@ -54,11 +54,11 @@ module _ {P V O : Type 0} (program : ProgramSteps P ℕ V O) (parts : LocalParts
     bound = parts.bound;
   }
 
--- a world that keeps no law but that of calls, and may start for any number
+-- a world whose specification allows every list of calls, and which may start for any number
 abbrev pub any_parts : {P V O : Type 0} → (ℕ → ℕ) → V → (ℕ → P) → LocalParts P V O
 any_parts registers first start = record { MayStart = λ most. Unit {0}; registers = registers; first = first; start = start; bound = λ most. 0; Spec = λ r. Unit {0} }
 
--- where no program sets a bit, who stands somewhere in a world and has not ended makes one access, as its program says
+-- if no program sets a bit, a participant of a world that has not ended makes the one access that its program names
 abbrev pub TakesLocally : (P V O : Type 0) → Type 0
 TakesLocally P V O =
     (program : ProgramSteps P ℕ V O) (registers : ℕ → ℕ) (first : V) (start : ℕ → P) → ((u : P) (r : ℕ) → program.next u ≢ TestAndSet r) →

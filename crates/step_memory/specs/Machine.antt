@@ -1,24 +1,24 @@
--- machines with calls, and what is said of them over every list of calls with its replies
+-- machines with calls, and properties of them over every list of calls with its replies
 use Rattle.std.specs.Prelude.{◌≡◌, List, [], ◌∷◌, ◌++◌}
 use Rattle.step_memory.specs.Runs.{Run, replay_from}
 
--- a machine that starts in one of several ways, its states and its calls, each with its reply
+-- a machine: its starts, its states, and its calls, each with its reply
 pub record Machine (Start State Call : Type 0) : Type 1 where
-  -- it may start so
+  -- the machine may start in this way
   pub MayStart : Start → Type 0
-  -- the state in which it then starts
+  -- the state in which it starts
   pub first : Start → State
   -- the state after a call
   pub next : State → Call → State
-  -- the reply is one that the call may get
+  -- the call may have this reply
   pub IsReply : State → Call → Type 0
-  -- the law over lists of calls
+  -- the specification of lists of calls
   pub Spec : Start → List Call → Type 0
-  -- and where each call is refused
+  -- each call of the list returns the error that is due, and no other
   pub RefusesAsDue : Start → List Call → Type 0
 
 module _ {Start State Call : Type 0} (machine : Machine Start State Call) where
-  -- the machine, which started so, has come to this state by these calls with these replies
+  -- the machine started in this way, and these calls with these replies led it to this state
   pub record Reaches (start : Start) (w : State) (r : List Call) : Type 0 where
     pub started : machine.MayStart start
     pub run : Run machine.next machine.IsReply (machine.first start) r w
@@ -27,29 +27,30 @@ module _ {Start State Call : Type 0} (machine : Machine Start State Call) where
   abbrev pub replay : Start → List Call → State
   replay start r = replay_from machine.next (machine.first start) r
 
-  -- so it is of every list of calls that leads to this state
+  -- this holds of every list of calls that leads to this state
   abbrev pub OnEveryHistory : (Start → List Call → Type 0) → State → Type 0
   OnEveryHistory Holds w = (start : Start) (r : List Call) → Reaches start w r → Holds start r
 
-  -- every list of calls that leads to the old state leads with this call to the new one
+  -- every list of calls that leads to the old state leads, with this call, to the new one
   abbrev pub Extends : State → State → Call → Type 0
   Extends old new call = (start : Start) (r : List Call) → Reaches start old r → Reaches start new (r ++ call ∷ [])
 
-  -- a call that gets a reply that it may get leads on
+  -- a call with a reply that it may have extends the history
   abbrev pub CallExtends : State → State → Call → Type 0
   CallExtends w new call = new ≡ machine.next w call → machine.IsReply w call → Extends w new call
 
-  -- every list of calls that leads to this state keeps the law
+  -- every list of calls that leads to this state satisfies the specification
   abbrev pub SatisfiesSpec : State → Type 0
   SatisfiesSpec w = OnEveryHistory machine.Spec w
 
-  -- and each of these calls is refused exactly where those before it make it due
+  -- each call that led to this state returned an error if and only if the calls before it make that error due
   abbrev pub RefusesWhereDue : State → Type 0
   RefusesWhereDue w = OnEveryHistory machine.RefusesAsDue w
 
-  -- what is proved of a machine once: it starts after no call, each call leads on, and every list of calls that it may be
-  -- after, with every prefix of it, keeps the law and is refused where that is due. A state stands between a prefix and
-  -- the calls that follow it; and one list leads to one state alone, that of its replay
+  -- What is proved of a machine once. It starts after no call, and each call extends its history. Every list of calls
+  -- that leads to a state, with every prefix of it, satisfies the specification, and its calls return the errors that
+  -- are due. A prefix leads to a state from which the other calls follow. One list leads to one state alone, that of
+  -- its replay
   pub record IsProved : Type 0 where
     pub fresh : (start : Start) → machine.MayStart start → Reaches start (machine.first start) []
     pub call : (w new : State) (h : Call) → CallExtends w new h

@@ -5,7 +5,7 @@ use Rattle.step_memory.specs.declared.participant.Participant.{Participant}
 use Rattle.step_memory.specs.Note.{ends}
 use Rattle.step_memory.specs.Steps.{ProgramSteps}
 
--- a participant that has just begun
+-- a participant at the start of its program
 abbrev pub beginner : {P : Type 0} → ℕ → P → Participant P
 beginner id program = record { identity = id; program = program; ended = false }
 
@@ -13,7 +13,7 @@ beginner id program = record { identity = id; program = program; ended = false }
 abbrev pub resumed : {P R V O : Type 0} → ProgramSteps P R V O → Participant P → Answer V → Participant P
 resumed program p got = record { identity = p.identity; program = program.resumed p.program got; ended = ends (program.note p.program got) }
 
--- the place of an identity among the participants
+-- the index of an identity among the participants
 abbrev pub index_of : {P : Type 0} → ℕ → List (Participant P) → Option ℕ
 index_of id [] = None
 index_of id (p ∷ ps) = if p.identity == id then Some 0 else option_map (λ k. k + 1) (index_of id ps)
@@ -36,7 +36,7 @@ with_participant new (p ∷ ps) = if p.identity == new.identity then new ∷ ps 
 abbrev pub identities : {P : Type 0} → List (Participant P) → List ℕ
 identities ps = map (λ p. p.identity) ps
 
--- no identity stands twice
+-- no identity occurs twice
 abbrev pub AreDistinct : {P : Type 0} → List (Participant P) → Type 0
 AreDistinct [] = Unit {0}
 AreDistinct (v ∷ vs) = (participant_of v.identity vs ≡ None) × AreDistinct vs

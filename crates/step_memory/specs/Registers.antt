@@ -1,5 +1,5 @@
--- what an access to registers in a row does. A register that is not there reads as never written, and what is written
--- to it is lost
+-- the effect of an access to registers in a row. A register that is not there reads as never written, and what is
+-- written to it is lost
 use Rattle.std.specs.Prelude.{ℕ, Bool, true, false, slice_index_or, slice_set}
 use Rattle.step_memory.specs.declared.access.Access.{Access}
 use Rattle.step_memory.specs.declared.access.Access.TheVariants.{Read, Write, TestAndSet, Clear, Nothing}
@@ -7,7 +7,7 @@ use Rattle.step_memory.specs.declared.access.Answer.{Answer}
 use Rattle.step_memory.specs.Steps.{MemorySteps, answer_from}
 use Rattle.step_memory.specs.RegisterState.{Registers}
 
--- the value and the bit that stand in a register
+-- the value and the bit of a register
 abbrev pub register_of : {V : Type 0} → Registers V → ℕ → V × Bool
 register_of m r = (slice_index_or m.values r m.first, slice_index_or m.bits r false)
 

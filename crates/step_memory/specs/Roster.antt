@@ -1,4 +1,4 @@
--- entries in a row, each of which has an identity: who stands at one
+-- entries in a row, each of which has an identity
 use Rattle.std.specs.Prelude.{◌≡◌, ℕ, ◌+◌, ◌<◌, List, [], ◌∷◌, length, Option, Some, None, ◌==◌, if◌then◌else◌, option_map}
 use Rattle.std.proofs.Common.{set}
 

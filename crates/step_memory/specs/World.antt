@@ -1,4 +1,4 @@
--- what the calls of a world answer and leave
+-- the replies of a world, and its state after each call
 use Rattle.std.specs.Prelude.{◌≡◌, ℕ, Bool, false, [], ◌∷◌, ◌++◌, length, Option, Some, None, Result, Ok, Err, ◌==◌, nat_le, if◌then◌else◌, is_some}
 use Rattle.step_memory.specs.declared.access.Answer.{Answer}
 use Rattle.step_memory.specs.declared.note.Note.{Note}
@@ -17,7 +17,7 @@ begin_refusal w id =
     else if nat_le w.most (length w.participants) then Some Full
     else None
 
--- what a call answers where it is refused for this reason, or for none
+-- the reply of a call that is refused for this reason, or for none
 abbrev pub done_unless : Option Refusal → Result (Unit {0}) Refusal
 done_unless None = Ok tt
 done_unless (Some r) = Err r
@@ -42,7 +42,7 @@ set_answer w id = set_answer_by (participant_of id w.participants)
 abbrev pub after_set : {S P : Type 0} → WorldState S P → ℕ → P → WorldState S P
 after_set w id program = record w { participants = with_participant (beginner id program) w.participants }
 
--- the request may be made of who has begun under this identity
+-- the request may be made of the participant of this identity, if there is one
 abbrev pub CanAsk : {Q S P : Type 0} → (Q → P → Type 0) → Q → ℕ → WorldState S P → Type 0
 CanAsk {Q} {S} {P} can_ask request id w = (program : P) → program_of id w.participants ≡ Some program → can_ask request program
 
@@ -55,7 +55,7 @@ abbrev pub after_asked : {S P : Type 0} → (P → P) → WorldState S P → ℕ
 after_asked asked w id = after_asked_by asked w id (program_of id w.participants)
 
 module _ {P S R V O : Type 0} (program : ProgramSteps P R V O) (memory : MemorySteps S R V) where
-  -- what the memory answers to a participant
+  -- the answer of the memory to a participant
   abbrev pub got_by : S → Participant P → Answer V
   got_by s p = answer_got program memory p.program s
 
@@ -69,7 +69,7 @@ module _ {P S R V O : Type 0} (program : ProgramSteps P R V O) (memory : MemoryS
       if p.ended then w
       else record { memory = memory.after w.memory (program.next p.program); most = w.most; participants = with_participant (resumed program p (got_by w.memory p)) w.participants }
 
-  -- what a step of an identity answers where no growth is refused
+  -- the reply to a step of an identity, if no allocation fails
   abbrev pub step_answer : WorldState S P → ℕ → Result (Note O) Refusal
   step_answer w id = step_answer_by w.memory (participant_of id w.participants)
 

@@ -7,9 +7,9 @@ use Rattle.step_memory.specs.Calls.{Call, next, IsReply}
 use Rattle.step_memory.specs.Due.{RefusesAsDue, EndsOnce, TellsTheEnd, GrowsOnly}
 use Rattle.step_memory.specs.Machine.{Machine}
 
--- a world of any programs over any memory, which starts with a memory and with room for so many. Where `last` tells the end
--- of a program, and only `grows` lets the memory refuse a growth: nothing comes after the end, and calls are refused where
--- that is due
+-- a world of any programs over any memory, which starts with a memory and with room for this many participants. If
+-- `last` says when a program ends, and only `grows` lets an allocation fail, no step follows an end, and calls return
+-- the errors that are due
 module _ {P S R V O X : Type 0} (program : ProgramSteps P R V O) (memory : MemorySteps S R V) (shown : Note O → X) (start : ℕ → P) (last : X → Bool) (grows : Bool) where
   abbrev pub any_world : Machine (S × ℕ) (WorldState S P) (Call X)
   any_world = record {
@@ -21,15 +21,15 @@ module _ {P S R V O X : Type 0} (program : ProgramSteps P R V O) (memory : Memor
     RefusesAsDue = λ first r. TellsTheEnd shown last → GrowsOnly memory grows → RefusesAsDue last first.1 grows r;
   }
 
--- what a world of one kind is made of: the programs of those who take part, its memory, what it shows of a note and whether
--- that is a participant's last, and the law over its calls
+-- the parts of a world of one kind: its programs, its memory, its reply for a note and whether that ends the program,
+-- and the specification of its calls
 pub record WorldParts (P S R V O X : Type 0) : Type 1 where
   pub program : ProgramSteps P R V O
   pub memory : MemorySteps S R V
   pub shown : Note O → X
   pub start : ℕ → P
   pub last : X → Bool
-  -- whether a growth may be refused
+  -- whether an allocation may fail
   pub grows : Bool
   -- the most participants that there may be, and the memory for so many
   pub MayStart : ℕ → Type 0
@@ -37,7 +37,7 @@ pub record WorldParts (P S R V O X : Type 0) : Type 1 where
   pub Spec : List (Call X) → Type 0
 
 module _ {P S R V O X : Type 0} (parts : WorldParts P S R V O X) where
-  -- a world for so many in which nobody has begun
+  -- a world for this many participants in which none has begun
   abbrev pub fresh_world : ℕ → WorldState S P
   fresh_world most = record { memory = parts.empty most; most = most; participants = [] }
 

@@ -1,16 +1,17 @@
-//! An allocator that refuses one growth.
+//! An allocator that fails at one allocation.
 
 use std::alloc::{AllocError, Allocator};
 use std::cell::Cell;
 
-/// Passes each call on to another allocator, but for one growth, counted from 1, which it refuses.
+/// Passes each call on to another allocator, except for one allocation, which fails.
 pub struct FailingAllocator<B: Allocator> {
     inner: B,
     left: Cell<u64>,
 }
 
 impl<B: Allocator> FailingAllocator<B> {
-    /// Refuses the growth of this number alone; none where it is 0.
+    /// Makes an allocator whose `refused`-th allocation fails, from 1. None fails if `refused` is 0. Only tested: which
+    /// one fails.
     pub fn new(inner: B, refused: u64) -> FailingAllocator<B> {
         FailingAllocator {
             inner,
@@ -18,7 +19,7 @@ impl<B: Allocator> FailingAllocator<B> {
         }
     }
 
-    /// How many growths are left up to the one that is refused, with it; 0 once it was refused.
+    /// Returns how many allocations are left up to the one that fails, with that one. It is 0 after that. Only tested.
     pub fn left(&self) -> u64 {
         self.left.get()
     }
@@ -30,7 +31,7 @@ impl<B: Allocator> Drop for FailingAllocator<B> {
     }
 }
 
-/// Counts one growth, and tells whether it is the one to be refused.
+/// Counts one allocation, and returns true if it is the one that fails. Only tested.
 fn is_refused(left: &Cell<u64>) -> bool {
     let before = left.get();
     if before > 0 {

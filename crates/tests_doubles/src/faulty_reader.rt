@@ -1,25 +1,25 @@
-//! A reader that fails at one call.
+//! A reader that fails at one read.
 
 ghost use Rattle.std.specs.Prelude.{◌≡◌};
 
 use std::io;
 use std::io::Read;
 
-/// Gives at most so many bytes a read, and fails at one read, counted from 1.
+/// A reader that gives at most `piece` bytes a read, and fails at one read. Only tested: which one fails.
 #[derive(Drop)]
 pub struct FaultyReader<'a> {
     /// The bytes that are left.
     pub bytes: &'a [u8],
     /// The most bytes of a read.
     pub piece: usize,
-    /// The read that fails; none where it is 0.
+    /// The read that fails, from 1, or 0 for none.
     pub fails_at: u64,
-    /// How often it was read.
+    /// The number of reads.
     pub calls: u64,
 }
 
 impl<'a> FaultyReader<'a> {
-    /// A reader of these bytes that was not read yet.
+    /// Makes a reader of these bytes that was not read yet.
     pub fn new(bytes: &'a [u8], piece: usize, fails_at: u64) -> FaultyReader<'a>
         ensures bytes { result.bytes.now ≡ bytes.now }
         ensures piece { result.piece ≡ piece }

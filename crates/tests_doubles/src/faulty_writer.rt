@@ -1,4 +1,4 @@
-//! A writer that fails at one call.
+//! A writer that fails at one write.
 
 ghost use Rattle.std.specs.Prelude.{◌≡◌, []};
 
@@ -6,23 +6,23 @@ use std::alloc::Global;
 use std::io;
 use std::io::Write;
 
-/// Takes at most so many bytes a write, and fails at one write, counted from 1, or takes nothing there.
+/// A writer that takes at most `piece` bytes a write, and fails at one write. Only tested: which one fails.
 #[derive(Drop)]
 pub struct FaultyWriter {
-    /// What was taken.
+    /// The bytes that were taken.
     pub taken: Vec<u8>,
     /// The most bytes of a write.
     pub piece: usize,
-    /// The write that fails; none where it is 0.
+    /// The write that fails, from 1, or 0 for none.
     pub fails_at: u64,
-    /// Whether the write that fails takes nothing and tells no error.
+    /// Whether the write that fails takes no byte and returns no error.
     pub takes_nothing: bool,
-    /// How often it was written to.
+    /// The number of writes.
     pub calls: u64,
 }
 
 impl FaultyWriter {
-    /// A writer that was not written to yet.
+    /// Makes a writer that was not written to yet.
     pub fn new(alloc: Global, piece: usize, fails_at: u64, takes_nothing: bool) -> FaultyWriter
         ensures taken { result.taken.items ≡ [] }
         ensures piece { result.piece ≡ piece }
