@@ -2,7 +2,9 @@
 //! same lines out, or the same record with `--record`. `plain play [--world grid|rename|tree] [--m M] [--k K] [--limit L] [--record]`.
 //!
 //! `plain check` reads a record as it is written here, replays it and compares each reply: it answers `yes`, or `no` with the first line
-//! that another run would have.
+//! that another run would have. `plain migrate` writes the record again, as it is written here.
+
+pub mod pages;
 
 use super::{Door, Grid, Places, Refusal, Renaming, Round, Snapshot, Stage, Told, Tree, View, NONE};
 use std::fs::File;
@@ -561,8 +563,9 @@ pub fn play(words: &[String]) {
 const RECORD_LINE: usize = 8_192;
 
 /// Replays a line of a record: whether its reply is the one that is told, and how many bytes it has. `None` where it does not end here.
+/// Where lines are kept, this one is appended as it is written in a record.
 #[inline(always)]
-fn replay<W: World>(text: &[u8], world: &mut W, out: &mut Vec<u8>) -> Option<(bool, usize)> {
+fn replay<W: World, const KEPT: bool>(text: &[u8], world: &mut W, out: &mut Vec<u8>) -> Option<(bool, usize)> {
     const BEFORE: &[u8] = b"{\"command\":\"";
     const BETWEEN: &[u8] = b"\",\"reply\":\"";
     let end = |text: &[u8]| text.iter().position(|byte| *byte == b'\n').map(|at| at + 1);
@@ -588,19 +591,27 @@ fn replay<W: World>(text: &[u8], world: &mut W, out: &mut Vec<u8>) -> Option<(bo
     if !told.starts_with(BETWEEN) {
         return end(text).map(|at| (false, at));
     }
-    out.clear();
+    if KEPT {
+        out.extend_from_slice(BEFORE);
+        out.extend_from_slice(&asked[..length]);
+        out.extend_from_slice(BETWEEN);
+    } else {
+        out.clear();
+    }
+    let from = out.len();
     world.answer::<true>(command, out);
     out.truncate(out.len() - 1);
     out.extend_from_slice(b"\"}\n");
-    let right = told[BETWEEN.len()..].starts_with(out);
-    Some((right, BEFORE.len() + length + BETWEEN.len() + out.len()))
+    let reply = &out[from..];
+    let right = told[BETWEEN.len()..].starts_with(reply);
+    Some((right, BEFORE.len() + length + BETWEEN.len() + reply.len()))
 }
 
 /// Replays the lines that end in these bytes: how many bytes they are, or which line is told otherwise.
 #[inline(never)]
-fn replay_all<W: World>(text: &[u8], line: &mut u64, world: &mut W, out: &mut Vec<u8>) -> Result<usize, u64> {
+fn replay_all<W: World, const KEPT: bool>(text: &[u8], line: &mut u64, world: &mut W, out: &mut Vec<u8>) -> Result<usize, u64> {
     let mut at = 0;
-    while let Some((right, length)) = replay(&text[at..], world, out) {
+    while let Some((right, length)) = replay::<W, KEPT>(&text[at..], world, out) {
         *line += 1;
         if !right {
             return Err(*line);
@@ -610,14 +621,13 @@ fn replay_all<W: World>(text: &[u8], line: &mut u64, world: &mut W, out: &mut Ve
     Ok(at)
 }
 
-/// Checks the lines behind the header, of which so many bytes were read.
-fn check_in<W: World>(mut world: W, text: &mut [u8], read: usize) -> Result<(), u64> {
+/// Checks the lines behind the header, of which so many bytes were read, and keeps them behind `out` where they are to be kept.
+fn check_in<W: World, const KEPT: bool>(mut world: W, text: &mut [u8], read: usize, out: &mut Vec<u8>) -> Result<(), u64> {
     let files = streams();
     let mut input = &*files[0];
-    let mut out = Vec::with_capacity(RECORD_LINE);
     let (mut line, mut kept) = (1, read);
     loop {
-        let taken = replay_all(&text[..kept], &mut line, &mut world, &mut out)?;
+        let taken = replay_all::<W, KEPT>(&text[..kept], &mut line, &mut world, out)?;
         text.copy_within(taken..kept, 0);
         kept -= taken;
         let more = input.read(&mut text[kept..kept + ROOM]).unwrap();
@@ -628,8 +638,8 @@ fn check_in<W: World>(mut world: W, text: &mut [u8], read: usize) -> Result<(), 
     }
 }
 
-/// Checks the record on standard input.
-pub fn check() {
+/// Checks the record on standard input. Where it is to be kept, `out` has it at the end.
+fn check_all<const KEPT: bool>(out: &mut Vec<u8>) -> Result<(), u64> {
     let mut text = vec![0; ROOM + RECORD_LINE + LINE_MAX];
     let files = streams();
     let read = (&*files[0]).read(&mut text[..ROOM]).unwrap();
@@ -640,14 +650,30 @@ pub fn check() {
         value[..value.find([',', '}']).unwrap()].parse().unwrap()
     };
     let (m, k, limit) = (size("\"m\":"), size("\"k\":"), size("\"limit\":") as u64);
+    if KEPT {
+        out.extend_from_slice(&text[..=end]);
+    }
     text.copy_within(end + 1..read, 0);
     let left = read - end - 1;
-    let found = match header.ends_with("\"tree\"}") {
-        true => check_in(Desk::<Tree>::new(m, k, limit), &mut text, left),
-        false => check_in(Desk::<Grid>::new(m, k, limit), &mut text, left),
-    };
-    match found {
+    match header.ends_with("\"tree\"}") {
+        true => check_in::<_, KEPT>(Desk::<Tree>::new(m, k, limit), &mut text, left, out),
+        false => check_in::<_, KEPT>(Desk::<Grid>::new(m, k, limit), &mut text, left, out),
+    }
+}
+
+/// Tells whether the record on standard input is that of a run.
+pub fn check() {
+    match check_all::<false>(&mut Vec::with_capacity(RECORD_LINE)) {
         Ok(()) => println!("yes"),
+        Err(line) => println!("no {line}"),
+    }
+}
+
+/// Writes the record on standard input again, where it is that of a run.
+pub fn migrate() {
+    let mut out = Vec::new();
+    match check_all::<true>(&mut out) {
+        Ok(()) => (&*streams()[1]).write_all(&out).unwrap(),
         Err(line) => println!("no {line}"),
     }
 }

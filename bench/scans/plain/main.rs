@@ -597,14 +597,14 @@ struct Renaming<P: Places> {
 }
 
 impl<P: Places> Renaming<P> {
-    /// Sixteen that have begun.
-    fn sixteen() -> Self {
+    /// So many of at most `m` that have begun.
+    fn begun(m: usize, ids: u64) -> Self {
         let mut w = Renaming {
-            snapshot: Snapshot::new(16),
-            rounds: Vec::with_capacity(16),
+            snapshot: Snapshot::new(m),
+            rounds: Vec::with_capacity(m),
             limit: 1000,
         };
-        for id in 1..17 {
+        for id in 1..=ids {
             w.snapshot.begin(id);
             w.rounds.push(Round {
                 identity: id,
@@ -675,7 +675,7 @@ impl<P: Places> Renaming<P> {
 }
 
 fn named() -> u64 {
-    let mut w = Renaming::<Grid>::sixteen();
+    let mut w = Renaming::<Grid>::begun(16, 16);
     let mut steps = 0;
     for turn in 0..1000000u64 {
         let id = 1 + turn % 16;
@@ -694,48 +694,76 @@ fn named() -> u64 {
     steps
 }
 
-/// A run of so many drawn steps of sixteen: how many have begun, were named and were spent.
-fn drawn<P: Places>(seed: u64, steps: u64) -> (u64, u64, u64) {
-    let mut w = Renaming::<P>::sixteen();
+/// The generator `Lcg64Xsh32`.
+struct Words {
+    state: u64,
+    increment: u64,
+}
+
+impl Words {
+    const FACTOR: u64 = 6364136223846793005;
+
+    /// A permuted word of a state.
+    fn output(state: u64) -> u32 {
+        ((((state >> 18) ^ state) >> 27) as u32).rotate_right((state >> 59) as u32)
+    }
+    /// As `seed_from_u64`: another such generator draws the state and the increment.
+    fn of_seed(seed: u64) -> Self {
+        let mut state = seed;
+        let mut drawn = || {
+            state = state.wrapping_mul(Self::FACTOR).wrapping_add(11634580027462260723);
+            u64::from(Self::output(state))
+        };
+        let first = drawn() | drawn() << 32;
+        let increment = drawn() | drawn() << 32 | 1;
+        let mut words = Words { state: first.wrapping_add(increment), increment };
+        words.next();
+        words
+    }
+    #[inline(always)]
+    fn next(&mut self) -> u32 {
+        let old = self.state;
+        self.state = old.wrapping_mul(Self::FACTOR).wrapping_add(self.increment);
+        Self::output(old)
+    }
+}
+
+/// A run of so many drawn steps of the identities from 1 on: how many have begun, were named and were spent.
+fn drawn<P: Places>(seed: u64, ids: u64, m: usize, steps: u64) -> (u64, u64, u64) {
+    let mut w = Renaming::<P>::begun(m, ids);
     let (mut named, mut spent) = (0, 0);
-    let mut state = seed;
+    let mut words = Words::of_seed(seed);
     for _ in 0..steps {
-        let old = state;
-        state = old
-            .wrapping_mul(6364136223846793005)
-            .wrapping_add(1442695040888963407);
-        let word = ((((old >> 18) ^ old) >> 27) as u32).rotate_right((old >> 59) as u32);
-        match w.step(std::hint::black_box(1 + u64::from(word) % 16)) {
+        match w.step(1 + u64::from(words.next()) % ids) {
             Ok(Told::Named(_, _)) => named += 1,
             Ok(Told::Spent) => spent += 1,
             _ => {}
         }
     }
-    (16, named, spent)
+    (ids, named, spent)
 }
 
-/// The lines of so many drawn runs, as `slotctl draw --runs` writes them; the words are those of another seed.
-fn draws<P: Places>(steps: u64, runs: u64) {
-    for run in 0..runs {
-        let (begun, named, spent) = drawn::<P>(7 + run, steps);
+/// The lines of drawn runs, as `slotctl draw --runs` writes them.
+fn draws<P: Places>(told: impl Fn(&str) -> u64) {
+    for run in 0..told("--runs") {
+        let (begun, named, spent) = drawn::<P>(told("--seed") + run, told("--ids"), told("--m") as usize, told("--steps"));
         println!("run {run} begun {begun} named {named} spent {spent}");
     }
 }
 
 fn main() {
     let words: Vec<String> = env::args().collect();
-    if words[1] == "play" {
-        return lines::play(&words[2..]);
-    }
-    if words[1] == "check" {
-        return lines::check();
-    }
-    let turns: u64 = words[2].parse().unwrap();
+    let told = |name: &str| words.windows(2).find(|pair| pair[0] == name).map(|pair| pair[1].as_str());
     match words[1].as_str() {
-        "draws" => return draws::<Grid>(turns, words[3].parse().unwrap()),
-        "tree" => return draws::<Tree>(turns, words[3].parse().unwrap()),
+        "play" => return lines::play(&words[2..]),
+        "check" => return lines::check(),
+        "migrate" => return lines::migrate(),
+        "show" => return lines::pages::show(&words[2]),
+        "draw" if told("--world") == Some("tree") => return draws::<Tree>(|name| told(name).unwrap().parse().unwrap()),
+        "draw" => return draws::<Grid>(|name| told(name).unwrap().parse().unwrap()),
         _ => {}
     }
+    let turns: u64 = words[2].parse().unwrap();
     let n = match words[1].as_str() {
         "scans" => scans(turns).unwrap(),
         "updates" => updates(turns).unwrap(),
