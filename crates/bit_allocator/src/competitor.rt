@@ -5,8 +5,8 @@ use crate::stay::Stay;
 /// A competitor of a pool.
 #[derive(Clone, Copy, Debug, Drop, PartialEq, Eq)]
 pub struct Competitor {
-    /// Who it is; not 0.
+    /// Its identity; not 0.
     pub identity: u64,
-    /// Where it stands.
+    /// Its own state.
     pub stay: Stay,
 }

@@ -1,29 +1,34 @@
-//! A pool of numbers, taken and given back any number of times.
+//! A pool of numbers, taken and given back any number of times: long-lived renaming by test-and-set bits (Moir and
+//! Anderson 1995).
 //!
-//! Long-lived renaming by test-and-set bits (Moir and Anderson 1995): of the `k` numbers of a pool each but the last
-//! has a bit, and a competitor probes the bits from the first on, one bit a call, until it finds one clear. While no
-//! more than `k` compete nobody is left without a number. A competitor sees of the others the bit that it probes, and
-//! nothing else. A pool may get more numbers while some are held: what was the last one then has a bit too, and `k` is
-//! the present size in all that follows.
+//! Each of the `k` numbers of a pool but the last has a bit. A competitor probes the bits from the first on, one bit a
+//! call, until it finds one clear. While at most `k` compete, each gets a number. Of the others a competitor sees the
+//! bit that it probes, and nothing else. A pool may get more numbers while some are held. The number that was the last
+//! one then gets a bit, and `k` is the new size.
 //!
-//! What is proved, over every list of calls in any order: each reply is one that the object of
-//! `specs/PoolObject.antt` may give, which gives out any number that nobody holds; at most `k` compete; numbers held
-//! are within `1..=k`, and no two competitors hold the same; the probe numbered `max(1, k - 1)` of a stay is never
-//! missed; widening changes the size and no one's number; each refusal comes exactly when it is due, and changes
-//! nothing. After `new` no call takes memory.
+//! What is proved, over every list of calls in any order:
 //!
-//! A caller, which gives a thread a slot of its own among three:
+//! - Each reply is one that the object of `specs/PoolObject.antt` may give, which gives out any number that nobody
+//!   holds.
+//! - At most `k` compete. Numbers held are in `1..=k`, and no two competitors hold the same one.
+//! - The probe numbered `max(1, k - 1)` of a competitor is never missed.
+//! - Widening changes the size, and no competitor's number.
+//! - Each error is returned if and only if it is due, and changes nothing.
+//! - After `new` no call allocates.
+//!
+//! From `tests_objects/src/pool_tests.rt`, for a pool of one number:
 //!
 //! ```text
-//! let mut pool = Pool::new(alloc, 3)?;
-//! pool.enter(5)?;                     // 5 competes
-//! let slot = loop {
-//!     if let Probe::Got(n) = pool.probe(5)? {
-//!         break n;                    // at the second probe or earlier
-//!     }
-//! };
-//! work_in(slot);                      // nobody else holds it
-//! pool.leave(5)?;                     // answers the number: another may take it
+//! let crowded = [pool.acquire(5), pool.acquire(6)];
+//! let entered = [pool.widen(2), pool.enter(6)];
+//! let probed = pool.probe(6);
+//! let given = [pool.leave(5), pool.acquire(7), pool.number_of(6)];
+//! let holders = [pool.holder_of(1), pool.holder_of(2)];
+//! crowded == [Ok(1), Err(Refusal::Crowded)]
+//!     && entered == [Ok(()), Ok(())]
+//!     && probed == Ok(Probe::Got(2))
+//!     && given == [Ok(1), Ok(1), Ok(2)]
+//!     && holders == [Some(7), Some(6)]
 //! ```
 #![tactic(auto)]
 

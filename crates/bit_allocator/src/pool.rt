@@ -24,14 +24,16 @@ use step_memory::{Access, Answer, Memory, Refusal, StepMemory};
 /// The most numbers that a pool may have, and the most competitors.
 pub const MOST_NUMBERS: usize = 64;
 
-/// A pool of the numbers from 1 to its size. Each number below the size has a bit, which is set where it is held.
+/// A pool of the numbers from 1 to its size (Moir and Anderson 1995).
+///
+/// Each number below the size has a bit, which is set while the number is held. The last number has none.
 pub struct Pool<A: Allocator> {
     size: u8,
     bits: Memory<(), A>,
     competitors: Roster<A>,
 }
 
-// By hand, so that a pool is taken apart here alone, and not wherever one is dropped.
+// By hand, so that the code that drops a pool is here alone, and not at each place where one goes out of scope.
 impl<A: Allocator> Drop for Pool<A> {
     fn drop(self) {
         let Pool {
@@ -53,7 +55,7 @@ impl<A: Allocator> Model for Pool<A> {
     ghost invariant = { λ p. IsSound p.size p.competitors };
 }
 
-/// Who holds a number.
+/// Returns the competitor that holds this number.
 fn holder(competitors: &[Competitor], number: u8) -> Option<u64>
     ensures { result ≡ holder_in number competitors.now }
 {
@@ -65,14 +67,14 @@ fn holder(competitors: &[Competitor], number: u8) -> Option<u64>
     None
 }
 
-/// Whether a bit was clear that was tested and set with this answer.
+/// Whether a bit was clear, by the answer to a test-and-set.
 fn was_clear(got: Answer<()>) -> bool
     ensures { result ≡ was_clear got }
 {
     matches!(got, Answer::WasSet(false))
 }
 
-/// The number that probes of the bits from the first on get.
+/// Probes the bits from the first on, and returns the number that they give.
 fn seek<A: Allocator>(bits: &mut Memory<(), A>, size: u8) -> u8
     requires { 1 ≤ size }
     ensures probes { Gets size 1 bits.old result bits.new }
@@ -88,7 +90,12 @@ fn seek<A: Allocator>(bits: &mut Memory<(), A>, size: u8) -> u8
 }
 
 impl<A: Allocator + Clone> Pool<A> {
-    /// A pool of the numbers from 1 to `size`, which is from 1 to 64. All its room is taken here.
+    /// Makes a pool of the numbers from 1 to `size`, for which nobody competes. No other call allocates.
+    ///
+    /// # Errors
+    ///
+    /// - `OutOfRange`: `size` is not from 1 to 64.
+    /// - `NoMemory`: an allocation failed.
     pub fn new(alloc: A, size: u64) -> Result<Self, Refusal>
         ensures fresh { IfOk result (λ p. p ≡ fresh_pool size) }
         ensures after { IfOk result (λ p. Reaches pool size p []) }
@@ -112,7 +119,7 @@ impl<A: Allocator + Clone> Pool<A> {
 }
 
 impl<A: Allocator> Pool<A> {
-    /// The present size, which is the largest number.
+    /// Returns the present size, which is the largest number: from 1 to 64.
     pub fn size(&self) -> u64
         ensures size { result ≡ self.now.size }
         ensures range { (1 ≤ result) × (result ≤ 64) }
@@ -120,7 +127,7 @@ impl<A: Allocator> Pool<A> {
         u64::from(self.size)
     }
 
-    /// Those who compete, in the order of entering.
+    /// Returns the competitors, in the order in which they entered.
     pub fn competitors(&self) -> &[Competitor]
         ensures value { result.now ≡ self.now.competitors }
         ensures law { OnEveryHistory pool (λ size r. (o : PoolObject) → IsRun size r o → identities result.now ≡ o.competing) self.now }
@@ -128,7 +135,7 @@ impl<A: Allocator> Pool<A> {
         self.competitors.as_slice()
     }
 
-    /// Where an identity stands; none where it does not compete.
+    /// Returns the state of a competitor, or `None` if the identity does not compete.
     pub fn stay_of(&self, id: u64) -> Option<Stay>
         ensures stay { result ≡ stay_of id self.now.competitors }
         ensures within { IfSome result (λ stay. IsWithin self.now.size stay) }
@@ -139,7 +146,14 @@ impl<A: Allocator> Pool<A> {
         Some(self.competitors.nth(i).stay)
     }
 
-    /// The number that an identity holds. Refused where the identity does not compete, then where it holds none.
+    /// Returns the number that `id` holds. This makes no access.
+    ///
+    /// # Errors
+    ///
+    /// The first that applies is returned:
+    ///
+    /// - `NotCompeting`: `id` does not compete.
+    /// - `NotHolding`: `id` competes and holds no number.
     pub fn number_of(&self, id: u64) -> Result<u8, Refusal>
         ensures answer { result ≡ number_answer self.now id }
         ensures range { IfOk result (λ n. (1 ≤ n) × (n ≤ self.now.size)) }
@@ -152,7 +166,7 @@ impl<A: Allocator> Pool<A> {
         }
     }
 
-    /// Who holds a number.
+    /// Returns the identity that holds this number, or `None` if no identity holds it.
     pub fn holder_of(&self, number: u8) -> Option<u64>
         ensures value { result ≡ holder_in number self.now.competitors }
         ensures law { OnEveryHistory pool (λ size r. (o : PoolObject) → IsRun size r o → IsHolderIn o number result) self.now }
@@ -160,7 +174,7 @@ impl<A: Allocator> Pool<A> {
         holder(self.competitors.as_slice(), number)
     }
 
-    /// Why an identity may not enter: what `enter` would be refused. It changes nothing.
+    /// Returns the error that `enter` would return, or `None` if it would succeed.
     pub fn enter_refusal(&self, id: u64) -> Option<Refusal>
         ensures { result ≡ enter_refusal self.now id }
     {
@@ -175,8 +189,15 @@ impl<A: Allocator> Pool<A> {
         }
     }
 
-    /// An identity begins to compete, with no access. Refused where it is 0, then where it competes, then where as many
-    /// compete as there are numbers.
+    /// Makes `id` a competitor, which holds no number. This makes no access.
+    ///
+    /// # Errors
+    ///
+    /// An error changes nothing. The first that applies is returned:
+    ///
+    /// - `ZeroIdentity`: `id` is 0.
+    /// - `AlreadyCompeting`: `id` competes.
+    /// - `Crowded`: as many compete as the pool has numbers.
     #[tactic(auto, using(crate::proofs::PoolKeeps::pool_law))]
     pub fn enter(&mut self, id: u64) -> Result<(), Refusal>
         ensures answer { result ≡ enter_answer self.old id }
@@ -192,7 +213,7 @@ impl<A: Allocator> Pool<A> {
         Ok(())
     }
 
-    /// Why an identity may not probe: what `probe` would be refused. It changes nothing.
+    /// Returns the error that `probe` would return, or `None` if it would succeed.
     pub fn probe_refusal(&self, id: u64) -> Option<Refusal>
         ensures { result ≡ probe_refusal self.now id }
     {
@@ -203,9 +224,20 @@ impl<A: Allocator> Pool<A> {
         }
     }
 
-    /// One probe, which is at most one access: the `i`-th of a stay tests and sets bit `i`. It gets the number `i` where
-    /// the bit was clear, and where it was set it gets the last number if there is no further bit. Refused where the
-    /// identity does not compete, then where it holds a number.
+    /// Makes one probe of competitor `id`: the `i`-th since it entered tests and sets bit `i`.
+    ///
+    /// It gets number `i` if the bit was clear. If the bit was set and no bit is left, it gets the last number.
+    ///
+    /// # Errors
+    ///
+    /// An error changes nothing. The first that applies is returned:
+    ///
+    /// - `NotCompeting`: `id` does not compete.
+    /// - `Holding`: `id` holds a number.
+    ///
+    /// # Steps
+    ///
+    /// At most one access. A competitor has a number after at most `max(1, k - 1)` probes in a pool of size `k`.
     #[tactic(auto, using(crate::proofs::PoolKeeps::pool_law))]
     pub fn probe(&mut self, id: u64) -> Result<Probe, Refusal>
         ensures answer { result ≡ probe_answer self.old id }
@@ -214,10 +246,10 @@ impl<A: Allocator> Pool<A> {
         ensures after { Extends pool self.old self.new (Probed id result) }
         ensures law { SatisfiesSpec pool self.new }
 
-        // Nothing of the pool changes but this competitor and the bit that it names.
+        // Nothing of the pool changes except this competitor and the bit that it names.
         ensures local { ChangesOnly probe_steps id self.old self.new result }
 
-        // In another pool that looks alike to this competitor the answer is the same, and where it then stands.
+        // In another pool that this competitor cannot distinguish, the reply and its new state are the same.
         ensures alike { (other : PoolState) → Indistinguishable probe_steps id self.old other → result ≡ probe_answer other id }
         ensures stands_alike { (other : PoolState) → Indistinguishable probe_steps id self.old other → StandAlike id self.new (after_probe other id) }
     {
@@ -234,8 +266,15 @@ impl<A: Allocator> Pool<A> {
         Ok(stay.probe_reply())
     }
 
-    /// A whole stay at once: an identity begins to compete and probes until it gets a number, at the probe numbered
-    /// max(1, size - 1) or earlier. Refused, with nothing changed, where `enter` is. It looks for the identity once.
+    /// Enters and probes in one call, until `id` has a number, and returns the number.
+    ///
+    /// # Errors
+    ///
+    /// Those of `enter`, in that order. An error changes nothing.
+    ///
+    /// # Steps
+    ///
+    /// At most `max(1, k - 1)` probes in a pool of size `k`. The identity is searched once.
     #[tactic(auto, using(crate::proofs::PoolKeeps::pool_law))]
     pub fn acquire(&mut self, id: u64) -> Result<u8, Refusal>
         ensures acquired { IfOk result (λ n. IsAcquired self.old id n self.new) }
@@ -252,8 +291,18 @@ impl<A: Allocator> Pool<A> {
         Ok(number)
     }
 
-    /// Gives back the number that an identity holds, which competes no more: at most one access, which clears the
-    /// number's bit. Refused where the identity does not compete, then where it holds no number.
+    /// Gives back the number that `id` holds, and returns it. The identity then competes no more.
+    ///
+    /// # Errors
+    ///
+    /// An error changes nothing. The first that applies is returned:
+    ///
+    /// - `NotCompeting`: `id` does not compete.
+    /// - `NotHolding`: `id` competes and holds no number.
+    ///
+    /// # Steps
+    ///
+    /// At most one access, which clears the number's bit.
     #[tactic(auto, using(crate::proofs::PoolKeeps::pool_law))]
     pub fn leave(&mut self, id: u64) -> Result<u8, Refusal>
         ensures answer { result ≡ number_answer self.old id }
@@ -262,10 +311,10 @@ impl<A: Allocator> Pool<A> {
         ensures after { Extends pool self.old self.new (Left id result) }
         ensures law { SatisfiesSpec pool self.new }
 
-        // Nothing of the pool changes but this competitor and the bit that it names.
+        // Nothing of the pool changes except this competitor and the bit that it names.
         ensures local { ChangesOnly leave_steps id self.old self.new result }
 
-        // In another pool that looks alike to this competitor the answer is the same, and where it then stands.
+        // In another pool that this competitor cannot distinguish, the reply and its new state are the same.
         ensures alike { (other : PoolState) → Indistinguishable leave_steps id self.old other → result ≡ number_answer other id }
         ensures stands_alike { (other : PoolState) → Indistinguishable leave_steps id self.old other → StandAlike id self.new (after_leave other id) }
     {
@@ -276,7 +325,7 @@ impl<A: Allocator> Pool<A> {
         Ok(number)
     }
 
-    /// Why the pool may not get so many numbers: what `widen` would be refused. It changes nothing.
+    /// Returns the error that `widen` would return, or `None` if it would succeed.
     pub fn widen_refusal(&self, size: u64) -> Option<Refusal>
         ensures answer { result ≡ widen_refusal self.now.size size }
         ensures more { IfNone result ((self.now.size < size) × (size ≤ 64)) }
@@ -288,9 +337,17 @@ impl<A: Allocator> Pool<A> {
         }
     }
 
-    /// The pool gets more numbers: from now on those from 1 to `size`, which is above the present size and at most 64. All
-    /// that is held stays held. What was the last number had no bit: where it is held this makes one access, which sets its
-    /// bit, and else none. Refused where the size is out of that range. It takes no memory.
+    /// Gives the pool more numbers: those from 1 to `size`. Each competitor keeps its number. This allocates nothing.
+    ///
+    /// The last number had no bit. If it is held, this call sets its bit.
+    ///
+    /// # Errors
+    ///
+    /// `OutOfRange`: `size` is not above the present size, or is above 64. Nothing has changed.
+    ///
+    /// # Steps
+    ///
+    /// At most one access.
     #[tactic(auto, using(crate::proofs::PoolKeeps::pool_law))]
     pub fn widen(&mut self, size: u64) -> Result<(), Refusal>
         ensures answer { result ≡ widen_answer self.old size }
@@ -299,7 +356,7 @@ impl<A: Allocator> Pool<A> {
         ensures after { Extends pool self.old self.new (Widened size result) }
         ensures law { SatisfiesSpec pool self.new }
 
-        // No competitor stands elsewhere, and no bit changes but that of what was the last number.
+        // No competitor changes, and no bit except that of the number that was the last one.
         ensures local { IsWidened self.old self.new result }
     {
         if let Some(refusal) = self.widen_refusal(size) {

@@ -1,10 +1,10 @@
-//! What a probe answers.
+//! What a probe returns.
 
-/// The answer to a probe that is not refused (Moir and Anderson 1995).
+/// What a probe returns (Moir and Anderson 1995).
 #[derive(Clone, Copy, Debug, Drop, PartialEq, Eq)]
 pub enum Probe {
-    /// The bit was set: another holds its number. The next probe is of the next bit.
+    /// The bit was set: another competitor holds its number. The next probe is of the next bit.
     Missed,
-    /// This number, from 1 to the size of the pool, which nobody else holds.
+    /// The competitor holds this number, from 1 to the size of the pool, and no other does.
     Got(u8),
 }

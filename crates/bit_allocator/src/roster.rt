@@ -1,4 +1,4 @@
-//! Those who compete, and where a search for one begins.
+//! The competitors, and the index at which a search for one starts.
 
 ghost use Rattle.std.specs.Prelude.{◌≡◌, ◌<◌, ◌≤◌, ◌+◌, ◌%◌, [], ◌∷◌, ◌++◌, true, false, length, drop, option_map, IfOk, IfSome, None, Some, slice_index_or, slice_set};
 ghost use Rattle.bit_allocator.specs.Competitors.{index_of, stay_of, with_stay, without};
@@ -13,10 +13,10 @@ use step_memory::NoMemory;
 /// The most competitors.
 pub(crate) const ROOM: usize = 64;
 
-/// What is noted where nobody stands.
+/// The note that no competitor has these bits.
 const NOWHERE: u8 = 64;
 
-/// Whether another competitor stands here, so that the search for an identity goes on after it.
+/// Whether the competitor at this index is another one, so that the search for an identity goes on after it.
 #[inline(always)]
 fn is_other(competitors: &[Competitor], at: usize, id: u64) -> bool
     requires { at < length competitors.now }
@@ -26,7 +26,7 @@ fn is_other(competitors: &[Competitor], at: usize, id: u64) -> bool
     competitors[at].identity != id
 }
 
-/// Where the competitor of an identity stands, who is none of those before this place.
+/// Finds the index of an identity that no competitor before `start` has.
 #[inline(always)]
 fn search_from(competitors: &[Competitor], start: usize, id: u64) -> Option<usize>
     requires inside { start ≤ length competitors.now }
@@ -44,7 +44,7 @@ fn search_from(competitors: &[Competitor], start: usize, id: u64) -> Option<usiz
     None
 }
 
-/// Where the competitor of an identity stands. It looks at four a turn.
+/// Finds the index of the competitor with an identity. One round of the loop compares four.
 fn search(competitors: &[Competitor], id: u64) -> Option<usize>
     ensures answer { result ≡ index_of id competitors.now }
     ensures inside { IfSome result (λ i. i < length competitors.now) }
@@ -68,7 +68,7 @@ fn search(competitors: &[Competitor], id: u64) -> Option<usize>
     search_from(competitors, at, id)
 }
 
-/// Notes that a competitor of this identity stands at this index.
+/// Notes that the competitor with this identity is at this index.
 #[inline(always)]
 fn note(places: &mut [u8; 64], id: u64, at: usize)
     ensures { places.new ≡ slice_set places.old (id % 64) (at % 64) }
@@ -76,7 +76,7 @@ fn note(places: &mut [u8; 64], id: u64, at: usize)
     places[(id % 64) as usize] = (at % 64) as u8;
 }
 
-/// What is noted of these competitors.
+/// Makes the notes of these competitors.
 fn notes_of(competitors: &[Competitor]) -> [u8; 64]
     ensures { AreNoted result competitors.now }
 {
@@ -87,9 +87,11 @@ fn notes_of(competitors: &[Competitor]) -> [u8; 64]
     places
 }
 
-/// Those who compete, in the order of entering, with room for 64. For each value of the lowest six bits of an identity it is noted
-/// where such a one was put last, or that there is none: there a search looks first. A note may be of another; then the search goes
-/// through all, so that contracts see no note.
+/// The competitors, in the order in which they entered, with room for 64.
+///
+/// There is a note for each value of an identity's lowest six bits. It is the index of the competitor with these bits
+/// that was added last, or says that there is none. A note may be of another identity. The search then goes through
+/// all, so that contracts see no note.
 #[derive(Drop)]
 pub(crate) struct Roster<A: Allocator> {
     competitors: Vec<Competitor, A>,
@@ -109,7 +111,7 @@ impl<A: Allocator> Model for Roster<A> {
 }
 
 impl<A: Allocator> Roster<A> {
-    /// Nobody competes. All the room is taken here.
+    /// Makes a roster with no competitor, and allocates room for 64.
     pub(crate) fn new(alloc: A) -> Result<Self, NoMemory>
         ensures { IfOk result (λ r. r ≡ []) }
     {
@@ -122,7 +124,7 @@ impl<A: Allocator> Roster<A> {
         }
     }
 
-    /// Those who compete.
+    /// Returns the competitors.
     #[inline(always)]
     pub(crate) fn as_slice(&self) -> &[Competitor]
         ensures { result.now ≡ self.now }
@@ -130,7 +132,7 @@ impl<A: Allocator> Roster<A> {
         self.competitors.as_slice()
     }
 
-    /// The competitor at this index.
+    /// Returns the competitor at this index.
     #[inline(always)]
     pub(crate) fn nth(&self, at: usize) -> Competitor
         requires { at < length self.now }
@@ -139,7 +141,7 @@ impl<A: Allocator> Roster<A> {
         self.competitors[at]
     }
 
-    /// Where the competitor of an identity stands.
+    /// Returns the index of the competitor with identity `id`, or `None` if it does not compete.
     #[inline(always)]
     pub(crate) fn find(&self, id: u64) -> Option<usize>
         ensures answer { result ≡ index_of id self.now }
@@ -156,7 +158,7 @@ impl<A: Allocator> Roster<A> {
         search(&self.competitors, id)
     }
 
-    /// One more, who did not compete.
+    /// Adds a competitor, which did not compete.
     pub(crate) fn add(&mut self, id: u64, stay: Stay)
         requires room { length self.old < 64 }
         requires new { stay_of id self.old ≡ None }
@@ -167,7 +169,7 @@ impl<A: Allocator> Roster<A> {
             .push_reserved(Competitor { identity: id, stay });
     }
 
-    /// Another state of the competitor that stands at this index.
+    /// Replaces the state of the competitor at this index.
     #[inline(always)]
     pub(crate) fn put(&mut self, at: usize, id: u64, stay: Stay)
         requires { Some at ≡ index_of id self.old }
@@ -177,7 +179,7 @@ impl<A: Allocator> Roster<A> {
         self.competitors[at] = Competitor { identity: id, stay };
     }
 
-    /// An identity competes no more.
+    /// Removes the competitor with identity `id`.
     pub(crate) fn remove(&mut self, id: u64)
         ensures { self.new ≡ without id self.old }
     {

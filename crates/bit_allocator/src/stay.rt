@@ -1,4 +1,4 @@
-//! Where a competitor stands, from its entering to its leaving.
+//! The state of a competitor, from `enter` to `leave`.
 
 ghost use Rattle.std.specs.Prelude.{◌≡◌};
 ghost use Rattle.bit_allocator.specs.Stay.{probe_access, stay_probed, probe_reply, leave_access, held_at};
@@ -7,18 +7,17 @@ ghost use Rattle.bit_allocator.specs.Competitors.{holds_at};
 use crate::probe::Probe;
 use step_memory::{Access, Answer};
 
-/// The own state of a competitor. Its calls make the accesses that this state and the size of the pool name, and no
-/// others (Moir and Anderson 1995).
+/// The own state of a competitor (Moir and Anderson 1995). It and the size of the pool fix the next access.
 #[derive(Clone, Copy, Debug, Drop, PartialEq, Eq)]
 pub enum Stay {
-    /// It holds no number, and its next probe is of this one: it missed all those below.
+    /// It holds no number, and missed each bit below this one. It probes this one next.
     Seeking(u8),
     /// It holds this number.
     Settled(u8),
 }
 
 impl Stay {
-    /// The access of the next probe, in a pool of this size: the last number has no bit.
+    /// Returns the access of the next probe, in a pool of this size: the last number has no bit.
     pub(crate) fn probe_access(self, size: u8) -> Access<usize, ()>
         ensures { result ≡ probe_access size self }
     {
@@ -34,7 +33,7 @@ impl Stay {
         }
     }
 
-    /// The state after the next probe, whose access was answered so.
+    /// Returns the state after the next probe, for this answer to its access.
     pub(crate) fn probed(self, size: u8, got: Answer<()>) -> Stay
         ensures { result ≡ stay_probed size self got }
     {
@@ -53,7 +52,7 @@ impl Stay {
         }
     }
 
-    /// What a probe answers that left this state.
+    /// Returns the reply of a probe that led to this state.
     pub(crate) fn probe_reply(self) -> Probe
         ensures { result ≡ probe_reply self }
     {
@@ -63,7 +62,7 @@ impl Stay {
         }
     }
 
-    /// The access of leaving, in a pool of this size: the last number has no bit.
+    /// Returns the access that gives the number back, in a pool of this size: the last number has no bit.
     pub(crate) fn leave_access(self, size: u8) -> Access<usize, ()>
         ensures { result ≡ leave_access size self }
     {
@@ -79,7 +78,7 @@ impl Stay {
         }
     }
 
-    /// Whether this number is held.
+    /// Whether it holds this number.
     pub(crate) fn holds(self, number: u8) -> bool
         ensures { result ≡ holds_at number (held_at self) }
     {

@@ -1,4 +1,4 @@
--- the beginning of bytes beside a front
+-- the prefix of bytes beside a front
 use Rattle.std.specs.Prelude.{◌≡◌, ◌≢◌, ℕ, ◌≤◌, ◌++◌, List, length, take}
 
 -- so much of the front stands at the beginning

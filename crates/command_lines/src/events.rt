@@ -8,10 +8,10 @@ use crate::replies::{HELD_REPLIES, Replies};
 use commands::Event;
 use std::alloc::Allocator;
 
-/// The words of no event have more bytes.
+/// The most bytes of an event's words.
 pub const EVENT_ROOM: usize = 45;
 
-/// Appends the words of the line that asks for an event (this project's profile), without its LF.
+/// Appends the words of the line that asks for an event, without its LF.
 pub fn print_event<A: Allocator>(event: Event, out: &mut Replies<A>)
     requires { length out.old + EVENT_ROOM ≤ HELD_REPLIES }
     ensures text { out.new ≡ out.old ++ event_words event }

@@ -1,11 +1,11 @@
-//! What stands behind a text at the beginning of bytes.
+//! The bytes after a prefix.
 
 ghost use Rattle.std.specs.Prelude.{◌≡◌, ◌≢◌, ◌++◌, ◌≤◌, true, false, length, take, IfSome, IfNone};
 ghost use Rattle.command_lines.specs.Front.{AreAlike, BeginsOtherwise};
 
 use crate::quick::first_four;
 
-/// Whether the first four bytes of both are the same. `false` says nothing where there are fewer.
+/// Whether the first four bytes of both are the same. `false` means nothing if one of them has fewer.
 #[inline(always)]
 fn begin_alike(bytes: &[u8], front: &[u8]) -> bool
     ensures yes { result ≡ true → take 4 bytes.now ≡ take 4 front.now }
@@ -20,7 +20,8 @@ fn begin_alike(bytes: &[u8], front: &[u8]) -> bool
     one == other
 }
 
-/// How far both are the same where they are compared four bytes at once, up to the last four of the front. `None` where they are not.
+/// Compares four bytes at once, up to the last four of the prefix. Returns how many bytes it compared, or `None` if two
+/// differ.
 #[inline(always)]
 fn alike_by_fours(bytes: &[u8], front: &[u8]) -> Option<usize>
     requires { length front.now ≤ length bytes.now }
@@ -37,8 +38,9 @@ fn alike_by_fours(bytes: &[u8], front: &[u8]) -> Option<usize>
     Some(at)
 }
 
-/// What follows these bytes at the beginning; `None` where others stand there. They are compared four at once, which takes a few instructions
-/// where the front is a text of the program, and no call.
+/// Returns the bytes after a prefix, or `None` if they do not begin with it.
+///
+/// It compares four bytes at once: a few instructions, and no call, if the prefix is a text of the program.
 #[inline(always)]
 pub fn after_front<'a>(bytes: &'a [u8], front: &[u8]) -> Option<&'a [u8]>
     ensures rest { IfSome result (λ rest. bytes.now ≡ front.now ++ rest.now) }

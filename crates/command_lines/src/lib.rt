@@ -1,23 +1,34 @@
-//! The command language: lines of text to commands, replies and events to text, and the bytes that are held until they are written.
+//! The command language: lines of text to commands, replies and events to text, and the buffer of bytes to be written.
 //!
-//! What a line means is `meaning`, which `parse_line` answers of every line; `quick_command` and `quick_number` answer it of the commonest
-//! commands and of numbers in one pass, up to any byte that ends them, for whoever reads commands out of other text. `words` cuts
-//! bytes at a separator, and reads the numbers that words write; `after_front` says what follows a text. A line that comes byte by byte
-//! is held by `LineBuffer`. How a text is cut into its lines is `law_of_lines`.
+//! The meaning of a line is `meaning`, which `parse_line` returns. `quick_command` and `quick_number` return the same
+//! of the commonest commands and of numbers, in one pass, up to any byte that ends them. `words` cuts bytes at a
+//! separator, and reads the numbers that words write. `after_front` returns the bytes after a prefix. A line that is
+//! given byte by byte is kept in a `LineBuffer`. How a text is cut into its lines is `law_of_lines`.
 //!
-//! What is said back is `reply_text`, which `print_reply` writes, and the line that asks for an event is `event_words` (`print_event`).
-//! They are written to `Replies`, whose room is taken once, and which sends them to a writer whose calls are counted (`Sink`). Why a run
-//! did not come to its end is a `Fault`.
+//! The text of a reply is `reply_text`, which `print_reply` writes. The line that asks for an event is `event_words`
+//! (`print_event`). They are written to `Replies`, a buffer that is allocated once and sends its bytes to a writer
+//! whose calls are counted (`Sink`). A `Fault` is why a run ended early.
 //!
 //! Nothing here knows who answers: that is the crate `player`.
 //!
-//! A caller, with a writer:
+//! From `tests_player/src/parse_tests.rt`:
 //!
 //! ```text
-//! parse_line(b"step 10", WorldKind::Rename)?;     // Command::Event(Event::Step(10))
-//! let mut out = Replies::new(alloc)?;
-//! print_reply(Reply::Quiet, &View::new(), &mut out);
-//! out.send(&mut writer)?;                         // quiet
+//! (b"step 07", Err(Bad::BadNumber)),
+//! ..
+//! (b"step 9", Ok(Command::Event(Event::Step(9)))),
+//! ..
+//! if parse_line(line, world) != want {
+//! ```
+//!
+//! From `tests_player/src/print_tests.rt`:
+//!
+//! ```text
+//! (Reply::Got(64), b"got 64\n"),
+//! ..
+//! out.clear();
+//! print_reply(reply, view, out);
+//! out.as_slice() == want
 //! ```
 #![tactic(auto)]
 

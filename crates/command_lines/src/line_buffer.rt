@@ -10,8 +10,9 @@ use std::alloc::Allocator;
 use std::marker::Model;
 use step_memory::NoMemory;
 
-/// The line so far, for readers that give it byte by byte. Its room of 100 bytes is taken once and never grown: that a
-/// line is longer is remembered, and its other bytes are passed over.
+/// A line that a reader gives byte by byte. Its room of 100 bytes is allocated once.
+///
+/// Bytes after the 100th are dropped, and the line is then too long.
 #[derive(Drop)]
 pub struct LineBuffer<A: Allocator> {
     bytes: Vec<u8, A>,
@@ -31,7 +32,11 @@ impl<A: Allocator> Model for LineBuffer<A> {
 }
 
 impl<A: Allocator> LineBuffer<A> {
-    /// An empty line; `NoMemory` where its room was refused.
+    /// Makes an empty line.
+    ///
+    /// # Errors
+    ///
+    /// `NoMemory`: the allocation failed.
     pub fn new(alloc: A) -> Result<LineBuffer<A>, NoMemory>
         ensures { IfOk result (λ buffer. buffer ≡ held []) }
     {
@@ -44,7 +49,7 @@ impl<A: Allocator> LineBuffer<A> {
         }
     }
 
-    /// One byte more of the line.
+    /// Appends one byte to the line.
     pub fn push(&mut self, byte: u8)
         ensures { (line : List ℕ) → self.old ≡ held line → self.new ≡ held (line ++ byte ∷ []) }
     {
@@ -55,7 +60,7 @@ impl<A: Allocator> LineBuffer<A> {
         }
     }
 
-    /// Some bytes more of the line.
+    /// Appends bytes to the line.
     pub fn extend(&mut self, bytes: &[u8])
         ensures { (line : List ℕ) → self.old ≡ held line → self.new ≡ held (line ++ bytes.now) }
     {
@@ -64,7 +69,7 @@ impl<A: Allocator> LineBuffer<A> {
         }
     }
 
-    /// Begins the next line.
+    /// Starts the next line.
     pub fn clear(&mut self)
         ensures { self.new ≡ held [] }
     {
@@ -72,14 +77,18 @@ impl<A: Allocator> LineBuffer<A> {
         self.too_long = false;
     }
 
-    /// Whether the line has no byte so far.
+    /// Whether the line has no byte.
     pub fn is_empty(&self) -> bool
         ensures { (line : List ℕ) → self.now ≡ held line → (IsTrue result ↔ (line ≡ [])) }
     {
         self.bytes.is_empty()
     }
 
-    /// What the whole line means: see `parse_line`.
+    /// Returns the command that the whole line means in this world, as `parse_line` does.
+    ///
+    /// # Errors
+    ///
+    /// Those of `parse_line`, in that order.
     pub fn meaning(&self, world: WorldKind) -> Result<Command, Bad>
         ensures held { (line : List ℕ) → self.now ≡ held line → result ≡ meaning world line }
         ensures some { (line : List ℕ) × (result ≡ meaning world line) }

@@ -12,12 +12,19 @@ use commands::{Bad, Command, Event, WorldKind};
 /// The most bytes of a line, without its LF.
 pub(crate) const LINE_MAX: usize = 100;
 
-/// What a line means in this world, without its LF: its command, or why it is none (this project's profile).
+/// Returns the command that a line, without its LF, means in this world.
 ///
-/// The reasons are tried in the order of their numbers: `TooLong` above 100 bytes; `NotPrintable` where a byte is
-/// outside 0x20..=0x7E; `UnknownWord` where the first word is no command's; `WrongCount` where there are other words
-/// than the command takes; `BadNumber` where one of them is not plain decimal below 2^64. Words are cut at each single
-/// space, so two spaces side by side have an empty word between them.
+/// A single space ends a word, so two spaces side by side have an empty word between them.
+///
+/// # Errors
+///
+/// The first that applies is returned:
+///
+/// - `TooLong`: the line has more than 100 bytes.
+/// - `NotPrintable`: a byte is outside 0x20..=0x7E.
+/// - `UnknownWord`: the first word is no command of this world.
+/// - `WrongCount`: the command takes another count of words.
+/// - `BadNumber`: one of the other words is not `0` or digits without a leading zero, or is not below 2^64.
 pub fn parse_line(line: &[u8], world: WorldKind) -> Result<Command, Bad>
     ensures { result ≡ meaning world line.now }
 {
@@ -31,7 +38,7 @@ pub fn parse_line(line: &[u8], world: WorldKind) -> Result<Command, Bad>
     command_of(word, others, world)
 }
 
-// By its first word and the others, what a line means.
+// The meaning of a line, by its first word and the others.
 fn command_of(word: &[u8], others: Option<&[u8]>, world: WorldKind) -> Result<Command, Bad>
     ensures { result ≡ command_of world word.now (words_left (option_copied others.entry)) }
 {
@@ -51,7 +58,7 @@ fn command_of(word: &[u8], others: Option<&[u8]>, world: WorldKind) -> Result<Co
     Err(Bad::UnknownWord)
 }
 
-// By its first word, of those that only a desk knows, and the others, what a line means.
+// The same for a first word that only a desk knows.
 fn desk_command_of(word: &[u8], others: Option<&[u8]>) -> Result<Command, Bad>
     ensures { result ≡ desk_command_of word.now (words_left (option_copied others.entry)) }
 {
@@ -67,7 +74,7 @@ fn desk_command_of(word: &[u8], others: Option<&[u8]>) -> Result<Command, Bad>
     slot_command_of(word, others)
 }
 
-// The same of the words of slots, and of those that ask for more numbers or for an owner.
+// The same for the words of slots, and for those that ask for more numbers or for an owner.
 fn slot_command_of(word: &[u8], others: Option<&[u8]>) -> Result<Command, Bad>
     ensures { result ≡ slot_command_of word.now (words_left (option_copied others.entry)) }
 {
@@ -94,14 +101,14 @@ fn is_all_printable(line: &[u8]) -> bool
     line.iter().all(|byte| 0x20 <= *byte && *byte <= 0x7E)
 }
 
-// The first word of these bytes, and what follows its space, if a space ends it.
+// The first word of these bytes, and the bytes after its space, if a space ends it.
 fn cut_word(bytes: &[u8]) -> (&[u8], Option<&[u8]>)
     ensures { words bytes.now ≡ result.0.now ∷ words_left (option_copied result.1) }
 {
     cut(bytes, b' ')
 }
 
-// The number that the words which are left write, where they are one word.
+// The number that the other words write, if they are one word.
 fn only_number(words: Option<&[u8]>) -> Result<u64, Bad>
     ensures { result ≡ one_number (words_left (option_copied words.entry)) }
 {
@@ -113,7 +120,7 @@ fn only_number(words: Option<&[u8]>) -> Result<u64, Bad>
     number(word).ok_or(Bad::BadNumber)
 }
 
-// The numbers that the words which are left write, where they are two words.
+// The numbers that the other words write, if they are two words.
 fn two_numbers(words: Option<&[u8]>) -> Result<(u64, u64), Bad>
     ensures { result ≡ two_numbers (words_left (option_copied words.entry)) }
 {
@@ -139,7 +146,7 @@ fn both_numbers(first: &[u8], second: &[u8]) -> Result<(u64, u64), Bad>
     }
 }
 
-// No word is left.
+// `WrongCount` if a word is left.
 fn no_more(words: Option<&[u8]>) -> Result<(), Bad>
     ensures { result ≡ no_word (words_left (option_copied words.entry)) }
 {

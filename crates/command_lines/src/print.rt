@@ -11,14 +11,13 @@ use itoa::Buffer;
 use std::alloc::Allocator;
 use step_memory::{Place, Refusal, View};
 
-/// No text of a reply, nor of the answer to a bad line, has more bytes, its LF included: the longest is that of a view of 64
-/// pairs.
+/// The most bytes of a reply's text or of the answer to a bad line, its LF included: those of a view of 64 pairs.
 pub const REPLY_ROOM: usize = 2_692;
 
-/// The pairs of no view have more bytes, with a space between them.
+/// The most bytes of a view's pairs, with a space between two.
 pub const VIEW_ROOM: usize = 2_687;
 
-/// Appends the text of a reply (this project's profile) that shows this view where it shows one: one line with its LF.
+/// Appends the text of a reply, one line with its LF. A reply that shows a view shows `view`.
 #[inline(always)]
 pub fn print_reply<A: Allocator>(reply: Reply<()>, view: &View, out: &mut Replies<A>)
     requires { length out.old + REPLY_ROOM ≤ HELD_REPLIES }
@@ -39,7 +38,7 @@ pub fn print_reply<A: Allocator>(reply: Reply<()>, view: &View, out: &mut Replie
     }
 }
 
-/// Appends the words of a reply (this project's profile) that shows this view where it shows one, without an LF.
+/// Appends the words of a reply, without an LF. A reply that shows a view shows `view`.
 #[inline(never)]
 pub fn print_words<A: Allocator>(reply: Reply<()>, view: &View, out: &mut Replies<A>)
     requires { length out.old + (REPLY_ROOM - 1) ≤ HELD_REPLIES }
@@ -66,7 +65,7 @@ pub fn print_words<A: Allocator>(reply: Reply<()>, view: &View, out: &mut Replie
     }
 }
 
-// Appends a word with its space, a number of few digits in decimal, and an LF.
+// Appends a word with its space, a small number in decimal, and an LF.
 #[inline(always)]
 fn put_small<A: Allocator>(word: &[u8], number: u8, out: &mut Replies<A>)
     requires { length out.old + (length word.now + 21) ≤ HELD_REPLIES }
@@ -94,7 +93,7 @@ fn put_refusal<A: Allocator>(refusal: Refusal, out: &mut Replies<A>)
     put_small(b"refused ", refusal.number(), out);
 }
 
-/// Appends the answer to a bad line (this project's profile), which is one line with its LF.
+/// Appends the answer to a bad line, one line with its LF.
 pub fn print_bad<A: Allocator>(bad: Bad, out: &mut Replies<A>)
     requires { length out.old + REPLY_ROOM ≤ HELD_REPLIES }
     ensures text { out.new ≡ out.old ++ bad_text bad }
@@ -139,7 +138,7 @@ fn put_place<A: Allocator>(place: Place, out: &mut Replies<A>)
     out.put(Buffer::new().format(place).as_bytes());
 }
 
-// Appends who has a name.
+// Appends `owner` and the identity that has a name, or `none`.
 fn put_owner<A: Allocator>(owner: Option<u64>, out: &mut Replies<A>)
     requires { length out.old + 29 ≤ HELD_REPLIES }
     ensures text { out.new ≡ out.old ++ owner_words owner }
@@ -185,7 +184,7 @@ fn put_view<A: Allocator>(view: &View, out: &mut Replies<A>)
     put_pairs(view.pairs(), out);
 }
 
-/// Appends the pairs of a view, with a space between them.
+/// Appends the pairs of a view, with a space between two.
 pub fn put_shown<A: Allocator>(view: &View, out: &mut Replies<A>)
     requires { length out.old + VIEW_ROOM ≤ HELD_REPLIES }
     ensures text { out.new ≡ out.old ++ view_words view.now }

@@ -1,4 +1,4 @@
-//! The commands that most inputs are made of, in one pass over their bytes.
+//! The commonest commands, read in one pass over their bytes.
 
 ghost use Rattle.std.specs.Prelude.{◌≡◌, ◌≢◌, ◌+◌, ◌≤◌, ◌<◌, ℕ, true, length, drop, Some, IfSome, IfNone};
 ghost use Rattle.commands.specs.Config.{gives_names};
@@ -8,7 +8,7 @@ ghost use Rattle.command_lines.specs.declared.quick.TheConstants.{BEGIN, PROBE, 
 
 use commands::{Command, Event, WorldKind};
 
-/// What stands between words.
+/// The byte between two words.
 const SPACE: u8 = 32;
 
 /// The first four bytes of each word, with its space where it has three letters, as a number: the first byte is the lowest.
@@ -26,7 +26,7 @@ const GET: u32 = 0x2074_6567;
 
 const PUT: u32 = 0x2074_7570;
 
-/// The first four bytes as a number, where there are so many.
+/// The first four bytes as a number, or `None` if there are fewer.
 #[inline(always)]
 pub(crate) fn first_four(bytes: &[u8]) -> Option<u32>
     ensures inside { IfSome result (λ word. 4 ≤ length bytes.now) }
@@ -39,8 +39,9 @@ pub(crate) fn first_four(bytes: &[u8]) -> Option<u32>
     Some(u32::from_le_bytes([*a, *b, *c, *d]))
 }
 
-/// The command that the bytes before the first of this byte mean, and where that stands, where it takes one look at each byte.
-/// `None` says nothing of the bytes.
+/// Returns the command that the bytes before the first `end` mean, and the index of that `end`, in one pass.
+///
+/// It knows the commonest commands. `None` means nothing: `parse_line` then decides.
 #[inline(always)]
 pub fn quick_command(bytes: &[u8], world: WorldKind, end: u8) -> Option<(Command, usize)>
     ensures { IfSome result (λ r. IsCommandBefore end world bytes.now r.0 r.1) }
@@ -62,7 +63,7 @@ pub fn quick_command(bytes: &[u8], world: WorldKind, end: u8) -> Option<(Command
     }
 }
 
-/// The last letter of a word of five that takes one number, by its first four bytes.
+/// The last letter of a word of five letters that takes one number, by its first four bytes.
 #[inline(always)]
 fn last_of_five(word: u32) -> Option<u8>
     ensures begin { word ≡ BEGIN → result ≡ Some 110 }
@@ -79,8 +80,9 @@ fn last_of_five(word: u32) -> Option<u8>
     }
 }
 
-/// As `quick_command`, of a word of five letters, by its first four bytes and its last. The number is read at one place for all of them, so
-/// that there is little enough code to stand where lines are taken.
+/// As `quick_command`, for a word of five letters, by its first four bytes and its last.
+///
+/// The number is read at one place for all of them, so that the code is small enough to inline.
 #[inline(always)]
 fn quick_five(
     bytes: &[u8],
@@ -118,7 +120,7 @@ fn quick_five(
     Some((Command::Event(event), count + 6))
 }
 
-/// As `quick_command`, of a desk's words of three letters, by their first four bytes.
+/// As `quick_command`, for words of three letters, by their first four bytes.
 #[inline(never)]
 fn quick_three(bytes: &[u8], word: u32, end: u8) -> Option<(Command, usize)>
     requires inside { 4 ≤ length bytes.now }
@@ -140,10 +142,10 @@ fn quick_three(bytes: &[u8], word: u32, end: u8) -> Option<(Command, usize)>
     }
 }
 
-/// The most digits whose number surely fits in 64 bits.
+/// The most digits whose number always fits in 64 bits.
 const SURE_DIGITS: usize = 19;
 
-/// The number that digits before this byte write, and how many they are. `None` says nothing of the text.
+/// Returns the number that the digits before the byte `end` write, and the count of digits. `None` means nothing.
 #[inline(always)]
 pub fn quick_number(text: &[u8], end: u8) -> Option<(u64, usize)>
     ensures { IfSome result (λ r. IsNumberBefore end text.now r.0 r.1) }
@@ -164,8 +166,9 @@ pub fn quick_number(text: &[u8], end: u8) -> Option<(u64, usize)>
     long_number(text, four, end)
 }
 
-/// As `quick_number`, after four digits, with eight digits at once where so many stand there. Both words are tested before either is made a
-/// number, so that the constants of the tests and those of the numbers do not want registers at once.
+/// As `quick_number`, after four digits, with eight digits at once if there are so many.
+///
+/// Both words are tested before either is made a number, so that the constants of the two need no registers at once.
 #[inline(always)]
 fn long_number(text: &[u8], first: u64, end: u8) -> Option<(u64, usize)>
     requires read { DigitsSoFar text.now first 4 }
@@ -194,10 +197,11 @@ const UPPER_HALVES: u64 = 0xf0f0_f0f0_f0f0_f0f0;
 /// Eight digits 0 as a word.
 const ZEROS: u64 = 0x3030_3030_3030_3030;
 
-/// What leaves the upper half of each byte 0 just where the byte is below 10.
+/// Added to digits, it leaves the upper half of each byte 0 if and only if the byte is below 10.
 const SIXES: u64 = 0x0606_0606_0606_0606;
 
-/// The first eight bytes as a word less that of eight digits 0, where all of them are digits: they are tested as one word.
+/// The first eight bytes as a word, less the word of eight digits 0, if all of them are digits. They are tested as one
+/// word.
 #[inline(always)]
 fn eight_digits(text: &[u8]) -> Option<u64>
     ensures { IfSome result (λ digits. (value : ℕ) → IsNumberOf digits value → DigitsSoFar text.now value 8) }
@@ -214,8 +218,10 @@ fn eight_digits(text: &[u8]) -> Option<u64>
     Some(digits)
 }
 
-/// The number that the eight digits of a word write, the first in the lowest byte. Each digit and the next are a pair; two
-/// multiplications put the sum of the first and third pair, and that of the second and last, each with its worth, into the upper half.
+/// The number that the eight digits of a word write, the first in the lowest byte.
+///
+/// Each digit and the next form a pair. Two multiplications put two sums into the upper half: that of the first and
+/// third pair, and that of the second and last, each with its weight.
 #[inline(always)]
 fn value_of_eight(digits: u64) -> u64
     ensures { IsNumberOf digits result }
@@ -226,7 +232,7 @@ fn value_of_eight(digits: u64) -> u64
     first.wrapping_add(second) >> 32
 }
 
-/// The number of the first twelve bytes, of which the first four write this one, and the next eight are these digits.
+/// The number of the first twelve bytes: the first four write `first`, and the next eight are the digits `next`.
 #[inline(always)]
 fn with_eight(text: &[u8], first: u64, next: u64) -> u64
     requires read { DigitsSoFar text.now first 4 }
@@ -236,7 +242,8 @@ fn with_eight(text: &[u8], first: u64, next: u64) -> u64
     first * 100_000_000 + value_of_eight(next)
 }
 
-/// As `quick_number`, digit by digit, after the digits that were read. Answers none for more digits than surely fit.
+/// As `quick_number`, digit by digit, after the digits that were read. Returns `None` if there are more digits than
+/// always fit.
 #[inline(always)]
 fn few_digits(text: &[u8], first: u64, from: usize, end: u8) -> Option<(u64, usize)>
     requires read { DigitsSoFar text.now first from }
@@ -256,7 +263,7 @@ fn few_digits(text: &[u8], first: u64, from: usize, end: u8) -> Option<(u64, usi
     number_before(text, value, at, end)
 }
 
-/// The number with the digit that stands at the end of these digits, where one stands there.
+/// The number with one more digit, or `None` if the next byte is no digit.
 #[inline(always)]
 fn one_more(text: &[u8], value: u64, count: usize) -> Option<u64>
     requires read { DigitsSoFar text.now value count }
@@ -271,7 +278,7 @@ fn one_more(text: &[u8], value: u64, count: usize) -> Option<u64>
     Some(value * 10 + digit)
 }
 
-/// This number, where its digits are no others than a number's, and this byte follows them.
+/// This number, if its digits are those of a number and the byte `end` follows them.
 #[inline(always)]
 fn number_before(text: &[u8], value: u64, count: usize, end: u8) -> Option<(u64, usize)>
     requires read { DigitsSoFar text.now value count }

@@ -1,4 +1,4 @@
-//! The replies that are not written yet.
+//! A buffer of replies that are not written yet.
 
 ghost use Rattle.std.specs.Prelude.{◌≡◌, ℕ, ◌+◌, ◌≤◌, ◌<◌, ◌^◌, ◌++◌, List, [], length, IfOk, IfErr, OnOk, OnErr};
 ghost use Rattle.std.specs.Io.KnownBytes.{Appends};
@@ -11,10 +11,10 @@ use std::alloc::Allocator;
 use std::marker::Model;
 use step_memory::NoMemory;
 
-/// How many bytes of replies are held before they are written.
+/// The most bytes that are held before they are written.
 pub const HELD_REPLIES: usize = 65_536;
 
-/// Bytes that are held until they are written. Their room is taken once, filled ahead, and never grown.
+/// A buffer of bytes to be written. Its 65,536 bytes are allocated once.
 #[derive(Drop)]
 pub struct Replies<A: Allocator> {
     bytes: Vec<u8, A>,
@@ -33,7 +33,11 @@ impl<A: Allocator> Model for Replies<A> {
 }
 
 impl<A: Allocator> Replies<A> {
-    /// No bytes; `NoMemory` where their room was refused.
+    /// Makes an empty buffer.
+    ///
+    /// # Errors
+    ///
+    /// `NoMemory`: the allocation failed.
     pub fn new(alloc: A) -> Result<Replies<A>, NoMemory>
         ensures { IfOk result (λ replies. replies ≡ []) }
     {
@@ -43,7 +47,7 @@ impl<A: Allocator> Replies<A> {
         }
     }
 
-    /// How many bytes are held.
+    /// Returns the number of bytes in the buffer: at most `HELD_REPLIES`.
     pub fn len(&self) -> usize
         ensures count { result ≡ length self.now }
         ensures most { result ≤ HELD_REPLIES }
@@ -51,14 +55,14 @@ impl<A: Allocator> Replies<A> {
         self.used
     }
 
-    /// The bytes that are held.
+    /// Returns the bytes in the buffer.
     pub fn as_slice(&self) -> &[u8]
         ensures { result.now ≡ self.now }
     {
         &self.bytes[..self.used]
     }
 
-    /// Appends these bytes, for which there is room.
+    /// Appends bytes, for which there is room.
     #[inline(always)]
     pub fn put(&mut self, text: &[u8])
         requires { length self.old + length text.now ≤ HELD_REPLIES }
@@ -69,8 +73,11 @@ impl<A: Allocator> Replies<A> {
         self.used = end;
     }
 
-    /// Writes the bytes that are held, and forgets them. `Fault::Write` where the writer failed or took nothing, after which a
-    /// beginning of them is written.
+    /// Writes the bytes in the buffer, and empties it.
+    ///
+    /// # Errors
+    ///
+    /// `Write`: a write failed or took no byte. A prefix of the bytes is written.
     pub fn send<W: Sink>(&mut self, writer: &mut W) -> Result<(), Fault>
         requires { W.calls writer.old + length self.old ≤ 2 ^ 100 }
         ensures on { OnOk result (GoesPast [] (W.contents writer.old) self.old (W.contents writer.new) self.new) }
@@ -88,7 +95,11 @@ impl<A: Allocator> Replies<A> {
         Ok(())
     }
 
-    /// Makes room for so many bytes: where there is too little, those that are held are written, as by `send`.
+    /// Makes room for `room` bytes: if there is too little, it writes the bytes in the buffer, as `send` does.
+    ///
+    /// # Errors
+    ///
+    /// `Write`: a write failed or took no byte. A prefix of the bytes is written.
     pub fn make_room<W: Sink>(&mut self, room: usize, writer: &mut W) -> Result<(), Fault>
         requires few { room ≤ HELD_REPLIES }
         requires calls { W.calls writer.old + length self.old ≤ 2 ^ 100 }
@@ -106,7 +117,7 @@ impl<A: Allocator> Replies<A> {
         self.send(writer)
     }
 
-    /// Forgets the bytes that are held.
+    /// Empties the buffer.
     pub fn clear(&mut self)
         ensures { self.new ≡ [] }
     {

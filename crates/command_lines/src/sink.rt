@@ -10,16 +10,21 @@ use crate::fault::Fault;
 use std::io;
 use std::io::Write;
 
-/// A writer with a count of its calls and of those that failed, which contracts see. A write that takes nothing has
-/// failed.
+/// A writer with ghost counts of its calls and of those that failed.
+///
+/// A write that takes no byte has failed.
 pub trait Sink: Write {
-    /// How often it was written to.
+    /// The number of calls.
     ghost calls: { Self → ℕ };
 
-    /// How many of these calls failed.
+    /// The number of calls that failed.
     ghost failed: { Self → ℕ };
 
-    /// One write, as std's `write`.
+    /// Makes one write, as `write` of std does.
+    ///
+    /// # Errors
+    ///
+    /// Those of `write`. Nothing was then written.
     fn write_once(&mut self, buf: &[u8]) -> io::Result<usize>
         requires room { calls self.old < 2 ^ 100 }
         ensures bound { WritesAtMost result buf.now }
@@ -28,8 +33,11 @@ pub trait Sink: Write {
         ensures failed { failed self.new ≡ failed self.old + write_failures (length buf.now) result };
 }
 
-/// Writes the whole text; `Fault::Write` where the writer failed or took nothing, after which a prefix of the text is
-/// written.
+/// Writes a whole text, in at most as many calls as it has bytes.
+///
+/// # Errors
+///
+/// `Write`: a write failed or took no byte. A prefix of the text is written.
 pub fn put_all<W: Sink>(writer: &mut W, text: &[u8]) -> Result<(), Fault>
     requires room { W.calls writer.old + length text.now ≤ 2 ^ 100 }
     ensures ok { OnOk result (Appends (W.contents writer.old) (W.contents writer.new) text.now) }

@@ -8,7 +8,7 @@ ghost use Rattle.command_lines.specs.Meaning.{is_digit, decimal_from, same_bytes
 
 use memchr::memchr;
 
-/// The first piece of these bytes, which ends before the first separator, and what follows that; `None` where there is none.
+/// Returns the bytes before the first separator and those after it, or all bytes and `None` if there is no separator.
 pub fn cut(bytes: &[u8], separator: u8) -> (&[u8], Option<&[u8]>)
     ensures pieces { pieces_from separator [] bytes.now ≡ result.0.now ∷ pieces_left separator (option_copied result.1) }
     ensures shorter { left_length (option_copied result.1) ≤ length bytes.now }
@@ -19,7 +19,7 @@ pub fn cut(bytes: &[u8], separator: u8) -> (&[u8], Option<&[u8]>)
     }
 }
 
-/// Whether a word is this name, byte by byte.
+/// Whether a word is this name, byte for byte.
 pub fn is_word(word: &[u8], name: &[u8]) -> bool
     ensures { result ≡ same_bytes word.now name.now }
 {
@@ -61,8 +61,9 @@ fn wide_value_of_digits(digits: &[u8]) -> Option<u128>
     Some(value)
 }
 
-/// The number that a word writes: `0`, or decimal digits without a leading zero, below 2^64. `None` for every other word (this
-/// project's profile).
+/// Returns the number that a word writes, or `None` if it writes none.
+///
+/// A number is `0`, or decimal digits without a leading zero, below 2^64.
 pub fn number(word: &[u8]) -> Option<u64>
     ensures { result ≡ number_in word.now }
 {
@@ -75,7 +76,7 @@ pub fn number(word: &[u8]) -> Option<u64>
     value_of_digits(word)
 }
 
-/// As `number`, below 2^128.
+/// Returns the number that a word writes, as `number` does, below 2^128.
 pub fn wide_number(word: &[u8]) -> Option<u128>
     ensures { result ≡ number_below (2 ^ 128) word.now }
 {

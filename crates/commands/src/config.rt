@@ -1,4 +1,4 @@
-//! What a run is of.
+//! The configuration of a run.
 
 ghost use Rattle.std.specs.Prelude.{◌≡◌, ◌<◌, ◌↔◌, true, IfOk, IfErr, IsOk};
 ghost use Rattle.commands.specs.Ranges.{IsConfigRange};
@@ -7,12 +7,12 @@ ghost use Rattle.proposal_rounds.specs.Rounds.{most_proposals};
 use crate::kind::WorldKind;
 use step_memory::Refusal;
 
-/// What a run is of: its world and its sizes, each in its range.
+/// The configuration of a run: its world and its sizes, each in its range.
 #[derive(Clone, Copy, Debug, Drop, PartialEq, Eq)]
 pub struct Config {
     /// The world.
     pub world: WorldKind,
-    /// The most participants, from 1 to 64 where the world is `Tree`, and to 16 elsewhere.
+    /// The most participants: from 1 to 64 if the world is `Tree`, and from 1 to 16 otherwise.
     pub m: u64,
     /// The size of the pool, from 1 to 64.
     pub k: u64,
@@ -22,7 +22,11 @@ pub struct Config {
 }
 
 impl Config {
-    /// A config of these values; `OutOfRange` where one of them is outside its range.
+    /// Makes a configuration of these values.
+    ///
+    /// # Errors
+    ///
+    /// `OutOfRange`: one of them is outside its range.
     pub fn new(world: WorldKind, m: u64, k: u64, limit: u64) -> Result<Config, Refusal>
         ensures ok { IfOk result (λ c. (c.world ≡ world) × (c.m ≡ m) × (c.k ≡ k) × (c.limit ≡ limit)) }
         ensures range { IsOk result ↔ IsConfigRange world m k limit }
@@ -34,9 +38,10 @@ impl Config {
         Ok(Config { world, m, k, limit })
     }
 
-    /// Whether no participant can use up its rounds: where the round limit is above `3(5^m - 1)/4`, the most proposals that `m`
-    /// participants make, all together. That is 3, 18, 93, 468, 2,343, 11,718, 58,593 and 292,968 for `m` from 1 to 8, and above
-    /// every round limit from 9 on.
+    /// Whether the round limit is above `3(5^m - 1)/4`, the most proposals that `m` participants make, all together.
+    ///
+    /// No participant can then use up its rounds. The bound is 3, 18, 93, 468, 2,343, 11,718, 58,593 and 292,968 for
+    /// `m` from 1 to 8. From `m = 9` on it is above every round limit.
     pub fn cannot_spend(&self) -> bool
         ensures { (result ≡ true) ↔ (most_proposals self.now.m < self.now.limit) }
     {

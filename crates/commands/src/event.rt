@@ -1,7 +1,9 @@
-//! What a participant does, and that the pool gets more numbers.
+//! What a participant does, and the growth of the pool.
 
-/// One event: what one participant does, with at most one access to one register; or that the pool gets more numbers, which
-/// makes at most one access too and is no participant's. The identity is as it was written, 0 included.
+/// One event: an action of one participant, or the growth of the pool, which is no participant's. It makes at most one
+/// access.
+///
+/// The identity is as it was written, 0 included.
 #[derive(Clone, Copy, Debug, Drop, PartialEq, Eq)]
 pub enum Event {
     /// The participant begins.
@@ -10,9 +12,9 @@ pub enum Event {
     Step(u64),
     /// The participant begins to compete for the pool.
     Enter(u64),
-    /// The competitor probes the next bit.
+    /// The competitor makes its next access to the bits of the pool.
     Probe(u64),
-    /// The competitor gives its number back and competes no more.
+    /// The competitor gives its number back and stops competing.
     Leave(u64),
     /// The holder of a number puts a value into its slot.
     Put(u64, u64),

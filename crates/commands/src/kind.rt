@@ -4,7 +4,7 @@ ghost use Rattle.std.specs.Prelude.{◌≡◌, ◌≢◌, ◌≤◌, length, Con
 ghost use Rattle.commands.specs.Config.{gives_names, is_played_over, is_tree, most_in, world_name};
 ghost use Rattle.commands.specs.declared.kind.WorldKind.{WorldKind};
 
-/// The worlds, as the help of a command line tells of them.
+/// The worlds, as the help of a command line lists them.
 pub const ANY_WORLD: &str = "what is played: splitter, grid, rename or tree";
 
 /// The worlds that commands are played in.
@@ -21,7 +21,7 @@ pub enum WorldKind {
 }
 
 impl WorldKind {
-    /// All of them.
+    /// Returns all of them.
     pub fn all() -> [WorldKind; 4]
         ensures { (kind : WorldKind) → Contains result kind }
     {
@@ -33,7 +33,7 @@ impl WorldKind {
         ]
     }
 
-    /// What it is called, in the command line and in records: at most 8 letters.
+    /// Returns its name, in the command line and in records: at most 8 letters.
     pub fn name(self) -> &'static str
         ensures text { result.now ≡ world_name self }
         ensures short { length result.now ≤ 8 }
@@ -46,7 +46,7 @@ impl WorldKind {
         }
     }
 
-    /// The world that is called so, or none where no world is.
+    /// Returns the world with this name, or `None` if no world has it.
     pub fn named(word: &str) -> Option<WorldKind>
         ensures some { IfSome result (λ kind. world_name kind ≡ word.now) }
         ensures none { IfNone result ((kind : WorldKind) → world_name kind ≢ word.now) }
@@ -64,7 +64,7 @@ impl WorldKind {
         }
     }
 
-    /// Whether its participants get their places in a tree, which grows while it is used.
+    /// Whether its participants get their places in a tree, which grows on demand.
     pub fn is_tree(self) -> bool
         ensures { result ≡ is_tree self }
     {
@@ -76,7 +76,7 @@ impl WorldKind {
         }
     }
 
-    /// Whether names are given in it: over places of a grid or of a tree.
+    /// Whether it gives names, over the places of a grid or of a tree.
     #[inline(always)]
     pub fn gives_names(self) -> bool
         ensures { result ≡ gives_names self }
@@ -89,7 +89,7 @@ impl WorldKind {
         }
     }
 
-    /// As many as may take part: 64 where places are in a tree, 16 elsewhere.
+    /// Returns the most participants: 64 over a tree, 16 otherwise.
     pub fn most(self) -> u64
         ensures { result ≡ most_in self }
     {
@@ -101,7 +101,7 @@ impl WorldKind {
         }
     }
 
-    /// Whether names are given in this world, over places that serve that one.
+    /// Whether it gives names over places that serve the world `served`.
     pub fn is_played_over(self, served: WorldKind) -> bool
         ensures { result ≡ is_played_over self served }
     {

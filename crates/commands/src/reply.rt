@@ -1,19 +1,21 @@
-//! What is answered to an event.
+//! The reply to an event.
 
 ghost use Rattle.std.specs.Prelude.{◌≡◌, ℕ, List};
 ghost use Rattle.commands.specs.Replies.{is_refusal, with_view, done_reply, left_reply, value_reply};
 
 use step_memory::{Place, Refusal, View};
 
-/// What is answered to an event, and what it carries of a view: the view that it shows, which takes a kilobyte, or nothing, where
-/// events are many and the view stands beside it, so that the reply takes a few bytes.
+/// The reply to an event.
+///
+/// `V` is what it carries of a view. `Reply<View>` carries the view that it shows, and takes a kilobyte. `Reply<()>`
+/// takes a few bytes, and its view is kept beside it.
 #[derive(Clone, Copy, Debug, Drop, PartialEq, Eq)]
 pub enum Reply<V> {
     /// Done.
     Ok,
-    /// The step says nothing.
+    /// The step has no output.
     Quiet,
-    /// A visit of a lone splitter ended: it stopped.
+    /// The visit to a lone splitter has ended: it stopped.
     Stop,
     /// It went right.
     Right,
@@ -29,7 +31,7 @@ pub enum Reply<V> {
     Named(u64, V),
     /// The participant has used up its rounds.
     Spent,
-    /// The bit was set: the next probe is of the next one.
+    /// The bit was set: the next probe is of the next bit.
     Missed,
     /// The competitor holds this number.
     Got(u8),
@@ -37,14 +39,14 @@ pub enum Reply<V> {
     Left(u8),
     /// The value in the slot of the number that is held.
     Value(u64),
-    /// Who has the name that was asked for, or that nobody has it.
+    /// The identity that has the name, or `None` if no identity has it.
     Owner(Option<u64>),
-    /// Refused, with nothing changed.
+    /// The call failed for this reason, and changed nothing.
     Refused(Refusal),
 }
 
 impl<V> Reply<V> {
-    /// Whether it is a refusal: then the event was not accepted.
+    /// Whether it is a refusal: the event was not accepted.
     #[inline(always)]
     pub fn is_refusal(&self) -> bool
         ensures { (view : List (ℕ × ℕ)) → result ≡ is_refusal (with_view self.now view) }
@@ -54,7 +56,7 @@ impl<V> Reply<V> {
 }
 
 impl Reply<View> {
-    /// The reply without its view, which is put beside it.
+    /// Returns the reply without its view, and puts the view, if it has one, into `view`.
     pub fn shorten(self, view: &mut View) -> Reply<()>
         ensures { with_view result view.new ≡ self }
     {
@@ -86,7 +88,7 @@ impl Reply<View> {
 }
 
 impl Reply<()> {
-    /// The reply with this view, which stood beside it.
+    /// Returns the reply with this view, which was kept beside it.
     pub fn with(self, view: &View) -> Reply<View>
         ensures { result ≡ with_view self view.now }
     {
@@ -110,7 +112,7 @@ impl Reply<()> {
         }
     }
 
-    /// What is answered to an event that only is done, by its outcome.
+    /// Returns the reply for the outcome of a call that returns no value.
     pub fn of_done(outcome: Result<(), Refusal>) -> Self
         ensures { (view : List (ℕ × ℕ)) → with_view result view ≡ done_reply outcome }
     {
@@ -120,7 +122,7 @@ impl Reply<()> {
         }
     }
 
-    /// What is answered to one who leaves, by its outcome.
+    /// Returns the reply for the outcome of a call that gives a number back.
     pub fn of_leave(outcome: Result<u8, Refusal>) -> Self
         ensures { (view : List (ℕ × ℕ)) → with_view result view ≡ left_reply outcome }
     {
@@ -130,7 +132,7 @@ impl Reply<()> {
         }
     }
 
-    /// What is answered to one who gets a value, by its outcome.
+    /// Returns the reply for the outcome of a call that gets a value.
     pub fn of_value(outcome: Result<u64, Refusal>) -> Self
         ensures { (view : List (ℕ × ℕ)) → with_view result view ≡ value_reply outcome }
     {

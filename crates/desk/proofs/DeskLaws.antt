@@ -36,7 +36,7 @@ use Rattle.desk.proofs.DeskKeeps as over
 use Rattle.desk.proofs.NamesGiven as given
 use Rattle.desk.proofs.Refusing.{refuses_as_said}
 
--- what is told of a number is right, where this is who was given it
+-- what is reported of a number is right, where this is who was given it
 reported_right : (most n : ℕ) (r : List Exchange) (owner : Option ℕ) → IsOwnerIn r n owner → IsOwnerReply most r n (owner_reported most n owner)
 reported_right most n r owner is = elim (eqb_tells n 0) [
   | inl none ↦ rw none.0 (record { out_of_range = λ out. refl; in_range = λ within. absurd (let some = within.some in let zero = none.1 in omega arith) })

@@ -114,7 +114,7 @@ spent_now o p (Began q (Ok done)) e = inl e
 spent_now o p (Stepped q (Ok Spent)) e = elim (eqb_tells p q) [ inl k ↦ inr (rw k.1 refl) | inr k ↦ inl (rw k.0 at e) ]
 spent_now o p h e = inl e
 
--- so who is spent was told so, or was spent at first
+-- so who is spent was reported so, or was spent at first
 pub was_spent : (terms : RenameTerms) (o o' : RenameObject) (p : ℕ) (calls : List DeskCall) → Run after (Allows terms) o (rename_calls calls) o' → o'.spent p ≡ true → (o.spent p ≡ true) ⊎ WasSpent p (map exchange_of calls)
 was_spent terms o o' p [] run e = inl (rw run at e)
 was_spent terms o o' p (Slotted h ∷ calls) run e = elim (was_spent terms o o' p calls run e) [ inl first ↦ inl first | inr later ↦ inr (inr later) ]
@@ -123,7 +123,7 @@ was_spent terms o o' p (Renamed h ∷ calls) run e = elim (was_spent terms (afte
   | inr later ↦ inr (inr later)
 ]
 
--- the object counts the proposals that are told
+-- the object counts the proposals that are reported
 count_is : (terms : RenameTerms) (o o' : RenameObject) (p : ℕ) (calls : List DeskCall) → Run after (Allows terms) o (rename_calls calls) o' → o'.count p ≡ o.count p + proposals_of p (map exchange_of calls)
 count_is terms o o' p [] run = let e = ap (λ (x : RenameObject). x.count p) run in omega arith
 count_is terms o o' p (Renamed (Began q (Ok done)) ∷ calls) run = count_is terms (after o (Began q (Ok done))) o' p calls run.1
@@ -150,7 +150,7 @@ pub accepted : (said : StepReply) → is_refusal (shown_step said) ≡ false
 accepted Quiet = refl
 accepted said = refl
 
--- who steps alone among exchanges does among the calls
+-- who runs solo among exchanges does among the calls
 calls_alone : (p : ℕ) (calls : List DeskCall) → StepsAlone p (map exchange_of calls) → CallsAlone p (rename_calls calls)
 calls_alone p [] a = tt
 calls_alone p (Renamed (Began q answer) ∷ calls) a = (tt, calls_alone p calls a.1)

@@ -23,7 +23,7 @@ unproposed : (h : SlotCall ℕ) (n : ℕ) → all_more (exchange_of (Slotted h))
 unproposed (Pooled (Entered q a)) n = refl
 unproposed h n = refl
 
--- the object's last moment is made by the last of the proposals that are told
+-- the object's last moment is made by the last of the proposals that are reported
 last_is : (terms : RenameTerms) (o o' : RenameObject) (calls : List DeskCall) → Run after (Allows terms) o (rename_calls calls) o' → o'.last ≡ o.last + all_proposals (map exchange_of calls)
 last_is terms o o' [] run = let e = ap (λ (x : RenameObject). x.last) run in omega arith
 last_is terms o o' (Renamed (Began q (Ok done)) ∷ calls) run = last_is terms (after o (Began q (Ok done))) o' calls run.1

@@ -44,7 +44,7 @@ abbrev pub desk_refusal : DeskValue → Event → Option Refusal
 desk_refusal (OverGrid w) e = refusal_over w e
 desk_refusal (OverTree w) e = refusal_over w e
 
--- what is told of a number, where names are from 1 to 2m - 1
+-- what is reported of a number, where names are from 1 to 2m - 1
 abbrev pub owner_reported : ℕ → ℕ → Option ℕ → ShownReply
 owner_reported most number owner = if (number == 0) || nat_le (2 * most) number then reply.Refused refusal.OutOfRange else reply.Owner owner
 

@@ -7,7 +7,7 @@ use snapshot_places::{GridRegister, GridValue};
 use splitter_tree::{TreeRegister, TreeValue};
 use step_memory::{Access, Place, Segment};
 
-/// A register of a desk, by the number of its splitter or of its segment's place.
+/// A register of a desk, by the number of its splitter or of its segment.
 #[derive(Clone, Copy, Debug, Drop, PartialEq, Eq)]
 pub enum Register {
     /// X of a splitter.
@@ -20,10 +20,10 @@ pub enum Register {
     Segment(Place),
 }
 
-/// The access that a participant makes next, and the word or the proposal that it writes.
+/// The access that a participant makes next, with the word or the proposal that it writes.
 #[derive(Clone, Copy, Debug, Drop, PartialEq, Eq)]
 pub enum Coming {
-    /// It reaches no register.
+    /// It accesses no register.
     Nothing,
     /// It reads this register.
     Read(Register),
@@ -31,7 +31,7 @@ pub enum Coming {
     Write(Register, u64),
 }
 
-/// The register of the doors that has this number: X of a door at an even one, Y at an odd one.
+/// The register with this number of a grid's doors: X of a door if the number is even, Y if it is odd.
 fn door_register(number: usize) -> Register
     ensures { result ≡ door_register number }
 {
@@ -42,7 +42,7 @@ fn door_register(number: usize) -> Register
     }
 }
 
-/// The proposal in what is written into a segment.
+/// The proposal that is written into a segment.
 fn proposal_in(segment: Segment) -> u64
     ensures { result ≡ proposal_in segment }
 {

@@ -49,8 +49,16 @@ impl<A: Allocator + Clone> Model for Desk<A> {
 }
 
 impl<A: Allocator + Clone> Desk<A> {
-    /// A desk of this config on which nothing was done; each slot holds 0. `OutOfRange` where no names are given in the
-    /// config's world, and `NoMemory` where its room was refused, which is all taken here but for the nodes of a tree.
+    /// Makes a desk of this configuration, on which nothing was done; each slot holds 0.
+    ///
+    /// Over a grid, no other call allocates. Over a tree, a step that makes a node does.
+    ///
+    /// # Errors
+    ///
+    /// The first that applies is returned:
+    ///
+    /// - `OutOfRange`: the world of `config` gives no names.
+    /// - `NoMemory`: an allocation failed.
     pub fn new(alloc: A, config: Config) -> Result<Self, Refusal>
         ensures fresh { IfOk result (λ d. IsFreshDesk config d) }
         ensures out_of_range { result ≡ Err Refusal.OutOfRange ↔ (gives_names config.world ≡ false) }
@@ -72,9 +80,10 @@ impl<A: Allocator + Clone> Desk<A> {
         }
     }
 
-    /// Takes one event and answers it, by at most one access. A refusal changes nothing. an allocation failure is answered only
-    /// where the step makes a node of a tree and nothing else is due; then the event may be asked again and is the same
-    /// event.
+    /// Takes one event, makes at most one access, and returns the reply.
+    ///
+    /// A reply `Refused` changes nothing. `Refused(NoMemory)` is returned only if the event is a step that makes a node
+    /// of a tree, the allocation failed, and no other refusal applies. The caller may repeat the event.
     pub fn apply(&mut self, event: Event) -> Reply<View>
         ensures { may_by desk_rules self.old event result self.new }
     {
@@ -82,7 +91,8 @@ impl<A: Allocator + Clone> Desk<A> {
         self.apply_short(event, &mut view).with(&view)
     }
 
-    /// As `apply`, with a reply of a few bytes, and its view where it shows one.
+    /// Takes one event as `apply` does, and returns a reply of a few bytes. If the reply has a view, the view is put
+    /// into `view`.
     #[inline(always)]
     pub fn apply_short(&mut self, event: Event, view: &mut View) -> Reply<()>
         ensures { may_by desk_rules self.old event (with_view result view.new) self.new }
@@ -93,11 +103,11 @@ impl<A: Allocator + Clone> Desk<A> {
         }
     }
 
-    /// Why an event would be refused, failed allocations aside. It changes nothing.
+    /// Returns the refusal that `apply` would return for an event, failed allocations aside, or `None`.
     pub fn refusal(&self, event: Event) -> Option<Refusal>
         ensures value { result ≡ desk_refusal self.now event }
 
-        // After every list of calls it is what `apply` would answer.
+        // After every history it is the refusal that `apply` would return.
         ensures reported { RefusesAsSaid self.now event }
     {
         match &self.parts {
@@ -106,8 +116,7 @@ impl<A: Allocator + Clone> Desk<A> {
         }
     }
 
-    /// The access that a participant makes next, whatever its event: `None` where the identity has not begun. It changes
-    /// nothing.
+    /// Returns the access that a participant makes next, or `None` if the identity has not begun. This makes no access.
     pub fn coming(&self, id: u64) -> Option<Coming>
         ensures { result ≡ coming_of self.now id }
     {
@@ -123,8 +132,10 @@ impl<A: Allocator + Clone> Desk<A> {
         }
     }
 
-    /// What stands in a register: the word of X, of Y or of a mark, or the proposal in a segment. `None` where a segment is empty,
-    /// and where a grid has no such register. It is no access, and changes nothing.
+    /// Returns what a register holds: the word of X, of Y or of a mark, or the proposal in a segment. This makes no
+    /// access.
+    ///
+    /// Returns `None` if the segment is empty, or if a grid has no such register.
     pub fn held(&self, register: Register) -> Option<u64>
         ensures { result ≡ held_in self.now register }
     {
@@ -137,7 +148,7 @@ impl<A: Allocator + Clone> Desk<A> {
         }
     }
 
-    /// The place of a participant, once it has one: the number of its splitter. It changes nothing.
+    /// Returns the place of a participant, which is the number of its splitter, or `None` if it has none.
     pub fn place_of(&self, id: u64) -> Option<Place>
         ensures { result ≡ place_on self.now id }
     {
@@ -147,7 +158,7 @@ impl<A: Allocator + Clone> Desk<A> {
         }
     }
 
-    /// The name of a participant, once it has one. It changes nothing.
+    /// Returns the name of a participant, or `None` if it has none.
     pub fn name_of(&self, id: u64) -> Option<u64>
         ensures { result ≡ name_on self.now id }
     {
@@ -157,7 +168,7 @@ impl<A: Allocator + Clone> Desk<A> {
         }
     }
 
-    /// The slots over their pool, for what watches from outside.
+    /// Returns the slots over their pool, for observers.
     pub fn slots(&self) -> &Slots<u64, A>
         ensures { result.now ≡ slots_of self.now }
     {
@@ -167,12 +178,13 @@ impl<A: Allocator + Clone> Desk<A> {
         }
     }
 
-    /// Who has a name, or that nobody has it; `OutOfRange` unless the number is from 1 to 2m - 1, for m participants. It
-    /// changes nothing.
+    /// Returns `Owner`, with the identity that has this name or with `None`, and changes nothing.
+    ///
+    /// Returns `Refused(OutOfRange)` if the number is not from 1 to `2m - 1`, for at most `m` participants.
     pub fn owner(&self, number: u64) -> Reply<View>
         ensures value { result ≡ owner_reply self.now number }
 
-        // It is who was given the name, among the exchanges of the events so far.
+        // It is the identity that was given the name, in the exchanges so far.
         ensures reported { TellsOwners self.now number result }
     {
         match &self.parts {

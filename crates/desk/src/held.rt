@@ -1,4 +1,4 @@
-//! What stands in a register of a desk.
+//! What a register of a desk holds.
 
 ghost use Rattle.std.specs.Prelude.{◌≡◌, ◌<◌};
 ghost use Rattle.desk.specs.Held.{door_number, held_by_grid, held_by_tree, proposed_in, register_in_grid, register_in_tree};
@@ -8,10 +8,10 @@ use snapshot_places::{GridRegister, GridValue};
 use splitter_tree::{TreeRegister, TreeValue};
 use step_memory::{Place, Segment};
 
-/// The most doors that a grid has, which is one for 16 participants.
+/// The most doors of a grid: those of a grid for 16 participants.
 pub const MOST_DOORS: Place = 136;
 
-/// The register of a grid's doors that stands so far from X of a door; none past the last door.
+/// X (`part` is 0) or Y (`part` is 1) of a door, or `None` past the last door.
 fn door_number(place: Place, part: usize) -> Option<GridRegister>
     requires { part < 2 }
     ensures { result ≡ door_number place part }
@@ -23,7 +23,7 @@ fn door_number(place: Place, part: usize) -> Option<GridRegister>
     }
 }
 
-/// The register of a grid that this is; none where a grid has none such.
+/// The register of a grid that this is, or `None` if a grid has none such.
 pub(crate) fn register_in_grid(register: Register) -> Option<GridRegister>
     ensures { result ≡ register_in_grid register }
 {
@@ -47,7 +47,7 @@ pub(crate) fn register_in_tree(register: Register) -> TreeRegister
     }
 }
 
-/// The proposal in a segment, once one was written there.
+/// The proposal in a segment, or `None` if the segment is empty.
 fn proposed_in(segment: &Segment) -> Option<u64>
     ensures { result ≡ proposed_in segment.now }
 {
@@ -57,7 +57,7 @@ fn proposed_in(segment: &Segment) -> Option<u64>
     }
 }
 
-/// The word, or the proposal, that stands in a register of a grid.
+/// The word or the proposal in a register of a grid.
 pub(crate) fn held_by_grid(value: GridValue) -> Option<u64>
     ensures { result ≡ held_by_grid value }
 {
@@ -67,7 +67,7 @@ pub(crate) fn held_by_grid(value: GridValue) -> Option<u64>
     }
 }
 
-/// The word, or the proposal, that stands in a register of a tree.
+/// The word or the proposal in a register of a tree.
 pub(crate) fn held_by_tree(value: TreeValue) -> Option<u64>
     ensures { result ≡ held_by_tree value }
 {

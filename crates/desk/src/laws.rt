@@ -1,4 +1,4 @@
-//! What structures over a desk stand on.
+//! Laws of desks, which run nothing. Structures over a desk use them.
 
 ghost use Rattle.std.specs.Prelude.{◌≡◌, ℕ, ◌-◌, ◌*◌, ◌≤◌};
 ghost use Rattle.desk.specs.Laws.{BeginsDesk, HasFreshDesk, IsOneFreshDesk, DeskGoesOn, DeskKeepsRuns, DeskTellsOwners, DeskRefusesAsSaid, IsDeskDetermined, InEachRun};
@@ -6,10 +6,13 @@ ghost use Rattle.desk.specs.NamedAlone.{NamesSoonAlone};
 ghost use Rattle.desk.specs.NamedAmong.{NamesSoonAmong};
 ghost use Rattle.desk.specs.Names.{WasNamed, begun_in};
 
-/// A law, which runs nothing. A fresh desk is after no calls, and there is one for each config; whatever a desk may answer to
-/// an event leads on by one call that is this exchange; the exchanges of every list of calls that leads to a desk are a run
-/// of the renaming object, the pool and the slots; after such a list owners are told rightly, and events are refused, want
-/// of memory aside, just as the desk says beforehand; and where no growth is refused there is one reply and one desk.
+/// A law of desks. Structures over a desk use this.
+///
+/// - A fresh desk is one after no calls, and there is exactly one for each configuration.
+/// - Each reply of a desk to an event extends its history by one call, which is this exchange.
+/// - The exchanges of every history are a run of the renaming object, the pool and the slots.
+/// - After every history, `owner` and `refusal` are right, failed allocations aside.
+/// - If no allocation fails, there is one reply and one next desk.
 pub fn law_of_desk()
     ensures fresh { BeginsDesk }
     ensures fresh_is { HasFreshDesk }
@@ -21,12 +24,14 @@ pub fn law_of_desk()
     ensures determined { IsDeskDetermined }
 {}
 
-/// A law, which runs nothing, drawn from what a run is: among its exchanges nobody was given two names, no two were given
-/// one, and each name is from 1 to 2b - 1, where b have begun. Wherever a run is cut in two, one who has begun, is neither
-/// named nor spent and has two proposals left is named once it has made `steps_alone` accepted steps after the cut, or
-/// earlier, and is not spent until then, if no other has made one there: wherever the others stopped. Others may begin, and
-/// compete for the pool. And rounds end, whoever steps: all together make at most 3(5^b - 1)/4 proposals; whoever has made
-/// `steps_among` accepted steps has a name or is spent; and where the round limit is above that number nobody is spent.
+/// A law of the exchanges of every run.
+///
+/// - Nobody was given two names, no two were given one, and each name is from 1 to 2b - 1, where b have begun.
+/// - Cut a run in two. Take a participant that at the cut has begun, is neither named nor spent, and has two proposals
+///   left. If no other makes an accepted step after the cut, it is named within `steps_alone` accepted steps after it,
+///   and is not spent before. Others may begin, and compete for the pool.
+/// - All together make at most 3(5^b - 1)/4 proposals. A participant that has made `steps_among` accepted steps has a
+///   name or is spent. If the round limit is above that number of proposals, nobody is spent.
 pub fn law_of_names()
     ensures one_each { InEachRun (λ r. (p n m : ℕ) → WasNamed p n r → WasNamed p m r → n ≡ m) }
     ensures small { InEachRun (λ r. (p n : ℕ) → WasNamed p n r → (1 ≤ n) × (n ≤ 2 * begun_in r - 1)) }

@@ -1,4 +1,4 @@
-//! What outcomes of steps and probes are answered as.
+//! The replies for the outcomes of steps and probes.
 
 ghost use Rattle.std.specs.Prelude.{◌≡◌, ℕ, List};
 ghost use Rattle.commands.specs.Replies.{with_view};
@@ -10,7 +10,7 @@ use commands::Reply;
 use rename_core::Reply as Step;
 use step_memory::Refusal;
 
-/// What is answered to a step of renaming, by its outcome.
+/// The reply for the outcome of a step of renaming.
 pub(crate) fn of_step(outcome: Result<Step<()>, Refusal>) -> Reply<()>
     ensures { (view : List (ℕ × ℕ)) → with_view result view ≡ step_reply (outcome_with outcome view) }
 {
@@ -25,7 +25,7 @@ pub(crate) fn of_step(outcome: Result<Step<()>, Refusal>) -> Reply<()>
     }
 }
 
-/// What is answered to a probe, by its outcome.
+/// The reply for the outcome of a probe.
 pub(crate) fn of_probe(outcome: Result<Probe, Refusal>) -> Reply<()>
     ensures { (view : List (ℕ × ℕ)) → with_view result view ≡ probe_reply outcome }
 {

@@ -36,8 +36,8 @@ impl<W: RenamePlaces<A>, A: Allocator> Model for DeskOver<W, A> {
     ghost view = { λ d. record { names = d.names; slots = d.slots } };
 }
 
-/// Slots over a pool of so many numbers, each of which holds 0. The pool is made last: what is let go where room is refused is
-/// then the values alone.
+/// Slots over a pool of `size` numbers, each of which holds 0. The pool is made last, so that a failed allocation drops
+/// the values alone.
 fn zero_slots<A: Allocator + Clone>(alloc: &A, size: u64) -> Result<Slots<u64, A>, Refusal>
     requires some { 1 ≤ size }
     requires few { size ≤ 64 }
@@ -60,8 +60,9 @@ where
     W::Walk: Copy,
     W::Value: Drop,
 {
-    /// A desk of this config on which nothing was done; each slot holds 0. `OutOfRange` where the places are not those of the
-    /// config's world, and `NoMemory` where its room was refused, which is all taken here but for the nodes of a tree.
+    /// Makes a desk of this configuration, on which nothing was done; each slot holds 0.
+    ///
+    /// `OutOfRange` if the places are not those of the configuration's world, then `NoMemory` if an allocation failed.
     pub(crate) fn new(alloc: A, config: Config) -> Result<Self, Refusal>
         ensures fresh { IfOk result (λ d. d ≡ fresh_over (W.empty_for config.m) config.m config.limit config.k) }
         ensures out_of_range { result ≡ Err Refusal.OutOfRange ↔ (is_played_over config.world W.world ≡ false) }
@@ -81,14 +82,14 @@ where
 }
 
 impl<W: RenamePlaces<A>, A: Allocator> DeskOver<W, A> {
-    /// The name of a participant, once it has one.
+    /// Returns the name of a participant, or `None` if it has none.
     pub(crate) fn name_of(&self, id: u64) -> Option<u64>
         ensures { result ≡ name_in self.now.names id }
     {
         self.names.name_of(id)
     }
 
-    /// Why an event would be refused, failed allocations aside.
+    /// Returns the refusal of an event, failed allocations aside, or `None`.
     pub(crate) fn refusal(&self, event: Event) -> Option<Refusal>
         ensures { result ≡ refusal_over self.now event }
     {
@@ -103,21 +104,21 @@ impl<W: RenamePlaces<A>, A: Allocator> DeskOver<W, A> {
         }
     }
 
-    /// The memory, for what watches from outside.
+    /// Returns the memory, for observers.
     pub(crate) fn places(&self) -> &W
         ensures { result.now ≡ self.now.names.snap.memory }
     {
         self.names.snap().places()
     }
 
-    /// The place of a participant, once it has one.
+    /// Returns the place of a participant, or `None` if it has none.
     pub(crate) fn place_of(&self, id: u64) -> Option<Place>
         ensures { result ≡ place_in ⟦<W as Known>⟧.places self.now.names.snap id }
     {
         self.names.snap().place_of(id)
     }
 
-    /// Who has a name, or that nobody has it; a refusal where names don't reach there.
+    /// Returns the identity that has a name, or a refusal if the number is out of range.
     pub(crate) fn owner(&self, number: u64) -> Reply<View>
         ensures { result ≡ owner_over self.now number }
     {
@@ -134,8 +135,7 @@ where
     W::Walk: Copy,
     W::Value: Drop,
 {
-    /// Takes one event and answers it, by at most one access, with the view that the reply shows beside it. Refusals come as in
-    /// the renaming world, the pool and the slots, and change nothing.
+    /// Takes one event, makes at most one access, and returns the reply, whose view it puts into `view`.
     #[inline(always)]
     pub(crate) fn apply_short(&mut self, event: Event, view: &mut View) -> Reply<()>
         ensures { may_by (rules_over ⟦<W as Known>⟧.places) self.old event (with_view result view.new) self.new }
@@ -152,7 +152,7 @@ where
         }
     }
 
-    /// The access that a participant makes next; `None` where the identity has not begun.
+    /// Returns the access that a participant makes next, or `None` if the identity has not begun.
     pub(crate) fn next_access(&self, id: u64) -> Option<Access<W::Reg, W::Value>>
         ensures { result ≡ next_over ⟦<W as Known>⟧.places self.now id }
     {

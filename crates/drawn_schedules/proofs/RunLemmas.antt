@@ -175,7 +175,7 @@ module _ (config : Config) (seed ids n : ℕ) where
             };
       }
 
-  -- what is told of the lines is told otherwise
+  -- what is reported of the lines is reported otherwise
   pub reported_otherwise : (count : ℕ) (P Q : List ℕ → Type 0) → HasDrawn config seed ids n count P → ((text : List ℕ) → P text → Q text) → HasDrawn config seed ids n count Q
   reported_otherwise count P Q has weaker = record { runs = has.runs; drawn = has.drawn; count_is = has.count_is; reported = weaker (run_lines 0 has.runs) has.reported }
 
@@ -183,7 +183,7 @@ module _ (config : Config) (seed ids n : ℕ) where
   pub no_run_yet : (before : Option (List ℕ)) (held : List ℕ) → held ≡ [] → HasDrawn config seed ids n 0 (λ text. IsUnderWay text before before held [])
   no_run_yet before held none = record { runs = []; drawn = tt; count_is = refl; reported = rw none (at_first [] before) }
 
--- the numbers of one run more are told
+-- the numbers of one run more are reported
 pub reported_one_more : (config : Config) (seed ids n first i : ℕ) (tallies : List (Option Tally)) (reported : Option Tally) → i < length tallies → IsReportedOf config seed ids n (first + i) reported →
     ((k : ℕ) (d : Option Tally) → k < i → IsReportedOf config seed ids n (first + k) (get_or tallies k d)) → (k : ℕ) (d : Option Tally) → k < i + 1 → IsReportedOf config seed ids n (first + k) (get_or (set tallies i reported) k d)
 reported_one_more config seed ids n first i tallies reported inside here before k d low = elim (eqb_tells k i) [
@@ -194,7 +194,7 @@ reported_one_more config seed ids n first i tallies reported inside here before 
     le_and_other : (a b : ℕ) → a < b + 1 → a ≢ b → a < b
     le_and_other a b l n = grind (arith, l, n)
 
--- the numbers of a run that was made are told
+-- the numbers of a run that was made are reported
 pub reported_if_made : {E : Type 0} (config : Config) (seed ids n j : ℕ) (made : Result Tally E) → IfOk made (λ t. (r : List Exchange) × IsDrawnRun config ((seed + j) % 2 ^ 64) ids n r × IsTallyOf r t) → IsReportedOf config seed ids n j (result_ok made)
 reported_if_made config seed ids n j (Ok t) h = h
 reported_if_made config seed ids n j (Err e) h = tt

@@ -1,4 +1,4 @@
--- runs of drawn schedules, and what is told of them
+-- runs of drawn schedules, and what is reported of them
 use Rattle.std.specs.Prelude.{◌≡◌, ◌≢◌, ℕ, ◌+◌, ◌%◌, ◌^◌, ◌<◌, ◌≤◌, List, [], ◌∷◌, ◌++◌, map, length, codes, decimal, slice_index_or, Option, IfSome}
 use Rattle.step_memory.specs.declared.refusal.Refusal.TheVariants as refusal
 use Rattle.commands.specs.declared.config.Config.{Config}

@@ -14,11 +14,13 @@ use commands::Config;
 use player::{Fault, Sink};
 use std::alloc::Allocator;
 
-/// Writes the schedule of a seed as lines: so many identities begin, and then so many steps are taken (`draw_schedule`).
+/// Writes the schedule of a seed as lines, as `draw_schedule` does: `ids` identities begin, and then `steps` steps are
+/// taken.
 ///
 /// # Errors
 ///
-/// `Write` where the writer failed, and `Memory` where an allocation failed: then nothing was written.
+/// - `Memory`: an allocation failed. Nothing was written.
+/// - `Write`: a write failed or took no byte. A prefix of the text is written.
 pub fn draw<A: Allocator, W: Sink>(
     alloc: A,
     seed: u64,
@@ -38,11 +40,12 @@ pub fn draw<A: Allocator, W: Sink>(
     draw_schedule(alloc, Schedule { seed, ids, steps }, writer)
 }
 
-/// Plays the schedules of so many seeds, from this one on, and writes a line for each run (`play_schedules`).
+/// Plays the schedules of `runs` seeds, from `seed` on, and writes a line for each run, as `play_schedules` does.
 ///
 /// # Errors
 ///
-/// `Write` where the writer failed, and `Memory` where an allocation or the reset of an arena failed.
+/// - `Memory`: an allocation failed, or the reset of the arena did. No write failed.
+/// - `Write`: a write failed or took no byte. A prefix of the lines is written.
 pub fn play_drawn<A: Allocator + Clone, W: Sink>(
     alloc: A,
     seed: u64,

@@ -15,10 +15,10 @@ use std::alloc::Global;
 use std::thread;
 use std::thread::Threads;
 
-/// At most so many play at once.
+/// The most threads.
 pub const MOST_JOBS: u64 = 64;
 
-// How many play at once, where so many are asked for; with 0 as many as there are processors, and one where that is not known.
+// The number of threads for `asked`: if that is 0, as many as processors, or one if their number is not known.
 fn jobs_for<R: Threads>(rt: &R, asked: u64) -> u64
     ensures { (1 ≤ result) × (result ≤ 64) }
 {
@@ -32,7 +32,7 @@ fn jobs_for<R: Threads>(rt: &R, asked: u64) -> u64
     jobs.min(MOST_JOBS)
 }
 
-// Plays drawn schedules, one for each of these places, and puts the numbers of each into its own: so many places in a row are a thread's.
+// Plays drawn schedules, one for each of these places, and puts the numbers of each into its place. Each thread has `share` places in a row.
 fn play_shares<R: Threads + Sync>(
     rt: &R,
     alloc: Global,
@@ -56,11 +56,15 @@ fn play_shares<R: Threads + Sync>(
     );
 }
 
-/// Plays drawn schedules as `play_schedules` does, and writes the same lines, with the runs shared among so many threads, at most 64, or
-/// where 0 are asked for as many as there are processors: each plays runs that follow one another, in memory of its own.
+/// Plays drawn schedules and writes their lines, as `play_schedules` does, with the runs shared among `jobs` threads.
 ///
-/// `Fault::Memory` where memory was refused and no write failed, `Fault::Write` where the writer failed or took nothing: then a
-/// beginning of the lines is written.
+/// There are at most 64 threads. If `jobs` is 0, there are as many as processors. Each thread plays consecutive runs in
+/// memory of its own. Not proved: how many threads there are, and that they run at the same time.
+///
+/// # Errors
+///
+/// - `Memory`: an allocation failed. No write failed.
+/// - `Write`: a write failed or took no byte. A prefix of the lines is written.
 pub fn play_drawn_by<R: Threads + Sync, W: Sink>(
     rt: &R,
     alloc: Global,

@@ -1,22 +1,24 @@
 //! Schedules that are drawn by the words of a generator, and what becomes of their participants.
 //!
-//! A drawn schedule (`Schedule`) is that the identities from 1 begin, and then so many steps, each of the identity that the next word of
-//! the generator `Lcg64Xsh32` gives. `draw_schedule` writes its lines, and `draw` is the same by plain numbers. `play_schedules`, and
-//! `play_drawn` by plain numbers, plays the schedules of consecutive seeds, each on a fresh
-//! desk, and writes a line for each run: how many have begun, were named and were spent. `play_drawn_by` does so with the runs shared among
-//! threads: its contract is that of `play_schedules`, and how many threads there were, and that they ran at once, no clause says.
+//! In a drawn schedule (`Schedule`) the identities from 1 begin, and then a number of steps are taken. Each step is
+//! that of the identity which the next word of the generator `Lcg64Xsh32` gives. `draw_schedule` writes the schedule's
+//! lines. `play_schedules` plays the schedules of consecutive seeds, each on a fresh desk, and writes a line for each
+//! run: how many have begun, were named and were spent. `draw` and `play_drawn` are the same by plain numbers.
+//! `play_drawn_by` shares the runs among threads, with the contract of `play_schedules`. Not proved: how many threads
+//! there are, and that they run at the same time.
 //!
-//! What is proved: `draw_schedule` writes exactly the text of the generator's words (`ok`; `part` at a fault); each line of `play_schedules`
-//! gives the three numbers of a run of its schedule, which is the one that the config's desk makes where no growth is
-//! refused (`ok`; `part` at a fault). The memory of a run lies in an arena that is given back before the next.
+//! What is proved: `draw_schedule` writes exactly the text of the generator's words (`ok`; `part` at a fault). Each
+//! line of `play_schedules` has the three numbers of a run of its schedule (`ok`; `part` at a fault). That is the run
+//! of the configuration's desk if no allocation fails. The memory of a run is in an arena that is reset before the
+//! next.
 //!
-//! A caller:
+//! From `tests_player/src/writes_tests.rt`:
 //!
 //! ```text
-//! let config = Config::new(WorldKind::Rename, 4, 4, 1000)?;
-//! let mut writer = Tried::new(rt.stdout());
-//! draw(alloc, 7, 4, 200, &mut writer)?;                       // begin 1, .., begin 4, step 2, ..
-//! play_drawn(alloc, 7, 4, 200, 2, config, &mut writer)?;      // run 0 begun 4 named 4 spent 0, run 1 ..
+//! Work::Draw(Some(config)) if config.world.gives_names() => {
+//!     play_drawn(alloc, 7, 4, 200, 3, config, writer)?
+//! }
+//! Work::Draw(_) => draw(alloc, 7, 4, 200, writer)?,
 //! ```
 #![tactic(auto)]
 

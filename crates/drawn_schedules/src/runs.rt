@@ -20,10 +20,10 @@ use player::{Fault, HELD_REPLIES, Replies, Sink, put_word};
 use std::alloc::Allocator;
 use step_memory::{Refusal, View};
 
-/// The most bytes that the line of a run takes, its LF included.
+/// The most bytes of a run's line, its LF included.
 const LINE_ROOM: usize = 106;
 
-/// Takes one event and counts it; `Fault::Memory` where the desk was refused memory.
+/// Takes one event and counts it; `Memory` if an allocation failed.
 #[inline(always)]
 fn take<A: Allocator + Clone>(
     desk: &mut Desk<A>,
@@ -48,7 +48,7 @@ fn take<A: Allocator + Clone>(
     Ok(())
 }
 
-/// So many participants begin. A function of its own, so that a step has no room of a participant to clear.
+/// The identities from 1 to `ids` begin. It is a function of its own, so that a step clears no room for a participant.
 #[inline(never)]
 fn take_begins<A: Allocator + Clone>(
     desk: &mut Desk<A>,
@@ -72,7 +72,7 @@ fn take_begins<A: Allocator + Clone>(
     Ok(())
 }
 
-/// So many steps are taken, as the generator's words say.
+/// Takes the steps, as the generator's words say.
 fn take_steps<A: Allocator + Clone>(
     desk: &mut Desk<A>,
     plan: Schedule,
@@ -97,7 +97,7 @@ fn take_steps<A: Allocator + Clone>(
     Ok(())
 }
 
-/// Plays a schedule on a desk that is fresh. A function of its own, since a desk is taken apart at each way out of what owns it.
+/// Plays a schedule on a fresh desk. It is a function of its own, since each way out of a desk's owner drops the desk.
 fn play_on<A: Allocator + Clone>(desk: &mut Desk<A>, plan: Schedule) -> Result<Tally, Fault>
     requires steps { plan.steps + 64 < 2 ^ 64 }
     ensures drawn { (config : Config) → IsFreshDesk config desk.old →
@@ -125,7 +125,7 @@ fn play_one<A: Allocator + Clone>(alloc: A, plan: Schedule, config: Config) -> R
     tally
 }
 
-/// As `play_one`, in an arena, which is reset after it.
+/// Plays a schedule as `play_one` does, in an arena, and resets the arena.
 fn play_in_arena<A: Allocator>(
     arena: &mut Bump<A>,
     plan: Schedule,
@@ -156,12 +156,15 @@ fn put_run<A: Allocator>(run: u64, tally: Tally, held: &mut Replies<A>)
     held.put(b"\n");
 }
 
-/// Plays drawn schedules (this project's profile), the run of number j that of this plan with the seed `seed + j`, modulo 2^64, each on
-/// a fresh desk of this config, and writes a line for each: `run J begun B named N spent S`, with how many have begun, were named and
-/// were spent. The memory of a run is given back before the next.
+/// Plays drawn schedules, each on a fresh desk, and writes a line for each run: `run J begun B named N spent S`.
 ///
-/// `Fault::Memory` where memory was refused and no write failed, `Fault::Write` where the writer failed or took nothing: then a
-/// beginning of the lines of the runs so far is written.
+/// Run `J`, from 0, has the seed `plan.seed + J` modulo 2^64. `B` participants have begun, `N` were named and `S` were
+/// spent. The memory of a run is given back before the next.
+///
+/// # Errors
+///
+/// - `Memory`: an allocation failed. No write failed.
+/// - `Write`: a write failed or took no byte. A prefix of the lines is written.
 pub fn play_schedules<A: Allocator + Clone, W: Sink>(
     alloc: A,
     plan: Schedule,
@@ -199,8 +202,9 @@ pub fn play_schedules<A: Allocator + Clone, W: Sink>(
     held.send(writer)
 }
 
-/// Plays drawn schedules as `play_schedules` does, from that of number `first` on, one for each of these places, and puts the numbers of
-/// each into its own; none where memory was refused. Runs do not depend on each other, so that many can share them.
+/// Plays a share of the schedules, from number `first` on, and puts the numbers of each run into its place.
+///
+/// The place of a run is `None` if an allocation failed.
 pub(crate) fn play_share<A: Allocator + Clone>(
     alloc: A,
     plan: Schedule,
@@ -224,10 +228,9 @@ pub(crate) fn play_share<A: Allocator + Clone>(
     }
 }
 
-/// Writes the line of each run as `play_schedules` does, from that of number 0 on, by its numbers.
+/// Writes the line of each run from number 0 on, as `play_schedules` does.
 ///
-/// `Fault::Memory` where there are none of a run and no write failed, `Fault::Write` where the writer failed or took nothing: then a
-/// beginning of the lines is written.
+/// `Memory` if a run has no numbers, `Write` if a write failed or took no byte: then a prefix of the lines is written.
 pub(crate) fn write_tallies<A: Allocator, W: Sink>(
     alloc: A,
     tallies: &[Option<Tally>],

@@ -15,18 +15,19 @@ use rand_core::utils::NextWord;
 use rand_pcg::Lcg64Xsh32;
 use std::alloc::Allocator;
 
-/// The most bytes that the line of an event takes, its LF included.
+/// The most bytes of an event's line, its LF included.
 const LINE_ROOM: usize = EVENT_ROOM + 1;
 
-/// Which schedule is drawn: the identities from 1 begin, and then so many steps are taken, each by the one of them that the next word of
-/// the generator of the seed gives.
+/// A drawn schedule: the identities from 1 to `ids` begin, and then `steps` steps are taken.
+///
+/// Each step is that of the identity which the next word of the seed's generator gives.
 #[derive(Clone, Copy, Debug, Drop, PartialEq, Eq)]
 pub struct Schedule {
     /// The seed of the generator.
     pub seed: u64,
-    /// How many begin, from 1 to 64.
+    /// The number of identities that begin, from 1 to 64.
     pub ids: u64,
-    /// How many steps are taken.
+    /// The number of steps.
     pub steps: u64,
     ghost some: { 1 ≤ ids },
     ghost few: { ids ≤ 64 },
@@ -50,7 +51,7 @@ pub(crate) fn draw_one(words: &mut Lcg64Xsh32, ids: u64) -> u64
     1 + u64::from(words.next_word()) % ids
 }
 
-/// Appends the line of an event, where it has room, or after what is held is written.
+/// Appends the line of an event. If it has no room, what is held is written first.
 fn put_line<A: Allocator, W: Sink>(
     event: Event,
     held: &mut Replies<A>,
@@ -70,7 +71,7 @@ fn put_line<A: Allocator, W: Sink>(
     Ok(())
 }
 
-/// The lines of the participants that begin.
+/// Appends the lines of the participants that begin.
 fn draw_begins<A: Allocator, W: Sink>(
     ids: u64,
     held: &mut Replies<A>,
@@ -91,7 +92,7 @@ fn draw_begins<A: Allocator, W: Sink>(
     Ok(())
 }
 
-/// The lines of the steps.
+/// Appends the lines of the steps.
 fn draw_steps<A: Allocator, W: Sink>(
     plan: Schedule,
     held: &mut Replies<A>,
@@ -112,11 +113,14 @@ fn draw_steps<A: Allocator, W: Sink>(
     Ok(())
 }
 
-/// Writes a schedule: `begin 1` to `begin ids`, and then `steps` lines `step I`, where I is one more than the next word of the
-/// generator `Lcg64Xsh32` of the seed modulo `ids` (this project's profile).
+/// Writes a schedule: `begin 1` to `begin ids`, and then `steps` lines `step I`.
 ///
-/// `Fault::Memory` where its buffer was refused, with nothing written; `Fault::Write` where the writer failed or took nothing,
-/// with a prefix of the text written.
+/// `I` is one more than the next word of the generator `Lcg64Xsh32` of the seed, modulo `ids`.
+///
+/// # Errors
+///
+/// - `Memory`: an allocation failed. Nothing was written.
+/// - `Write`: a write failed or took no byte. A prefix of the text is written.
 pub fn draw_schedule<A: Allocator, W: Sink>(
     alloc: A,
     plan: Schedule,

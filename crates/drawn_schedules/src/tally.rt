@@ -7,19 +7,19 @@ ghost use Rattle.drawn_schedules.specs.Tally.{IsTallyOf, is_named, is_spent, one
 
 use commands::{Event, Reply};
 
-/// How many participants have begun in a run, were named and were spent.
+/// How many participants of a run have begun, were named and were spent.
 #[derive(Clone, Copy, Debug, Drop, PartialEq, Eq)]
 pub struct Tally {
     /// Those that have begun.
     pub begun: u64,
     /// Those that were named.
     pub named: u64,
-    /// Those that have used up their rounds.
+    /// Those that have used up their proposals.
     pub spent: u64,
 }
 
 impl Tally {
-    /// The numbers before the first event.
+    /// Makes the numbers of a run with no event.
     pub fn new() -> Tally
         ensures { IsTallyOf [] result }
     {
@@ -30,7 +30,7 @@ impl Tally {
         }
     }
 
-    /// Counts an event by its reply, whatever view that shows.
+    /// Counts an event by its reply.
     pub fn count(&mut self, event: Event, reply: Reply<()>)
         requires begun { self.old.begun + 1 < 2 ^ 64 }
         requires named { self.old.named + 1 < 2 ^ 64 }

@@ -15,7 +15,7 @@ alone value = array (item value no_items)
 abbrev pub both : Json → Json → Json
 both one other = array (item one (item other no_items))
 
--- what is told of a key under a name is this
+-- what is reported of a key under a name is this
 abbrev pub compared : List ℕ → List ℕ → List ℕ → List ℕ → Json
 compared key target name value =
     object (member (codes "key") (string key) (

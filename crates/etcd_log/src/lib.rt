@@ -15,11 +15,14 @@
 //! Not promised, since no contract can say what sockets carry, and trusted: that what etcd answered it holds, and that it holds a key
 //! for good once it was created. So nothing is ever deleted under a prefix, and each log has a prefix of its own.
 //!
+//! From `tests_log/src/etcd_tests.rt`, over texts in place of members:
+//!
 //! ```text
-//! let dial = TcpDial::new(&rt, members, Duration::from_secs(2));
-//! let mut store = EtcdStore::new(alloc, dial, String::from_str(alloc, "hall/1/")?);
-//! let mut replica = Replica::new(alloc, machine);
-//! replica.serve(&mut store, batch, &mut replies)?;
+//! Ok(EtcdStore::new(alloc, Script { texts, dialed: 0 }, prefix))
+//! ..
+//! let put = [etcd.put(42, b"hi"), etcd.put(42, b"ho")];
+//! ..
+//! put == [Ok(Put::Written), Ok(Put::Taken)]
 //! ```
 #![tactic(auto)]
 

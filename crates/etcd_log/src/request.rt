@@ -44,7 +44,7 @@ fn object_of<'a>(alloc: Global, members: [(&'a str, Value<'a>); 2]) -> Result<Va
     Ok(Value::Object(members))
 }
 
-// That what is told of a key under a name is this.
+// That what is reported of a key under a name is this.
 fn compared<'a>(
     alloc: Global,
     key: &'a str,

@@ -20,6 +20,21 @@
 //! `host` is a whole server over sockets: it waits until some are ready (`mio`), gives those their turn, and closes who is at an end or idle.
 //!
 //! Not promised, and shown by running it: that a connection that is due has its turn soon, and what sockets carry.
+//!
+//! From `tests_log/src/turn_tests.rt`:
+//!
+//! ```text
+//! match iterate_prefetched(
+//!     &(),
+//!     &mut reported,
+//!     teller,
+//!     &mut batch,
+//!     &mut room,
+//!     seats,
+//!     &ready,
+//! )? {
+//!     Called::Served(called) | Called::Unserved(called) => {
+//! ```
 #![tactic(auto)]
 
 pub mod answering;

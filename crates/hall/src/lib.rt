@@ -18,24 +18,28 @@
 //! So what it answers to any event from then on, want of room aside, is what the old hall would have answered. That one is found, where the
 //! history has many more events of the pool than it takes, is no clause: it is tried on drawn states. `Compactor` says when one is due.
 //!
-//! A caller:
+//! From `tests_hall/src/lock_tests.rt`:
 //!
 //! ```text
-//! let mut hall = Hall::new(alloc, config)?;
-//! hall.apply(Event::Enter(5));                                // ok
-//! hall.apply(Event::Probe(5));                                // got 1
-//! hall.len();                                                 // 2
+//! Hall::new(alloc, config).expect(rt, "room for a hall")
+//! ..
+//! hall.apply(Event::Enter(5));
+//! hall.apply(Event::Probe(5));
+//! for value in 2..1_000_000 {
+//!     hall.apply(Event::Put(5, value));
+//! }
+//! hall.len() == 1_000_000
 //! ```
 //!
-//! Another, which keeps a history short:
+//! From `tests_hall/src/drawn_tests.rt`, where a history is made shorter:
 //!
 //! ```text
-//! let mut compactor = Compactor::new();
-//! if compactor.is_due(&hall) {
-//!     if let Some(shorter) = compactor.compacted(alloc, &hall) {
-//!         hall = shorter;                                     // the same desk
-//!     }
+//! match compacted(alloc, old) {
+//!     Some(mut new) => new.len() < old.len() && are_alike(old, &mut new, words, k),
+//!     None => false,
 //! }
+//! ..
+//! Compactor::new().is_due(&old),
 //! ```
 #![tactic(auto)]
 

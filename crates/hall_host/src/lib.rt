@@ -9,6 +9,16 @@
 //! connection was told the replies to its own lines, and what a crash leaves then has each event that was answered.
 //!
 //! Not promised, and shown by running it: that a file of the system is such a disk, what sockets carry, how soon a client is served.
+//!
+//! From `slotctl/src/main.rt`:
+//!
+//! ```text
+//! HostPlan {
+//!     config: hosting.config,
+//!     address: hosting.address,
+//! ..
+//! host_hall(rt, alloc, host_plan_of(hosting, seen), output, errors)
+//! ```
 #![tactic(auto)]
 
 pub mod export;

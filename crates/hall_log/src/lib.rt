@@ -15,6 +15,18 @@
 //! Where memory is refused while an entry is applied nothing is known of the hall any more, and nothing is answered (`LogFault::Memory`).
 //!
 //! Not promised, and shown by running it: that a store over a network is one log, how soon it answers, and that the token is no other's.
+//!
+//! From `tests_log/src/persister_tests.rt`:
+//!
+//! ```text
+//! LogPersister::open(alloc, lossy, tries, config, [b'a'; 32])
+//! ..
+//! if persister.prefetch(&mut reply_queue, lines)? == Prefetch::Lost {
+//!     return Ok(None);
+//! }
+//! ..
+//! persister.persist(&mut reply_queue)?;
+//! ```
 #![tactic(auto)]
 
 pub mod laws;

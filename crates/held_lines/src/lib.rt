@@ -4,11 +4,10 @@
 //! commands of the language (`command_lines`), in which their word is unknown: a server that answers them looks for them first
 //! (`held_query`). The answer is said of a pool with its slots (`put_held`), and changes nothing.
 //!
-//! A caller, of slots in which 7 holds number 2:
+//! From `hall_host/src/holders.rt`:
 //!
 //! ```text
-//! let query = held_query(b"held 7");          // Some(HeldQuery::Of(7))
-//! put_held(desk.slots(), query, &mut out);    // 2 7 0
+//! put_held(hall.slots(), HeldQuery::All, &mut text);
 //! ```
 #![tactic(auto)]
 

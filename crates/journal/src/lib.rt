@@ -17,6 +17,17 @@
 //! (`MayLeave`); one in the midst of a replacing leaves that of the old bytes, or all of the new ones (`MayLeaveEither`). `FileDisk` is a file of
 //! the system. Nothing is known of its bytes, since no contract can say what the system does: that it is such a disk is trusted. `MemoryDisk` is
 //! one in memory, for trials, with faults and crashes of its own: there each clause is proved.
+//!
+//! From `tests_hall/src/journals.rt`:
+//!
+//! ```text
+//! Ok(config) => Journal::open(alloc, disk, config),
+//! ..
+//! let mut view = View::new();
+//! write_ahead.apply(&(), event, &mut view)
+//! ..
+//! Act::Commits => journal.commit(write_ahead).is_ok(),
+//! ```
 #![tactic(auto)]
 
 pub mod disk;

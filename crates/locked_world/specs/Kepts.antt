@@ -70,7 +70,7 @@ pub record IsTaken (c : Config) (s : CallerState) (e : Event) (r : ShownReply) (
   pub kept : Keeps s.kept e r t.kept
   pub stands : Fits t.seen t.kept
 
--- who has a name was told to a caller as the lock's hall tells it, whose history the caller has now seen
+-- who has a name was reported to a caller as the lock's hall tells it, whose history the caller has now seen
 pub record IsReported (c : Config) (s : CallerState) (number : ℕ) (r : ShownReply) (t : CallerState) : Type 0 where
   pub lawful : SatisfiesSpec (hall_of c t.seen)
   pub longer : IsPrefix s.seen t.seen

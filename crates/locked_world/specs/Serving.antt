@@ -12,7 +12,7 @@ use Rattle.locked_world.specs.declared.kept.Kept.{Kept}
 use Rattle.locked_world.specs.CallerState.{CallerState}
 use Rattle.locked_world.specs.Kepts.{IsTaken, IsReported, IsSound}
 
--- a clerk at its lock, which has seen a lawful history: an event is taken as any caller's is, and who has a name is told as to any caller
+-- a clerk at its lock, which has seen a lawful history: an event is taken as any caller's is, and who has a name is reported as to any caller
 abbrev pub ClerkServes : Config → CallerState → Request → ShownReply → CallerState → Type 0
 ClerkServes c s (Take e) r t = IsSound c s → IsTaken c s e r t
 ClerkServes c s (OwnerOf n) r t = IsSound c s → IsReported c s n r t

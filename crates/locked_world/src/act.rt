@@ -5,16 +5,16 @@ ghost use Rattle.locked_world.specs.Acts.{event_of};
 
 use commands::Event;
 
-/// What a session does, under its own identity.
+/// An action of a session, under its own identity.
 #[derive(Clone, Copy, Debug, Drop, PartialEq, Eq)]
 pub enum Act {
     /// It takes its next step.
     Step,
     /// It begins to compete for the pool.
     Enter,
-    /// It probes the next bit.
+    /// It makes its next access to the bits of the pool.
     Probe,
-    /// It gives its number back and competes no more.
+    /// It gives its number back and stops competing.
     Leave,
     /// It puts a value into the slot of its number.
     Put(u64),
@@ -23,7 +23,7 @@ pub enum Act {
 }
 
 impl Act {
-    /// The event that it is for an identity.
+    /// Returns the event of this action for an identity.
     pub fn event(self, id: u64) -> Event
         ensures { result ≡ event_of self id }
     {

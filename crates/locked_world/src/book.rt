@@ -1,4 +1,4 @@
-//! A book, and what was seen of its history.
+//! An append-only history, and the prefixes of it that were seen.
 
 ghost use Rattle.std.specs.Prelude.{◌≡◌, ◌+◌, ◌<◌, ◌≤◌, ◌^◌, ◌++◌, ◌∷◌, [], length, true, MatchBool};
 ghost use mathlib.Core.List.{IsPrefix};
@@ -8,7 +8,7 @@ use crate::rule::{Adding, Entries, Nothing};
 use logbook::{Offer, Plain, Seen, Start, Word};
 use std::marker::{Brand, Model, PhantomData};
 
-/// Which book it is. Each call of a program picks it.
+/// The book that a type names. Each call of a program picks one.
 pub trait Naming {
     ghost use Rattle.logbook.specs.Pages.{Book};
 
@@ -19,7 +19,7 @@ impl Naming for Brand {
     ghost book = { record { number = 0; log_name = 0; cells_name = 0 } };
 }
 
-/// A book with an empty history, which has no name yet.
+/// An append-only history with no entry, which has no name yet.
 #[derive(Drop)]
 pub struct Opened<E> {
     head: Word<E, u64, Entries>,
@@ -29,7 +29,8 @@ pub struct Opened<E> {
 }
 
 impl<E> Opened<E> {
-    /// Opens a book.
+    /// Opens an append-only history with no entry. Its clauses are the fields `empty` and `head_is`. Not proved:
+    /// anything else.
     pub fn new() -> Opened<E> {
         let (seen, mut first, _second) = Seen::open(Start::alone(), 0, 0);
         Opened {
@@ -38,7 +39,7 @@ impl<E> Opened<E> {
         }
     }
 
-    /// The book under its name, and the front that has seen nothing.
+    /// Returns the history under its name, and the prefix of it that has no entry.
     pub fn named<N: Naming>(self) -> (Book<N, E>, Front<N, E>)
         requires { self.seen.book ≡ N.book }
         ensures { result.1 ≡ [] }
@@ -58,7 +59,7 @@ impl<E> Opened<E> {
     }
 }
 
-/// The word that all threads share: the length of the history.
+/// An append-only history that threads share: one atomic word, its length. The entries are ghost state.
 #[derive(Drop)]
 pub struct Book<N: Naming, E> {
     head: Word<E, u64, Entries>,
@@ -66,7 +67,7 @@ pub struct Book<N: Naming, E> {
     ghost head_is: { head ≡ head_of N.book },
 }
 
-/// A prefix of the history that was seen. Contracts see it as its entries.
+/// A prefix of the history that a thread has seen. It stays one. Contracts see its entries.
 #[derive(Drop)]
 pub struct Front<N: Naming, E> {
     count: u64,
@@ -85,14 +86,14 @@ impl<N: Naming, E> Model for Front<N, E> {
 }
 
 impl<N: Naming, E> Front<N, E> {
-    /// How many entries it has.
+    /// Returns the number of entries.
     pub fn len(&self) -> u64
         ensures { result ≡ length self.now }
     {
         self.count
     }
 
-    /// A copy.
+    /// Returns a copy.
     pub fn again(&self) -> Front<N, E>
         ensures { result ≡ self.now }
     {
@@ -103,7 +104,7 @@ impl<N: Naming, E> Front<N, E> {
         }
     }
 
-    /// Whether another front, which is no longer, is a prefix of this one: it always is.
+    /// Returns whether another prefix of the same history is no longer than this one. It is then a prefix of this one.
     pub fn begins_with(&self, other: &Front<N, E>) -> bool
         ensures is { result ≡ true → IsPrefix other.now self.now }
         ensures due { length other.now ≤ length self.now → result ≡ true }
@@ -113,8 +114,9 @@ impl<N: Naming, E> Front<N, E> {
         other.count <= self.count
     }
 
-    /// Adds an entry behind all that was seen, and says whether it did. It did not where the history is longer, of which more is
-    /// seen then.
+    /// Appends an entry if this prefix is the whole history, by one compare-exchange, and returns whether it did.
+    ///
+    /// If not, the history is longer, and this prefix gets longer too.
     pub fn add<X, M: Plain<X, E, u64>>(&mut self, book: &Book<N, E>, entry: &X) -> bool
         requires room { length self.old < 2 ^ 62 }
         ensures { MatchBool result (self.new ≡ self.old ++ M.ask entry.now ∷ []) (IsLonger self.old self.new) }

@@ -1,4 +1,4 @@
-//! What a caller tells of itself.
+//! What a caller has kept.
 
 ghost use Rattle.std.specs.Prelude.{◌≡◌, length, slice_get};
 ghost use Rattle.locked_world.specs.Kepts.{IsSound};
@@ -8,7 +8,7 @@ use crate::kept::Kept;
 use crate::parts::{Clerk, LockName, Session};
 
 impl<L: LockName> Clerk<L> {
-    /// How many of its events were accepted. Each stands at its place in the history that the caller has seen, which is lawful.
+    /// Returns the number of its accepted events. Each is at its place in the history that the caller has seen.
     pub fn count(&self) -> usize
         ensures count { result ≡ length self.now.kept }
         ensures sound { IsSound L.config self.now }
@@ -16,7 +16,7 @@ impl<L: LockName> Clerk<L> {
         self.kept.len()
     }
 
-    /// One of its accepted events, in order.
+    /// Returns the accepted event with this index, from 0, in order.
     pub fn get(&self, at: usize) -> Option<Kept>
         ensures { result ≡ slice_get self.now.kept at }
     {
@@ -25,15 +25,15 @@ impl<L: LockName> Clerk<L> {
 }
 
 impl<L: LockName> Session<L> {
-    /// The identity.
+    /// Returns the identity.
     pub fn id(&self) -> u64
         ensures { result ≡ self.now.id }
     {
         self.id
     }
 
-    /// How many of its events were accepted, its `begin` among them. Each stands at its place in the history that the caller has
-    /// seen, which is lawful.
+    /// Returns the number of its accepted events, its `begin` among them. Each is at its place in the history that it
+    /// has seen.
     pub fn count(&self) -> usize
         ensures count { result ≡ length self.now.clerk.kept }
         ensures sound { IsSound L.config self.now.clerk }
@@ -41,14 +41,14 @@ impl<L: LockName> Session<L> {
         self.clerk.count()
     }
 
-    /// One of its accepted events, in order.
+    /// Returns the accepted event with this index, from 0, in order.
     pub fn get(&self, at: usize) -> Option<Kept>
         ensures { result ≡ slice_get self.now.clerk.kept at }
     {
         self.clerk.get(at)
     }
 
-    /// The first name among what it kept.
+    /// Returns the first name among the replies to its accepted events, or `None`.
     pub fn name(&self) -> Option<u64>
         ensures { result ≡ name_kept self.now.clerk.kept }
     {

@@ -1,4 +1,4 @@
-//! The end of a lock: its history against what its callers kept.
+//! The end of a lock: its history is compared with what its callers kept.
 
 ghost use Rattle.std.specs.Prelude.{◌≡◌, ◌++◌, map, IfOk, IfErr};
 ghost use Rattle.locked_world.specs.Kepts.{IsJust};
@@ -8,7 +8,7 @@ use crate::lock::HallLock;
 use crate::{Clerk, Closed, LockName, Session};
 use std::sync::Mutex;
 
-/// What was handed in, of which something is missing.
+/// What was given to `close`, if a caller or an event is missing.
 #[derive(Drop)]
 pub struct Missing<L: LockName> {
     /// The lock.
@@ -20,9 +20,14 @@ pub struct Missing<L: LockName> {
 }
 
 impl<L: LockName> HallLock<L> {
-    /// Ends a lock, which takes no memory. Where every caller that was opened is handed in, the history is compared with what
-    /// they kept: each place was kept by just one of them, with its event and reply, and there is no other. Otherwise
-    /// all is handed back.
+    /// Ends a lock and compares its history with what its callers kept. This allocates nothing.
+    ///
+    /// Returns the history if all callers that were opened are given. Each place of it was then kept by exactly one of
+    /// them, with its event and its reply.
+    ///
+    /// # Errors
+    ///
+    /// `Missing`: a caller is missing, or the history and what the callers kept differ. Its fields are what was given.
     pub fn close(
         self,
         sessions: Vec<Session<L>>,

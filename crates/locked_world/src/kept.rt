@@ -2,10 +2,10 @@
 
 use commands::Exchange;
 
-/// An accepted event with its reply, and its place in the history, counted from 0.
+/// An accepted event with its reply and its place in the history.
 #[derive(Clone, Copy, Debug, Drop, PartialEq, Eq)]
 pub struct Kept {
-    /// Where it stands in the history.
+    /// Its place in the history, from 0.
     pub place: usize,
     /// The event and its reply.
     pub exchange: Exchange,

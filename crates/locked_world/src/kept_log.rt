@@ -13,7 +13,7 @@ use std::alloc::Global;
 use std::marker::Model;
 use step_memory::{NoMemory, View};
 
-/// Kept events in order: 48 bytes each, and their views apart; and the first name among them.
+/// Accepted events in order, with the first name among their replies. An event takes 48 bytes, without its view.
 #[derive(Drop)]
 pub struct KeptLog {
     places: Vec<usize>,
@@ -46,7 +46,7 @@ fn name_given(reply: Reply<()>) -> Option<u64>
 }
 
 impl KeptLog {
-    /// Nothing kept, which takes no memory.
+    /// Makes a list with no event. This allocates nothing.
     pub(crate) fn new(alloc: Global) -> Result<KeptLog, NoMemory>
         ensures { IfOk result (λ l. l.items ≡ []) }
     {
@@ -58,14 +58,14 @@ impl KeptLog {
         })
     }
 
-    /// How many were kept.
+    /// Returns the number of events.
     pub fn len(&self) -> usize
         ensures { result ≡ length self.now.items }
     {
         self.places.len()
     }
 
-    /// One that was kept, in their order.
+    /// Returns the event with this index, from 0, in order.
     pub fn get(&self, at: usize) -> Option<Kept>
         ensures { result ≡ slice_get self.now.items at }
     {
@@ -76,14 +76,14 @@ impl KeptLog {
         })
     }
 
-    /// The first name among what was kept.
+    /// Returns the first name among the replies.
     pub(crate) fn name(&self) -> Option<u64>
         ensures { result ≡ name_kept self.now.items }
     {
         self.name
     }
 
-    /// Makes room for one more, and tells whether there is.
+    /// Allocates room for one more event, and returns whether there is room.
     pub(crate) fn reserve(&mut self) -> bool
         ensures same { self.new.items ≡ self.old.items }
         ensures room { result ≡ true → self.new.room ≡ true }
@@ -91,7 +91,7 @@ impl KeptLog {
         self.places.reserve(1).is_ok() && self.log.reserve()
     }
 
-    /// Puts one behind the others, where there is room: an event with its place and its reply, and the view beside that.
+    /// Appends an event with its place and its reply, for which there is room. The reply's view is `view`.
     pub(crate) fn push_reserved(
         &mut self,
         place: usize,

@@ -1,4 +1,4 @@
-//! What those who are answered as callers, and those who have a clerk at a lock, stand on.
+//! Laws of the callers of a lock, which run nothing.
 
 ghost use Rattle.std.specs.Prelude.{◌≡◌, ℕ, List, false};
 ghost use mathlib.Core.List.{IsPrefix};
@@ -14,16 +14,17 @@ ghost use Rattle.player.specs.Runs.{Runs};
 ghost use Rattle.player.specs.Turns.{Turn, exchanges};
 ghost use Rattle.locked_world.specs.Serving.{ClerkServes, KeepsAccepted};
 
-/// A law, which runs nothing: a caller that was answered has seen a lawful history, in which all that it has kept stands, and which goes
-/// on from what it had seen; and a short reply that is none of the refusals is accepted.
+/// A law: a caller that was answered has seen a lawful history that extends what it had seen, and all that it has kept
+/// is in it.
+///
+/// A short reply that is no refusal is accepted.
 pub fn law_of_answered_callers()
     ensures sound { (c : Config) (s t : CallerState) (e : Event) (r : ShownReply) → IsTaken c s e r t → IsSound c t }
     ensures seen { (c : Config) (s t : CallerState) (e : Event) (r : ShownReply) → IsTaken c s e r t → IsPrefix s.seen t.seen }
     ensures accepted { (r : Reply (Unit {0})) (view : List (ℕ × ℕ)) → ((why : Refusal) → r ≡ Refused why → ⊥) → is_refusal (with_view r view) ≡ false }
 {}
 
-/// A law, which runs nothing, of what a clerk answers in turn as a service: it comes to keep the accepted events with their
-/// replies, in order.
+/// A law of a clerk as a service: it keeps the accepted events with their replies, in order.
 pub fn law_of_clerks()
     ensures kept { (c : Config) (s t : CallerState) (ts : List Turn) → IsSound c s → Runs (ClerkServes c) s ts t → KeepsAccepted s.kept (exchanges ts) t.kept }
 {}

@@ -15,15 +15,21 @@ use std::sync::ledger::Blank;
 use std::sync::{Mutex, Wait};
 use step_memory::{Refusal, View};
 
-/// A hall under a lock, which threads share.
+/// A hall behind a mutex, which threads share.
 #[derive(Drop)]
 pub struct HallLock<L: LockName> {
     pub(crate) locked: Mutex<Locked<L>>,
 }
 
 impl<L: LockName> HallLock<L> {
-    /// A lock round a hall of this config with no event. `OutOfRange` where no names are given in the config's world, and
-    /// `NoMemory` where its room was refused; the blank and the book are then spent.
+    /// Makes a lock around a hall of this configuration with no event.
+    ///
+    /// # Errors
+    ///
+    /// An error drops the blank and the history. The first that applies is returned:
+    ///
+    /// - `OutOfRange`: the world of `config` gives no names.
+    /// - `NoMemory`: an allocation failed.
     pub fn new(
         alloc: Global,
         config: Config,
@@ -43,7 +49,12 @@ impl<L: LockName> HallLock<L> {
         })
     }
 
-    /// Opens a clerk, who has kept nothing. `Full` where 1,000,000 callers were opened.
+    /// Opens a clerk, which has kept no event.
+    ///
+    /// # Errors
+    ///
+    /// - `Full`: 1,000,000 callers were opened.
+    /// - `NoMemory`: an allocation failed.
     pub fn clerk<R: Wait>(&self, rt: &R, alloc: Global) -> Result<Clerk<L>, Refusal>
         ensures new { IfOk result (λ c. (c.kept ≡ []) × SatisfiesSpec (hall_of L.config c.seen)) }
         ensures errors { IfErr result (λ why. (why ≡ Refusal.Full) ⊎ (why ≡ Refusal.NoMemory)) }
@@ -51,8 +62,15 @@ impl<L: LockName> HallLock<L> {
         self.locked.lock(rt).open(alloc)
     }
 
-    /// Opens a session for an identity, which begins: its list holds just that. Refused where `clerk` is, and as `begin` is;
-    /// then no session is opened.
+    /// Opens a session for identity `id`, which begins. The session has kept this event alone.
+    ///
+    /// # Errors
+    ///
+    /// An error opens no session. The first that applies is returned:
+    ///
+    /// - `Full`: 1,000,000 callers were opened.
+    /// - `NoMemory`: an allocation failed.
+    /// - The error of `begin` in the hall: `ZeroIdentity`, `AlreadyBegun`, `Full`, `HistoryFull` or `NoMemory`.
     pub fn session<R: Wait>(&self, rt: &R, alloc: Global, id: u64) -> Result<Session<L>, Refusal>
         ensures opened { IfOk result (λ s. (s.id ≡ id) × IsOpened L.config id s.clerk) }
         ensures errors { IfErr result (λ why. (why ≡ Refusal.Full) ⊎ (why ≡ Refusal.NoMemory) ⊎ IsRefusedBegin L.config id why) }
@@ -60,9 +78,10 @@ impl<L: LockName> HallLock<L> {
         self.locked.lock(rt).begin(rt, alloc, id)
     }
 
-    /// One event of a clerk, by one taking of the lock. An accepted event is kept with its reply, at its place in the history; a
-    /// refused one changes nothing. The reply is the one that the lock's hall gives, whose history is lawful for the lock's config
-    /// and begins with all that the clerk has seen.
+    /// Applies one event of a clerk, under the lock, and returns the reply of the hall.
+    ///
+    /// The clerk keeps an accepted event with its reply and its place in the history. A refused event changes nothing.
+    /// The history of the hall satisfies the specification and extends all that the clerk has seen.
     pub fn apply<R: Wait>(&self, rt: &R, clerk: &mut Clerk<L>, event: Event) -> Reply<View>
         ensures { IsTaken L.config clerk.old event result clerk.new }
     {
@@ -70,7 +89,8 @@ impl<L: LockName> HallLock<L> {
         self.apply_short(rt, clerk, event, &mut view).with(&view)
     }
 
-    /// As `apply`, with a reply of a few bytes, and its view where it shows one: so no call on the way clears a kilobyte.
+    /// Applies one event as `apply` does, and returns a reply of a few bytes. If the reply has a view, the view is put
+    /// into `view`.
     pub fn apply_short<R: Wait>(
         &self,
         rt: &R,
@@ -83,7 +103,7 @@ impl<L: LockName> HallLock<L> {
         self.locked.lock(rt).apply(rt, clerk, event, view)
     }
 
-    /// One act of a session, as `apply`.
+    /// Applies one action of a session, as `apply` does.
     pub fn act<R: Wait>(&self, rt: &R, session: &mut Session<L>, act: Act) -> Reply<View>
         ensures taken { IsTaken L.config session.old.clerk (event_of act session.old.id) result session.new.clerk }
         ensures same { session.new.id ≡ session.old.id }
@@ -92,7 +112,8 @@ impl<L: LockName> HallLock<L> {
         self.act_short(rt, session, act, &mut view).with(&view)
     }
 
-    /// As `act`, with a reply of a few bytes, and its view where it shows one.
+    /// Applies one action as `act` does, and returns a reply of a few bytes. If the reply has a view, the view is put
+    /// into `view`.
     pub fn act_short<R: Wait>(
         &self,
         rt: &R,
@@ -106,7 +127,7 @@ impl<L: LockName> HallLock<L> {
         self.locked.lock(rt).act(rt, session, act, view)
     }
 
-    /// One step of a session, as `apply`.
+    /// Makes one step of a session, as `apply` does.
     pub fn step<R: Wait>(&self, rt: &R, session: &mut Session<L>) -> Reply<View>
         ensures taken { IsTaken L.config session.old.clerk (Event.Step session.old.id) result session.new.clerk }
         ensures same { session.new.id ≡ session.old.id }
@@ -114,14 +135,15 @@ impl<L: LockName> HallLock<L> {
         self.act(rt, session, Act::Step)
     }
 
-    /// Who has a name, or that nobody has it, as the lock's hall tells a clerk, who has then seen its history.
+    /// Returns the identity that has a name, and shows the clerk the history so far. See `Desk::owner` for the reply.
     pub fn tell_owner<R: Wait>(&self, rt: &R, clerk: &mut Clerk<L>, number: u64) -> Reply<View>
         ensures { IsReported L.config clerk.old number result clerk.new }
     {
         self.locked.lock(rt).tell_owner(rt, clerk, number)
     }
 
-    /// Who has a name, or that nobody has it, as some hall of a lawful history of the lock's config tells it.
+    /// Returns the identity that has a name in some lawful history of the lock's configuration. See `Desk::owner` for
+    /// the reply.
     pub fn owner<R: Wait>(&self, rt: &R, number: u64) -> Reply<View>
         ensures { IsSomeOwner L.config number result }
     {

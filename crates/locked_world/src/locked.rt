@@ -22,7 +22,7 @@ use std::sync::ledger::{Blank, Share};
 use step_memory::{NoMemory, Refusal, View};
 
 impl<L: LockName> Clerk<L> {
-    /// One who has kept nothing, and has seen the history so far.
+    /// A clerk that has kept no event, and has seen the history so far.
     fn new(kept: KeptLog, share: Share<L>, seen: Front<L, Exchange>) -> Clerk<L>
         requires share { (kept.items ≡ []) × (share.parts ≡ 1) × (share.amount ≡ 0) }
         requires lawful { SatisfiesSpec (hall_of L.config seen) }
@@ -37,7 +37,7 @@ impl<L: LockName> Clerk<L> {
     }
 }
 
-/// Why an event is refused before it is applied: as the hall refuses it, or for want of room to keep it.
+/// The error of an event before it is applied: the hall's, or `NoMemory` if no room to keep it can be allocated.
 fn refusal_of(
     hall: &Hall,
     kept: &mut KeptLog,
@@ -60,8 +60,14 @@ fn refusal_of(
 }
 
 impl<L: LockName> Locked<L> {
-    /// A hall of this config with no event, and no caller. `OutOfRange` where no names are given in the config's world, and
-    /// `NoMemory` where its room was refused; the blank and the book are then spent.
+    /// Makes a hall of this configuration with no event, and no caller.
+    ///
+    /// # Errors
+    ///
+    /// An error drops the blank and the history. The first that applies is returned:
+    ///
+    /// - `OutOfRange`: the world of `config` gives no names.
+    /// - `NoMemory`: an allocation failed.
     pub fn new(
         alloc: Global,
         config: Config,
@@ -90,15 +96,17 @@ impl<L: LockName> Locked<L> {
         })
     }
 
-    /// How many callers were opened.
+    /// Returns the number of callers that are open.
     pub fn opened(&self) -> u64
         ensures { result ≡ self.now.opened }
     {
         self.opened
     }
 
-    /// One event of a caller, which the hall answers: it is stored and kept where it is accepted. The view of the reply is put
-    /// beside it. The caller has then seen the history.
+    /// Applies one event of a caller, which the hall answers. An accepted event is added to the history, and the caller
+    /// keeps it.
+    ///
+    /// If the reply has a view, the view is put into `view`. The caller has then seen the history.
     pub fn apply<R: Wait>(
         &mut self,
         rt: &R,
@@ -142,7 +150,7 @@ impl<L: LockName> Locked<L> {
         reply
     }
 
-    /// One act of a session, as `apply`.
+    /// Applies one action of a session, as `apply` does.
     pub fn act<R: Wait>(
         &mut self,
         rt: &R,
@@ -156,7 +164,12 @@ impl<L: LockName> Locked<L> {
         self.apply(rt, &mut session.clerk, act.event(session.id), view)
     }
 
-    /// Opens one more clerk. `Full` where 1,000,000 callers were opened.
+    /// Opens one more clerk.
+    ///
+    /// # Errors
+    ///
+    /// - `Full`: 1,000,000 callers were opened.
+    /// - `NoMemory`: an allocation failed.
     pub fn open(&mut self, alloc: Global) -> Result<Clerk<L>, Refusal>
         ensures new { IfOk result (IsNew L.config self.old.hall.history) }
         ensures more { IfOk result (λ c. self.new.opened ≡ self.old.opened + 1) }
@@ -169,7 +182,7 @@ impl<L: LockName> Locked<L> {
             return Err(Refusal::Full);
         }
         let kept = KeptLog::new(alloc)?;
-        // Asked for what it tells of the history: that it is lawful.
+        // Called for its clause `lawful`: the history satisfies the specification.
         let _ = self.hall.len();
         let seen = self.front.again();
         let Locked { rest, opened, .. } = self;
@@ -178,7 +191,7 @@ impl<L: LockName> Locked<L> {
         Ok(Clerk::new(kept, share, seen))
     }
 
-    /// Takes back a clerk that has kept nothing.
+    /// Closes a clerk that has kept no event.
     fn put_back(&mut self, clerk: Clerk<L>)
         requires { clerk.kept ≡ [] }
         ensures opened { self.new.opened ≡ self.old.opened - 1 }
@@ -192,8 +205,15 @@ impl<L: LockName> Locked<L> {
         }
     }
 
-    /// Opens a session, whose identity begins. Where it does not, nothing is changed. `Full` where 1,000,000 callers were opened, then
-    /// `NoMemory`, then as the hall refuses the event.
+    /// Opens a session for identity `id`, which begins.
+    ///
+    /// # Errors
+    ///
+    /// An error changes nothing. The first that applies is returned:
+    ///
+    /// - `Full`: 1,000,000 callers were opened.
+    /// - `NoMemory`: an allocation failed.
+    /// - The error of `begin` in the hall: `ZeroIdentity`, `AlreadyBegun`, `Full`, `HistoryFull` or `NoMemory`.
     pub fn begin<R: Wait>(&mut self, rt: &R, alloc: Global, id: u64) -> Result<Session<L>, Refusal>
         ensures opened { IfOk result (λ s. (s.id ≡ id) × IsOpened L.config id s.clerk) }
         ensures hall { IfOk result (λ s. HallMay self.old.hall (Event.Begin id) Reply.Ok self.new.hall) }
@@ -214,21 +234,21 @@ impl<L: LockName> Locked<L> {
         Ok(Session { id, clerk })
     }
 
-    /// Who has a name, for a caller, who has then seen the history.
+    /// Returns the identity that has a name, and shows the caller the history so far.
     pub fn tell_owner<R: Wait>(&self, rt: &R, clerk: &mut Clerk<L>, number: u64) -> Reply<View>
         ensures { IsReported L.config clerk.old number result clerk.new }
     {
         show(rt, &self.front, &mut clerk.seen);
-        // Asked for what it tells of the history: that it is lawful.
+        // Called for its clause `lawful`: the history satisfies the specification.
         let _ = self.hall.len();
         self.hall.owner(number)
     }
 
-    /// Who has a name.
+    /// Returns the identity that has a name.
     pub fn owner(&self, number: u64) -> Reply<View>
         ensures { IsSomeOwner L.config number result }
     {
-        // Asked for what it tells of the history: that it is lawful.
+        // Called for its clause `lawful`: the history satisfies the specification.
         let _ = self.hall.len();
         self.hall.owner(number)
     }

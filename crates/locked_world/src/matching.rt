@@ -1,4 +1,4 @@
-//! The end of a history: it against what its callers kept.
+//! The end of a history: it is compared with what its callers kept.
 
 ghost use Rattle.std.specs.Prelude.{◌≡◌, All, replicate, ◌+◌, ◌++◌, length, map, true, false, slice_get, slice_set, slice_index_or, vec_len, IfSome};
 ghost use Rattle.locked_world.specs.Kepts.{IsJust};
@@ -11,15 +11,15 @@ use crate::parts::{Clerk, LockName, Locked, Session};
 use hall::{Hall, is_same};
 use std::sync::ledger::Share;
 
-/// A history that is closed, with all 1,000,001 parts of its lock's ledger, of which each caller that was opened had one: so none was left out.
+/// A history that is closed, with all 1,000,001 parts of its lock's ledger. Each caller had one, so none was left out.
 #[derive(Drop)]
 pub struct Closed<L: LockName> {
-    /// The hall with the history.
+    /// The hall, with the history.
     pub hall: Hall,
     whole: Share<L>,
 }
 
-/// All that is left of a share, and those of these clerks.
+/// The rest of a share, with the shares of these clerks.
 fn with_clerks<L: LockName>(rest: Share<L>, clerks: Vec<Clerk<L>>) -> Share<L>
     ensures { result.parts ≡ rest.parts + vec_len clerks }
 {
@@ -30,7 +30,7 @@ fn with_clerks<L: LockName>(rest: Share<L>, clerks: Vec<Clerk<L>>) -> Share<L>
     whole
 }
 
-/// All that is left of a share, and those of these sessions.
+/// The rest of a share, with the shares of these sessions.
 fn with_sessions<L: LockName>(rest: Share<L>, sessions: Vec<Session<L>>) -> Share<L>
     ensures { result.parts ≡ rest.parts + vec_len sessions }
 {
@@ -43,7 +43,7 @@ fn with_sessions<L: LockName>(rest: Share<L>, sessions: Vec<Session<L>>) -> Shar
 }
 
 impl<L: LockName> Clerk<L> {
-    /// Its share of the lock's count.
+    /// Returns its share of the lock's count.
     pub(crate) fn into_share(self) -> Share<L>
         ensures parts { result.parts ≡ 1 }
         ensures amount { result.amount ≡ length self.kept }
@@ -53,7 +53,7 @@ impl<L: LockName> Clerk<L> {
     }
 }
 
-/// Whether what was kept stands in the history, at its place.
+/// Whether what was kept is in the history, at its place.
 fn fits(hall: &Hall, kept: &Kept) -> bool
     ensures { result ≡ true → slice_get hall.now.history kept.now.place ≡ Some kept.now.exchange }
 {
@@ -63,7 +63,7 @@ fn fits(hall: &Hall, kept: &Kept) -> bool
     }
 }
 
-/// Marks the place of one that was kept, where it stands in the history and was not marked before.
+/// Marks the place of a kept event, if it is in the history there and was not marked before.
 fn mark(hall: &Hall, marks: &mut [bool], kept: &Kept) -> bool
     requires { length marks.old ≡ length hall.now.history }
     ensures fits { result ≡ true → slice_get hall.now.history kept.now.place ≡ Some kept.now.exchange }
@@ -94,7 +94,7 @@ fn mark_all(hall: &Hall, marks: &mut [bool], kept: &KeptLog) -> bool
     true
 }
 
-/// Marks those, where no more are left than so many, and tells how many are left then.
+/// Marks the places of what one caller kept, if at most `left` are left, and returns how many are left then.
 fn mark_list(hall: &Hall, marks: &mut [bool], left: usize, kept: &KeptLog) -> Option<usize>
     requires { length marks.old ≡ length hall.now.history }
     ensures { IfSome result (λ n. IsMarked hall.now.history marks.old marks.new kept.now.items × (n + length kept.now.items ≡ left)) }
@@ -105,7 +105,7 @@ fn mark_list(hall: &Hall, marks: &mut [bool], left: usize, kept: &KeptLog) -> Op
     Some(left - kept.len())
 }
 
-/// Marks what sessions kept, and tells how many are left.
+/// Marks what sessions kept, and returns how many places are left.
 fn mark_sessions<L: LockName>(
     hall: &Hall,
     marks: &mut [bool],
@@ -122,7 +122,7 @@ fn mark_sessions<L: LockName>(
     Some(now)
 }
 
-/// Marks what clerks kept, and tells how many are left.
+/// Marks what clerks kept, and returns how many places are left.
 fn mark_clerks<L: LockName>(
     hall: &Hall,
     marks: &mut [bool],
@@ -146,7 +146,8 @@ fn all_marked(marks: &[bool]) -> bool
     marks.iter().all(|mark| *mark)
 }
 
-/// Whether each place of the history was kept by just one of these, and no other place, where no place was marked.
+/// Whether each place of the history was kept by exactly one of these, and no other place was. No place was marked
+/// before.
 fn mark_callers<L: LockName>(
     hall: &Hall,
     marks: &mut [bool],
@@ -169,7 +170,7 @@ fn mark_callers<L: LockName>(
 }
 
 impl<L: LockName> Locked<L> {
-    /// The history, where these are all the callers that were opened.
+    /// Returns the closed history. The sessions and the clerks are all callers that were opened.
     pub fn closed(self, sessions: Vec<Session<L>>, clerks: Vec<Clerk<L>>) -> Closed<L>
         requires { vec_len sessions + vec_len clerks ≡ self.opened }
         ensures hall { result.hall ≡ self.hall }
@@ -180,7 +181,7 @@ impl<L: LockName> Locked<L> {
         Closed { hall, whole }
     }
 
-    /// Whether each place of the history was kept by just one of these callers, and no other place.
+    /// Whether each place of the history was kept by exactly one of these callers, and no other place was.
     pub fn agrees(&mut self, sessions: &Vec<Session<L>>, clerks: &Vec<Clerk<L>>) -> bool
         ensures lawful { SatisfiesSpec self.new.hall }
         ensures hall { self.new.hall ≡ self.old.hall }
@@ -188,7 +189,7 @@ impl<L: LockName> Locked<L> {
         ensures just { result ≡ true → IsJust self.new.hall.history (map (λ s. s.clerk.kept) sessions.now.items ++ map (λ c. c.kept) clerks.now.items) }
     {
         let Locked { hall, marks, .. } = self;
-        // Asked for what it tells of the history: that it is lawful.
+        // Called for its clause `lawful`: the history satisfies the specification.
         let _ = hall.len();
         let agrees = mark_callers(hall, marks, sessions, clerks);
         marks.fill(false);

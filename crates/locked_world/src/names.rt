@@ -14,8 +14,14 @@ use hall::Hall;
 use raw_parts::{Board, Grant, ReaderSeat};
 use std::alloc::Allocator;
 
-/// Posts a session's identity at the name that it kept, as `Board::post` does; the first of them, if it kept several. None
-/// where it kept none, and where `post` gives none. The seat is of this board. It takes no lock.
+/// Posts the identity of a session at its first name, as `Board::post` does, on a board of which the seat is. It takes
+/// no lock.
+///
+/// Returns `None` if the session has no name, or if `Board::post` returns `None`.
+///
+/// # Steps
+///
+/// At most two accesses: the compare-exchange, and one more for a grant.
 pub fn post_name<L: LockName, A: Allocator>(
     session: &Session<L>,
     board: &Board<A>,
@@ -27,8 +33,8 @@ pub fn post_name<L: LockName, A: Allocator>(
     ensures name { IfSome result (λ g. name_kept session.now.clerk.kept ≡ Some g.name) }
     ensures identity { IfSome result (λ g. g.identity ≡ session.now.id) }
 
-    // It is posted by one access, and a grant takes one more: the seat makes no other. The grant is given where the board's word was
-    // free or held the identity.
+    // A post is one access, and a grant takes one more: the seat makes no other. The grant is returned if and only if the board's
+    // word was 0 or held the identity.
     ensures posted { (name : ℕ) → name_kept session.now.clerk.kept ≡ Some name → MayHold board.now name session.now.id →
         (seat.new ≡ reader_of board.now (seat.old.accesses + post_cost seat.new.found session.now.id) seat.new.found) ×
         (IsSome result ↔ ((seat.new.found ≡ 0) ⊎ (seat.new.found ≡ session.now.id))) }
@@ -38,14 +44,14 @@ pub fn post_name<L: LockName, A: Allocator>(
     board.post(seat, name, session.id())
 }
 
-/// Whether a word is 0, or who has the name of this number.
+/// Whether a word is 0 or the identity that has this name.
 fn is_owner_or_none(hall: &Hall, number: u64, word: u64) -> bool
     ensures { result ≡ true ↔ IsOwnerOrNone (desk_of hall.now) number word }
 {
     word == 0 || is_owner(hall, number, word)
 }
 
-/// Whether this identity has the name of this number.
+/// Whether this identity has this name.
 fn is_owner(hall: &Hall, number: u64, identity: u64) -> bool
     ensures { result ≡ true ↔ (owner_reply (desk_of hall.now) number ≡ Reply.Owner (Some identity)) }
 {
@@ -55,7 +61,8 @@ fn is_owner(hall: &Hall, number: u64, identity: u64) -> bool
     }
 }
 
-/// Whether each word that is not 0 is who has the name of its number in the closed history; the first word's number is 1.
+/// Whether each word that is not 0 is the identity that has the word's name in the closed history. The first word is
+/// that of name 1.
 pub fn agrees<L: LockName>(closed: &Closed<L>, words: &[u64]) -> bool
     ensures { result ≡ true ↔ Agree (desk_of closed.now.hall) words.now }
 {

@@ -1,4 +1,4 @@
-//! What lies under a lock, and what a caller has of its own.
+//! What is under a lock, and what a caller owns.
 
 ghost use Rattle.std.specs.Prelude.{◌≡◌, ◌+◌, ◌≤◌, length, false, replicate};
 
@@ -9,11 +9,11 @@ use hall::Hall;
 use std::marker::{Brand, Model};
 use std::sync::ledger::{Book as Count, Ledger, Share};
 
-/// The most callers that a lock is opened for.
+/// The most callers of a lock.
 pub const MOST_CALLERS: u64 = 1_000_000;
 
-/// Which lock it is: the ledger that counts what its callers keep, the book of its history, and the config that it was made for. A
-/// call picks all three, by `Brand`.
+/// The lock that a type names: its ledger of kept events, its book and its configuration. A call picks all three, by
+/// `Brand`.
 pub trait LockName: Ledger + Naming {
     ghost use Rattle.commands.specs.declared.config.Config.{Config};
 
@@ -26,10 +26,10 @@ impl LockName for Brand {
     ghost config = { some_config };
 }
 
-/// A hall with the count of its events, and the shares of that count that were not given out. There is one share for each
-/// caller that may still be opened, and one more. For each event there is a mark, by which `close` compares the history: its
-/// room is made with the event's, so that the end of a lock takes no memory. The history is that of the lock's book, which only
-/// grows and is no other's: so what a caller was once told stands in it for good.
+/// A hall with the count of its events, and the shares of that count for callers that may still be opened.
+///
+/// For each event there is a mark, with which `close` compares the history. A mark's room is allocated with its event,
+/// so that the end of a lock allocates nothing. The history is that of the lock's book, which only grows.
 #[derive(Drop)]
 pub struct Locked<L: LockName> {
     pub(crate) hall: Hall,
@@ -48,8 +48,9 @@ pub struct Locked<L: LockName> {
     ghost whole: { front ≡ hall.history },
 }
 
-/// One caller of a lock, with its accepted events in order, and the history as it was when the lock last answered it. Contracts see
-/// it as these two. What it holds counts its events in the lock's ledger.
+/// One caller of a lock: its accepted events in order, and the history as the lock's last reply showed it.
+///
+/// Contracts see these two. Its share counts its events in the lock's ledger.
 #[derive(Drop)]
 pub struct Clerk<L: LockName> {
     pub(crate) kept: KeptLog,

@@ -11,9 +11,16 @@ use std::sync::Wait;
 use step_memory::{Refusal, View};
 
 impl<L: LockName> HallLock<L> {
-    /// Makes steps of a session until it is named, is spent, is refused, or has made so many. Each takes the lock once.
-    /// `Spent` also where a step answered that the participant is. With so many turns as its config ends in it answers a name or an error,
-    /// whatever others do; with fewer where few have begun.
+    /// Makes steps of a session until it has a name, at most `turns`, and returns the name. Each step takes the lock
+    /// once.
+    ///
+    /// Returns `Ok(None)` if all `turns` steps are made and it has no name. It does not, if `turns` is at least
+    /// `turns_among(config, b)` and at most `b` participants have begun.
+    ///
+    /// # Errors
+    ///
+    /// - `Spent`: the participant has used up its proposals.
+    /// - Otherwise the error of the step that failed, as `Hall::apply` returns it.
     pub fn rename<R: Wait>(
         &self,
         rt: &R,

@@ -1,8 +1,8 @@
-//! What a book of one word keeps.
+//! The invariant of a book of one word.
 
 use logbook::{Gain, Play, Rule};
 
-/// The rule of the book: its word is the length of the history.
+/// The invariant of a book: its word is the length of the history.
 pub struct Entries;
 
 impl<E> Rule<E, u64> for Entries {
@@ -23,7 +23,7 @@ impl<E> Rule<E, u64> for Entries {
     ghost moves = { λ ask before after answer. Unit {0} };
 }
 
-/// Callers trade nothing.
+/// What callers exchange by the book: nothing.
 pub struct Nothing;
 
 impl<E> Gain<E, u64> for Nothing {
@@ -32,7 +32,7 @@ impl<E> Gain<E, u64> for Nothing {
     ghost after = { λ names about answer. ftrue };
 }
 
-/// A step that adds an entry.
+/// A step that appends an entry.
 pub struct Adding;
 
 impl<E> Play<E, u64> for Adding {

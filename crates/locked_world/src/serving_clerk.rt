@@ -12,7 +12,7 @@ use std::marker::Model;
 use std::sync::Wait;
 use step_memory::View;
 
-/// A clerk with its lock: it answers each event by one taking of the lock.
+/// A clerk with its lock, as a service: it applies each event under the lock.
 #[derive(Drop)]
 pub struct ServingClerk<'a, L: LockName> {
     lock: &'a HallLock<L>,
@@ -28,14 +28,14 @@ impl<'a, L: LockName> Model for ServingClerk<'a, L> {
 }
 
 impl<'a, L: LockName> ServingClerk<'a, L> {
-    /// A clerk with its lock.
+    /// Makes a service of a clerk and its lock.
     pub fn new(lock: &'a HallLock<L>, clerk: Clerk<L>) -> ServingClerk<'a, L>
         ensures { result ≡ clerk }
     {
         ServingClerk { lock, clerk }
     }
 
-    /// The clerk.
+    /// Returns the clerk.
     pub fn into_clerk(self) -> Clerk<L>
         ensures { result ≡ self.entry }
     {

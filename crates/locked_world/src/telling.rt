@@ -1,8 +1,8 @@
 //! The history of a lock's book, and what its callers have seen of it.
 //!
-//! A lock alone adds to its book, and whoever is answered under the lock has seen the history of then. So the history goes on by
-//! what is added, and begins with whatever a caller has seen. A proof knows of the book what its type says, and not that no one else
-//! adds: so each of these asks, and would wait for ever where it were otherwise, which never comes.
+//! Only a lock adds to its book, and a caller has seen the history as it was at the lock's last reply. So an addition extends the
+//! history, and the history extends what a caller has seen. A proof knows of the book what its type says, and not that nothing
+//! else adds to it. So each call here asks, and waits for ever if it were otherwise, which never happens.
 
 ghost use Rattle.std.specs.Prelude.{◌≡◌, ◌++◌, ◌∷◌, ◌<◌, ◌^◌, [], length};
 ghost use mathlib.Core.List.{IsPrefix};
@@ -16,7 +16,7 @@ use logbook::Plain;
 use std::sync::Wait;
 use step_memory::View;
 
-/// An event with its reply, and the view beside that.
+/// An event with its reply, and the reply's view.
 #[derive(Drop)]
 pub(crate) struct Reported<'a> {
     pub(crate) event: Event,
@@ -24,7 +24,7 @@ pub(crate) struct Reported<'a> {
     pub(crate) view: &'a View,
 }
 
-/// The entry of what was told: the event with its whole reply.
+/// The entry of an event: the event with its whole reply.
 pub(crate) struct Telling;
 
 impl<'a> Plain<Reported<'a>, Exchange, u64> for Telling {
@@ -37,7 +37,7 @@ impl<'a> Plain<Reported<'a>, Exchange, u64> for Telling {
     ghost state = { λ t. None };
 }
 
-/// Waits for ever.
+/// Waits for ever. Its callers never reach it: the page above says why, and a proof cannot. So its clause is `⊥`.
 fn wait<R: Wait>(rt: &R)
     ensures { ⊥ }
 {
@@ -45,7 +45,7 @@ fn wait<R: Wait>(rt: &R)
     unreachable!()
 }
 
-/// Adds an event with its reply to the history, of which a caller has then seen all.
+/// Appends an event with its reply to the history, and shows a caller all of it.
 pub(crate) fn tell<L: LockName, R: Wait>(
     rt: &R,
     book: &Book<L, Exchange>,
@@ -64,7 +64,7 @@ pub(crate) fn tell<L: LockName, R: Wait>(
     wait(rt);
 }
 
-/// Has a caller see all of the history, which begins with what it has seen.
+/// Shows a caller all of the history, which extends what it has seen.
 pub(crate) fn show<L: LockName, R: Wait>(
     rt: &R,
     front: &Front<L, Exchange>,

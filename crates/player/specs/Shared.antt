@@ -40,7 +40,7 @@ abbrev pub changed : {X : Type 0} → (ℕ → X) → ℕ → X → ℕ → X
 changed f i x j = if i == j then x else f j
 
 -- the turns of the log, as they stand, lead the service from start to w; those of each transcript are all that it had, and what is written of
--- them is all that it was told
+-- them is all that it was reported
 pub record IsShared {T : Type 0} (may : T → Request → ShownReply → T → Type 0) (text : Turn → List ℕ) (start w : T) (log : TurnLog) (at : ℕ → ResponderState) (far : ℕ → Progress) (reported : ℕ → List ℕ) : Type 0 where
   pub run : Runs may start (all_turns log) w
   pub each : (i : ℕ) → Spoke (turns_of i log) (at i) (far i)

@@ -39,7 +39,7 @@ pub trait Form: Drop {
         ensures text { out.new ≡ out.old ++ text (Answered (record { event = event; reply = with_view reply view.now })) }
         ensures short { length out.new ≤ length out.old + TURN_ROOM };
 
-    /// Appends the text of an owner that was told, by a reply that shows this view where it shows one.
+    /// Appends the text of an owner that was reported, by a reply that shows this view where it shows one.
     fn put_reported<A: Allocator>(n: u64, reply: Reply<()>, view: &View, out: &mut Replies<A>)
         requires { length out.old + TURN_ROOM ≤ HELD_REPLIES }
         ensures text { out.new ≡ out.old ++ text (Reported n (with_view reply view.now)) }

@@ -13,22 +13,20 @@
 //! record of the run in place of the replies: a header, and each event with its reply as a line of JSON (`record_of`). It has the same
 //! theorem with that text (`IsRecordedOn`).
 //!
-//! A caller, of a service that is there:
+//! From `player/src/playing.rt`, of a service that is there:
 //!
 //! ```text
-//! let mut player = Player::<_, AsReplies>::new(alloc, WorldKind::Rename)?;
-//! player.feed(rt, &mut service, b"begin 10\nstep 10\n", &mut writer)?;
-//! player.summary().accepted;              // 2
+//! player.feed(rt, world, &chunk[..count], writer)?;
+//! if player.is_over() {
+//!     return Ok(player.summary());
+//! }
 //! ```
 //!
-//! Another, which plays an input:
+//! From `schedule_player/src/playing.rt`, which plays an input:
 //!
 //! ```text
-//! let mut reader = Tried::new(b"begin 10\nstep 10\n".as_slice());
-//! let mut writer = Tried::new(Vec::new(alloc));
-//! let summary = play_on(alloc, rt, &mut service, WorldKind::Rename, &mut reader, &mut writer)?;
-//! summary.accepted;                       // 2
-//! writer.into_inner();                    // ok, quiet
+//! let mut world = opened::<D, H, A>(&alloc, config)?;
+//! play_on(alloc, rt, &mut world, config.world, reader, writer)
 //! ```
 #![tactic(auto)]
 

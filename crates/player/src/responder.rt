@@ -111,7 +111,7 @@ impl<A: Allocator, F: Form> Responder<A, F> {
         self.summary.count_reply(reply);
     }
 
-    /// Counts that it was told who has a name, and adds the text of it.
+    /// Counts that it was reported who has a name, and adds the text of it.
     #[inline(always)]
     fn hold_reported<B: Allocator>(
         &mut self,

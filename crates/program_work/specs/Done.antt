@@ -56,17 +56,8 @@ IsPlayedBy false config reading writing status =
 IsPlayedBy true config reading writing status =
     (recorded : Result (Unit {0}) Fault) × (status ≡ status_after recorded) × IsRecorded config reading writing recorded
 
--- it is neither to show a record nor to race, to serve, to host or to tell who holds numbers
-abbrev pub is_work : Ask → Bool
-is_work (Show showing) = false
-is_work (Race racing) = false
-is_work (Serve serving) = false
-is_work (Host hosting) = false
-is_work Held = false
-is_work a = true
-
--- what was asked for, which is none of these, is done, and answers this status: a run is
--- played; or a record is checked, or written again; or nothing is read, and a drawing is written
+-- what was asked for is done, and this is its status: a run is played; or a record is checked, or written again; or nothing is read, and a
+-- drawing is written. To show a record, to race, to serve, to host and to tell who holds numbers is done otherwise
 abbrev pub IsWorked : {R W : Type 0} → Ask → Reading R → Writing W → Result ℕ Fault → Type 0
 IsWorked (Play playing) reading writing status = IsPlayedBy playing.recorded playing.config reading writing status
 IsWorked Check reading writing status = IsChecked reading writing status

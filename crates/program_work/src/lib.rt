@@ -5,10 +5,9 @@
 //! own definition of what words match; help comes where clap shows help, and words are refused where clap refuses them, or where a world or a
 //! number is none that is allowed.
 //!
-//! `program` has the words read, does what they ask for, tells a failure and answers the status; `program_over`
-//! is the same over streams of std, whose calls it counts. `done` is the same up to what is told, and `work` does what was asked for:
-//! `play_for`, `check_for`, `migrate_for` or `draw_for`; `show_for` shows a record. To race, to serve and to host is left to the caller (`Outcome`),
-//! with nothing read and nothing written.
+//! `program` has the words read, does what they ask for, tells a failure and answers the status. `done` is the same up to what is told: it
+//! plays a run or records it, or calls `check_for`, `migrate_for`, `show_for` or `draw_for`. To race, to serve and to host is left to the
+//! caller (`Outcome`), with nothing read and nothing written.
 //!
 //! What is proved of `done` (`IsRead`, `IsDone`): some `Ask` that the words mean is done, or they ask for nothing and nothing is read or
 //! written. A run is played with the theorem of `play`, or recorded with that of `record` (`IsPlayedBy`); a record is read to its end,
@@ -19,23 +18,18 @@
 //! `in_sight` does any work, and shows beside it that it goes on, in a thread of its own; `may_take_long` says which words ask for such
 //! work. Texts for people are shown by tests.
 //!
-//! A caller:
+//! From `tests_player/src/work_tests.rt`:
 //!
 //! ```text
-//! let mut input = Tried::new(rt.stdin());
-//! let mut output = Tried::new(rt.stdout());
-//! match program(&rt, alloc, &["slotctl", "check"], &mut input, &mut output, &mut rt.stderr()) {
-//!     Outcome::Ended(status) => status,                   // 0, where the record is one of a run
-//!     Outcome::Serve(serving) => ..
-//! }
+//! status_of(&program(threads, alloc, words, reader, writer, errors))
 //! ```
 //!
-//! Another, which has words read:
+//! From `tests_player/src/words_tests.rt`, where words are read:
 //!
 //! ```text
-//! match ask(alloc, &["slotctl", "play", "--m", "2"]) {
-//!     Ok(Ask::Play(playing)) => playing.config.m,         // 2
-//!     ..
+//! match ask(alloc, words_of(alloc, line).as_slice()) {
+//!     Ok(Ask::Play(p)) => Some((p.config.world, p.config.m, p.config.k, p.config.limit)),
+//!     _ => None,
 //! }
 //! ```
 #![tactic(auto)]
@@ -43,6 +37,7 @@
 pub mod asked;
 pub mod checking;
 pub mod command_line;
+pub mod drawing;
 pub mod failure;
 pub mod migrating;
 pub mod misuse;
@@ -51,10 +46,10 @@ pub mod program;
 pub mod progress;
 pub mod showing;
 pub mod words;
-pub mod working;
 
 pub use asked::{Ask, Drawing, Hosting, Keeping, LogWords, Playing, Racing, Serving, Showing};
 pub use checking::check_for;
+pub use drawing::draw_for;
 pub use failure::Failure;
 pub use migrating::migrate_for;
 pub use misuse::Misuse;
@@ -62,4 +57,3 @@ pub use outcome::Outcome;
 pub use progress::{in_sight, may_take_long};
 pub use showing::show_for;
 pub use words::{ask, refused};
-pub use working::work;

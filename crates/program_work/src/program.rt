@@ -3,26 +3,30 @@
 ghost use Rattle.std.specs.Prelude.{◌≡◌, ◌⊎◌, ◌<◌, ◌^◌, Result, map};
 ghost use Rattle.player.specs.Played.{reading, writing};
 ghost use Rattle.program_work.specs.Asked.{IsRead};
-ghost use Rattle.program_work.specs.Done.{IsAnswered, IsDone};
+ghost use Rattle.program_work.specs.Done.{IsAnswered, IsDone, outcome_of};
 ghost use Rattle.program_work.specs.declared.asked.Ask.{Ask};
 ghost use Rattle.program_work.specs.declared.failure.Failure.{Failure};
 ghost use Rattle.program_work.specs.declared.misuse.Misuse.{Misuse};
 ghost use Rattle.program_work.specs.declared.outcome.Outcome.{Outcome};
-ghost use Rattle.program_work.specs.Statuses.{status_of};
+ghost use Rattle.program_work.specs.Statuses.{status_after, status_of};
 
+use crate::checking::check_for;
+use crate::drawing::draw_for;
 use crate::failure::Failure;
+use crate::migrating::migrate_for;
 use crate::outcome::Outcome;
 use crate::showing::{after_showing, show_for};
-use crate::{Ask, Misuse, ask, working};
-use player::{Fault, Sink, Source, Tried};
+use crate::{Ask, Misuse, Playing, ask};
+use player::{Fault, Sink, Source};
+use schedule_player::{play, record};
 use std::alloc::Global;
 use std::convert::AsStr;
-use std::io::{Read, Write};
+use std::io::Write;
 use std::thread::Threads;
 
 /// Does what the words of a command line ask for, the first of which is the program's name, and answers the status of the
-/// program: 0 where it was done and for help, 1 where a verdict is other than yes, 2 where the words are refused, 3 at a fault or for want
-/// of memory. Help goes to `output` beside what is done, every other text to `errors`. To race, to serve, to host and to tell who holds numbers
+/// program: 0 where it was done and for help, 1 where a verdict is other than yes, 2 where the words are refused, 3 at a fault or where an
+/// allocation failed. Help goes to `output` beside what is done, every other text to `errors`. To race, to serve, to host and to tell who holds numbers
 /// is left to the caller.
 pub fn program<'a, T: Threads + Sync, S: AsStr, R: Source, W: Sink, E: Write>(
     rt: &T,
@@ -43,22 +47,15 @@ pub fn program<'a, T: Threads + Sync, S: AsStr, R: Source, W: Sink, E: Write>(
     }
 }
 
-/// As `program`, over any reader and writer of std, whose calls are counted. It stands here, where their types are open, since what is
-/// asked of `program` is dear to prove of each type that it is called with.
-pub fn program_over<'a, T: Threads + Sync, S: AsStr, R: Read + Drop, W: Write + Drop, E: Write>(
-    rt: &T,
-    alloc: Global,
-    words: &'a [S],
-    input: R,
-    output: W,
-    errors: &mut E,
-) -> Outcome<'a> {
-    let mut input = Tried::new(input);
-    let mut output = Tried::new(output);
-    program(rt, alloc, words, &mut input, &mut output, errors)
-}
-
-/// Does what the words ask for, but to race, to serve, to host and to tell who holds numbers.
+/// Does what the words ask for, but to race, to serve, to host and to tell who holds numbers. `play` writes the replies to the commands that
+/// it reads, or with `--record` the record of the run. `check` reads to the end, and writes a verdict. `migrate` reads to the end too, and
+/// writes the record again in version 2. `show` writes the page of a record. `draw` reads nothing.
+///
+/// # Errors
+///
+/// `Failure::Misuse` where the words ask for nothing, with nothing read and nothing written. `Fault::Read` where the reader failed or was
+/// read 2^40 times. `Fault::Write` where the writer failed or took no byte. `Fault::Memory` where an allocation failed: of `play` with
+/// nothing read and nothing written, of `check` and `migrate` with nothing written. A verdict of `show` other than yes.
 pub fn done<'a, T: Threads + Sync, S: AsStr, R: Source, W: Sink>(
     rt: &T,
     alloc: Global,
@@ -75,23 +72,41 @@ pub fn done<'a, T: Threads + Sync, S: AsStr, R: Source, W: Sink>(
         Ok(asked) => asked,
         Err(misuse) => return Err(Failure::Misuse(misuse)),
     };
-    if let Ask::Race(racing) = asked {
-        return Ok(Outcome::Race(racing));
+    match asked {
+        Ask::Play(Playing { config, recorded }) => {
+            if recorded {
+                after_run(record(alloc, input, output, config))
+            } else {
+                after_run(play(alloc, input, output, config))
+            }
+        }
+        Ask::Check => after(check_for(alloc, input, output)),
+        Ask::Migrate => after(migrate_for(alloc, input, output)),
+        Ask::Show(showing) => after_showing(show_for(alloc, showing, input, output)),
+        Ask::Draw(drawing) => after(draw_for(rt, alloc, drawing, output)),
+        Ask::Race(racing) => Ok(Outcome::Race(racing)),
+        Ask::Serve(serving) => Ok(Outcome::Serve(serving)),
+        Ask::Host(hosting) => Ok(Outcome::Host(hosting)),
+        Ask::Held => Ok(Outcome::Held),
     }
-    if let Ask::Serve(serving) = asked {
-        return Ok(Outcome::Serve(serving));
-    }
-    if let Ask::Host(hosting) = asked {
-        return Ok(Outcome::Host(hosting));
-    }
-    if let Ask::Held = asked {
-        return Ok(Outcome::Held);
-    }
-    if let Ask::Show(showing) = asked {
-        return after_showing(show_for(alloc, showing, input, output));
-    }
-    match working::work(rt, alloc, asked, input, output) {
+}
+
+// How the program ends once this was done: with a status, or by a fault.
+fn after<'a>(status: Result<u8, Fault>) -> Result<Outcome<'a>, Failure>
+    ensures { result ≡ outcome_of status }
+{
+    match status {
         Ok(status) => Ok(Outcome::Ended(status)),
+        Err(fault) => Err(Failure::Fault(fault)),
+    }
+}
+
+// How the program ends once a run was played: with status 0, or by a fault.
+fn after_run<'a, T: Drop>(run: Result<T, Fault>) -> Result<Outcome<'a>, Failure>
+    ensures { result ≡ outcome_of (status_after run) }
+{
+    match run {
+        Ok(_) => Ok(Outcome::Ended(0)),
         Err(fault) => Err(Failure::Fault(fault)),
     }
 }

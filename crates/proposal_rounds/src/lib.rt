@@ -1,24 +1,28 @@
-//! Rounds of proposals end.
+//! Rounds of proposals end: a law of Attiya et al. (1990), and no code that runs.
 //!
-//! Identities choose small numbers over a snapshot object, in rounds. In a round an identity writes a *proposal*, then scans. Where
-//! another proposes the same number in its view, it goes on to a next round, and proposes the r-th number that no other
-//! proposes in that view; r is its rank among those of the view. Where no other does, it makes no more proposals.
+//! Identities choose small numbers over a snapshot object, in rounds. In a round an identity writes a *proposal*, and
+//! then scans. If another identity proposes the same number in its view, it goes on to the next round. It then proposes
+//! the r-th number that no other identity proposes in that view, where r is its rank among those of the view. Otherwise
+//! it makes no more proposals.
 //!
-//! What is proved (`law_of_rounds`): `b` identities make at most `3(5^b - 1)/4` proposals, all together. Views may be stale, an identity
-//! may begin late, and any may stop for good; what it proposed then stands.
+//! What is proved (`law_of_rounds`): `b` identities make at most `3(5^b - 1)/4` proposals, all together. Views may be
+//! stale, an identity may begin late, and any may crash. A proposal of a crashed identity stays.
 //!
-//! Why. Take a stretch with no first proposal, and the least identity `p` that writes in it. Once each other that writes there has
-//! written twice, `p` writes at most twice more: what the others propose is then above what `p` chooses, since their ranks
-//! are higher. So a stretch of `k` writers is cut into five of `k - 1`, with four proposals between them.
+//! Why. Take a stretch with no first proposal, and the least identity `p` that writes in it. Once each other identity
+//! that writes there has written twice, `p` writes at most twice more: the others' ranks are higher, so their proposals
+//! are then above what `p` chooses. So a stretch of `k` writers is cut into five of `k - 1`, with four proposals
+//! between them.
 //!
-//! The algorithm is from Attiya et al. (1990), and Fouren (1999) shows that its proposals can grow exponentially. This bound and
-//! its proof are this project's own.
+//! Fouren (1999) shows that the proposals can grow exponentially. This bound and its proof are not in the papers.
 #![tactic(auto)]
 
 ghost use Rattle.std.specs.Prelude.{◌≡◌, ℕ, ◌+◌, ◌*◌, ◌^◌};
 ghost use Rattle.proposal_rounds.specs.Rounds.{RoundsEnd, most_proposals};
 
-/// A law, which runs nothing: `b` identities that propose by the rule make at most `3(5^b - 1)/4` proposals, all together.
+/// A law, which runs nothing: `b` identities that propose by the rule make at most `3(5^b - 1)/4` proposals, all
+/// together.
+///
+/// The algorithm is from Attiya et al. (1990), its exponential cost from Fouren (1999). The bound is not in the papers.
 pub fn law_of_rounds()
     ensures end { RoundsEnd }
     ensures closed { (b : ℕ) → 4 * most_proposals b + 3 ≡ 3 * 5 ^ b }

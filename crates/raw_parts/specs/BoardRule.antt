@@ -1,4 +1,4 @@
--- The rule of a name board over raw words: each claim in the view of any seat finds its word equal to its identity, and no
+-- The rule of a name board over shared atomic words: each claim in the view of any seat finds its word equal to its identity, and no
 -- identity is 0. So a word that is claimed never changes, and two claims of one word are of one identity (this project's
 -- profile). A word that is not 0 is claimed by some seat, so a new board's words are 0.
 use Rattle.std.specs.Prelude.{◌≡◌, ◌≢◌, ◌⊎◌, ℕ, List, [], ◌∷◌, length}

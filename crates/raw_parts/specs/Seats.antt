@@ -1,4 +1,4 @@
--- the splitter over raw words and its seats, as callers see them
+-- the splitter over shared atomic words and its seats, as callers see them
 use Rattle.std.specs.Prelude.{◌≡◌, ◌≢◌, ◌<◌, ◌≤◌, ℕ, zero, suc, List, [], ◌∷◌, ◌++◌, ◌⊎◌}
 use Rattle.atomic_table.specs.Seated.{TableId}
 use Rattle.splitter.specs.declared.way.Way.{Way}

@@ -1,4 +1,4 @@
--- The rule of a splitter over raw words: how its two words and the views of all its seats agree between any two steps.
+-- The rule of a splitter over shared atomic words: how its two words and the views of all its seats agree between any two steps.
 -- What agrees is what `DoorSatisfiesSpec` says of any splitter (Moir and Anderson 1995). At most one stopped, and then no other
 -- that is between its reading of Y and its end stands in X. Where Y is clear no one has set it and no one went right, else
 -- someone has set it. X names one who has not gone down, once anyone has begun. That the words of a table and the views

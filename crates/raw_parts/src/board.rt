@@ -20,10 +20,10 @@ use step_memory::Refusal;
 /// The most names of a board, as many as 64 participants may get.
 const MOST_NAMES: u64 = 127;
 
-/// The words of a board. There are no slots, so what a slot holds says nothing.
+/// The words of a board. It has no slots: their type means nothing.
 type Words = Shared<u8, BoardView, u64, Boarding>;
 
-/// Two seats with a claim each become one, look at a word and part again: so both claims stand in the same words.
+/// Joins two seats with a claim each, reads a word, and parts them again: so both claims are true of the same words.
 fn look_together(
     table: &Words,
     mut left: Seat<u8, BoardView>,
@@ -46,7 +46,7 @@ fn look_together(
     (left, right)
 }
 
-/// The seat of a grant: it has that claim, and has made no access.
+/// Returns the seat of a grant, which has its claim and has made no access.
 fn claimed_by(grant: Grant) -> Seat<u8, BoardView>
     ensures ours { (result.table_id ≡ grant.board) × (result.me.1 ≡ []) }
     ensures claim { HasClaimOf result.me.0 grant }
@@ -60,7 +60,7 @@ fn claimed_by(grant: Grant) -> Seat<u8, BoardView>
     badge.into_seat::<u8>()
 }
 
-/// A seat takes over the claim of one grant.
+/// Adds the claim of a grant to a seat, by one access.
 fn gather(table: &Words, seat: &mut Seat<u8, BoardView>, grant: Grant)
     requires board { IsBoardTable table.now.table_id table.now.key }
     requires ours { (seat.old.table_id ≡ table.now.table_id) × (seat.old.me.1 ≡ []) }
@@ -73,7 +73,7 @@ fn gather(table: &Words, seat: &mut Seat<u8, BoardView>, grant: Grant)
     table.join_seat::<Unite>(seat, claimed_by(grant));
 }
 
-/// A seat takes over the claims of some grants.
+/// Adds the claims of some grants to a seat, by one access each.
 fn gather_all<C: Allocator>(table: &Words, seat: &mut Seat<u8, BoardView>, mut out: Vec<Grant, C>)
     requires board { IsBoardTable table.now.table_id table.now.key }
     requires ours { (seat.old.table_id ≡ table.now.table_id) × (seat.old.me.1 ≡ []) }
@@ -87,7 +87,7 @@ fn gather_all<C: Allocator>(table: &Words, seat: &mut Seat<u8, BoardView>, mut o
     }
 }
 
-/// The words, each read once by a seat that has read none.
+/// Reads each word once, with a seat that has read none.
 fn read_all<B: Allocator>(
     table: &Words,
     count: usize,
@@ -112,13 +112,14 @@ fn read_all<B: Allocator>(
     Ok(words)
 }
 
-/// A word for each of the names from 1 on: 0, or the identity that was first posted there, which never changes.
+/// A name board: a word for each name from 1 on, with 0 or the identity that was first posted there, which never
+/// changes.
 ///
-/// Whoever holds a seat of the board may post and look names up at once with all others: no call waits.
+/// Any number of threads with a seat may post and confirm at the same time. No call waits.
 #[derive(Drop)]
 pub struct Board<A: Allocator> {
     alloc: A,
-    // It has no slots, so what a slot holds says nothing.
+    // It has no slots: their type means nothing.
     table: Table<u8, BoardView, u64, Boarding, A>,
 }
 
@@ -134,8 +135,12 @@ impl<A: Allocator> Model for Board<A> {
 }
 
 impl<A: Allocator + Clone> Board<A> {
-    /// A board of `names` names, from 1 to 127, with a seat. `OutOfRange` elsewhere, and `NoMemory` only where its memory
-    /// was refused.
+    /// Makes a board of `names` names, on which nothing was posted, and a seat.
+    ///
+    /// # Errors
+    ///
+    /// - `OutOfRange`: `names` is not from 1 to 127.
+    /// - `NoMemory`: an allocation failed.
     pub fn new(alloc: A, names: u64) -> Result<(Board<A>, ReaderSeat), Refusal>
         ensures board { IfOk result (λ r. r.0.words ≡ names) }
         ensures seat { IfOk result (λ r. r.1 ≡ reader_of r.0 0 0) }
@@ -149,7 +154,7 @@ impl<A: Allocator + Clone> Board<A> {
         Ok(Board::open(alloc, names)?)
     }
 
-    /// A board on which nothing was posted, with a seat.
+    /// A board on which nothing was posted, and a seat.
     fn open(alloc: A, names: u64) -> Result<(Board<A>, ReaderSeat), AllocError>
         requires { (1 ≤ names) × (names ≤ 127) }
         ensures board { IfOk result (λ r. r.0.words ≡ names) }
@@ -160,9 +165,18 @@ impl<A: Allocator + Clone> Board<A> {
         Ok((Board { alloc, table }, ReaderSeat { seat }))
     }
 
-    /// Ends the board, and tells its words by rising name, as `close_all` does with one grant; they stand where the board's own memory
-    /// does. It is promised that the grant's identity stands at its name, and nothing of the other words, whose `LastRead` is let go. The
-    /// grant is of this board. Where room for the words is refused, `NoMemory`, and the board is spent.
+    /// Ends the board and returns its words, by rising name, in the board's own allocator.
+    ///
+    /// The word of the grant's name is the grant's identity. Nothing is proved of the other words: for them, call
+    /// `close_all`.
+    ///
+    /// # Errors
+    ///
+    /// `NoMemory`: an allocation failed. The board is gone.
+    ///
+    /// # Steps
+    ///
+    /// One load for each name.
     pub fn close(self, grant: Grant) -> Result<Vec<u64, A>, Refusal>
         requires { grant.board ≡ self }
         ensures count { IfOk result (λ v. vec_len v ≡ self.words) }
@@ -185,7 +199,7 @@ impl<A: Allocator + Clone> Board<A> {
 }
 
 impl<A: Allocator> Board<A> {
-    /// How many names there are.
+    /// Returns the number of names: from 1 to 127.
     pub fn names(&self) -> u64
         ensures count { result ≡ self.now.words }
         ensures range { (1 ≤ result) × (result ≤ 127) }
@@ -193,7 +207,7 @@ impl<A: Allocator> Board<A> {
         self.table.word_count() as u64
     }
 
-    /// The word of a name: names begin at 1, words at 0.
+    /// The word of a name, or `None` if there is no such name. Names begin at 1, words at 0.
     fn word_of(&self, name: u64) -> Option<u64>
         ensures word { IfSome result (λ word. (word + 1 ≡ name) × (word < self.now.words)) }
         ensures none { IfNone result ((name ≡ 0) ⊎ (self.now.words < name)) }
@@ -205,7 +219,7 @@ impl<A: Allocator> Board<A> {
         }
     }
 
-    /// The word of a name at which an identity is asked for, which is not 0.
+    /// The word of a name, or `None` if there is no such name or the identity is 0.
     fn word_for(&self, name: u64, identity: u64) -> Option<u64>
         ensures word { IfSome result (λ word. (word + 1 ≡ name) × (word < self.now.words) × (identity ≢ 0)) }
         ensures none { IfNone result ((name ≡ 0) ⊎ (self.now.words < name) ⊎ (identity ≡ 0)) }
@@ -217,7 +231,7 @@ impl<A: Allocator> Board<A> {
         }
     }
 
-    /// A further seat, split off one of this board by one access of that one.
+    /// Makes a further seat of this board, for another thread, by one access of `seat`.
     pub fn reader(&self, seat: &mut ReaderSeat) -> ReaderSeat
         requires { seat.old.board ≡ self.now }
         ensures seat { seat.new ≡ reader_of self.now (seat.old.accesses + 1) seat.old.found }
@@ -229,9 +243,15 @@ impl<A: Allocator> Board<A> {
         }
     }
 
-    /// Posts an identity at a name: one compare-exchange, from 0 to the identity, and one access more for a grant. The grant of just these where the word
-    /// was 0 or held the identity, as the seat shows what it found there. None where it holds another; and, with no access, where the
-    /// identity is 0 and where there is no such name. The seat is of this board.
+    /// Posts an identity at a name: one compare-exchange from 0 to the identity. Returns the grant of this name and
+    /// identity.
+    ///
+    /// Returns `None` if the word holds another identity, which `found` of the seat shows. It returns `None`, with no
+    /// access, if the identity is 0 or there is no such name.
+    ///
+    /// # Steps
+    ///
+    /// At most two accesses: the compare-exchange, and one more for a grant.
     pub fn post(&self, seat: &mut ReaderSeat, name: u64, identity: u64) -> Option<Grant>
         requires { seat.old.board ≡ self.now }
         ensures asked { MayHold self.now name identity →
@@ -259,9 +279,14 @@ impl<A: Allocator> Board<A> {
         })
     }
 
-    /// Looks a name up: one load, and one access more where the word is not 0. The grant of just these where the word holds the identity, as the seat shows what it found there.
-    /// None where it does not; and, with no access, where the identity is 0 and where there is no such name. The seat is of this
-    /// board.
+    /// Reads the word of a name, and returns the grant of this name and identity if the word holds the identity.
+    ///
+    /// Returns `None` if it does not; `found` of the seat shows what it holds. It returns `None`, with no access, if
+    /// the identity is 0 or there is no such name.
+    ///
+    /// # Steps
+    ///
+    /// At most two accesses: one load, and one more if the word is not 0.
     pub fn confirm(&self, seat: &mut ReaderSeat, name: u64, identity: u64) -> Option<Grant>
         requires { seat.old.board ≡ self.now }
         ensures asked { MayHold self.now name identity → seat.new ≡ reader_of self.now (seat.old.accesses + look_cost seat.new.found) seat.new.found }
@@ -277,7 +302,7 @@ impl<A: Allocator> Board<A> {
         if found == 0 {
             return None;
         }
-        // Split off before the test, whatever stands there: else the seat would still claim what it found, and it must claim
+        // Split off before the test, whatever was found: otherwise the seat would still claim it, and it must claim
         // nothing again.
         let given = self.table.shared.split_seat::<Hand>(seat);
         if found != identity {
@@ -290,8 +315,9 @@ impl<A: Allocator> Board<A> {
         })
     }
 
-    /// Who stands at a name as one load finds it; none where nobody does, and where there is no such name. It has no seat,
-    /// so nothing is promised of it.
+    /// Returns the identity that one load finds at a name, or `None` if it finds 0 or there is no such name.
+    ///
+    /// It has no seat. Not proved: that the word holds this identity.
     pub fn owner(&self, name: u64) -> Option<u64>
         ensures { IfSome result (λ id. (id ≢ 0) × (1 ≤ name) × (name ≤ self.now.words)) }
     {
@@ -301,8 +327,8 @@ impl<A: Allocator> Board<A> {
         }
     }
 
-    /// Two grants meet, and show that they agree: those of two identities are of two names, and those of one name are of
-    /// one identity. Both are of this board, and stay as they are.
+    /// Compares two grants of this board, which stay as they are. Two identities have two names, and one name has one
+    /// identity.
     pub fn meet(&self, one: &mut Grant, other: &mut Grant)
         requires one { one.old.board ≡ self.now }
         requires other { other.old.board ≡ self.now }
@@ -324,9 +350,17 @@ impl<A: Allocator> Board<A> {
         other.badge = right.into_badge();
     }
 
-    /// Ends the board, and tells its words by rising name. `out` is the grants that the caller has, each of which finds its
-    /// identity there; all are of this board, as the seat is. The words are what the seat found, which took each grant over and read each
-    /// word once: `LastRead` keeps that.
+    /// Ends the board and returns its words, by rising name. Each grant in `out` finds its identity at its name.
+    ///
+    /// `LastRead` shows that the words are those that the seat read, each once, after it took over each grant.
+    ///
+    /// # Errors
+    ///
+    /// `AllocError`: the allocation failed. The board is gone.
+    ///
+    /// # Steps
+    ///
+    /// One access for each grant in `out`, and one load for each name.
     pub fn close_all<B: Allocator, C: Allocator>(
         self,
         seat: ReaderSeat,

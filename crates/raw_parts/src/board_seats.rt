@@ -6,7 +6,7 @@ use crate::board_view::BoardView;
 use atomic_table::{Badge, Seat};
 use std::marker::Model;
 
-/// A seat that claims nothing. With it a thread posts and confirms.
+/// A seat of a board, with which one thread posts and confirms.
 #[derive(Drop)]
 pub struct ReaderSeat {
     pub(crate) seat: Seat<u8, BoardView>,
@@ -24,7 +24,7 @@ impl Model for ReaderSeat {
     ghost invariant = { λ r. r.seat.me ≡ (no_claim_after r.seat.me.0.accesses r.seat.me.0.found, []) };
 }
 
-/// What was found in each word of a board as it ended, one after another. It has no bytes.
+/// What the last seat of a board read in each word, one after another. It takes no bytes.
 #[derive(Drop)]
 pub struct LastRead {
     pub(crate) badge: Badge<BoardView>,
@@ -38,7 +38,7 @@ impl Model for LastRead {
     ghost view = { λ l. reading_of l.badge.table_id l.badge.views };
 }
 
-/// That a name is this identity's, for good: the name's word holds the identity, and will.
+/// A grant: the word of this name holds this identity, and always will.
 #[derive(Drop)]
 pub struct Grant {
     pub(crate) word: u64,
@@ -59,7 +59,7 @@ impl Model for Grant {
 }
 
 impl Grant {
-    /// The name, from 1.
+    /// Returns the name: from 1 to 127.
     pub fn name(&self) -> u64
         ensures name { result ≡ self.now.name }
         ensures range { (1 ≤ result) × (result ≤ 127) }
@@ -67,7 +67,7 @@ impl Grant {
         self.word + 1
     }
 
-    /// Whose name it is, which is not 0.
+    /// Returns the identity that has the name, which is not 0.
     pub fn identity(&self) -> u64
         ensures identity { result ≡ self.now.identity }
         ensures some { result ≢ 0 }

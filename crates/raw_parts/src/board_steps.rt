@@ -1,4 +1,4 @@
-//! The rule of a name board's table, and the kinds of step that keep it.
+//! The invariant of a name board's table, and the kinds of step that keep it.
 
 ghost use Rattle.std.specs.Prelude.{[], suc, take, drop};
 ghost use Rattle.raw_parts.specs.BoardRule.{KeepsBoardRule};
@@ -8,7 +8,7 @@ ghost use Rattle.raw_parts.specs.BoardView.{board_view, claims_of, no_claim, uni
 use crate::board_view::BoardView;
 use atomic_table::{Join, Play, Split, TableRule};
 
-/// The rule of a board with so many words.
+/// The invariant of a board's table.
 pub struct Boarding;
 
 impl<S> TableRule<S, BoardView, u64> for Boarding {
@@ -17,21 +17,21 @@ impl<S> TableRule<S, BoardView, u64> for Boarding {
     ghost first = { λ count. no_claim };
 }
 
-/// An identity is written into a word where 0 stands there.
+/// A compare-exchange that writes an identity into a word that is 0.
 pub struct Post;
 
 impl<S> Play<S, BoardView> for Post {
     ghost then = { Posts };
 }
 
-/// A word is read.
+/// A load of a word.
 pub struct Find;
 
 impl<S> Play<S, BoardView> for Find {
     ghost then = { Finds };
 }
 
-/// The claims go to a new seat. The accesses stay with the first, and the split counts as one more.
+/// A split: the claims go to the new seat. The accesses stay with the old one, and the split counts as one more.
 pub struct Hand;
 
 impl Split<BoardView> for Hand {
@@ -40,7 +40,8 @@ impl Split<BoardView> for Hand {
     ghost right = { λ v. claims_of v.claims };
 }
 
-/// Two seats become one, which has the claims and the accesses of both, and one access more. The other is spent: it claims nothing.
+/// A join: the first seat gets the claims and the accesses of both, and one access more. The second then claims
+/// nothing.
 pub struct Unite;
 
 impl Join<BoardView> for Unite {
@@ -49,14 +50,15 @@ impl Join<BoardView> for Unite {
     ghost spent = { no_claim };
 }
 
-/// A load that changes nothing, and shows that the claims stand together.
+/// A load that changes nothing, and shows that all claims of the seat are true at once.
 pub struct LookOn;
 
 impl<S> Play<S, BoardView> for LookOn {
     ghost then = { LooksOn };
 }
 
-/// They part again: the first claim stays. Both are seats of grants, whose accesses no caller sees.
+/// A split after a join: the first claim stays with the first seat. Both are seats of grants, whose accesses no caller
+/// sees.
 pub struct Part;
 
 impl Split<BoardView> for Part {
@@ -65,7 +67,7 @@ impl Split<BoardView> for Part {
     ghost right = { λ v. claims_of (drop 1 v.claims) };
 }
 
-/// The board ends: a seat reads the next word.
+/// A load of the next word, as the board ends.
 pub struct Read;
 
 impl<S> Play<S, BoardView> for Read {

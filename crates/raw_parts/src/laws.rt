@@ -1,4 +1,4 @@
-//! What the rules of the two tables say, which run nothing.
+//! Laws of the invariants of the two tables, which run nothing.
 
 ghost use Rattle.std.specs.Prelude.{ℕ, List};
 ghost use Rattle.splitter.specs.Invariant.{IsSplitter};
@@ -6,16 +6,18 @@ ghost use Rattle.raw_parts.specs.BoardRule.{HoldsWhatIsClaimed, HasOneIdentity, 
 ghost use Rattle.raw_parts.specs.SplitterRule.{IsKept, MeetsWhomItNames};
 ghost use Rattle.raw_parts.specs.declared.splitter_view.SplitterView.{SplitterView};
 
-/// A law, which runs nothing: where the rule is kept, the seats of the splitter keep its law. Of those that have entered
-/// at most one stopped, not all went right and not all went down; and a visit that a seat's view has met whom it names there:
-/// where it went right one that has set Y, where it went down one that wrote X after it.
+/// A law: under the table's invariant, the seats of the splitter keep its law.
+///
+/// Of those that have entered at most one stopped, not all went right, and not all went down. A visit has met the one
+/// that its ghost state names: if it went right, one that has set Y, and if it went down, one that wrote X after it.
 pub fn law_of_the_rule()
     ensures split { (seats : ℕ) (words : List ℕ) (views : List SplitterView) (kept : IsKept seats words views) → IsSplitter kept.stage }
     ensures met { MeetsWhomItNames }
 {}
 
-/// A law, which runs nothing: where the rule is kept, the word of each claim holds its identity, which is not 0; so two
-/// claims of one word, whoever has them, are of one identity. Some seat claims what stands in a word that is not 0.
+/// A law: under the table's invariant, the word of each claim holds its identity, which is not 0.
+///
+/// So two claims of one word, of whichever seats, are of one identity. Some seat claims each word that is not 0.
 pub fn law_of_the_board()
     ensures claimed { HoldsWhatIsClaimed }
     ensures one { HasOneIdentity }

@@ -1,47 +1,53 @@
-//! Parts over raw atomic words, in which no call waits: a splitter whose visitors are threads, and a name board on which
-//! threads post their names and look others' up.
+//! Parts over shared atomic words, in which no call waits: a splitter that threads visit, and a name board on which
+//! threads post their names and confirm others'.
 //!
 //! # The splitter
 //!
-//! A splitter stands on two words of one table, X and Y. Each of its seats makes one visit, of at most four atomic
-//! accesses, and then stops, goes right or goes down (Moir and Anderson 1995). Whoever holds a seat makes the accesses:
-//! no call takes a lock, waits for another or starts a thread.
+//! A splitter has two words of one table, X and Y. Each of its seats makes one visit, of at most four atomic accesses,
+//! and then stops, goes right or goes down (Moir and Anderson 1995). The holder of a seat makes the accesses: no call
+//! takes a lock, waits for another or starts a thread.
 //!
-//! The law, of the seats that have entered: at most one stops; not all go right; not all go down. The table keeps a rule
-//! over its words and over what the seats know, so that each seat that has entered keeps the law with all the others;
-//! two of them that meet show it. A seat that went right or down names another, whom it met: one that had set Y, or one that
-//! wrote X after it. What is not promised: anything else of seats that never meet, and that a thread gets on with its accesses.
+//! Of the seats that have entered, at most one stops, not all go right, and not all go down. The table keeps an
+//! invariant of its words and of the ghost state of its seats. So each entered seat keeps this law with all others. Two
+//! seats that are compared show it (`meet`). A seat that went right or down names a seat that it met: one that had set
+//! Y, or one that wrote X after it. Not proved: anything else of seats that are never compared, and that a thread makes
+//! its next access.
 //!
-//! A caller:
+//! From `tests_objects/src/raw_splitter_tests.rt`:
 //!
 //! ```text
-//! let (splitter, first, second) = RawSplitter::pair(alloc)?;
-//! let shared = &splitter;
-//! let ((mut one, first_way), (mut other, second_way)) =
-//!     join(rt, move || shared.enter(first), move || shared.enter(second));
+//! let (mut one, first_way) = splitter.enter(first);
+//! let (mut other, second_way) = splitter.enter(second);
 //! splitter.meet(&mut one, &mut other);
-//! // the two did not both stop, both go right or both go down
+//! (first_way, second_way) == (Way::Stop, Way::Right)
+//!     && (one.way(), other.way()) == (Way::Stop, Way::Right)
+//! ..
+//! let (splitter, first, second) = RawSplitter::pair(rt.alloc())?;
 //! ```
 //!
 //! # The board
 //!
-//! A board has a word for each name: 0, or the identity that was first posted there, which never changes. Who was named
-//! posts its name, by one compare-exchange; who has to know whether a name is somebody's looks, by one load. Either gets a
-//! grant: that the word holds this identity, for good. So a name is checked by whoever was told of it, without a lock. A post gives
-//! its grant just where its one access found the word 0 or the identity in it, a look just where it found the identity.
+//! A board has a word for each name: 0, or the identity that was first posted there, which never changes. A thread
+//! posts its name by one compare-exchange. A thread that has to check a name confirms it by one load. Either gets a
+//! grant: the word holds this identity, and always will. A post returns its grant if and only if its access found 0 or
+//! the identity. A confirm does if and only if it found the identity.
 //!
-//! The law: each grant finds its word equal to its identity, which is not 0. So two grants that meet have two names where
-//! their identities differ; and the words at the end are what a last seat read, each grant's that is handed in among them. What
-//! is not promised: anything of `owner`.
+//! Each grant finds its word equal to its identity, which is not 0. So two grants of two identities are of two names.
+//! The words at the end are what a last seat read, and each grant that is given to `close_all` is among them. Not
+//! proved: anything of `owner`.
 //!
-//! A caller:
+//! From `tests_objects/src/board_tests.rt`:
 //!
 //! ```text
-//! let (board, mut seat) = Board::new(alloc, 3)?;
-//! let mut other = board.reader(&mut seat);        // a seat for another thread
-//! let one = board.post(&mut seat, 1, 10);         // a grant: name 1 is 10's
-//! board.post(&mut other, 1, 20);                  // none
-//! let two = board.confirm(&mut other, 1, 10);     // the same grant again
+//! let mut second = board.reader(seat);
+//! let one = board.post(seat, 1, 10)?;
+//! let two = board.post(&mut second, 3, 20)?;
+//! ..
+//! board.meet(&mut one, &mut two);
+//! match board.close(two) {
+//!     Ok(words) => words.as_slice() == [10, 0, 20].as_slice(),
+//! ..
+//! let (board, mut seat) = Board::new(rt.alloc(), 3)?;
 //! ```
 #![tactic(auto)]
 

@@ -21,19 +21,19 @@ use step_memory::Refusal;
 /// The most seats of a splitter.
 const MOST_SEATS: u64 = 64;
 
-/// The word that holds the number of a seat that entered, plus one; at first 0.
+/// The word X: 0 at first, and then the number of a seat that entered, plus one.
 const X: usize = 0;
 
-/// The word that is set once a seat found it clear, at first 0.
+/// The word Y: 0 at first, and 1 once a seat has set it.
 const Y: usize = 1;
 
-/// What stands in Y once it is set.
+/// The value of Y once it is set.
 const SET: u64 = 1;
 
-/// The words of a splitter. There are no slots, so what a slot holds says nothing.
+/// The words of a splitter. It has no slots: their type means nothing.
 type Words = Shared<u8, SplitterView, u64, Splitting>;
 
-/// The accesses of a visit, in their order.
+/// Makes the accesses of a visit, in their order.
 fn visit(words: &Words, seat: &mut Seat<u8, SplitterView>, number: u64) -> Way
     requires two { words.now.table_id.words ≡ 2 }
     requires ours { seat.old.table_id ≡ words.now.table_id }
@@ -55,7 +55,7 @@ fn visit(words: &Words, seat: &mut Seat<u8, SplitterView>, number: u64) -> Way
     }
 }
 
-/// Two seats with a visit each become one, look at a word and part again: so both visits are under one rule.
+/// Joins two seats with a visit each, reads a word, and parts them again: so both visits keep one invariant.
 fn look_together(
     words: &Words,
     left: Seat<u8, SplitterView>,
@@ -76,18 +76,18 @@ fn look_together(
     (left, right)
 }
 
-/// A splitter on two atomic words, for the seats that came with it.
+/// A splitter on two shared atomic words, with the seats that came with it.
 ///
-/// A visit (Moir and Anderson 1995), each line one atomic access. A seat writes its number plus one into X, since 0 there
-/// says that no seat has begun.
+/// A visit (Moir and Anderson 1995) makes these atomic accesses. A seat writes its number plus one, since 0 in X means
+/// that no seat has begun.
 ///
 /// 1. Write the number plus one into X.
-/// 2. Read Y. Where it is set the visit goes right.
+/// 2. Read Y. If it is set, the visit goes right.
 /// 3. Set Y.
-/// 4. Read X. Where what was written stands there the visit stops, else it goes down.
+/// 4. Read X. If it holds what was written, the visit stops. Otherwise it goes down.
 #[derive(Drop)]
 pub struct RawSplitter<A: Allocator> {
-    // It has no slots, so what a slot holds says nothing.
+    // It has no slots: their type means nothing.
     table: Table<u8, SplitterView, u64, Splitting, A>,
 }
 
@@ -103,8 +103,12 @@ impl<A: Allocator> Model for RawSplitter<A> {
 }
 
 impl<A: Allocator + Clone> RawSplitter<A> {
-    /// A splitter of `seats` seats, from 1 to 64, with the seats by rising number from 0. `OutOfRange` elsewhere, and
-    /// `NoMemory` only where its memory was refused.
+    /// Makes a splitter, and its seats by rising number from 0.
+    ///
+    /// # Errors
+    ///
+    /// - `OutOfRange`: `seats` is not from 1 to 64.
+    /// - `NoMemory`: an allocation failed.
     pub fn new(alloc: A, seats: u64) -> Result<(RawSplitter<A>, Vec<FreshSeat, A>), Refusal>
         ensures splitter { IfOk result (λ r. r.0.seats ≡ seats) }
         ensures seats { IfOk result (λ r. r.1.items ≡ first_seats r.0 seats) }
@@ -126,7 +130,11 @@ impl<A: Allocator + Clone> RawSplitter<A> {
 }
 
 impl<A: Allocator> RawSplitter<A> {
-    /// A splitter of two seats, with the two. `NoMemory` where its memory was refused.
+    /// Makes a splitter of two seats, and the two seats.
+    ///
+    /// # Errors
+    ///
+    /// `NoMemory`: an allocation failed.
     pub fn pair(alloc: A) -> Result<(RawSplitter<A>, FreshSeat, FreshSeat), Refusal>
         ensures splitter { IfOk result (λ r. r.0.seats ≡ 2) }
         ensures seats { IfOk result (λ r. (r.1 ≡ seat_of r.0 0) × (r.2 ≡ seat_of r.0 1)) }
@@ -138,7 +146,7 @@ impl<A: Allocator> RawSplitter<A> {
         Ok((splitter, first, second))
     }
 
-    /// A splitter that no seat has entered, and the seat that all others are dealt from.
+    /// A splitter that no seat has entered, and the seat from which all others are dealt.
     fn open(alloc: A, seats: u64) -> Result<(RawSplitter<A>, Seat<u8, SplitterView>), AllocError>
         ensures splitter { IfOk result (λ r. r.0.seats ≡ seats) }
         ensures rest { IfOk result (λ r. (r.1.table_id ≡ r.0.table) × (r.1.me ≡ (undealt_from 0 seats, []))) }
@@ -147,7 +155,7 @@ impl<A: Allocator> RawSplitter<A> {
         Ok((RawSplitter { table }, rest))
     }
 
-    /// The seat of the least number that is not yet dealt out.
+    /// Deals the seat of the least number that is not dealt.
     fn deal(&self, rest: &mut Seat<u8, SplitterView>, number: u64) -> FreshSeat
         requires ours { rest.old.table_id ≡ self.now.table }
         requires undealt { rest.old.me ≡ (undealt_from number self.now.seats, []) }
@@ -160,17 +168,21 @@ impl<A: Allocator> RawSplitter<A> {
         FreshSeat { number, seat }
     }
 
-    /// Makes the visit of a seat, and tells the way that it ended: by two accesses where it goes right, else by four, whatever
-    /// the other seats do. It names whom it met: it goes right only where another seat of this splitter had set Y, and down only
-    /// where another wrote X after it, and stops where it met none; `law_of_the_rule` says so of each visit of a table that
-    /// keeps the rule, as `lawful` says of this one. The only seat of a splitter stops. The seat is of this splitter.
+    /// Makes the visit of a seat of this splitter, and returns the way that it ended (Moir and Anderson 1995).
+    ///
+    /// A visit goes right only if another seat had set Y, and down only if another seat wrote X after it. The entered
+    /// seat names that other seat. The only seat of a splitter stops. `law_of_the_rule` says the same of every visit.
+    ///
+    /// # Steps
+    ///
+    /// Two accesses if it goes right, otherwise four, whatever the other seats do.
     pub fn enter(&self, fresh: FreshSeat) -> (EnteredSeat, Way)
         requires ours { fresh.splitter ≡ self.now }
         ensures seat { IsVisitOf fresh result.1 result.0 }
         ensures accesses { result.0.accesses ≡ accesses_by result.1 }
         ensures met { MetBy result.0 result.1 }
 
-        // The seat is under the rule of the splitter, with all others that enter.
+        // The seat keeps the invariant of the splitter, with all others that enter.
         ensures lawful { IsUnderRule (lone_view self.now.seats (gone_at result.0)) }
         ensures alone { self.now.seats ≡ 1 → result.1 ≡ Stop }
     {
@@ -180,9 +192,10 @@ impl<A: Allocator> RawSplitter<A> {
         (EnteredSeat { number, way, badge }, way)
     }
 
-    /// Two seats that have entered meet, and show that they keep the law: they did not both stop, and of a pair they went
-    /// neither both right nor both down; where one met the other, that one did not go right where this did, and wrote X after
-    /// it where this went down. Both are of this splitter, and stay as they are.
+    /// Compares two entered seats of this splitter, which stay as they are. They did not both stop.
+    ///
+    /// If `one` met `other` and went right, `other` did not. If it met `other` and went down, `other` wrote X after it.
+    /// The two seats of a pair went neither both right nor both down.
     pub fn meet(&self, one: &mut EnteredSeat, other: &mut EnteredSeat)
         requires one { one.old.splitter ≡ self.now }
         requires other { other.old.splitter ≡ self.now }
@@ -193,7 +206,7 @@ impl<A: Allocator> RawSplitter<A> {
         ensures right { HasMet one.old other.old → one.old.way ≡ Right → other.old.way ≢ Right }
         ensures down { HasMet one.old other.old → one.old.way ≡ Down → one.old.turn < other.old.turn }
 
-        // Where the splitter has two seats, the two that met are all that entered.
+        // If the splitter has two seats, the two that are compared are all that entered.
         ensures split { self.now.seats ≡ 2 → IsSplit (IsEither one.old other.old) (EitherTook one.old other.old) }
     {
         let left = mem::replace(&mut one.badge, Badge::blank()).into_seat::<u8>();

@@ -7,7 +7,7 @@ use atomic_table::{Badge, Seat};
 use splitter::Way;
 use std::marker::Model;
 
-/// A seat that has not entered. To enter uses it up, so no seat enters twice.
+/// A seat that has not entered. `enter` takes it, so no seat enters twice.
 #[derive(Drop)]
 pub struct FreshSeat {
     pub(crate) number: u64,
@@ -26,7 +26,7 @@ impl Model for FreshSeat {
     ghost invariant = { λ f. (f.number < 64) × (f.seat.me ≡ (lone_view f.seat.me.0.seats (fresh_visit f.number), [])) };
 }
 
-/// A seat that has entered, and the way that its visit ended.
+/// A seat that has entered, with the way that its visit ended.
 #[derive(Drop)]
 pub struct EnteredSeat {
     pub(crate) number: u64,
@@ -45,14 +45,14 @@ impl Model for EnteredSeat {
 }
 
 impl EnteredSeat {
-    /// The seat's number, from 0.
+    /// Returns the seat's number, from 0.
     pub fn number(&self) -> u64
         ensures { result ≡ self.now.number }
     {
         self.number
     }
 
-    /// The way that the visit ended.
+    /// Returns the way that its visit ended.
     pub fn way(&self) -> Way
         ensures { result ≡ self.now.way }
     {

@@ -1,4 +1,4 @@
-//! The rule of a splitter's table, and the kinds of step that keep it.
+//! The invariant of a splitter's table, and the kinds of step that keep it.
 
 ghost use Rattle.std.specs.Prelude.{◌++◌, [], take, drop};
 ghost use Rattle.raw_parts.specs.SplitterRule.{KeepsRule};
@@ -8,7 +8,7 @@ ghost use Rattle.raw_parts.specs.SplitterView.{view_of, undealt_from};
 use crate::splitter_view::SplitterView;
 use atomic_table::{Join, Play, Split, TableRule};
 
-/// The rule of a splitter with so many seats.
+/// The invariant of a splitter's table.
 pub struct Splitting;
 
 impl<S> TableRule<S, SplitterView, u64> for Splitting {
@@ -17,7 +17,7 @@ impl<S> TableRule<S, SplitterView, u64> for Splitting {
     ghost first = { undealt_from 0 };
 }
 
-/// The first visit goes to a new seat: where a seat is dealt out, and where two that met part again.
+/// A split: the first visit goes to the new seat. A seat is dealt so, and two that met part so.
 pub struct Deal;
 
 impl Split<SplitterView> for Deal {
@@ -26,14 +26,14 @@ impl Split<SplitterView> for Deal {
     ghost right = { λ v. view_of v.seats (take 1 v.visits) };
 }
 
-/// An access of a visit: a store of what it writes next, or a load of what it reads next.
+/// An access of a visit: the store or the load that comes next.
 pub struct Access;
 
 impl<S> Play<S, SplitterView> for Access {
     ghost then = { MovesOn };
 }
 
-/// Two seats become one, which has the visits of both, the other's first. The other is spent: no visit is its to make.
+/// A join: one seat gets the visits of both, the other's first. The other then has none.
 pub struct Unite;
 
 impl Join<SplitterView> for Unite {
@@ -42,7 +42,7 @@ impl Join<SplitterView> for Unite {
     ghost spent = { view_of 0 [] };
 }
 
-/// A load that changes nothing, and shows that the view is one under the rule.
+/// A load that changes nothing, and shows that the ghost state of the seat keeps the invariant.
 pub struct Look;
 
 impl<S> Play<S, SplitterView> for Look {

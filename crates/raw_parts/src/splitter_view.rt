@@ -1,28 +1,28 @@
-//! What a seat of a splitter knows. No value of these types is made: they exist in proofs alone.
+//! The ghost state of a seat of a splitter. No value of these types is made: they exist in proofs alone.
 
 use splitter::Stage;
 use std::collections::LinkedList;
 
-/// The visit of a number.
+/// The visit of a seat.
 pub struct Visit {
     /// The number of its seat.
     pub number: u64,
-    /// How far it has come.
+    /// The last access that it made.
     pub stage: Stage,
-    /// How many accesses it has made.
+    /// The number of accesses that it has made.
     pub accesses: u64,
-    /// Its turn at X: greater than that of each visit that wrote X before it. 0 before it has begun.
+    /// The rank of its write to X: greater than that of each visit that wrote X before it. 0 before it has begun.
     pub turn: u64,
-    /// The word of another visit, its number plus one: where it went right of one that had set Y, where it went down of the one
-    /// that it found in X. Else 0.
+    /// The word of the visit that it met, which is that visit's number plus one, or 0.
+    ///
+    /// A visit that went right met one that had set Y. A visit that went down met the one that it found in X.
     pub met: u64,
 }
 
-/// How many seats the splitter has, and the visits that are this seat's to make: one, but where seats are still to be
-/// dealt out or while two of them meet.
+/// The ghost state of a seat of a splitter. It has one visit, but while seats are dealt and while two of them meet.
 pub struct SplitterView {
-    /// How many seats the splitter has.
+    /// The number of seats of the splitter.
     pub seats: u64,
-    /// The visits that are this seat's to make.
+    /// The visits that this seat makes or made.
     pub visits: LinkedList<Visit>,
 }

@@ -17,7 +17,7 @@ words_plain xs h = all_by is_of_words is_plain of_words_plain xs h
 pub rest_of-slice : (bytes : List ℕ) (n : ℕ) → n ≤ length bytes → take (length bytes - n) (drop n bytes) ≡ drop n bytes
 rest_of-slice bytes n le = take_all (length bytes - n) (drop n bytes) (omega (arith, length-drop n bytes))
 
--- what is told in each version
+-- what is reported in each version
 in_both : (t : Reported) → reported_with One t None ≡ Some t → reported_with Two t None ≡ Some t → (version : Version) → reported_with version t None ≡ Some t
 in_both t one two One = one
 in_both t one two Two = two

@@ -1,4 +1,4 @@
--- what is told of replies is written as they are
+-- what is reported of replies is written as they are
 use Rattle.std.proofs.Common.{◌≡◌, ℕ, Bool, List, ◌++◌, Result, Ok, Err, OnOk, refl, sym, ap, ◌∙◌}
 use Rattle.record_lines.proofs.Common.{ShownReply, reply_words, Reported, reported_of}
 use Rattle.commands.specs.declared.reply.Reply.TheVariants as reply

@@ -14,7 +14,7 @@ abbrev pub shown_where : Bool → List (ℕ × ℕ) → Option (List (ℕ × ℕ
 shown_where true view = Some view
 shown_where false view = None
 
--- how a reply is told: the view by which a name was given is shown or left out
+-- how a reply is reported: the view by which a name was given is shown or left out
 abbrev pub reported_of : Bool → ShownReply → Reported
 reported_of shows reply.Ok = reported.Ok
 reported_of shows reply.Quiet = reported.Quiet

@@ -21,7 +21,7 @@ pub record IsJson (bytes : List ℕ) (d : Data) : Type 0 where
 abbrev pub IsEventOf : WorldKind → List ℕ → Event → Type 0
 IsEventOf kind text e = meaning kind text ≡ Ok (command.Event e)
 
--- the value says an event, in the world of this kind, and what is told of its reply in this version
+-- the value says an event, in the world of this kind, and what is reported of its reply in this version
 pub record SaysLine (kind : WorldKind) (version : Version) (d : Data) (l : Line) : Type 0 where
   pub asked : List ℕ
   pub replied : List ℕ

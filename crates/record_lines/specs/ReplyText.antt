@@ -83,7 +83,7 @@ reported_of_words (word ∷ others) = if same_bytes word (codes "saw") then saw_
 abbrev pub reported_in : List ℕ → Option Reported
 reported_in text = reported_of_words (words text)
 
--- what is told of a reply, with the view that is written beside it: in version 2 of each name, and of nothing else
+-- what is reported of a reply, with the view that is written beside it: in version 2 of each name, and of nothing else
 abbrev pub reported_with : Version → Reported → Option (List ℕ) → Option Reported
 reported_with One t None = Some t
 reported_with One t (Some text) = None

@@ -1,10 +1,10 @@
--- the words of what is told of a reply
+-- the words of what is reported of a reply
 use Rattle.std.specs.Prelude.{ℕ, List, ◌++◌, codes, decimal}
 use Rattle.command_lines.specs.Replies.{owner_words, pair_words}
 use Rattle.record_lines.specs.declared.reported.Reported.{Reported}
 use Rattle.record_lines.specs.declared.reported.Reported.TheVariants.{Ok as Accepted, Quiet, Stop, Right, Down, Place, Proposed, Saw, Named, Spent, Missed, Got, Left, Value, Owner, Refused}
 
--- those of each reply of which this is told; the view by which a name was given is none of them
+-- those of each reply of which this is reported; the view by which a name was given is none of them
 abbrev pub reported_words : Reported → List ℕ
 reported_words Accepted = codes "ok"
 reported_words Quiet = codes "quiet"

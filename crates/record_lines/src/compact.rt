@@ -18,7 +18,11 @@ use itoa::Buffer;
 use std::alloc::AllocError;
 use step_memory::Place;
 
-/// Appends the words of the line that asks for an event. An error where a growth was refused.
+/// Appends the words of the line that asks for an event.
+///
+/// # Errors
+///
+/// `AllocError`: the allocation failed. The text is then of no use.
 pub fn put_event(event: Event, out: &mut Text) -> Result<(), AllocError>
     ensures { OnOk result (out.new ≡ out.old ++ event_words event) }
 {
@@ -56,7 +60,11 @@ fn put_pairs(pairs: &[(u64, u64)], out: &mut Text) -> Result<(), AllocError>
     Ok(())
 }
 
-/// Appends the words of what a view shows. An error where a growth was refused.
+/// Appends `saw` and the pairs of a view.
+///
+/// # Errors
+///
+/// `AllocError`: the allocation failed. The text is then of no use.
 pub fn put_view(pairs: &[(u64, u64)], out: &mut Text) -> Result<(), AllocError>
     ensures { OnOk result (out.new ≡ out.old ++ (codes "saw" ++ pair_words pairs.now)) }
 {
@@ -64,7 +72,11 @@ pub fn put_view(pairs: &[(u64, u64)], out: &mut Text) -> Result<(), AllocError>
     put_pairs(pairs, out)
 }
 
-/// Appends the words of who has a name, or that nobody has it. An error where a growth was refused.
+/// Appends `owner` and the identity that has a name, or `none`.
+///
+/// # Errors
+///
+/// `AllocError`: the allocation failed. The text is then of no use.
 pub fn put_owner(owner: Option<u64>, out: &mut Text) -> Result<(), AllocError>
     ensures { OnOk result (out.new ≡ out.old ++ owner_words owner) }
 {
@@ -74,7 +86,7 @@ pub fn put_owner(owner: Option<u64>, out: &mut Text) -> Result<(), AllocError>
     }
 }
 
-/// Appends the words of what is told.
+/// Appends the words of a reply that is reported.
 fn put_words(reported: &Reported, out: &mut Text) -> Result<(), AllocError>
     ensures { OnOk result (out.new ≡ out.old ++ reported_words reported.now) }
 {
@@ -98,7 +110,11 @@ fn put_words(reported: &Reported, out: &mut Text) -> Result<(), AllocError>
     }
 }
 
-/// Appends the words of what is told: those of each reply of which it is told. An error where a growth was refused.
+/// Appends the words of a reply that is reported. These are the words of each reply that is reported so.
+///
+/// # Errors
+///
+/// `AllocError`: the allocation failed. The text is then of no use.
 #[tactic(auto, using(crate::proofs::ReportedWords::spelled))]
 pub fn put_reported(reported: &Reported, out: &mut Text) -> Result<(), AllocError>
     ensures words { OnOk result (out.new ≡ out.old ++ reported_words reported.now) }
@@ -107,7 +123,7 @@ pub fn put_reported(reported: &Reported, out: &mut Text) -> Result<(), AllocErro
     put_words(reported, out)
 }
 
-/// Appends the pairs of a view, with a space between them.
+/// Appends the pairs of a view, with a space between two.
 fn put_shown(pairs: &[(u64, u64)], out: &mut Text) -> Result<(), AllocError>
     ensures { OnOk result (out.new ≡ out.old ++ view_words pairs.now) }
 {
@@ -120,7 +136,7 @@ fn put_shown(pairs: &[(u64, u64)], out: &mut Text) -> Result<(), AllocError>
     }
 }
 
-/// Appends the view by which a name was given, and nothing where none was.
+/// Appends the view by which a name was given, or nothing if no name was given.
 fn put_named_by(reported: &Reported, view: &[(u64, u64)], out: &mut Text) -> Result<(), AllocError>
     ensures { OnOk result ((shows : Bool) (r : ShownReply) → reported_of shows r ≡ reported.now → IsShown r view.now → out.new ≡ out.old ++ name_view r) }
 {
@@ -132,7 +148,11 @@ fn put_named_by(reported: &Reported, view: &[(u64, u64)], out: &mut Text) -> Res
     out.put(b"\"")
 }
 
-/// Appends the line of each exchange that this line tells, with this view by which a name was given.
+/// Appends the line of an event with its reply, in version 2. `view` is the view by which a name was given.
+///
+/// # Errors
+///
+/// `AllocError`: the allocation failed. The text is then of no use.
 pub fn put_line(line: &Line, view: &[(u64, u64)], out: &mut Text) -> Result<(), AllocError>
     ensures { OnOk result ((x : Exchange) → IsLineOf x line.now → IsShown x.reply view.now → out.new ≡ out.old ++ exchange_line x) }
 {
@@ -152,7 +172,11 @@ fn put_world(world: WorldKind, out: &mut Text) -> Result<(), AllocError>
     out.put(world.name().as_bytes())
 }
 
-/// Appends the first line of a record.
+/// Appends the first line of a record, in version 2.
+///
+/// # Errors
+///
+/// `AllocError`: the allocation failed. The text is then of no use.
 pub fn put_header(config: Config, out: &mut Text) -> Result<(), AllocError>
     ensures { OnOk result (out.new ≡ out.old ++ header_line config) }
 {

@@ -1,4 +1,4 @@
-//! What the first line of a record says.
+//! The first line of a record.
 
 ghost use Rattle.std.specs.Prelude.{◌≡◌, ◌↔◌, IsTrue};
 ghost use Rattle.record_lines.specs.Json.{version_of, FitsVersion};
@@ -13,12 +13,12 @@ const MOST_OF_ONE: u64 = 16;
 pub enum Version {
     /// The view by which a name was given is not written, and there are at most 16 participants.
     One,
-    /// It is written, beside each reply that is a name.
+    /// This view is written, beside each reply that is a name.
     Two,
 }
 
 impl Version {
-    /// The version of that number.
+    /// Returns the version with this number, or `None` if there is none.
     pub fn of_number(number: u64) -> Option<Version>
         ensures { result ≡ version_of number }
     {
@@ -29,7 +29,7 @@ impl Version {
         }
     }
 
-    /// Whether a record of this version may be of so many participants.
+    /// Whether a record of this version may have `most` participants.
     pub fn fits(self, most: u64) -> bool
         ensures { IsTrue result ↔ FitsVersion self most }
     {
@@ -40,11 +40,11 @@ impl Version {
     }
 }
 
-/// What the first line of a record says: its version, and of what a run it is.
+/// The first line of a record: its version, and the configuration of its run.
 #[derive(Clone, Copy, Debug, Drop)]
 pub struct Header {
-    /// The version, which says how lines are spelled.
+    /// The version, which fixes how lines are spelled.
     pub version: Version,
-    /// Of what a run the record is.
+    /// The configuration of its run.
     pub config: Config,
 }

@@ -1,4 +1,4 @@
-//! What a checker of records stands on.
+//! Laws of the lines of records, which run nothing. A checker of records uses them.
 
 ghost use Rattle.std.specs.Prelude.{◌≡◌, ℕ, true, List};
 ghost use Rattle.commands.specs.declared.config.Config.{Config};
@@ -14,8 +14,10 @@ ghost use Rattle.record_lines.specs.Narrow.{IsNarrowEvent, AreNarrowExchanges, I
 ghost use Rattle.record_lines.specs.RecordLine.{IsEventLine, IsHeaderLine};
 ghost use Rattle.record_lines.specs.Records.{IsRecordOf, AreSame};
 
-/// A law, which runs nothing: bytes are one line of an event alone, and as a header they say one version, one world and one size of
-/// each; the world of a header gives names. What a line asks and tells fits a record: numbers below 2^64, and places below 2^128.
+/// A law: bytes are at most one line of an event, and as a header they have one version, one world and one of each
+/// size.
+///
+/// The world of a header gives names. The numbers of a line fit a record: they are below 2^64, and places below 2^128.
 pub fn law_of_lines()
     ensures line { (kind : WorldKind) (version : Version) (row : List ℕ) (l k : Line) →
         IsEventLine kind version row l → IsEventLine kind version row k → l ≡ k }
@@ -26,8 +28,10 @@ pub fn law_of_lines()
         IsEventLine kind version row l → IsNarrowEvent l.event × FitsReported l.reported }
 {}
 
-/// A law, which runs nothing, of the worlds with names: what `record` of `schedule_player` writes of turns whose numbers fit is a
-/// header of version 2 and, for each exchange in order, a line that is read as it, with the view of a name.
+/// A law of the worlds with names, of what `record` of `schedule_player` writes of a transcript whose numbers fit.
+///
+/// It is a header of version 2 and then a line for each exchange, in order. The line is read as that exchange, with the
+/// view of a name.
 pub fn law_of_written_records()
     ensures { (c : Config) → gives_names c.world ≡ true → (ts : List Turn) → AreNarrowExchanges (exchanges ts) →
         IsRecordOf c (exchanges ts) (record_of c ts) }

@@ -1,22 +1,29 @@
 //! The lines of a record, read and written.
 //!
-//! A record is lines of JSON: a header, which says of what a run it is, and then an event with its reply as each line. There are two
-//! versions. In version 2 the view by which a name was given is written beside it, as the key `view` of that line and of no other; in
-//! version 1 it is not, and there are at most 16 participants.
+//! A record is lines of JSON: a header, which has the configuration of the run, and then an event with its reply as
+//! each line. There are two versions. In version 2 the view by which a name was given is written beside it, as the key
+//! `view` of that line alone. In version 1 it is not written, and there are at most 16 participants.
 //!
-//! `next_line` cuts the bytes of a record into lines, `read_header` and `read_line` read one line each, and `read_reply` the text of a
-//! reply: just what the definitions of `specs/` say. `put_header` and `put_line` write lines of version 2 in the compact spelling, into
-//! a `Text`. A version ends where a line is read: what a `Line` tells does not know of it.
+//! `next_line` cuts the bytes of a record into lines. `read_header` and `read_line` read one line each, and
+//! `read_reply` the text of a reply, as the definitions of `specs/` say. `put_header` and `put_line` write lines of
+//! version 2 in the compact spelling, into a `Text`. A `Line` does not depend on the version that it was read in.
 //!
-//! Which lines follow one another is not asked here: `run_checker` judges.
+//! Which lines may follow one another is not asked here: `run_checker` judges that.
 //!
-//! A caller:
+//! From `run_checker/src/record.rt`:
 //!
 //! ```text
-//! let Some((head, rows)) = next_line(bytes) else { .. };      // no line
-//! let Some(header) = read_header(alloc, head)? else { .. };   // no header
-//! let (row, rest) = next_line(rows?)?;
-//! read_line(alloc, header.config.world, header.version, row)? // the event and what is told of its reply
+//! let Some((head, rows)) = next_line(bytes) else {
+//!     return Ok(None);
+//! };
+//! match read_header(alloc, head)? {
+//!     Some(header) => Ok(Some((header, rows))),
+//!     None => Ok(None),
+//! }
+//! ..
+//! let Some(line) = read_line(alloc, header.config.world, header.version, row)? else {
+//!     return Ok(Err(Verdict::BadRecord(number)));
+//! };
 //! ```
 #![tactic(auto)]
 

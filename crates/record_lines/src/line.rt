@@ -3,16 +3,16 @@
 use crate::reported::Reported;
 use commands::Event;
 
-/// An event and what the record tells of its reply.
+/// A line of a record: an event, and what the record reports of its reply.
 #[derive(Debug)]
 pub struct Line {
-    /// What a participant did.
+    /// The event.
     pub event: Event,
-    /// What it was answered, as the record tells.
+    /// What the record reports of its reply.
     pub reported: Reported,
 }
 
-// By hand, so that a line is taken apart here alone, and not wherever one is dropped.
+// By hand, so that the code that drops a line is here alone, and not at each place where one goes out of scope.
 impl Drop for Line {
     fn drop(self) {
         let Line {

@@ -14,7 +14,7 @@ use command_lines::words::is_word;
 use commands::{Config, WorldKind};
 use serde_json::Value;
 
-/// How many keys an object has.
+/// The number of keys of an object.
 fn keys(value: &Value) -> Option<usize>
     ensures { result ≡ keys_of (view value.now) }
 {
@@ -24,14 +24,14 @@ fn keys(value: &Value) -> Option<usize>
     }
 }
 
-/// The text of a key.
+/// The text at a key.
 fn text<'a>(value: &'a Value, key: &str) -> Option<&'a str>
     ensures { option_map (λ s. s.now) result ≡ text_at key.now (view value.now) }
 {
     value.get(key).and_then(Value::as_str)
 }
 
-/// The whole number of a key.
+/// The whole number at a key.
 fn number(value: &Value, key: &str) -> Option<u64>
     ensures { result ≡ number_at key.now (view value.now) }
 {
@@ -43,13 +43,13 @@ fn number(value: &Value, key: &str) -> Option<u64>
 pub struct LineTexts<'a> {
     /// The command.
     pub command: &'a [u8],
-    /// What it was answered.
+    /// The reply.
     pub reply: &'a [u8],
-    /// The view by which a name was given, where one is written.
+    /// The view by which a name was given, if one is written.
     pub view: Option<&'a [u8]>,
 }
 
-/// The command, the reply and the view of an event's line.
+/// Returns the texts of an event's line, or `None` if the value has other keys or other types.
 pub fn texts(value: &Value) -> Option<LineTexts<'_>>
     ensures { MatchOption result ((c r : List ℕ) (v : Option (List ℕ)) → AreTexts (view value.now) c r v → ⊥)
         (λ t. AreTexts (view value.now) t.command.now t.reply.now (option_copied t.view)) }
@@ -71,7 +71,7 @@ pub fn texts(value: &Value) -> Option<LineTexts<'_>>
     }
 }
 
-/// The world of a name, where names are given in it.
+/// The world with a name, if it gives names.
 fn world(name: &str) -> Option<WorldKind>
     ensures { MatchOption result ((world : WorldKind) → world_name world ≡ name.now → gives_names world ≡ false)
         (λ world. (world_name world ≡ name.now) × (gives_names world ≡ true)) }
@@ -83,7 +83,7 @@ fn world(name: &str) -> Option<WorldKind>
     Some(world)
 }
 
-/// What a header says, in its range or not.
+/// The numbers of a header, in their ranges or not.
 #[derive(Clone, Copy, Drop)]
 struct Sizes {
     version: Version,
@@ -104,7 +104,7 @@ fn version(value: &Value) -> Option<Version>
     Version::of_number(number(value, "version")?)
 }
 
-/// What a header says.
+/// The numbers of a header.
 fn said_sizes(value: &Value) -> Option<Sizes>
     ensures { MatchOption result (SaysNoSizes (view value.now)) (λ s. SaysSizes (view value.now) s.version s.world s.m s.k s.limit) }
 {
@@ -117,7 +117,7 @@ fn said_sizes(value: &Value) -> Option<Sizes>
     })
 }
 
-/// Of what a run is, by the first line of its record.
+/// Returns the header that a value is, or `None` if it is none or a number is out of its range.
 pub fn header(value: &Value) -> Option<Header>
     ensures { MatchOption result ((h : Header) → IsHeader (view value.now) h → ⊥) (λ h. IsHeader (view value.now) h) }
 {

@@ -7,20 +7,20 @@ ghost use Rattle.record_lines.specs.Pairs.{HasAt};
 use std::alloc::{AllocError, Global};
 use std::marker::Model;
 
-/// Pairs of an identity and a number, as many as are written. Contracts see the list.
+/// Pairs of an identity and a number, as many as a record has. Contracts see the list.
 #[derive(Debug, Drop)]
 pub struct Pairs {
     items: Vec<(u64, u64)>,
 }
 
-/// Where the first pair stands whose identity is not below this one.
+/// The index of the first pair whose identity is at least this one.
 fn first_from(pairs: &[(u64, u64)], id: u64) -> Option<usize>
     ensures { result ≡ position (λ pair. nat_le id pair.0) pairs.now }
 {
     pairs.iter().position(|pair| id <= pair.0)
 }
 
-/// Where the pair of an identity stands, or is to stand.
+/// The index at which the pair of an identity is, or would be inserted.
 fn place_for(pairs: &[(u64, u64)], id: u64) -> usize
     ensures place { result ≡ unwrap_or (position (λ pair. nat_le id pair.0) pairs.now) (length pairs.now) }
     ensures within { result ≤ length pairs.now }
@@ -28,7 +28,7 @@ fn place_for(pairs: &[(u64, u64)], id: u64) -> usize
     first_from(pairs, id).unwrap_or(pairs.len())
 }
 
-/// Whether a pair of this identity stands at a place.
+/// Whether the pair at this index has this identity.
 fn has_at(pairs: &[(u64, u64)], at: usize, id: u64) -> bool
     ensures { IsTrue result ↔ HasAt pairs.now at id }
 {
@@ -45,7 +45,7 @@ impl Model for Pairs {
 }
 
 impl Pairs {
-    /// No pair.
+    /// Makes a list with no pair. This allocates nothing.
     pub fn new(alloc: Global) -> Pairs
         ensures { result ≡ [] }
     {
@@ -54,7 +54,11 @@ impl Pairs {
         }
     }
 
-    /// One more pair at the end; an error where a growth was refused, with the pairs as before.
+    /// Appends a pair.
+    ///
+    /// # Errors
+    ///
+    /// `AllocError`: the allocation failed. The pairs are unchanged.
     pub fn push(&mut self, id: u64, number: u64) -> Result<(), AllocError>
         ensures pushed { OnOk result (self.new ≡ self.old ++ (id, number) ∷ []) }
         ensures unchanged_on_error { OnErr result (self.new ≡ self.old) }
@@ -62,8 +66,11 @@ impl Pairs {
         self.items.push((id, number)).map_err(AllocError::from)
     }
 
-    /// Gives an identity this number, in the order of the identities; its pair is replaced where it has one. An error where a
-    /// growth was refused, with the pairs as before.
+    /// Adds the pair of an identity in the order of identities, or replaces the identity's pair.
+    ///
+    /// # Errors
+    ///
+    /// `AllocError`: the allocation failed. The pairs are unchanged.
     pub fn put(&mut self, id: u64, number: u64) -> Result<(), AllocError>
         ensures put { OnOk result (self.new ≡ inserted self.old (id, number)) }
         ensures unchanged_on_error { OnErr result (self.new ≡ self.old) }
@@ -77,7 +84,11 @@ impl Pairs {
         Ok(())
     }
 
-    /// The same pairs once more; an error where a growth was refused.
+    /// Returns a copy of the pairs.
+    ///
+    /// # Errors
+    ///
+    /// `AllocError`: the allocation failed.
     pub fn copied(&self) -> Result<Pairs, AllocError>
         ensures { IfOk result (λ copy. copy ≡ self.now) }
     {
@@ -86,7 +97,7 @@ impl Pairs {
         })
     }
 
-    /// The pairs, in the order in which they are written.
+    /// Returns the pairs, in their order.
     pub fn as_slice(&self) -> &[(u64, u64)]
         ensures { result.now ≡ self.now }
     {

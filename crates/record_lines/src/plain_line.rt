@@ -16,14 +16,14 @@ use commands::{Event, WorldKind};
 use player::{Command, after_front, quick_command};
 use std::alloc::{AllocError, Global};
 
-/// Whether a byte stands for itself in a text of JSON.
+/// Whether a byte stands for itself in a JSON string.
 fn is_plain(byte: u8) -> bool
     ensures { result ≡ is_plain byte }
 {
     b' ' <= byte && byte <= b'~' && byte != b'"' && byte != b'\\'
 }
 
-/// How many bytes stand for themselves before the first that does not.
+/// The number of bytes before the first that does not stand for itself.
 fn plain_length(bytes: &[u8]) -> usize
     ensures within { result ≤ length bytes.now }
     ensures plain { list_all is_plain (take result bytes.now) ≡ true }
@@ -36,7 +36,7 @@ fn plain_length(bytes: &[u8]) -> usize
     bytes.len()
 }
 
-/// The bytes that stand for themselves, and those from the first on that does not.
+/// The bytes before the first that does not stand for itself, and the others.
 fn split_plain(bytes: &[u8]) -> (&[u8], &[u8])
     ensures whole { bytes.now ≡ result.0.now ++ result.1.now }
     ensures plain { list_all is_plain result.0.now ≡ true }
@@ -44,8 +44,9 @@ fn split_plain(bytes: &[u8]) -> (&[u8], &[u8])
     bytes.split_at(plain_length(bytes))
 }
 
-/// The event with which a line begins, in the world of this kind, and what stands from its reply on, where it takes one look at each
-/// byte. `None` says nothing of the bytes. A function of its own, so that what reads a line is short enough to stand in the loop over lines.
+/// The event at the start of a line, and the bytes from its reply on, in one pass. `None` means nothing.
+///
+/// It is a function of its own, so that what reads a line is short enough to inline in the loop over lines.
 #[inline(never)]
 fn plain_event(kind: WorldKind, bytes: &[u8]) -> Option<(Event, &[u8])>
     ensures { IfSome result (λ r. SpellsEvent kind bytes.now r.0 r.1.now) }
@@ -58,7 +59,7 @@ fn plain_event(kind: WorldKind, bytes: &[u8]) -> Option<(Event, &[u8])>
     Some((event, after_front(&text[end..], b"\",\"reply\":\"")?))
 }
 
-/// The reply with which a line ends, and the view beside it, where both are texts in which each byte stands for itself.
+/// The reply at the end of a line, and the view beside it, if each byte of both stands for itself.
 fn plain_end(text: &[u8]) -> Option<(&[u8], Option<&[u8]>)>
     ensures { IfSome result (λ r. SpellsEnd text.now r.0.now (option_copied r.1)) }
 {
@@ -73,8 +74,7 @@ fn plain_end(text: &[u8]) -> Option<(&[u8], Option<&[u8]>)>
     Some((reply, Some(view)))
 }
 
-/// What is told by the reply with which a line of a record of this version ends, and by the view beside it. `None` says nothing of the
-/// bytes. An error where a growth was refused.
+/// What the end of a line reports of the reply, with the view beside it. `None` means nothing.
 #[inline(never)]
 fn plain_reported(
     alloc: Global,
@@ -89,9 +89,14 @@ fn plain_reported(
     }
 }
 
-/// What an event's line says, in the world of this kind and a record of this version, where it is spelled as records are written: with
-/// no space between its parts, its keys in order, and texts in which each byte stands for itself. `None` says nothing of the bytes. An
-/// error where a growth was refused.
+/// Reads an event's line that is spelled as records are written.
+///
+/// Such a line has no space between its parts and its keys in order, and each byte of its texts stands for itself.
+/// `None` means nothing: `read_line` then decides.
+///
+/// # Errors
+///
+/// `AllocError`: the allocation failed.
 #[inline(always)]
 pub fn plain_line(
     alloc: Global,

@@ -7,8 +7,8 @@ use crate::reported::Reported;
 use command_lines::words::is_word;
 use player::{after_front, quick_number};
 
-/// What the reply tells with which a line ends, where its word is common and told alike in each version. `None` says nothing of the
-/// bytes.
+/// Returns what the end of a line reports, if the reply's word is common and spelled alike in each version. `None`
+/// means nothing.
 #[inline(always)]
 pub fn quick_reported(text: &[u8]) -> Option<Reported>
     ensures { IfSome result (λ t. SpellsReply text.now t) }
@@ -25,7 +25,7 @@ pub fn quick_reported(text: &[u8]) -> Option<Reported>
     quick_number_reported(text)
 }
 
-/// As `quick_reported`, of a word and a number.
+/// As `quick_reported`, for a word and a number.
 fn quick_number_reported(text: &[u8]) -> Option<Reported>
     ensures { IfSome result (λ t. SpellsReply text.now t) }
 {
@@ -47,7 +47,7 @@ fn quick_number_reported(text: &[u8]) -> Option<Reported>
     None
 }
 
-/// The number with which a line ends behind this word.
+/// The number at the end of a line, after this word.
 #[inline(always)]
 fn number_after(text: &[u8], word: &[u8]) -> Option<u64>
     ensures { IfSome result (SpellsNumberAfter text.now word.now) }
@@ -55,7 +55,7 @@ fn number_after(text: &[u8], word: &[u8]) -> Option<u64>
     last_number(after_front(text, word)?)
 }
 
-/// The number with which a line ends.
+/// The number at the end of a line.
 #[inline(always)]
 fn last_number(text: &[u8]) -> Option<u64>
     ensures { IfSome result (λ n. SpellsLastNumber text.now n) }

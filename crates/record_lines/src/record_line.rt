@@ -1,4 +1,4 @@
-//! From the bytes of a record's line to what it says.
+//! From the bytes of a record's line to its contents.
 
 ghost use Rattle.std.specs.Prelude.{◌≤◌, IfOk, MatchOption, Ok, length};
 ghost use Rattle.commands.specs.declared.event.Event.{Event};
@@ -21,7 +21,7 @@ use std::alloc::{AllocError, Global};
 /// The most bytes of a record's line, without its LF.
 pub const LINE_MOST: usize = 8192;
 
-/// The value that a text is read as; `None` where it is no JSON.
+/// The JSON value of a text, or `None` if it is no JSON.
 fn value_of(alloc: Global, bytes: &[u8]) -> Result<Option<Value>, AllocError>
     ensures { IfOk result (λ r. MatchOption r ((d : Data) → IsJson bytes.now d → ⊥) (λ v. IsJson bytes.now (view v))) }
 {
@@ -32,7 +32,7 @@ fn value_of(alloc: Global, bytes: &[u8]) -> Result<Option<Value>, AllocError>
     }
 }
 
-/// The event that a command's line is, in the world of this kind.
+/// The event that a command's line asks for, in a world of this kind.
 fn event_of(text: &[u8], kind: WorldKind) -> Option<Event>
     ensures { MatchOption result ((e : Event) → IsEventOf kind text.now e → ⊥) (IsEventOf kind text.now) }
 {
@@ -44,7 +44,7 @@ fn event_of(text: &[u8], kind: WorldKind) -> Option<Event>
     }
 }
 
-/// The line that a value says, in the world of this kind and a record of this version. An error where a growth was refused.
+/// The line that a value is, in a world of this kind and a record of this version.
 fn line_of(
     alloc: Global,
     kind: WorldKind,
@@ -65,7 +65,7 @@ fn line_of(
     }
 }
 
-/// As `read_line`, by a reader of JSON.
+/// Reads a line as `read_line` does, by a JSON reader.
 fn read_json_line(
     alloc: Global,
     kind: WorldKind,
@@ -81,8 +81,14 @@ fn read_json_line(
     line_of(alloc, kind, version, &value)
 }
 
-/// What an event's line says, without its LF, in the world of this kind and a record of this version; `None` where it is no
-/// event's line. An error where a growth was refused.
+/// Reads an event's line, without its LF, of a record of this world and version. Returns `None` if it is no event's
+/// line.
+///
+/// A line has at most 8,192 bytes.
+///
+/// # Errors
+///
+/// `AllocError`: the allocation failed.
 pub fn read_line(
     alloc: Global,
     kind: WorldKind,
@@ -100,7 +106,13 @@ pub fn read_line(
     read_json_line(alloc, kind, version, bytes)
 }
 
-/// What the first line of a record says, without its LF; `None` where it is no header. An error where a growth was refused.
+/// Reads the first line of a record, without its LF. Returns `None` if it is no header.
+///
+/// A line has at most 8,192 bytes.
+///
+/// # Errors
+///
+/// `AllocError`: the allocation failed.
 pub fn read_header(alloc: Global, bytes: &[u8]) -> Result<Option<Header>, AllocError>
     ensures { IfOk result (λ r. MatchOption r ((h : Header) → IsHeaderLine bytes.now h → ⊥) (λ h. IsHeaderLine bytes.now h)) }
 {

@@ -1,4 +1,4 @@
-//! From the text of a reply to what it tells.
+//! From the text of a reply to what it reports.
 
 ghost use Rattle.std.specs.Prelude.{◌≡◌, IfOk, None, Some};
 ghost use Rattle.std.specs.Option.{option_copied};
@@ -24,7 +24,12 @@ fn pair(word: &[u8]) -> Option<(u64, u64)>
     Some((number(id)?, number(number_word)?))
 }
 
-/// The pairs that the words of a text write, by strictly rising identity from 1 on.
+/// Returns the pairs that the words of a text write, by strictly rising identity from 1 on, or `None` if it writes none
+/// such.
+///
+/// # Errors
+///
+/// `AllocError`: the allocation failed.
 pub fn pairs(alloc: Global, text: &[u8]) -> Result<Option<Pairs>, AllocError>
     ensures { IfOk result (λ r. r ≡ pairs_in text.now) }
 {
@@ -69,7 +74,7 @@ fn alone(word: &[u8]) -> Option<Reported>
     }
 }
 
-/// Who has a name, or that no one has.
+/// The reply to `owner`: the identity that has a name, or `none`.
 fn owner(other: &[u8]) -> Option<Reported>
     ensures { result ≡ owner_of other.now }
 {
@@ -79,7 +84,7 @@ fn owner(other: &[u8]) -> Option<Reported>
     number(other).map(|id| Reported::Owner(Some(id)))
 }
 
-/// The reply of a word and another.
+/// The reply of two words.
 fn with(word: &[u8], other: &[u8]) -> Option<Reported>
     ensures { result ≡ word_with word.now other.now }
 {
@@ -104,7 +109,7 @@ fn with(word: &[u8], other: &[u8]) -> Option<Reported>
     }
 }
 
-/// The reply of a word and the others, which are no pairs.
+/// The reply of one or two words, which are no pairs.
 fn plain(word: &[u8], others: Option<&[u8]>) -> Option<Reported>
     ensures { result ≡ plain_of word.now (pieces_left 32 (option_copied others.entry)) }
 {
@@ -118,7 +123,11 @@ fn plain(word: &[u8], others: Option<&[u8]>) -> Option<Reported>
     with(word, other)
 }
 
-/// The reply that a text tells, without its LF; `None` where it is no reply. An error where a growth was refused.
+/// Returns the reply that a text, without its LF, reports, or `None` if it is no reply.
+///
+/// # Errors
+///
+/// `AllocError`: the allocation failed.
 pub fn read_reply(alloc: Global, text: &[u8]) -> Result<Option<Reported>, AllocError>
     ensures { IfOk result (λ r. r ≡ reported_in text.now) }
 {
@@ -135,7 +144,7 @@ pub fn read_reply(alloc: Global, text: &[u8]) -> Result<Option<Reported>, AllocE
     }
 }
 
-/// What is told of a reply beside which no view is written, in a record of this version.
+/// What a record of this version reports of a reply with no view beside it.
 fn without_view(version: Version, reported: Reported) -> Option<Reported>
     ensures { result ≡ reported_with version reported None }
 {
@@ -145,8 +154,7 @@ fn without_view(version: Version, reported: Reported) -> Option<Reported>
     }
 }
 
-/// What is told of a reply beside which the pairs of this text are written, in a record of version 2. An error where a growth
-/// was refused.
+/// What a record of version 2 reports of a reply with the pairs of this text beside it.
 fn with_view(alloc: Global, reported: Reported, text: &[u8]) -> Result<Option<Reported>, AllocError>
     ensures { IfOk result (λ r. r ≡ reported_with Two reported (Some text.now)) }
 {
@@ -159,7 +167,11 @@ fn with_view(alloc: Global, reported: Reported, text: &[u8]) -> Result<Option<Re
     }
 }
 
-/// What a reply and the view beside it tell, in a record of this version. An error where a growth was refused.
+/// Returns what a record of this version reports of a reply, with the view beside it if there is one, or `None`.
+///
+/// # Errors
+///
+/// `AllocError`: the allocation failed.
 pub fn reported_of(
     alloc: Global,
     version: Version,

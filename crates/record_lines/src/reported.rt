@@ -1,4 +1,4 @@
-//! What a record tells of an event.
+//! What a record reports of the reply to an event.
 
 ghost use Rattle.std.specs.Prelude.{◌≡◌};
 ghost use Rattle.record_lines.specs.Reported.{is_name, is_step, is_done, is_reply_of};
@@ -7,8 +7,7 @@ use crate::pairs::Pairs;
 use commands::Event;
 use step_memory::Place;
 
-/// A reply as a record spells it: what numbers and views it has is not bounded by what any object could answer, and the view
-/// by which a name was given is written or not.
+/// A reply as a record spells it. Its numbers and views need not be those of any object.
 #[derive(Debug, Drop)]
 pub enum Reported {
     /// `ok`
@@ -27,7 +26,7 @@ pub enum Reported {
     Proposed(u64),
     /// `saw ID:S ID:S ..`
     Saw(Pairs),
-    /// `named N`, and the pairs of the view by which the name was given where they are written
+    /// `named N`, and the pairs of the view by which the name was given, if they are written
     Named(u64, Option<Pairs>),
     /// `spent`
     Spent,
@@ -52,7 +51,7 @@ pub fn is_step(event: Event) -> bool
     matches!(event, Event::Step(_))
 }
 
-/// Whether an event is answered `ok` where it is accepted.
+/// Whether the event's reply is `ok` if it is accepted.
 fn is_done(event: Event) -> bool
     ensures { result ≡ is_done event }
 {
@@ -70,7 +69,7 @@ impl Reported {
         matches!(self, Reported::Named(_, _))
     }
 
-    /// Whether this is a reply of the event's command: one of its own, or a refusal.
+    /// Whether it is a reply to this event's command: one of the command's own, or a refusal.
     pub fn is_reply_of(&self, event: Event) -> bool
         ensures { result ≡ is_reply_of self.now event }
     {

@@ -7,14 +7,14 @@ ghost use Rattle.record_lines.specs.Records.{record_lines, lines_left};
 
 use command_lines::words::cut;
 
-/// Whether this is what stands after the last LF, with nothing in it.
+/// Whether this is what follows the last LF, with nothing in it.
 fn is_end(line: &[u8], rest: Option<&[u8]>) -> bool
     ensures { IsTrue result ↔ (line.now ≡ []) × (option_copied rest.entry ≡ None) }
 {
     line.is_empty() && rest.is_none()
 }
 
-/// The first line of these bytes, without its LF, and what follows that; `None` where there is no line.
+/// Returns the first line of these bytes, without its LF, and the bytes after it, or `None` if there is no line.
 pub fn next_line(bytes: &[u8]) -> Option<(&[u8], Option<&[u8]>)>
     ensures lines { MatchOption result (record_lines bytes.now ≡ []) (λ r. record_lines bytes.now ≡ r.0.now ∷ lines_left (option_copied r.1)) }
     ensures shorter { MatchOption result (0 ≤ 0) (λ r. left_length (option_copied r.1) ≤ length bytes.now) }

@@ -7,7 +7,7 @@ use itoa::Buffer;
 use std::alloc::{AllocError, Global};
 use std::marker::Model;
 
-/// Bytes that are gathered before any of them is written. Contracts see the list.
+/// A growing buffer of bytes. Contracts see the list.
 #[derive(Drop)]
 pub struct Text {
     bytes: Vec<u8>,
@@ -20,7 +20,7 @@ impl Model for Text {
 }
 
 impl Text {
-    /// No bytes.
+    /// Makes an empty buffer. This allocates nothing.
     pub fn new(alloc: Global) -> Text
         ensures { result ≡ [] }
     {
@@ -29,14 +29,18 @@ impl Text {
         }
     }
 
-    /// The bytes.
+    /// Returns the bytes.
     pub fn as_slice(&self) -> &[u8]
         ensures { result.now ≡ self.now }
     {
         &self.bytes
     }
 
-    /// Appends these bytes. An error where a growth was refused; then the text is of no more use.
+    /// Appends bytes.
+    ///
+    /// # Errors
+    ///
+    /// `AllocError`: the allocation failed. The text is then of no use.
     pub fn put(&mut self, bytes: &[u8]) -> Result<(), AllocError>
         ensures { OnOk result (self.new ≡ self.old ++ bytes.now) }
     {
@@ -44,14 +48,14 @@ impl Text {
         Ok(())
     }
 
-    /// Appends a number in decimal.
+    /// Appends a number in decimal. Its error is that of `put`.
     pub fn put_number(&mut self, number: u64) -> Result<(), AllocError>
         ensures { OnOk result (self.new ≡ self.old ++ decimal number) }
     {
         self.put(Buffer::new().format(number).as_bytes())
     }
 
-    /// Appends a word with its space, and a number in decimal.
+    /// Appends a word with its space, and a number in decimal. Its error is that of `put`.
     pub fn put_word(&mut self, word: &[u8], number: u64) -> Result<(), AllocError>
         ensures { OnOk result (self.new ≡ self.old ++ (word.now ++ decimal number)) }
     {
@@ -59,7 +63,7 @@ impl Text {
         self.put_number(number)
     }
 
-    /// Appends an identity and its number.
+    /// Appends an identity and its number, with a colon between them. Its error is that of `put`.
     pub fn put_pair(&mut self, pair: (u64, u64)) -> Result<(), AllocError>
         ensures { OnOk result (self.new ≡ self.old ++ pair_word pair) }
     {

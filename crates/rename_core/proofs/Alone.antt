@@ -1,4 +1,4 @@
--- who steps alone comes nearer to its name
+-- who runs solo comes nearer to its name
 use Rattle.std.proofs.Common.{◌≡◌, ◌≢◌, ℕ, zero, suc, ◌+◌, ◌-◌, ◌*◌, ◌≤◌, ◌==◌, Bool, true, false, cond, ◌⊎◌, List, Option, Some, None, Result, Ok, Err, inl, inr, refl, sym, ap, subst, ◌∙◌, arith, add-one, is_some, nat_lt, nat_le}
 use Rattle.rename_core.proofs.Common.{eqb_tells, leb_tells, set_at-same, set_at-other, value_of, Participant, Refusal, Finished, NoMemory, participant_of, beginner, participant_of-put, participant_of-push, Call, lacked_memory, steps_by, Began, Stepped, begin_refusal, done_unless, let_in, has_begun, goes_busy, KnownPlaces, GoesBusy, is_quiet, SnapReply, Silent, HasPlace, Written, Viewed, SnapCall, snap_next, IsSnapReply, Task, SnapObject, SnapBounds, observed, SnapAllows, SnapState, beginner_at, snap_answer, after_snap_step, Client, StepReply, Quiet, Round, Follow, Stage, Placing, Proposing, Looking, Settled, Over, Pace, IsInTime, most_steps, paced, paced_step, ToGo, ToPropose, ToLook, is_taken, next_proposal, next, IsReply, RenameTerms, RenameObject, IsRecent, IsConflict, Allows, after, after_step, no_step, RenameState, after_wish, begun_snap, begun_unless, has_place, world_with, snap_step, rename_answer, after_rename_step, stage_refusal, followed, decided, named_by, spent_by, saw_by, number_of, written_round, first_round, first_wish}
 use Rattle.snapshot_core.specs.Alone.{EndsAlone, EndsSoon, most_reads}

@@ -1,4 +1,4 @@
--- who steps alone is named in time, over every list of calls
+-- who runs solo is named in time, over every list of calls
 use Rattle.std.proofs.Common.{◌≡◌, ℕ, ◌+◌, ◌≤◌, true, false, ◌⊎◌, List, [], ◌∷◌, ◌++◌, inl, inr, refl, sym, ap, subst, ◌∙◌, arith}
 use Rattle.rename_core.proofs.Common.{eqb_tells, run_more, run_one, KnownPlaces, SnapCall, snap_next, IsSnapReply, SnapObject, SnapBounds, observed, SnapAllows, SnapState, StepReply, Pace, paced, next, IsReply, RenameTerms, RenameObject, new_object, Allows, after, IsRun, RenameState}
 use Rattle.step_memory.specs.Calls.{Call, steps_of, steps_by}

@@ -24,7 +24,7 @@ pub record HasTwoLeft (terms : RenameTerms) (o : RenameObject) (p : ℕ) : Type 
   pub unspent : o.spent p ≡ false
   pub left : o.count p + 2 ≤ terms.limit
 
--- the most steps of one who steps alone until it is named: to its place, the rest of a scan that began among others, and
+-- the most steps of one who runs solo until it is named: to its place, the rest of a scan that began among others, and
 -- two rounds, each of an update and a scan
 abbrev pub steps_alone : SnapBounds → ℕ
 steps_alone bounds = bounds.placing bounds.most + 11 * bounds.collecting + 1

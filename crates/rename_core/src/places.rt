@@ -17,19 +17,23 @@ use snapshot_places::{Grid, TreePlaces};
 use std::alloc::Allocator;
 use step_memory::Refusal;
 
-/// Places over which names are given: which world they serve, and how they are made.
+/// Places over which names are given: the world that they serve, and how they are made.
 pub trait RenamePlaces<A: Allocator>: Places {
     /// The world that they serve.
     ghost world: { WorldKind };
 
-    /// What is made for so many participants.
+    /// The places that are made for this many participants.
     ghost empty_for: { ℕ → Self };
 
-    /// The world that they serve.
+    /// Returns the world that they serve.
     fn world() -> WorldKind
         ensures { result ≡ world };
 
-    /// Places for so many participants, as their world may take, in which nothing was written. Refused where the room for them was.
+    /// Makes places for `most` participants, in which nothing was written.
+    ///
+    /// # Errors
+    ///
+    /// `NoMemory`: an allocation failed.
     fn empty(alloc: A, most: usize) -> Result<Self, Refusal>
         requires some { 1 ≤ most }
         requires few { most ≤ most_in world }
@@ -38,13 +42,13 @@ pub trait RenamePlaces<A: Allocator>: Places {
         ensures most { IfOk result (λ s. Self.most_of s ≡ most) }
         ensures no_memory { IfErr result (λ why. why ≡ Refusal.NoMemory) };
 
-    /// What is made is places in which nothing was written.
+    /// In the places that are made nothing was written.
     ghost are_empty: { AreEmptyFor ⟦<Self as Known>⟧.places world empty_for };
 
-    /// Who begins has a place at once just where no step is needed to one.
+    /// A participant has a place as it begins if and only if no step leads to one.
     ghost at_once: { PlacesAtOnce ⟦<Self as Known>⟧.places };
 
-    /// Only over a tree may a step want memory.
+    /// Only over a tree may a step allocate.
     ghost may_grow: { GrowsAsTree ⟦<Self as Known>⟧.places world };
 }
 

@@ -12,14 +12,15 @@ fn is_taken_in(pairs: &[(u64, u64)], id: u64, number: u64) -> bool
     pairs.iter().any(|pair| pair.0 != id && pair.1 == number)
 }
 
-/// How many identities are not above this one.
+/// The number of identities that are at most this one.
 fn rank(pairs: &[(u64, u64)], id: u64) -> usize
     ensures { result ≡ rank id pairs.now }
 {
     pairs.iter().filter(|pair| pair.0 <= id).count()
 }
 
-/// Which numbers up to 128 other identities propose, by these pairs. With at most 64 pairs no greater one is proposed next.
+/// For each number up to 128, whether another identity proposes it, by these pairs. With at most 64 pairs no greater
+/// number is proposed next.
 fn taken_numbers(pairs: &[(u64, u64)], id: u64) -> [bool; 129]
     ensures { (n : ℕ) → n < 129 → get_or result n false ≡ is_taken id pairs.now n }
 {
@@ -53,14 +54,17 @@ fn nth_free(pairs: &[(u64, u64)], id: u64, rank: usize) -> u64
     at
 }
 
-/// Whether another identity proposes this number in a view.
+/// Whether an identity other than `id` proposes this number in a view.
 pub fn is_taken(view: &View, id: u64, number: u64) -> bool
     ensures { result ≡ is_taken id view.now number }
 {
     is_taken_in(view.pairs(), id, number)
 }
 
-/// What an identity proposes after a view: the r-th positive number that no other proposes in it, where r is its rank.
+/// Returns the next proposal of `id` after a view (Attiya et al. 1990).
+///
+/// It is the r-th positive number that no other identity proposes in the view, where r is the rank of `id` among its
+/// identities.
 pub fn next_proposal(view: &View, id: u64) -> u64
     ensures { result ≡ next_proposal id view.now }
 {

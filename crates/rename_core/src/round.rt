@@ -8,23 +8,23 @@ use crate::reply::Reply;
 use snapshot_core::SnapReply;
 use step_memory::{Refusal, View};
 
-/// Where a participant stands in its round.
+/// What a participant does in its round.
 #[derive(Clone, Copy, Debug, Drop, PartialEq, Eq)]
 pub enum Stage {
-    /// On its way to its place.
+    /// It walks to its place.
     Placing,
-    /// Proposing this number: its update goes on.
+    /// It proposes this number: its update is under way.
     Proposing(u64),
-    /// Looking at what the others propose: its scan goes on.
+    /// It looks at what the others propose: its scan is under way.
     Looking,
-    /// It has its proposal as its name.
+    /// Its proposal is its name.
     Settled,
-    /// It has used up its rounds.
+    /// It has used up its proposals.
     Over,
 }
 
 impl Stage {
-    /// Why there is no further step.
+    /// Returns the error of a step at this stage, or `None` if a step may be made.
     pub fn refusal(self) -> Option<Refusal>
         ensures { result ≡ stage_refusal self }
     {
@@ -37,7 +37,7 @@ impl Stage {
         }
     }
 
-    /// The number that is proposed; 0 where none is.
+    /// The number that it proposes, or 0.
     fn number(self) -> u64
         ensures { result ≡ number_of self }
     {
@@ -51,41 +51,41 @@ impl Stage {
     }
 }
 
-/// A participant's round: how many proposals it has made, the last of them, and where it stands.
+/// A participant's round: the number of its proposals, the last of them, and its stage.
 #[derive(Clone, Copy, Debug, Drop, PartialEq, Eq)]
 pub struct Round {
-    /// How many proposals it has made.
+    /// The number of proposals that it has made.
     pub count: u64,
-    /// Its last proposal, which stands in the memory; 0 where it has made none.
+    /// Its last proposal, which is in the memory, or 0 if it has made none.
     pub proposal: u64,
-    /// Where it stands.
+    /// What it does now.
     pub stage: Stage,
 }
 
-/// What a round asks of the snapshot object next.
+/// What a round needs from the snapshot object next.
 #[derive(Clone, Copy, Debug, Drop, PartialEq, Eq)]
 pub enum Wish {
-    /// Nothing: what is under way goes on, or all is done.
+    /// Nothing: an operation is under way, or all is done.
     Nothing,
-    /// An update with this number.
+    /// An update to this number.
     Update(u64),
     /// A scan.
     Scan,
 }
 
-/// What follows a step of the snapshot object: the round, what it asks for, and the reply.
+/// What follows a step of the snapshot object: the round, what it needs next, and the reply.
 #[derive(Clone, Copy, Debug, Drop)]
 pub struct Follow {
     /// The round after the step.
     pub round: Round,
-    /// What it asks for.
+    /// What it needs next.
     pub wish: Wish,
-    /// What the step answers.
+    /// What the step returns.
     pub reply: Reply<View>,
 }
 
 impl Wish {
-    /// What one asks for who begins: who has a place proposes at once.
+    /// Returns what a participant that begins needs: an update to 1 if it has its place, and otherwise nothing.
     pub fn first(placed: bool) -> Self
         ensures { result ≡ first_wish placed }
     {
@@ -98,7 +98,7 @@ impl Wish {
 }
 
 impl Round {
-    /// The round of one who begins.
+    /// Returns the round of a participant that begins. It proposes 1 if it has its place, and otherwise walks to it.
     pub fn first(placed: bool) -> Self
         ensures { result ≡ first_round placed }
     {
@@ -113,7 +113,7 @@ impl Round {
         }
     }
 
-    /// The name that the round has ended with.
+    /// Returns the name that the round has ended with, or `None`.
     pub fn name(&self) -> Option<u64>
         ensures { result ≡ name_at self.now.stage self.now.proposal }
     {
@@ -139,7 +139,7 @@ impl Round {
         }
     }
 
-    /// The proposal that stands in the memory.
+    /// Returns the proposal that is in the memory, or `None` if it has made none.
     pub fn standing(&self) -> Option<u64>
         ensures { result ≡ standing_by self.now }
     {
@@ -161,7 +161,7 @@ impl Round {
         }
     }
 
-    /// This round once its next proposal is written. There are no more than the limit.
+    /// This round once its next proposal is written. It counts no more proposals than the limit.
     fn written(self, limit: u64) -> Self
         ensures { result ≡ written_round self limit }
     {
@@ -176,7 +176,7 @@ impl Round {
         }
     }
 
-    /// What follows a view: a name where no other proposes the same; else, where rounds are left, the next proposal.
+    /// What follows a view: a name if no other identity proposes the same number, else the next proposal or `Spent`.
     fn decided(self, id: u64, view: View, limit: u64) -> Follow
         ensures { result ≡ decided self id view limit }
     {
@@ -202,7 +202,7 @@ impl Round {
         }
     }
 
-    /// What follows a reply of the snapshot object.
+    /// Returns what follows a reply of the snapshot object to a step of `id`, under the round limit `limit`.
     pub fn followed(self, id: u64, reply: SnapReply, limit: u64) -> Follow
         ensures { result ≡ followed self id reply limit }
     {

@@ -14,8 +14,8 @@ use snapshot_core::{Known, SnapReply, SnapWorld};
 use std::alloc::Allocator;
 use step_memory::{NoMemory, Participant, Refusal, View};
 
-/// Asks the snapshot object for what a round wants, with no access. It is never refused, since nothing of the identity is
-/// pending then.
+/// Begins the operation of the snapshot object that a round needs, with no access. It never fails, since nothing of the
+/// identity is pending then.
 pub(crate) fn ask<W: RenamePlaces<A> + Drop, A: Allocator>(
     snap: &mut SnapWorld<W, A>,
     id: u64,
@@ -35,8 +35,10 @@ where
     };
 }
 
-/// What follows a step in which the snapshot object told this: what the round then asks for, where it then stands, and
-/// what it answers. A function of its own, so that a step of which nothing follows has no room of a view to clear.
+/// Takes the reply of the snapshot object: begins what the round needs next, updates the round, and returns the step's
+/// reply.
+///
+/// It is a function of its own, so that a step after which nothing follows clears no room for a view.
 #[inline(never)]
 fn follow<W: RenamePlaces<A> + Drop, A: Allocator>(
     snap: &mut SnapWorld<W, A>,
@@ -61,8 +63,8 @@ where
     follow.reply.shorten(view)
 }
 
-/// A step that is none on the way to a place, and what follows it. A function of its own, so that other steps have no
-/// room of a segment to clear.
+/// Makes a step that is none of a walk, and takes its reply. It is a function of its own, so that other steps clear no
+/// room for a segment.
 #[inline(never)]
 fn take_other<W: RenamePlaces<A> + Drop, A: Allocator>(
     snap: &mut SnapWorld<W, A>,
@@ -82,7 +84,8 @@ where
     }
 }
 
-/// A step that is no read of a scan that goes on, and what follows it. A function of its own, as `take_other` is.
+/// Makes a step that is no read of a scan that goes on, and takes its reply. It is a function of its own, as
+/// `take_other` is.
 #[inline(never)]
 fn take_slow<W: RenamePlaces<A> + Drop, A: Allocator>(
     snap: &mut SnapWorld<W, A>,
@@ -107,7 +110,7 @@ where
     }
 }
 
-/// A step, and what follows it.
+/// Makes a step of a participant whose round may go on, and takes its reply.
 #[inline(always)]
 pub(crate) fn take<W: RenamePlaces<A> + Drop, A: Allocator>(
     snap: &mut SnapWorld<W, A>,

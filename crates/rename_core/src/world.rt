@@ -22,7 +22,7 @@ use std::alloc::{AllocError, Allocator};
 use std::marker::Model;
 use step_memory::{Hints, Participant, Refusal, View};
 
-/// Participants that get names by rounds of proposals, over places.
+/// Participants that get names in `1..=2b - 1` by rounds of proposals, where `b` have begun (Attiya et al. 1990).
 #[derive(Drop)]
 pub struct RenameWorld<W: RenamePlaces<A>, A: Allocator> {
     snap: SnapWorld<W, A>,
@@ -42,7 +42,7 @@ impl<W: RenamePlaces<A>, A: Allocator> Model for RenameWorld<W, A> {
     ghost invariant = { λ w. HasRoom (vec_capacity w.rounds) w.snap w.rounds.items };
 }
 
-/// Puts the proposal of a participant into a view, where it has made one.
+/// Puts the proposal of a participant into a view, if it has made one.
 fn show(view: &mut View, participant: &Participant<Round>)
     requires { length view.old < 64 }
     ensures { view.new ≡ shown_with view.old participant.now.identity (standing_by participant.now.program) }
@@ -52,7 +52,7 @@ fn show(view: &mut View, participant: &Participant<Round>)
     }
 }
 
-/// Where the round of an identity stands that may take a step; why it may take none, failed allocations aside.
+/// Returns the index of the round of `id` if it may take a step, or the error of the step, failed allocations aside.
 #[inline(always)]
 fn open_round(hints: &Hints, rounds: &[Participant<Round>], id: u64) -> Result<usize, Refusal>
     requires { AreDistinct rounds.now }
@@ -69,7 +69,7 @@ fn open_round(hints: &Hints, rounds: &[Participant<Round>], id: u64) -> Result<u
     }
 }
 
-/// The name that the round of an identity has ended with.
+/// Returns the name that the round of an identity has ended with.
 fn name_among(hints: &Hints, rounds: &[Participant<Round>], id: u64) -> Option<u64>
     requires { AreDistinct rounds.now }
     ensures { result ≡ name_by (program_of id rounds.now) }
@@ -80,7 +80,7 @@ fn name_among(hints: &Hints, rounds: &[Participant<Round>], id: u64) -> Option<u
     rounds[i].program.name()
 }
 
-/// Whose round has ended with a name.
+/// Returns the identity whose round has ended with this name.
 fn owner_among(rounds: &[Participant<Round>], number: u64) -> Option<u64>
     ensures { result ≡ owner_by number rounds.now }
 {
@@ -92,7 +92,7 @@ fn owner_among(rounds: &[Participant<Round>], number: u64) -> Option<u64>
     None
 }
 
-/// The proposals that stand in the memory, by the rounds.
+/// Returns the proposals that are in the memory, by the rounds.
 fn proposals_among(rounds: &[Participant<Round>]) -> View
     requires { length rounds.now ≤ 64 }
     ensures { result ≡ shown_by [] rounds.now }
@@ -104,7 +104,7 @@ fn proposals_among(rounds: &[Participant<Round>]) -> View
     view
 }
 
-/// Room for the rounds of so many.
+/// A vector with room for this many rounds.
 fn room_for<A: Allocator + Clone>(
     alloc: &A,
     most: usize,
@@ -119,51 +119,51 @@ fn room_for<A: Allocator + Clone>(
 }
 
 impl<W: RenamePlaces<A>, A: Allocator> RenameWorld<W, A> {
-    /// The snapshot object, for what watches from outside.
+    /// Returns the snapshot object, for observers.
     pub fn snap(&self) -> &SnapWorld<W, A>
         ensures { result.now ≡ self.now.snap }
     {
         &self.snap
     }
 
-    /// Why an identity may take no step: what `step` would be refused, failed allocations aside. It changes nothing.
+    /// Returns the error that `step` would return, failed allocations aside, or `None`.
     pub fn step_refusal(&self, id: u64) -> Option<Refusal>
         ensures { result ≡ step_refusal self.now id }
     {
         open_round(&self.hints, &self.rounds, id).err()
     }
 
-    /// The name of a participant, once it has one.
+    /// Returns the name of a participant, or `None` if it has none.
     pub fn name_of(&self, id: u64) -> Option<u64>
         ensures value { result ≡ name_in self.now id }
 
-        // It is the name that the replies have given to the identity.
+        // It is the name that the replies gave to the identity.
         ensures law { IsName ⟦<W as Known>⟧.places W.world self.now id result }
     {
         name_among(&self.hints, &self.rounds, id)
     }
 
-    /// Who has a name.
+    /// Returns the identity that has this name, or `None` if no identity has it.
     pub fn owner_of(&self, number: u64) -> Option<u64>
         ensures value { result ≡ owner_by number self.now.rounds }
 
-        // It is the identity to which the replies have given the name.
+        // It is the identity to which the replies gave the name.
         ensures law { IsOwnerOf ⟦<W as Known>⟧.places W.world self.now number result }
     {
         owner_among(&self.rounds, number)
     }
 
-    /// The last moment: the proposal of each identity that has proposed, by rising identity.
+    /// Returns the proposal of each identity that has proposed, by rising identity: the present state of the memory.
     pub fn proposals(&self) -> View
         ensures value { result ≡ shown_by [] self.now.rounds }
 
-        // It is the last moment that the replies have made.
+        // It is the last moment of the history.
         ensures law { IsLastMoment ⟦<W as Known>⟧.places W.world self.now result }
     {
         proposals_among(&self.rounds)
     }
 
-    /// The most participants, of whom a view has room for.
+    /// Returns the most participants: at most 64, as many as a view has room for.
     pub fn most(&self) -> u64
         ensures value { result ≡ self.now.snap.most }
         ensures few { result ≤ 64 }
@@ -171,7 +171,7 @@ impl<W: RenamePlaces<A>, A: Allocator> RenameWorld<W, A> {
         self.snap.most() as u64
     }
 
-    /// Why an identity may not begin: what `begin` would be refused. It changes nothing.
+    /// Returns the error that `begin` would return, or `None` if it would succeed.
     pub fn begin_refusal(&self, id: u64) -> Option<Refusal>
         ensures { result ≡ begin_refusal self.now.snap id }
     {
@@ -185,7 +185,7 @@ where
     W::Walk: Copy,
     W::Value: Drop,
 {
-    /// A step, and what follows it.
+    /// Makes a step, and takes its reply.
     #[inline(always)]
     fn take_step(&mut self, id: u64, view: &mut View) -> Result<Reply<()>, Refusal>
         ensures answer { result ≢ Err Refusal.NoMemory → outcome_with result view.new ≡ rename_answer ⟦<W as Known>⟧.places self.old id }
@@ -199,21 +199,37 @@ where
         }
     }
 
-    /// One step of a participant: one access, and what follows it. Refused where the identity has not begun, then where it
-    /// has a name, or is spent, then where the memory refused a growth: then the same step may be asked again.
+    /// Makes one step of participant `id`: one access to the shared memory.
+    ///
+    /// Returns what the step completed: `Quiet` (nothing yet), `Placed`, `Proposed`, `Saw` (another participant
+    /// proposes the same number), `Named`, or `Spent` (the round limit is reached).
+    ///
+    /// # Errors
+    ///
+    /// An error changes nothing. The first that applies is returned:
+    ///
+    /// - `NotBegun`: `id` has not begun.
+    /// - `Finished`: `id` has a name.
+    /// - `Spent`: `id` has used up its proposals.
+    /// - `NoMemory`: the step makes a node of a tree and the allocation failed. The caller may repeat the step.
+    ///
+    /// # Steps
+    ///
+    /// At most `placing(b)` to the place, `scanning(b) + 1` for each proposal, `scanning(b)` for each scan
+    /// (`specs/Pace.antt`).
     pub fn step(&mut self, id: u64) -> Result<Reply<View>, Refusal>
         ensures answer { result ≢ Err Refusal.NoMemory → result ≡ rename_answer ⟦<W as Known>⟧.places self.old id }
         ensures state { result ≢ Err Refusal.NoMemory → self.new ≡ after_rename_step ⟦<W as Known>⟧.places self.old id }
         ensures unchanged_on_error { OnErr result (self.new ≡ self.old) }
         ensures no_memory { result ≡ Err Refusal.NoMemory → LacksMemory ⟦<W as Known>⟧.places self.old id }
 
-        // The law, over every list of calls and replies that the world may be after.
+        // The specification, over every history that leads to this world.
         ensures after { Extends (renaming ⟦<W as Known>⟧.places W.world) self.old self.new (Stepped id result) }
         ensures law { SatisfiesSpec (renaming ⟦<W as Known>⟧.places W.world) self.new }
 
-        // Reply and own state are functions of the own state and the access's answer, and nothing else changes. After every
-        // list of calls the access is one for what the participant does: on its way to a place a read, a write or none, which
-        // leaves each segment as it is, in a scan a read, at the end of an update the write of its own segment.
+        // The reply and the new own state are functions of the own state and of the answer, and nothing else changes.
+        // After every history the access is one of the participant's stage. On its way to a place it is a read, a write or
+        // none, and changes no segment. In a scan it is a read, and at the end of an update the write of its own segment.
         ensures local { ChangesOnly ⟦<W as Known>⟧.places id self.old self.new result }
         ensures own { MakesOwnAccess ⟦<W as Known>⟧.places W.world self.old id }
     {
@@ -222,7 +238,12 @@ where
         Reply::with_in(outcome, &view)
     }
 
-    /// As `step`, with a reply of a few bytes, and its view where it shows one: what `step` answers is the reply with the view.
+    /// Makes one step as `step` does, and returns a reply of a few bytes. If the reply has a view, the view is put into
+    /// `view`.
+    ///
+    /// # Errors
+    ///
+    /// Those of `step`, in that order.
     #[inline(always)]
     pub fn step_short(&mut self, id: u64, view: &mut View) -> Result<Reply<()>, Refusal>
         ensures answer { result ≢ Err Refusal.NoMemory → outcome_with result view.new ≡ rename_answer ⟦<W as Known>⟧.places self.old id }
@@ -237,7 +258,7 @@ where
         self.take_step(id, view)
     }
 
-    /// A participant begins, and asks at once for what it can do.
+    /// Adds a participant, and begins what it can do at once.
     fn take_begin(&mut self, id: u64) -> Result<(), Refusal>
         ensures answer { result ≡ done_unless (begin_refusal self.old.snap id) }
         ensures state { self.new ≡ after_rename_begin ⟦<W as Known>⟧.places self.old id }
@@ -255,14 +276,21 @@ where
         Ok(())
     }
 
-    /// A participant begins. Refused where the identity is 0, then where it has begun, then where as many have begun as
-    /// there may be. It makes no access.
+    /// Adds participant `id`. This makes no access.
+    ///
+    /// # Errors
+    ///
+    /// An error changes nothing. The first that applies is returned:
+    ///
+    /// - `ZeroIdentity`: `id` is 0.
+    /// - `AlreadyBegun`: `id` has begun.
+    /// - `Full`: as many participants as the world takes have begun.
     pub fn begin(&mut self, id: u64) -> Result<(), Refusal>
         ensures answer { result ≡ done_unless (begin_refusal self.old.snap id) }
         ensures state { self.new ≡ after_rename_begin ⟦<W as Known>⟧.places self.old id }
         ensures no_access { self.new.snap.memory ≡ self.old.snap.memory }
 
-        // The law, over every list of calls and replies that the world may be after.
+        // The specification, over every history that leads to this world.
         ensures after { Extends (renaming ⟦<W as Known>⟧.places W.world) self.old self.new (Began id result) }
         ensures law { SatisfiesSpec (renaming ⟦<W as Known>⟧.places W.world) self.new }
     {
@@ -276,8 +304,15 @@ where
     W::Walk: Copy,
     W::Value: Drop,
 {
-    /// A world in which nobody has begun. Refused where names are not given in the config's world, or not over these
-    /// places: where just one of them is a tree; then where the room for the participants was refused.
+    /// Makes a world in which no participant has begun. Over a grid and over segments in a row, no other call
+    /// allocates. Over a tree, a step that makes a node does.
+    ///
+    /// # Errors
+    ///
+    /// The first that applies is returned:
+    ///
+    /// - `OutOfRange`: the world of `config` gives no names, or exactly one of it and these places is a tree.
+    /// - `NoMemory`: an allocation failed.
     pub fn new(alloc: A, config: Config) -> Result<Self, Refusal>
         ensures made { IfOk result (λ w. w ≡ fresh_world (W.empty_for config.m) config.m config.limit) }
         ensures fresh { IfOk result (λ w. IsFresh ⟦<W as Known>⟧.places config.m config.limit w) }
@@ -292,7 +327,8 @@ where
         Self::with_room(alloc, config.m as usize, config.limit)
     }
 
-    /// A snapshot object over places for so many participants, in which nobody has begun. Refused where the room for them was.
+    /// A snapshot object over places for `most` participants, in which none has begun; `NoMemory` if an allocation
+    /// failed.
     fn empty_snap(alloc: A, most: usize) -> Result<SnapWorld<W, A>, Refusal>
         requires some { 1 ≤ most }
         requires few { most ≤ most_in W.world }
@@ -308,7 +344,7 @@ where
         }
     }
 
-    /// A world for so many participants, in which nobody has begun. Refused where the room for them was.
+    /// A world for `most` participants, in which none has begun; `NoMemory` if an allocation failed.
     fn with_room(alloc: A, most: usize, limit: u64) -> Result<Self, Refusal>
         requires some { 1 ≤ most }
         requires few { most ≤ most_in W.world }

@@ -130,7 +130,7 @@ module _ {M R : Type 0} (applies : M → List ℕ → R → M → Type 0) (start
         due = due.due;
       }
 
-  -- what is told behind all others
+  -- what is reported behind all others
   pub history_reported : (log : List (List ℕ)) (replicas : List (ReplicaState M)) (reported : List (Reported R)) (last : Reported R) → IsOneHistory applies start log replicas reported → IsDueIn applies start log last → IsOneHistory applies start log replicas (reported ++ last ∷ [])
   history_reported log replicas reported last h due = record {
     prefixes = h.prefixes;

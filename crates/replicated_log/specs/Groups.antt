@@ -6,7 +6,7 @@ use Rattle.replicated_log.specs.Places.{stands_in}
 use Rattle.replicated_log.specs.Replicas.{IsReplica, Leads}
 use Rattle.replicated_log.specs.ReplicaState.{ReplicaState}
 
--- a batch, and the replies that were told to whom it came from
+-- a batch, and the replies that were reported to whom it came from
 pub record Reported (R : Type 0) : Type 0 where
   pub batch : List ℕ
   pub replies : R
@@ -21,13 +21,13 @@ module _ {M R : Type 0} (applies : M → List ℕ → R → M → Type 0) where
     pub led : Leads applies start before was
     pub due : applies was reported.batch reported.replies is
 
-  -- each replica that is not poisoned was led from this start by a prefix of the log, and each reply that was told is due at its batch's
+  -- each replica that is not poisoned was led from this start by a prefix of the log, and each reply that was reported is due at its batch's
   -- place of it
   pub record IsOneHistory (start : M) (log : List (List ℕ)) (replicas : List (ReplicaState M)) (reported : List (Reported R)) : Type 0 where
     pub prefixes : All (IsReplica applies (stands_in log) start) replicas
     pub answers : All (IsDueIn start log) reported
 
-  -- one history from this start with all that was told before is one still
+  -- one history from this start with all that was reported before is one still
   abbrev pub StaysOneHistory : M → GroupState M → GroupState M → Type 0
   StaysOneHistory start old new = (reported : List (Reported R)) → IsOneHistory start old.log old.replicas reported → IsOneHistory start new.log new.replicas reported
 

@@ -19,7 +19,7 @@ pub record AddsOnce (before : ℕ → List ℕ → Type 0) (batch : List ℕ) (a
   pub adds : Adds before at batch after
 
 -- so a fault of a step leaves a replica: where an entry was to be applied and memory was refused it is poisoned, and else as it was, but that
--- it may be behind now. No place is left where all were applied, and no step is told that others came first
+-- it may be behind now. No place is left where all were applied, and no step learns that others came first
 abbrev pub FaultLeaves : {M : Type 0} → ReplicaState M → Cause → ReplicaState M → Type 0
 FaultLeaves old (Store fault) new = new ≡ record old { behind = new.behind }
 FaultLeaves old Memory new = new.poisoned ≡ true

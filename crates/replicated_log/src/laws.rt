@@ -12,7 +12,7 @@ use crate::machine::Machine;
 use crate::store::Store;
 
 /// A law, which runs nothing, of machines that are determined by what is applied to them: replicas at one place of a log, that were led
-/// there from one start, are the same; and what is told at a place of the log is the same, whoever tells it.
+/// there from one start, are the same; and what is reported at a place of the log is the same, whoever tells it.
 pub fn law_of_agreement<M: Machine>()
     ensures states { IsDetermined M.applies → (start : M) (log : List (List ℕ)) (a b : ReplicaState M) →
         IsReplica M.applies (stands_in log) start a → IsReplica M.applies (stands_in log) start b →

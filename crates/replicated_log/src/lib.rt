@@ -2,7 +2,7 @@
 //!
 //! A `Store` has places, each of which is written at most once, by whoever comes first: what stands there in order is the log. A
 //! `Replica` applies the entries of the log to its `Machine`, each once, in their order. `Replica::serve` has a batch come to stand in
-//! the log, behind all that stands there, and gives the replies that are due there. So each reply is told at one place of one
+//! the log, behind all that stands there, and gives the replies that are due there. So each reply is reported at one place of one
 //! history, whichever replica told it (state machine replication).
 //!
 //! What a store over a network holds no contract can say. So `Store::stands` and `Store::lacks` say what the store's own value tells: of a `MemoryStore`
@@ -13,12 +13,18 @@
 //! for its own. So two batches that are to be two entries differ in their bytes: let each begin with a token of its own. A machine that was
 //! refused memory while it applied an entry is not known any more: its replica is poisoned, and never answers again (`Cause::Poisoned`).
 //!
+//! From `tests_log/src/replica_tests.rt`, over a store that loses the answer to each put:
+//!
 //! ```text
-//! let mut store = MemoryStore::new(alloc);
-//! let mut one = Replica::new(alloc, machine);
-//! let mut two = Replica::new(alloc, other);           // a machine of the same type
-//! one.serve(&mut store, b"1 first", &mut replies)?;   // the replies due at place 0
-//! two.serve(&mut store, b"2 second", &mut replies)?;  // it applies the first, and then its own: those due at place 1
+//! let mut store = Lossy::new(MemoryStore::new(alloc), 1);
+//! let mut replies = Vec::new(alloc);
+//! let mut one = replica(alloc, 0);
+//! let reported = [
+//!     one.serve(&mut store, b"1 a", &mut replies),
+//!     one.serve(&mut store, b"1 a", &mut replies),
+//! ];
+//! let lost = ServeFault::Unknown(Cause::Store(StoreFault::Lost));
+//! reported == [Err(lost), Ok(())]
 //! ```
 #![tactic(auto)]
 

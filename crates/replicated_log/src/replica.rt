@@ -313,7 +313,7 @@ impl<M: Machine> Replica<M> {
     }
 
     /// Applies what stands in the log behind what was applied, up to so many entries; tells how many they were. The replies to them are
-    /// told to nobody.
+    /// reported to nobody.
     pub fn catch_up<S: Store>(
         &mut self,
         store: &mut S,

@@ -26,7 +26,7 @@ and_false : (b : Bool) → (b && false) ≡ true → ⊥
 and_false true h = false≢true h
 and_false false h = false≢true h
 
--- a refusal that is told rightly is the one that is due, or an allocation failure
+-- a refusal that is right is the one that is due, or an allocation failure
 reported_due : (due : Option Refusal) (lacks : Bool) (n : ℕ) → is_reported_rightly due lacks n ≡ true →
     ((why : Refusal) × (due ≡ Some why) × (refusal_number why ≡ n)) ⊎ ((due ≡ None) × (lacks ≡ true) × (n ≡ 12))
 reported_due None lacks n h = let p = and_parts lacks (n == 12) h in inr (refl, p.0, elim (eqb_tells n 12) [ inl y ↦ y.1 | inr y ↦ absurd (false≢true (sym y.0 ∙ p.1)) ])
@@ -49,11 +49,11 @@ fetched_err : (values : List ℕ) (r : Result ℕ Refusal) (why : Refusal) → r
 fetched_err values (Ok n) why e = cc
 fetched_err values (Err w) why e = sym e
 
--- a reply that is told in one way
+-- a reply that is reported in one way
 reported : {x : Exchange} {l : Line} → line_of true x ≡ l → IsLineOf x l
 reported e = record { shows = true; spelled = e }
 
--- a name is told with its view where that is written
+-- a name is reported with its view where that is written
 named_so : (e : Event) (n : ℕ) (view : List (ℕ × ℕ)) (shown : Option (List (ℕ × ℕ))) → IsWritten shown view → IsLineOf (record { event = e; reply = reply.Named n view }) (line e (Named n shown))
 named_so e n view None w = record { shows = false; spelled = refl }
 named_so e n view (Some pairs) w = record { shows = true; spelled = ap (λ (v : List (ℕ × ℕ)). line e (Named n (Some v))) w }
@@ -103,7 +103,7 @@ can_follow terms o (Widen more) Accepted k = record { call = Slotted (Extended m
 can_follow terms o (Widen more) (Refused n) k = refused terms o (Widen more) (λ w. Slotted (Extended more 0 (Err w))) (λ w. refl) _ n (k reason.Refusal) (λ w due. (sym (ap done_unless due), refl))
 can_follow terms o e t k = let r : is_reply_of t e ≡ true = k reason.Reply in absurd (cc)
 
--- what is told where nothing is due, and where something is
+-- what is reported where nothing is due, and where something is
 due_reported : (due : Option Refusal) (lacks : Bool) (why : Refusal) → due ≡ Some why → is_reported_rightly due lacks (refusal_number why) ≡ true
 due_reported None lacks why e = cc
 due_reported (Some w) lacks why e = eq-eqb (refusal_number w) (refusal_number why) (let f : w ≡ why = cc in ap refusal_number f)

@@ -24,7 +24,7 @@ abbrev pub FitsPlace : ShownReply → Type 0
 FitsPlace (reply.Place place) = place < 2 ^ 128
 FitsPlace r = Unit {0}
 
--- what is asked, and the places that are told, fit a record
+-- what is asked, and the places that are reported, fit a record
 abbrev pub AreWritable : List Exchange → Type 0
 AreWritable [] = Unit {0}
 AreWritable (x ∷ xs) = IsNarrowEvent x.event × FitsPlace x.reply × AreWritable xs

@@ -33,7 +33,7 @@ pub record IsTaken (terms : RenameTerms) (o : DeskObject) (l : Line) (new : Chec
   pub keeps : KeepsAll terms o l.event l.reported
   pub after : HoldsDesk terms new (after_line o l)
 
--- it can follow, or the least reason for which it can't is told; a refused growth says nothing
+-- it can follow, or the least reason for which it can't is reported; a refused growth says nothing
 abbrev pub IsJudged : RenameTerms → DeskObject → Line → Result (Unit {0}) Fault → Checker → Type 0
 IsJudged terms o l (Ok done) new = IsTaken terms o l new
 IsJudged terms o l (Err (Unlawful why)) new = IsLeastReason terms o l.event l.reported why

@@ -31,7 +31,7 @@ pub record CanFollow (terms : RenameTerms) (o : DeskObject) (l : Line) : Type 0 
   pub spelled : IsLineOf (exchange_of call) l
   pub allowed : AllowsCall terms o call
 
--- the objects after an event with what is told of its reply
+-- the objects after an event with what is reported of its reply
 abbrev pub after_reported : DeskObject → Event → Reported → DeskObject
 after_reported o (Begin p) Accepted = after_call o (Renamed (Began p (Ok tt)))
 after_reported o (Step p) (Place place) = after_call o (Renamed (Stepped p (Ok (step.Placed place))))

@@ -46,7 +46,7 @@ abbrev pub is_reported_rightly : Option Refusal → Bool → ℕ → Bool
 is_reported_rightly None lacks number = lacks && number == 12
 is_reported_rightly (Some why) lacks number = refusal_number why == number
 
--- a refusal is told where it is due and as it is due
+-- a refusal is reported where it is due and as it is due
 abbrev pub is_refused_as_due : Option Refusal → Bool → Reported → Bool
 is_refused_as_due due lacks (Refused number) = is_reported_rightly due lacks number
 is_refused_as_due due lacks t = is_none due

@@ -21,14 +21,14 @@ use run_judges::{Names, Stays};
 use std::alloc::{AllocError, Global};
 use step_memory::{Place, Refusal};
 
-/// What is kept of the lines so far: the renaming object, the pool and the slots, without what they show to nobody again.
+/// The state of the objects after the lines so far: the renaming object, the pool and the slots.
 pub struct Checker {
     names: Names,
     stays: Stays,
     grows: bool,
 }
 
-// By hand, so that a checker is taken apart here alone, and not wherever one is dropped.
+// By hand, so that the code that drops a checker is here alone, and not at each place where one goes out of scope.
 impl Drop for Checker {
     fn drop(self) {
         let Checker {
@@ -39,7 +39,8 @@ impl Drop for Checker {
     }
 }
 
-/// Whether a refusal is told as it is due; where none is, an allocation failure may be told where there may be one.
+/// Whether the number of a refusal is that of the one due, or, if none is due, that of an allocation failure that may
+/// occur.
 fn is_reported_rightly(due: Option<Refusal>, lacks: bool, number: u64) -> bool
     ensures { result ≡ is_reported_rightly due lacks number }
 {
@@ -49,7 +50,7 @@ fn is_reported_rightly(due: Option<Refusal>, lacks: bool, number: u64) -> bool
     }
 }
 
-/// Whether a refusal is told where it is due, and as it is due.
+/// Whether a refusal is reported if and only if one is due, with its number.
 fn is_refused_as_due(due: Option<Refusal>, lacks: bool, reported: &Reported) -> bool
     ensures { result ≡ is_refused_as_due due lacks reported.now }
 {
@@ -60,8 +61,11 @@ fn is_refused_as_due(due: Option<Refusal>, lacks: bool, reported: &Reported) -> 
 }
 
 impl Checker {
-    /// No line was taken yet, of a record with this config; with room for what so many lines ask to be kept. An error where a
-    /// growth was refused.
+    /// Makes the state before the first line of a record of this configuration, with room for `lines` lines.
+    ///
+    /// # Errors
+    ///
+    /// `AllocError`: the allocation failed.
     pub fn new(alloc: Global, config: Config, lines: usize) -> Result<Checker, AllocError>
         ensures { IfOk result (HasTaken (terms_of config) config.k []) }
     {
@@ -72,7 +76,7 @@ impl Checker {
         })
     }
 
-    /// The refusal that an event is due, failed allocations aside.
+    /// The refusal that is due to an event, failed allocations aside, or `None`.
     fn refusal_due(&self, event: Event) -> Option<Refusal>
         ensures { (terms : RenameTerms) (o : DeskObject) → HoldsDesk terms self.now o → result ≡ refusal_due terms o event }
     {
@@ -88,14 +92,14 @@ impl Checker {
         }
     }
 
-    /// Whether an allocation failure may be told of an event of which no other refusal is due.
+    /// Whether an allocation failure may be reported of an event to which no other refusal is due.
     fn may_lack(&self, event: Event) -> bool
         ensures { result ≡ (self.now.grows && is_step event) }
     {
         self.grows && is_step(event)
     }
 
-    /// A participant begins that may.
+    /// Judges that a participant, which may begin, begins.
     fn begin(&mut self, id: u64) -> Result<(), Fault>
         ensures { Judges (MayBegin id) self.old (line (event.Begin id) reported.Ok) result self.new }
     {
@@ -103,7 +107,7 @@ impl Checker {
         Ok(())
     }
 
-    /// A participant that may step is told a place.
+    /// Judges that a participant, which may step, gets a place.
     fn place(&mut self, id: u64, place: Place) -> Result<(), Fault>
         ensures { Judges (MayStep id) self.old (line (event.Step id) (reported.Place place)) result self.new }
     {
@@ -113,7 +117,7 @@ impl Checker {
         Ok(())
     }
 
-    /// A participant that may step is told that it has proposed.
+    /// Judges that a participant, which may step, has proposed.
     fn propose(&mut self, id: u64, number: u64) -> Result<(), Fault>
         ensures { JudgesWithRoom (MayStep id) self.old (line (event.Step id) (reported.Proposed number)) result self.new }
     {
@@ -124,7 +128,7 @@ impl Checker {
         Ok(())
     }
 
-    /// A participant that may step is told a view.
+    /// Judges that a participant, which may step, gets a view.
     fn see(&self, id: u64, view: &Pairs) -> Result<(), Fault>
         ensures { Judges (MayStep id) self.now (line (event.Step id) (reported.Saw view.now)) result self.now }
     {
@@ -137,7 +141,7 @@ impl Checker {
         Ok(())
     }
 
-    /// A participant that may step is told a name.
+    /// Judges that a participant, which may step, gets a name.
     fn name(&mut self, id: u64, name: u64, shown: Option<&Pairs>) -> Result<(), Fault>
         ensures { Judges (MayStep id) self.old (line (event.Step id) (reported.Named name (option_copied shown.entry))) result self.new }
     {
@@ -148,7 +152,7 @@ impl Checker {
         Ok(())
     }
 
-    /// A participant that may step is told that it is spent.
+    /// Judges that a participant, which may step, is spent.
     fn spend(&mut self, id: u64) -> Result<(), Fault>
         ensures { Judges (MayStep id) self.old (line (event.Step id) reported.Spent) result self.new }
     {
@@ -162,7 +166,7 @@ impl Checker {
         Ok(())
     }
 
-    /// An identity enters that may.
+    /// Judges that an identity, which may enter, enters.
     fn enter(&mut self, id: u64) -> Result<(), Fault>
         ensures { Judges (MayEnter id) self.old (line (event.Enter id) reported.Ok) result self.new }
     {
@@ -170,7 +174,7 @@ impl Checker {
         Ok(())
     }
 
-    /// An identity that may probe is told that it missed.
+    /// Judges that an identity, which may probe, misses.
     fn miss(&mut self, id: u64) -> Result<(), Fault>
         ensures { Judges (MayProbe id) self.old (line (event.Probe id) reported.Missed) result self.new }
     {
@@ -181,7 +185,7 @@ impl Checker {
         Ok(())
     }
 
-    /// An identity that may probe is told a number.
+    /// Judges that an identity, which may probe, gets a number.
     fn gain(&mut self, id: u64, number: u64) -> Result<(), Fault>
         ensures { Judges (MayProbe id) self.old (line (event.Probe id) (reported.Got number)) result self.new }
     {
@@ -192,7 +196,7 @@ impl Checker {
         Ok(())
     }
 
-    /// The holder of a number is told which one it gives back.
+    /// Judges that the holder of a number gives it back.
     fn leave(&mut self, id: u64, number: u64) -> Result<(), Fault>
         ensures { Judges (HoldsNumber id) self.old (line (event.Leave id) (reported.Left number)) result self.new }
     {
@@ -206,7 +210,7 @@ impl Checker {
         Ok(())
     }
 
-    /// The holder of a number puts a value.
+    /// Judges that the holder of a number puts a value.
     fn put(&mut self, id: u64, value: u64) -> Result<(), Fault>
         ensures { Judges (HoldsNumber id) self.old (line (event.Put id value) reported.Ok) result self.new }
     {
@@ -217,7 +221,7 @@ impl Checker {
         Ok(())
     }
 
-    /// The holder of a number is told the value in its slot.
+    /// Judges that the holder of a number gets the value in its slot.
     fn get(&self, id: u64, value: u64) -> Result<(), Fault>
         ensures { Judges (HoldsNumber id) self.now (line (event.Get id) (reported.Value value)) result self.now }
     {
@@ -230,7 +234,7 @@ impl Checker {
         Ok(())
     }
 
-    /// The pool gets more numbers where it may.
+    /// Judges that the pool, which may, gets more numbers.
     fn widen(&mut self, more: u64) -> Result<(), Fault>
         ensures { Judges (MayWiden more) self.old (line (event.Widen more) reported.Ok) result self.new }
     {
@@ -238,7 +242,7 @@ impl Checker {
         Ok(())
     }
 
-    /// What a step is told changes the renaming object.
+    /// Judges the reply to a step.
     fn step(&mut self, id: u64, reported: &Reported) -> Result<(), Fault>
         ensures { JudgesWithRoom (IsDueSo (event.Step id) reported.now) self.old (line (event.Step id) reported.now) result self.new }
     {
@@ -252,7 +256,7 @@ impl Checker {
         }
     }
 
-    /// What a probe is told changes the pool.
+    /// Judges the reply to a probe.
     fn probe(&mut self, id: u64, reported: &Reported) -> Result<(), Fault>
         ensures { Judges (IsDueSo (event.Probe id) reported.now) self.old (line (event.Probe id) reported.now) result self.new }
     {
@@ -263,7 +267,7 @@ impl Checker {
         }
     }
 
-    /// What is told of an event, of whose command it is a reply and which is refused as it is due, changes the objects.
+    /// Judges a reply of the event's command, of which a refusal is the one due, and updates the objects.
     fn follow(&mut self, event: Event, reported: &Reported) -> Result<(), Fault>
         ensures { JudgesWithRoom (IsDueSo event reported.now) self.old (line event reported.now) result self.new }
     {
@@ -297,7 +301,7 @@ impl Checker {
         }
     }
 
-    /// Takes a line, by the objects that are kept.
+    /// Judges a line, and updates the objects.
     fn take_line(&mut self, line: &Line) -> Result<(), Fault>
         ensures { Judges HasRoom self.old line.now result self.new }
     {
@@ -311,8 +315,14 @@ impl Checker {
         self.follow(line.event, &line.reported)
     }
 
-    /// Takes a line, and tells nothing, where it can follow those before it; else tells the least reason for which it can't.
-    /// An error where a growth was refused. After a reason or an error the checker is of no more use.
+    /// Takes a line and returns `None`, if it can follow the lines before it. Otherwise returns the least reason that
+    /// fits.
+    ///
+    /// After a reason or an error the checker is of no use.
+    ///
+    /// # Errors
+    ///
+    /// `AllocError`: the allocation failed.
     pub fn judge(&mut self, line: &Line) -> Result<Option<Reason>, AllocError>
         ensures { IfOk result (λ r. TakesMore line.now self.old r self.new) }
     {

@@ -1,4 +1,4 @@
-//! Why a checker does not go on.
+//! Why a checker stops.
 
 ghost use Rattle.std.specs.Prelude.{◌≡◌};
 ghost use Rattle.run_checker.specs.Fault.{reported_by};
@@ -7,17 +7,21 @@ ghost use Rattle.run_checker.specs.declared.fault.Fault.TheVariants as fault;
 use crate::reason::Reason;
 use std::alloc::AllocError;
 
-/// Why a checker does not go on after a line.
+/// Why a checker stops at a line.
 #[derive(Clone, Copy, Drop)]
 pub enum Fault {
     /// The line can't follow those before it.
     Unlawful(Reason),
-    /// A growth was refused.
+    /// An allocation failed.
     NoMemory,
 }
 
 impl Fault {
-    /// The reason, or that a growth was refused.
+    /// Returns the reason.
+    ///
+    /// # Errors
+    ///
+    /// `AllocError`: an allocation failed.
     pub fn reported(self) -> Result<Option<Reason>, AllocError>
         ensures { result ≡ reported_by self }
     {

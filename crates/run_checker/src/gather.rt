@@ -1,4 +1,4 @@
-//! What is done with lines that were taken.
+//! What is built of the lines that were taken.
 
 ghost use Rattle.std.specs.Prelude.{List, OnOk};
 ghost use Rattle.commands.specs.declared.config.Config.{Config};
@@ -8,18 +8,21 @@ ghost use Rattle.run_checker.specs.Gathered.{Gathers};
 use record_lines::Line;
 use std::alloc::AllocError;
 
-/// What is done with each line that can follow those before it.
+/// What is built of the lines that can follow those before them.
 pub trait Gather {
-    /// What is gathered is of these lines, of a record of this config.
+    /// It is built of these lines, of a record of this configuration.
     ghost is_of: { Config → List Line → Self → Type 0 };
 
-    /// One more line, which can follow those before it. An error where a growth was refused; then what is gathered is of no more
-    /// use.
+    /// Adds a line, which can follow those before it.
+    ///
+    /// # Errors
+    ///
+    /// `AllocError`: the allocation failed. What is built is then of no use.
     fn take(&mut self, line: &Line) -> Result<(), AllocError>
         ensures { OnOk result (Gathers is_of line.now self.old self.new) };
 }
 
-/// Nothing is gathered.
+/// Builds nothing.
 #[derive(Drop)]
 pub struct Nothing;
 

@@ -1,4 +1,4 @@
-//! Judges a record whose bytes come one after the other.
+//! Judges a record whose bytes are given part by part.
 
 ghost use Rattle.std.specs.Prelude.{◌≡◌, ℕ, List, [], ◌∷◌, ◌++◌, IfOk, OnOk};
 ghost use Rattle.run_checker.specs.Stages.{HasTakenAll, StandsAfter};
@@ -15,7 +15,7 @@ use std::alloc::{AllocError, Global};
 /// How far the lines of a record are judged.
 #[derive(Drop)]
 pub enum Stage {
-    /// There was no line yet.
+    /// There is no line yet.
     Opening,
     /// The lines so far can follow one another.
     Judging(RowJudge),
@@ -23,7 +23,8 @@ pub enum Stage {
     Over(Verdict),
 }
 
-/// What is kept of a record so far: how far its lines are judged, and the bytes of the next, which is not whole.
+/// Judges a record whose bytes are given part by part. It holds the state of the objects and the bytes of the present
+/// line.
 #[derive(Drop)]
 pub struct Judge {
     alloc: Global,
@@ -31,7 +32,7 @@ pub struct Judge {
     stage: Stage,
 }
 
-// What follows from the first line.
+// The stage after the first line.
 fn opened(alloc: Global, line: &[u8]) -> Result<Stage, AllocError>
     ensures { IfOk result (StandsAfter (line.now ∷ [])) }
 {
@@ -41,7 +42,7 @@ fn opened(alloc: Global, line: &[u8]) -> Result<Stage, AllocError>
     }
 }
 
-// Takes the first line. A function of its own, since what follows from it is a kilobyte, for which room would be cleared at each line.
+// Takes the first line. It is a function of its own, since the new stage is a kilobyte, for which each line would clear room.
 #[inline(never)]
 fn take_first(alloc: Global, stage: &mut Stage, line: &[u8]) -> Result<(), AllocError>
     ensures { OnOk result (StandsAfter (line.now ∷ []) stage.new) }
@@ -50,7 +51,7 @@ fn take_first(alloc: Global, stage: &mut Stage, line: &[u8]) -> Result<(), Alloc
     Ok(())
 }
 
-// The verdict is known. A function of its own for the same reason.
+// Stores a verdict. It is a function of its own for the same reason.
 #[inline(never)]
 fn conclude(stage: &mut Stage, verdict: Verdict)
     ensures { stage.new ≡ Stage.Over verdict }
@@ -75,7 +76,7 @@ fn judge_line(alloc: Global, stage: &mut Stage, line: &[u8]) -> Result<(), Alloc
     }
 }
 
-// The verdict where no line follows.
+// The verdict if no line follows.
 fn verdict_of(stage: &Stage) -> Verdict
     ensures { (lines : List (List ℕ)) → StandsAfter lines stage.now → IsSaid lines result }
 {
@@ -87,7 +88,7 @@ fn verdict_of(stage: &Stage) -> Verdict
 }
 
 impl Judge {
-    /// No byte was taken yet.
+    /// Makes a judge that has taken no byte. This allocates nothing.
     pub fn new(alloc: Global) -> Judge
         ensures { HasTakenAll [] result }
     {
@@ -98,7 +99,7 @@ impl Judge {
         }
     }
 
-    // The end of a line came.
+    // Judges a line at its end.
     fn end_line(&mut self, line: &[u8]) -> Result<(), AllocError>
         ensures held { OnOk result (self.new.held.items ≡ []) }
         ensures stands { OnOk result ((lines : List (List ℕ)) → StandsAfter lines self.old.stage →
@@ -113,8 +114,11 @@ impl Judge {
         judged
     }
 
-    /// Takes some more bytes of the record, and judges the lines that end in them. An error where a growth was refused; then it is of no
-    /// more use.
+    /// Takes more bytes of the record, and judges the lines that end in them.
+    ///
+    /// # Errors
+    ///
+    /// `AllocError`: the allocation failed. The judge is then of no use.
     pub fn take(&mut self, bytes: &[u8]) -> Result<(), AllocError>
         ensures { OnOk result ((seen : List ℕ) → HasTakenAll seen self.old → HasTakenAll (seen ++ bytes.now) self.new) }
     {
@@ -130,7 +134,7 @@ impl Judge {
         Ok(())
     }
 
-    // The end of the record came: what stands before it with no LF is a line too, if it is not empty.
+    // Judges the end of the record: the bytes before it with no LF are a line too, if there are any.
     fn end_last(&mut self) -> Result<(), AllocError>
         ensures { OnOk result ((lines : List (List ℕ)) → StandsAfter lines self.old.stage →
             StandsAfter (lines ++ unless_empty self.old.held.items) self.new.stage) }
@@ -141,7 +145,11 @@ impl Judge {
         judge_line(self.alloc, &mut self.stage, &self.held)
     }
 
-    /// The verdict on the bytes that were taken, once they are all. An error where a growth was refused.
+    /// Returns the verdict on all bytes that were taken.
+    ///
+    /// # Errors
+    ///
+    /// `AllocError`: the allocation failed.
     pub fn verdict(self) -> Result<Verdict, AllocError>
         ensures { IfOk result (λ v. (seen : List ℕ) → HasTakenAll seen self → IsSaid (record_lines seen) v) }
     {

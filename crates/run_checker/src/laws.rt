@@ -1,4 +1,4 @@
-//! What the verdicts stand on.
+//! Laws of records and verdicts, which run nothing.
 
 ghost use Rattle.std.specs.Prelude.{◌≡◌, ◌↔◌, ◌∷◌, ◌++◌, ℕ, List, Bool, map};
 ghost use Rattle.rename_core.specs.RenameObject.{RenameTerms};
@@ -25,14 +25,16 @@ ghost use Rattle.run_checker.specs.Verdict.{IsSaid, IsSaidAfter};
 
 use player::{Sink, Source};
 
-/// A law, which runs nothing: a line can follow those before it exactly where none of the seven reasons fits.
+/// A law: a line can follow those before it if and only if none of the seven reasons fits.
 pub fn law_of_reasons()
     ensures { (terms : RenameTerms) (o : DeskObject) (l : Line) → CanFollow terms o l ↔ KeepsAll terms o l.event l.reported }
 {}
 
-/// A law, which runs nothing: lines are those of a run, for some choice of the views that are not written, exactly where each
-/// can follow those before it; where one after these is at fault, they and it are not, whatever comes after; and a call leaves the objects as
-/// its line does.
+/// A law: lines are those of a run if and only if each can follow those before it. The views that are not written may
+/// be any.
+///
+/// If one after these is at fault, they and it are not those of a run, whatever comes after. A call leaves the objects
+/// as its line does.
 pub fn law_of_followed_lines()
     ensures run { (terms : RenameTerms) (size : ℕ) (lines : List Line) → AreLinesOfRun terms size lines → (o : DeskObject) × Follow terms size lines o }
     ensures follow { (terms : RenameTerms) (size : ℕ) (lines : List Line) (o : DeskObject) → Follow terms size lines o → AreLinesOfRun terms size lines }
@@ -42,9 +44,11 @@ pub fn law_of_followed_lines()
         IsLineOf (exchange_of c) l → AllowsCall terms o c → after_call o c ≡ after_line o l }
 {}
 
-/// A law, which runs nothing: lines are those of a run, for some choice of the views that are not written, exactly where each
-/// can follow those before it; and where one after these is at fault, they and it are not, whatever comes after. Of a record of
-/// which `Yes` is said nothing else is.
+/// A law: lines are those of a run if and only if each can follow those before it. The views that are not written may
+/// be any.
+///
+/// If one after these is at fault, they and it are not those of a run, whatever comes after. A record with the verdict
+/// `Yes` has no other.
 pub fn law_of_records()
     ensures run { (terms : RenameTerms) (size : ℕ) (lines : List Line) → AreLinesOfRun terms size lines → (o : DeskObject) × Follow terms size lines o }
     ensures follow { (terms : RenameTerms) (size : ℕ) (lines : List Line) (o : DeskObject) → Follow terms size lines o → AreLinesOfRun terms size lines }
@@ -53,8 +57,9 @@ pub fn law_of_records()
     ensures yes { (lines : List (List ℕ)) (v : Verdict) → IsSaidAfter lines Yes → IsSaid lines v → v ≡ Yes }
 {}
 
-/// A law, which runs nothing: the exchanges of a desk's run, which also keeps its counts of steps, are ones that the objects can
-/// make; so their lines are those of a run, with the views by which names were given or without them.
+/// A law: the exchanges of a desk's run, which also keeps its counts of steps, are ones that the objects can make.
+///
+/// So their lines are those of a run, with the views by which names were given or without them.
 pub fn law_of_desk_runs()
     ensures object { (terms : RenameTerms) (bounds : SnapBounds) (size : ℕ) (r : List Exchange) →
         IsDeskRun terms bounds size r → IsObjectRun terms size r }
@@ -62,17 +67,20 @@ pub fn law_of_desk_runs()
         IsDeskRun terms bounds size r → (shows : Bool) → AreLinesOfRun terms size (map (line_of shows) r) }
 {}
 
-/// A law, which runs nothing, of the worlds with names: the record of a transcript to what some lines ask, with at most a million events,
-/// is a header and for each exchange, in order, a line that says it; it is said to be a run's, and nothing else is said of it where no
-/// growth is refused.
+/// A law of the worlds with names, of the record of a transcript with at most a million events.
+///
+/// It is a header, and for each exchange, in order, its line. Its verdict is `Yes`, and no other if no allocation
+/// fails.
 pub fn law_of_recorded_transcripts()
     ensures says { (c : Config) (ls : List (List ℕ)) (ts : List Turn) → IsShortTranscript c ls ts → IsRecordOf c (exchanges ts) (record_of c ts) }
     ensures said { (c : Config) (ls : List (List ℕ)) (ts : List Turn) → IsShortTranscript c ls ts → IsSaid (record_lines (record_of c ts)) Yes }
     ensures yes { (c : Config) (ls : List (List ℕ)) (ts : List Turn) → IsShortTranscript c ls ts → IsYes (record_of c ts) }
 {}
 
-/// A law, which runs nothing: where `record` has ended, of an input with at most a million events, what it wrote is the record of a
-/// transcript to the input's lines; and `check` answers `Yes` to it, or `NoMemory` where a growth was refused.
+/// A law of what `record` has written of an input with at most a million events, if it returned `Ok`.
+///
+/// It is the record of a transcript to the input's lines. `check` returns `Yes` for it, or `NoMemory` if an allocation
+/// failed.
 pub fn law_of_recording<R: Source, W: Sink>()
     ensures says { (c : Config) (r r' : R) (w w' : W) (input bytes : List ℕ) →
         HasRecorded c (reading R.remaining R.calls R.failed r r') (writing W.contents W.failed w w') input bytes → RecordsTranscript c input bytes }

@@ -1,47 +1,63 @@
-//! Tells whether a record is a run, from the objects alone: nothing is played.
+//! Judges whether a record is one of a run, by the objects alone: nothing is played.
 //!
-//! A record is lines of JSON: a header, which says of what a run it is, and then an event with its reply as each line. `check`
-//! decides of its bytes. What is proved (`IsVerdict`), where no growth is refused:
+//! A record is lines of JSON: a header, which has the configuration of the run, and then an event with its reply as
+//! each line. `check` returns a verdict on its bytes. What is proved (`IsVerdict`), if no allocation fails:
 //!
-//! - `Yes`: the first line is a header, the others, at most 1,000,000, spell events with replies, and those are a run of the
-//!   renaming object, the pool and the slots, for some choice of the views that are not written. The header's size of the pool
-//!   is that at the start: a `widen` that is answered `ok` changes it for the lines after it.
+//! - `Yes`: the first line is a header, and the others, at most 1,000,000, are events with replies. These are a run of
+//!   the renaming object, the pool and the slots, for some choice of the views that are not written. The header's size
+//!   of the pool is that at the start: a `widen` with the reply `ok` changes it for the lines after it.
+//! - `No` with a line and a reason: the lines before it are read and can follow one another. The line is read and
+//!   cannot follow, for this reason of seven and for no lesser one.
+//! - `BadRecord` with a line: the lines before it are read and can follow one another. The line is no line of a record.
 //!
-//!   There are two versions of records. In version 2 the view by which a name was given is written beside it, as the key `view`
-//!   of that line and of no other; in version 1 it is not, and there are at most 16 participants.
-//! - `No` of a line and a reason: the lines before it are read and follow one another; it is read too and can't follow, for this
-//!   reason of seven and for no lesser one.
-//! - `BadRecord` of a line: the lines before it are read and follow one another, and it is none of a record.
+//! So the first fault decides, of whichever kind. There are two versions of records. In version 2 the view by which a
+//! name was given is written beside it, as the key `view` of that line alone. In version 1 it is not written, and there
+//! are at most 16 participants.
 //!
-//! So the first fault decides, of whichever kind. That a line can follow exactly where no reason fits is `law_of_reasons`; that a
-//! list is one of a run exactly where each of its lines can follow, `law_of_records`; that what a desk answers is always one,
-//! `law_of_desk_runs`. A `Checker` judges one line after the other, and keeps what `run_judges` keeps of the objects. `Checker::judge` takes
-//! a line exactly where it can follow those that were taken before it, and else says the least of seven reasons (`TakesMore`). `first_fault`
-//! goes over a list of lines that were read already. That a line of a run is one that can follow those before it is `law_of_followed_lines`. What a line
-//! says is read by `record_lines`, whose `Line`, `Reported`, `Pairs`, `Header`, `Version` and `read_reply` can be named here as well.
+//! A line can follow if and only if no reason fits (`law_of_reasons`). A list is one of a run if and only if each of
+//! its lines can follow (`law_of_followed_lines`, `law_of_records`). What a desk answers is always one
+//! (`law_of_desk_runs`). A `Checker` judges one line after another with the state of `run_judges`. `Checker::judge`
+//! takes a line if and only if it can follow those taken before it, and otherwise returns the least of seven reasons
+//! (`TakesMore`). `first_fault` judges a list of lines that were read. The lines are read by `record_lines`, whose
+//! `Line`, `Reported`, `Pairs`, `Header`, `Version` and `read_reply` can be named here as well.
 //!
-//! What `record` of `schedule_player` writes of an input with at most 1,000,000 events is the record of a transcript to its lines, and `check`
-//! answers `Yes` to it, or `NoMemory`: `law_of_recording`, and over transcripts alone `law_of_recorded_transcripts`.
+//! What `record` of `schedule_player` writes of an input with at most 1,000,000 events is the record of a transcript to
+//! its lines. `check` returns `Yes` for it, or `NoMemory` (`law_of_recording`; `law_of_recorded_transcripts` over
+//! transcripts alone).
 //!
-//! `Judge` judges a record whose bytes come one after the other, as `check` judges one that lies there whole, and keeps none of its lines
-//! but the one that is not whole: `take` for the bytes, and `verdict` at the end (`HasTakenAll`, `IsSaid`).
+//! `Judge` judges a record whose bytes are given part by part, as `check` judges a whole one (`HasTakenAll`, `IsSaid`).
 //!
-//! `migrate` writes a record again in version 2 where it is one of a run, in the compact spelling. A view by which a name was given
-//! that is not written is the first moment since the identity's last proposal in which no other proposed the same. What is proved
-//! (`IsMigrated`): the lines are those of exchanges that the objects can make, with each such view the first; what is written is their
-//! record of version 2, of which nothing but `Yes` is said, or at a write fault a prefix of it; with another verdict nothing is
-//! written.
+//! `migrate` writes a record again in version 2, in the compact spelling, if it is one of a run. It adds each view by
+//! which a name was given and that is not written. That view is the first moment since the identity's last proposal in
+//! which no other proposed the same. What is proved (`IsMigrated`): the lines are those of exchanges that the objects
+//! can make, with each such view the first. What is written is their record of version 2, for which only `Yes` is a
+//! verdict, or at a write fault a prefix of it. With another verdict nothing is written.
 //!
-//! `NoMemory` says nothing of the record, and no clause says when a growth is refused: that a verdict comes where memory is given is
-//! tested.
+//! `NoMemory` means nothing of the record. Only tested: that a verdict other than `NoMemory` is returned if no
+//! allocation fails.
 //!
-//! A caller:
+//! From `tests_player/src/recording_tests.rt`:
 //!
 //! ```text
-//! let bytes = b"{\"format\":\"slot-record\",\"k\":4,\"limit\":1000,\"m\":1,\"version\":2,\"world\":\"rename\"}\n\
-//!               {\"command\":\"begin 7\",\"reply\":\"ok\"}\n\
-//!               {\"command\":\"step 7\",\"reply\":\"named 1\",\"view\":\"7:1\"}\n";
-//! check(alloc, bytes);                    // No(3, Reason::Name): 7 has proposed nothing
+//! let mut reader = Tried::new(input);
+//! let mut writer = Tried::new(Vec::new(alloc));
+//! record(alloc, &mut reader, &mut writer, config)?;
+//! let bytes = writer.into_inner();
+//! Ok(check(alloc, &bytes))
+//! ```
+//!
+//! From `tests_player/src/lines_tests.rt`:
+//!
+//! ```text
+//! first_fault(alloc, config, lines).ok()
+//! ..
+//! let lines = [
+//!     begin(10),
+//!     begin(20),
+//!     step(20, Reported::Proposed(1)),
+//!     step(10, Reported::Proposed(1)),
+//!     step(10, last),
+//! ];
 //! ```
 #![tactic(auto)]
 

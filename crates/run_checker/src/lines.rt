@@ -1,4 +1,4 @@
-//! Goes over a list of lines.
+//! Judges a list of lines.
 
 ghost use Rattle.std.specs.Prelude.{◌≡◌, ◌≤◌, ◌↔◌, length, IfOk, None};
 ghost use Rattle.run_checker.specs.Config.{terms_of};
@@ -11,8 +11,13 @@ use commands::Config;
 use record_lines::Line;
 use std::alloc::{AllocError, Global};
 
-/// The first of at most a million lines that can't follow those before it, from 0, with the least reason that fits; `None`
-/// where they are those of a run of this config. An error where a growth was refused.
+/// Returns the index, from 0, of the first line that cannot follow those before it, with the least reason that fits.
+///
+/// Returns `None` if and only if the lines are those of a run of this configuration. There are at most a million lines.
+///
+/// # Errors
+///
+/// `AllocError`: the allocation failed.
 pub fn first_fault(
     alloc: Global,
     config: Config,
@@ -21,7 +26,7 @@ pub fn first_fault(
     requires { length lines.now ≤ 1000000 }
     ensures fault { IfOk result (IsFirstFaultOrNone (terms_of config) config.k lines.now) }
 
-    // None is found exactly where the lines are those of a run.
+    // None is found if and only if the lines are those of a run.
     ensures none { IfOk result (λ r. (r ≡ None) ↔ AreLinesOfRun (terms_of config) config.k lines.now) }
 {
     let mut checker = Checker::new(alloc, config, lines.len())?;

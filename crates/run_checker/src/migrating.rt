@@ -14,7 +14,7 @@ use player::{Fault, Sink};
 use record_lines::Text;
 use std::alloc::{AllocError, Global};
 
-/// The text to which a record is migrated, or what else than Yes is said of it. An error where a growth was refused.
+/// The text of a record in version 2, or the verdict on it if that is not `Yes`.
 fn migrated(alloc: Global, bytes: &[u8]) -> Result<Result<Text, Verdict>, AllocError>
     ensures { IfOk result (λ r. MatchResult r (IsMigratedTo bytes.now) (IsOther (IsSaid (record_lines bytes.now)))) }
 {
@@ -28,10 +28,15 @@ fn migrated(alloc: Global, bytes: &[u8]) -> Result<Result<Text, Verdict>, AllocE
     }
 }
 
-/// Writes a record again in version 2 where it is one of a run, and answers the verdict on it: `Yes` with the text written,
-/// another with nothing written. A view by which a name was given that is not written is the first by which it could be given.
+/// Writes a record again in version 2 if it is one of a run, and returns the verdict on it. Otherwise it writes
+/// nothing.
 ///
-/// `Fault::Write` where the writer failed, with a prefix of the text written.
+/// A view by which a name was given and that is not written is the first by which it could be given. If an allocation
+/// fails, the verdict is `NoMemory`.
+///
+/// # Errors
+///
+/// `Write`: a write failed or took no byte. A prefix of the text is written.
 pub fn migrate<W: Sink>(alloc: Global, bytes: &[u8], writer: &mut W) -> Result<Verdict, Fault>
     requires { W.calls writer.old < 2 ^ 64 }
     ensures { IsMigrated (writing W.contents W.failed writer.old writer.new) bytes.now result }

@@ -9,15 +9,14 @@ use record_lines::{Line, Reported, Text, put_header, put_line};
 use run_judges::Firsts;
 use std::alloc::{AllocError, Global};
 
-/// What is gathered of the lines of a record: their text in version 2, and the first moments by which names may have been
-/// given.
+/// The lines of a record in version 2, with the first moments by which names may have been given.
 #[derive(Drop)]
 pub struct Migration {
     firsts: Firsts,
     text: Text,
 }
 
-/// Who proposes in a line, and which number.
+/// The identity that proposes in a line, and the number.
 fn proposal(line: &Line) -> Option<(u64, u64)>
     ensures { result ≡ proposal_of line.now.event line.now.reported }
 {
@@ -30,7 +29,7 @@ fn proposal(line: &Line) -> Option<(u64, u64)>
     }
 }
 
-/// The view that is kept of who steps in an event.
+/// The view that is kept of the identity that steps in an event.
 fn first_view(firsts: &Firsts, event: Event) -> &[(u64, u64)]
     ensures { result.now ≡ first_of firsts.now event }
 {
@@ -43,7 +42,7 @@ fn first_view(firsts: &Firsts, event: Event) -> &[(u64, u64)]
     }
 }
 
-/// The view by which a line tells that a name was given: the one that is written, or the first that there was.
+/// The view by which a line's name was given: the one that is written, or the first that there was.
 fn shown<'a>(firsts: &'a Firsts, line: &'a Line) -> &'a [(u64, u64)]
     ensures { result.now ≡ shown_in firsts.now line.now.event line.now.reported }
 {
@@ -54,7 +53,7 @@ fn shown<'a>(firsts: &'a Firsts, line: &'a Line) -> &'a [(u64, u64)]
     }
 }
 
-/// What is kept of first moments is changed by a line.
+/// Updates the first moments by a line.
 fn follow(firsts: &mut Firsts, line: &Line) -> Result<(), AllocError>
     ensures { OnOk result (GoesOn (proposal_of line.now.event line.now.reported) firsts.old firsts.new) }
 {
@@ -65,7 +64,11 @@ fn follow(firsts: &mut Firsts, line: &Line) -> Result<(), AllocError>
 }
 
 impl Migration {
-    /// No line yet, of a record of this config. An error where a growth was refused.
+    /// Makes the text of the header alone.
+    ///
+    /// # Errors
+    ///
+    /// `AllocError`: the allocation failed.
     pub fn new(alloc: Global, config: Config) -> Result<Migration, AllocError>
         ensures { IfOk result (HasMigrated config []) }
     {
@@ -77,7 +80,7 @@ impl Migration {
         })
     }
 
-    /// The text of all lines.
+    /// Returns the text of all lines.
     pub fn into_text(self) -> Text
         ensures { result ≡ self.text }
     {

@@ -14,13 +14,15 @@ use crate::verdict::Verdict;
 use record_lines::{Header, Line, next_line, read_header, read_line};
 use std::alloc::{AllocError, Global};
 
-/// The number of the first line that is one too many: a header and a million lines come before it.
+/// The number of the first line that is one too many: a header and a million lines precede it.
 pub const LINES_END: u64 = 1_000_002;
 
-/// How many bytes are looked at together for the LFs in them: few enough that 8 bits hold how many there are.
+/// The number of bytes in which LFs are counted together: few enough for 8 bits.
 const PART: usize = 240;
 
-/// How many of the bytes of a part are LFs: no branch for each byte, so that many are tested at once.
+/// The number of LFs in a part. It has no branch for each byte, so that many are tested at once.
+///
+/// Not proved: the count, which is a hint for an allocation alone.
 #[inline(always)]
 fn line_ends(part: &[u8]) -> u8 {
     let mut count = 0u8;
@@ -30,7 +32,9 @@ fn line_ends(part: &[u8]) -> u8 {
     count
 }
 
-/// For how many lines what is kept should have room: those of a record, and at most a million.
+/// Returns the number of lines to allocate room for: those of a record, at most a million.
+///
+/// Not proved: this number. `check` is proved for every room.
 pub fn room_for(rows: Option<&[u8]>) -> usize {
     let Some(bytes) = rows else {
         return 0;
@@ -42,8 +46,11 @@ pub fn room_for(rows: Option<&[u8]>) -> usize {
     lines.min(1_000_000)
 }
 
-/// What the first line of a record says, and the bytes of its others; `None` where there is none, or it is no header. An error where
-/// a growth was refused.
+/// Returns the header of a record and the bytes of its other lines, or `None` if the first line is no header.
+///
+/// # Errors
+///
+/// `AllocError`: the allocation failed.
 pub fn opened(alloc: Global, bytes: &[u8]) -> Result<Option<(Header, Option<&[u8]>)>, AllocError>
     ensures { IfOk result (λ r. MatchOption r (LacksHeader (record_lines bytes.now))
         (λ o. HasHeader (record_lines bytes.now) o.0 (lines_left (option_copied o.1)))) }
@@ -57,8 +64,8 @@ pub fn opened(alloc: Global, bytes: &[u8]) -> Result<Option<(Header, Option<&[u8
     }
 }
 
-/// One more event line of a record with this header, of this number and without its LF: it as it was read, where it can follow those before
-/// it, or what else than Yes is said of the record. An error where a growth was refused.
+/// Takes one more event line of a record, without its LF. Returns the line if it can follow those before it, or else
+/// the verdict.
 #[inline(always)]
 pub(crate) fn taken(
     alloc: Global,
@@ -81,8 +88,13 @@ pub(crate) fn taken(
     Ok(Ok(line))
 }
 
-/// What is said of the event lines of a record with this header. Each that can follow those before it is gathered, up to the first
-/// that can't. An error where a growth was refused.
+/// Returns the verdict on the event lines of a record with this header.
+///
+/// Each line up to the first that cannot follow those before it is added to `gathered`.
+///
+/// # Errors
+///
+/// `AllocError`: the allocation failed.
 pub fn judge_rows<G: Gather>(
     alloc: Global,
     header: Header,
@@ -111,7 +123,7 @@ pub fn judge_rows<G: Gather>(
     Ok(Verdict::Yes)
 }
 
-/// What is said of a record. An error where a growth was refused.
+/// The verdict on a record.
 fn judge_record(alloc: Global, bytes: &[u8]) -> Result<Verdict, AllocError>
     ensures { IfOk result (IsSaid (record_lines bytes.now)) }
 {
@@ -121,8 +133,9 @@ fn judge_record(alloc: Global, bytes: &[u8]) -> Result<Verdict, AllocError>
     }
 }
 
-/// The verdict on a record: whether its lines spell a run the objects can have had, and where they first don't; `NoMemory` where
-/// a growth was refused, and nothing is said.
+/// Returns the verdict on a record: `Yes` if it is one of a run of the objects, or else its first line at fault.
+///
+/// The verdict is `NoMemory` if an allocation failed. It then means nothing of the record.
 pub fn check(alloc: Global, bytes: &[u8]) -> Verdict
     ensures { IsVerdict bytes.now result }
 {

@@ -9,7 +9,7 @@ use crate::verdict::Verdict;
 use record_lines::Header;
 use std::alloc::{AllocError, Global};
 
-/// What is kept of the event lines so far of a record with a header.
+/// Judges the event lines of a record one by one.
 #[derive(Drop)]
 pub struct RowJudge {
     header: Header,
@@ -18,7 +18,11 @@ pub struct RowJudge {
 }
 
 impl RowJudge {
-    /// No event line was judged yet. An error where a growth was refused.
+    /// Makes a judge that has judged no event line of a record with this header.
+    ///
+    /// # Errors
+    ///
+    /// `AllocError`: the allocation failed.
     pub fn new(alloc: Global, header: Header) -> Result<RowJudge, AllocError>
         ensures { IfOk result (λ j. (j.header ≡ header) × HasJudged j []) }
     {
@@ -30,8 +34,13 @@ impl RowJudge {
         })
     }
 
-    /// Judges one more line, without its LF, and tells a verdict where it is the first at fault. An error where a growth was refused; after
-    /// a verdict or an error it is of no more use.
+    /// Judges one more line, without its LF. Returns the verdict on the record if this line is the first at fault.
+    ///
+    /// After a verdict or an error the judge is of no use.
+    ///
+    /// # Errors
+    ///
+    /// `AllocError`: the allocation failed.
     pub fn take(&mut self, alloc: Global, row: &[u8]) -> Result<Option<Verdict>, AllocError>
         ensures { IfOk result (λ said. JudgesRow self.old row.now said self.new) }
     {

@@ -1,16 +1,16 @@
-//! What is said of a record.
+//! The verdict on a record.
 
 use crate::Reason;
 
-/// What is said of a record. Lines are numbered from 1, the header's.
+/// The verdict on a record. Lines are numbered from 1, which is the header.
 #[derive(Clone, Copy, Debug, Drop, PartialEq, Eq)]
 pub enum Verdict {
-    /// It is one of a run.
+    /// It is a record of a run.
     Yes,
-    /// The line of this number can't follow those before it, for this reason.
+    /// The line with this number cannot follow those before it, for this reason.
     No(u64, Reason),
-    /// The line of this number is none of a record.
+    /// The line with this number is no line of a record.
     BadRecord(u64),
-    /// A growth was refused.
+    /// An allocation failed.
     NoMemory,
 }

@@ -26,7 +26,7 @@ with_other : (view : List (ℕ × ℕ)) (p q : ℕ) (o : Option ℕ) → (p == q
 with_other view p q None h = refl
 with_other view p q (Some n) h = value_of-inserted q view (p, n) ∙ rw h refl
 
--- so it says of each what is told of it, where nothing is told of who is not among them
+-- so it says of each what is reported of it, where nothing is reported of who is not among them
 view_says : (ps : List (Participant Standing)) (reported : ℕ → Option ℕ) (q : ℕ) → (participant_of q ps ≡ None → reported q ≡ None) → value_of q (view_of ps reported) ≡ reported q
 view_says [] reported q none = sym (none refl)
 view_says (v ∷ vs) reported q none = elim (eqb_tells v.identity q) [

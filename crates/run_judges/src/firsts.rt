@@ -1,4 +1,4 @@
-//! The first moments in which proposals stand alone.
+//! The first moments in which proposals are alone.
 
 ghost use Rattle.std.specs.Prelude.{◌≡◌, ◌==◌, ℕ, OnOk};
 ghost use Rattle.std.specs.List.{list_any};
@@ -12,14 +12,15 @@ use record_lines::Pairs;
 use std::alloc::{AllocError, Global};
 use std::collections::HashMap;
 
-/// The last moment, as a view; and for each participant the first moment since its last proposal in which no other proposed the
-/// same, once there was one.
+/// The last moment of the memory, as a view, and one earlier moment for each participant.
+///
+/// That is the first moment since its last proposal in which no other participant proposed the same, if there was one.
 pub struct Firsts {
     present: Pairs,
     found: HashMap<u64, Pairs>,
 }
 
-// By hand, so that they are taken apart here alone, and not wherever a migration is dropped.
+// By hand, so that the code that drops them is here alone, and not at each place where a migration goes out of scope.
 impl Drop for Firsts {
     fn drop(self) {
         let Firsts {
@@ -36,7 +37,7 @@ fn is_proposed(pairs: &[(u64, u64)], number: u64) -> bool
     pairs.iter().any(|pair| pair.1 == number)
 }
 
-/// Who alone proposes a number in a view; `None` where no one does, or more than one.
+/// The identity that alone proposes a number in a view, or `None` if none does or more than one.
 fn sole_proposer(pairs: &[(u64, u64)], number: u64) -> Option<u64>
     ensures { result ≡ sole_in number pairs.now }
 {
@@ -51,7 +52,7 @@ fn sole_proposer(pairs: &[(u64, u64)], number: u64) -> Option<u64>
     None
 }
 
-/// What an identity proposes in a view.
+/// The proposal of an identity in a view.
 fn number_of(pairs: &[(u64, u64)], id: u64) -> Option<u64>
     ensures { result ≡ value_of id pairs.now }
 {
@@ -64,7 +65,7 @@ fn number_of(pairs: &[(u64, u64)], id: u64) -> Option<u64>
 }
 
 impl Firsts {
-    /// Nobody has proposed.
+    /// Makes the state before any proposal. This allocates nothing.
     pub fn new(alloc: Global) -> Firsts
         ensures { HoldsFirsts result new_object }
     {
@@ -74,14 +75,14 @@ impl Firsts {
         }
     }
 
-    /// The first moment since the last proposal of an identity in which no other proposed the same.
+    /// Returns the first moment since the last proposal of an identity in which no other proposed the same, or `None`.
     pub fn view_of(&self, id: u64) -> Option<&Pairs>
         ensures { option_copied result ≡ view_at self.now id }
     {
         self.found.get(&id)
     }
 
-    /// Notes the present moment for who alone proposes a number in it, where that is the first such moment.
+    /// Records the present moment for the identity that alone proposes a number in it, if it is the first such moment.
     fn note(&mut self, number: u64) -> Result<(), AllocError>
         ensures present { OnOk result (self.new.present ≡ self.old.present) }
         ensures found { OnOk result ((p : ℕ) → view_at self.new p ≡ noted self.old number p) }
@@ -97,7 +98,11 @@ impl Firsts {
         Ok(())
     }
 
-    /// An identity proposes a number. An error where a growth was refused; then what is kept is of no more use.
+    /// Records that an identity proposes a number.
+    ///
+    /// # Errors
+    ///
+    /// `AllocError`: the allocation failed. The state is then of no use.
     pub fn propose(&mut self, id: u64, number: u64) -> Result<(), AllocError>
         ensures { OnOk result ((o : RenameObject) → HoldsFirsts self.old o → HoldsFirsts self.new (proposed_by id number o)) }
     {

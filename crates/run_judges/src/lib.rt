@@ -1,12 +1,25 @@
-//! What a checker of records keeps of the objects, each by tables that answer at once, and what it tells by them.
+//! The state of the objects that a checker of records keeps, in tables, and its answers to questions.
 //!
-//! `Names` is of the renaming object: who has begun, with place, name and proposals, and the moments, as rows of seats, in a table
-//! by what they are (`Moments`). It tells why a call is to be refused, and whether a place, a number, a view or a name is one that
-//! the object may answer. `Stays` is of the pool and the slots, and `Firsts` of the first moments in which proposals stand alone.
-//! What is proved of each: what it keeps is of one object (`HoldsNames`, `HoldsSlots`, `HoldsFirsts`), after each call of the
-//! object as that call leaves it, and what it tells is what the object's rules say.
+//! `Names` is the state of the renaming object: the participants with places, names and proposals, and the moments, as
+//! rows in a table (`Moments`). It returns the error that a call must return. It says whether a place, a number, a view
+//! or a name is one that the object may give. `Stays` is the state of the pool and the slots, and `Firsts` has the
+//! first moments in which proposals are alone. What is proved of each: its state is that of one object (`HoldsNames`,
+//! `HoldsSlots`, `HoldsFirsts`), also after each call, and its answers are those of the object's rules.
 //!
 //! Nothing is read here, and no order of lines is known: `run_checker` judges them.
+//!
+//! From `run_checker/src/checker.rt`:
+//!
+//! ```text
+//! stays: Stays::new(alloc, config.k)?,
+//! names: Names::new(alloc, config.m, config.limit, lines)?,
+//! ..
+//! if !self.stays.is_free(number) {
+//!     return Err(Fault::Unlawful(Reason::Pool));
+//! }
+//! self.stays.gain(id, number);
+//! Ok(())
+//! ```
 #![tactic(auto)]
 
 pub mod firsts;

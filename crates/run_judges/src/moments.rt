@@ -6,15 +6,17 @@ ghost use Rattle.run_judges.specs.Moments.{crowded, turned_at, SomeSince, HoldsM
 use std::alloc::{AllocError, Global};
 use std::collections::HashMap;
 
-/// How many numbers there are from 0 on: with so many participants each proposal is below twice as many.
+/// The number of numbers, from 0 on. Each proposal is less than twice the number of participants, which is at most 64.
 pub const NUMBERS: usize = 128;
 
-/// A moment: for each seat the number that is proposed there, 0 where none was.
+/// A moment: the number that is proposed at each seat, or 0.
 pub type Row = [u8; 64];
 
-/// What is kept of the moments: the last one; and, so that a question about past moments is a look-up, for each row one more
-/// than the number of the last moment that it was, and for each number one more than that of the last moment in which just
-/// one of then and now has two or more who propose it.
+/// The moments of the memory, in tables, so that a question about past moments is a look-up.
+///
+/// It holds the last moment. For each row it holds one more than the number of the last moment that was this row. For
+/// each number it holds one more than that of the last moment that differed from now in whether two or more proposed
+/// the number.
 #[derive(Drop)]
 pub struct Moments {
     present: Row,
@@ -23,14 +25,14 @@ pub struct Moments {
     seen: HashMap<Row, usize>,
 }
 
-/// Whether two or more propose a number.
+/// Whether two or more seats propose a number.
 pub fn is_crowded(row: &Row, number: u8) -> bool
     ensures { result ≡ crowded number row.now }
 {
     row.iter().filter(|n| **n == number).count() > 1
 }
 
-/// The row with this number at a seat.
+/// Returns the row with this number at a seat.
 pub fn with_number(row: &Row, seat: usize, number: u8) -> Row
     ensures { result ≡ slice_set row.now seat number }
 {
@@ -41,7 +43,7 @@ pub fn with_number(row: &Row, seat: usize, number: u8) -> Row
     next
 }
 
-/// The number at a seat, 0 where there is no such seat.
+/// Returns the number at a seat, or 0 if there is no such seat.
 pub fn number_at(row: &Row, seat: usize) -> u8
     ensures { result ≡ slice_index row.now seat }
 {
@@ -49,8 +51,12 @@ pub fn number_at(row: &Row, seat: usize) -> u8
 }
 
 impl Moments {
-    /// The moments of an object to which nothing was proposed: one, in which nobody proposes; with room for so many. An error
-    /// where a growth was refused.
+    /// Makes the moments of an object with no proposal: one moment, in which nobody proposes. It allocates room for
+    /// `room` moments.
+    ///
+    /// # Errors
+    ///
+    /// `AllocError`: the allocation failed.
     pub fn new(alloc: Global, room: usize) -> Result<Moments, AllocError>
         ensures { IfOk result (λ m. HoldsMoments m 0 (λ i. replicate 64 0)) }
     {
@@ -64,7 +70,7 @@ impl Moments {
         })
     }
 
-    /// The number of the last moment; the first is numbered 0.
+    /// Returns the number of the last moment. The first has number 0.
     pub fn last(&self) -> usize
         ensures { OfMoments self.now (λ last rows. result ≡ last) }
     {
@@ -81,8 +87,7 @@ impl Moments {
         }
     }
 
-    /// Where a number stood last as it does not stand now: one more than the number of the last moment in which just one of
-    /// then and now has two or more who propose it. 0 for what is no number.
+    /// One more than the number of the last moment that differed from now in whether two or more proposed this number.
     fn turned(&self, number: u8) -> usize
         ensures { result ≡ slice_index self.now.turned number }
     {
@@ -94,7 +99,7 @@ impl Moments {
         }
     }
 
-    /// Whether in some moment from `since` on two or more propose a number.
+    /// Whether two or more seats propose a number in some moment from `since` on.
     pub fn was_crowded(&self, since: usize, number: u8) -> bool
         ensures { OfMoments self.now (λ last rows. since ≤ last → number < 128 →
             IsTrue result ↔ SomeSince (λ i. crowded number (rows i) ≡ true) since last) }
@@ -102,7 +107,7 @@ impl Moments {
         is_crowded(&self.present, number) || since < self.turned(number)
     }
 
-    /// Whether in some moment from `since` on at most one proposes a number.
+    /// Whether at most one seat proposes a number in some moment from `since` on.
     pub fn was_quiet(&self, since: usize, number: u8) -> bool
         ensures { OfMoments self.now (λ last rows. since ≤ last → number < 128 →
             IsTrue result ↔ SomeSince (λ i. crowded number (rows i) ≡ false) since last) }
@@ -110,7 +115,7 @@ impl Moments {
         !is_crowded(&self.present, number) || since < self.turned(number)
     }
 
-    /// Notes that a number may have turned with the moment numbered `at`, which is `next`.
+    /// Records whether the moment numbered `at`, which is `next`, differs for a number.
     fn turn(&mut self, next: &Row, number: u8, at: usize)
         ensures { self.new ≡ record self.old { turned = turned_at self.old.turned self.old.present next.now number at } }
     {
@@ -122,8 +127,11 @@ impl Moments {
         }
     }
 
-    /// One more moment: the last one, with this number at a seat. An error where a growth was refused; then the moments are
-    /// of no more use.
+    /// Adds a moment: the last one with this number at a seat.
+    ///
+    /// # Errors
+    ///
+    /// `AllocError`: the allocation failed. The moments are then of no use.
     pub fn propose(&mut self, seat: usize, number: u8) -> Result<(), AllocError>
         ensures { OnOk result (OfMoments self.old (λ last rows. last < 2 ^ 62 →
             HoldsMoments self.new (last + 1) (with_row last seat number rows))) }

@@ -1,4 +1,4 @@
-//! What is kept of the renaming object.
+//! The state of the renaming object.
 
 ghost use Rattle.std.specs.Prelude.{◌≡◌, ◌<◌, ◌≤◌, ◌^◌, ◌↔◌, OnOk, IfOk, IsTrue, None, Ok, [], MatchOption};
 ghost use Rattle.std.specs.List.{list_any};
@@ -18,7 +18,7 @@ use record_lines::Pairs;
 use std::alloc::{AllocError, Global};
 use step_memory::{Participant, Place, Refusal};
 
-/// Who has begun, with what they have, and the moments.
+/// The state of the renaming object: the participants that have begun, what they have, and the moments.
 #[derive(Drop)]
 pub struct Names {
     participants: Vec<Participant<Standing>>,
@@ -27,21 +27,21 @@ pub struct Names {
     limit: u64,
 }
 
-/// Whether what may be held is this place.
+/// Whether this is the place that is held.
 fn is_place(held: Option<Place>, place: Place) -> bool
     ensures { result ≡ is_held place held }
 {
     held == Some(place)
 }
 
-/// Whether what may be held is this number.
+/// Whether this is the number that is held.
 pub fn is_number(held: Option<u64>, number: u64) -> bool
     ensures { result ≡ is_held number held }
 {
     held == Some(number)
 }
 
-/// Whether someone has this place.
+/// Whether a participant has this place.
 fn is_given(participants: &[Participant<Standing>], place: Place) -> bool
     ensures { result ≡ list_any (λ v. is_held place v.program.place) participants.now }
 {
@@ -50,7 +50,7 @@ fn is_given(participants: &[Participant<Standing>], place: Place) -> bool
         .any(|participant| is_place(participant.program.place, place))
 }
 
-/// Whether this is someone's name.
+/// Whether a participant has this name.
 fn is_named(participants: &[Participant<Standing>], name: u64) -> bool
     ensures { result ≡ list_any (λ v. is_held name v.program.name) participants.now }
 {
@@ -59,7 +59,7 @@ fn is_named(participants: &[Participant<Standing>], name: u64) -> bool
         .any(|participant| is_number(participant.program.name, name))
 }
 
-/// Whether each of the pairs is of a greater identity, where they rise.
+/// Whether the identity of each pair is above `id`, if the pairs rise.
 fn is_above(id: u64, pairs: &[(u64, u64)]) -> bool
     ensures { IsTrue result ↔ IsAbove id pairs.now }
 {
@@ -82,8 +82,11 @@ fn is_rising(pairs: &[(u64, u64)]) -> bool
 }
 
 impl Names {
-    /// Nobody has begun; with room for the moments of so many lines, so that their table need not grow. An error where a growth
-    /// was refused.
+    /// Makes the state in which none has begun, with room for the moments of `lines` lines.
+    ///
+    /// # Errors
+    ///
+    /// `AllocError`: the allocation failed.
     pub fn new(alloc: Global, most: u64, limit: u64, lines: usize) -> Result<Names, AllocError>
         ensures { IfOk result (λ s. HoldsNone most limit s) }
     {
@@ -97,7 +100,7 @@ impl Names {
         })
     }
 
-    /// Why `begin` of an identity is to be refused.
+    /// Returns the error that `begin` of an identity must return, or `None`.
     pub fn begin_refusal(&self, id: u64) -> Option<Refusal>
         ensures { OfNames self.now (λ terms o. result ≡ no_begin terms o id) }
     {
@@ -112,7 +115,7 @@ impl Names {
         }
     }
 
-    /// Why a step of an identity is to be refused, failed allocations aside.
+    /// Returns the error that a step of an identity must return, failed allocations aside, or `None`.
     pub fn step_refusal(&self, id: u64) -> Option<Refusal>
         ensures { OfNames self.now (λ terms o. result ≡ no_step o id) }
     {
@@ -128,7 +131,11 @@ impl Names {
         }
     }
 
-    /// An identity begins that may.
+    /// Records that an identity, which may begin, begins.
+    ///
+    /// # Errors
+    ///
+    /// `AllocError`: the allocation failed.
     pub fn begin(&mut self, id: u64) -> Result<(), AllocError>
         ensures { OnOk result (OfNames self.old (λ terms o. no_begin terms o id ≡ None → HoldsNames terms self.new (after o (Began id (Ok tt))))) }
     {
@@ -152,7 +159,7 @@ impl Names {
         Ok(())
     }
 
-    /// Gives an identity that may step a place; tells whether it may have this one. Else nothing changes.
+    /// Gives a place to an identity that may step, and returns whether it may have it. If not, nothing changes.
     pub fn place(&mut self, id: u64, place: Place) -> bool
         ensures reported { OfNames self.old (λ terms o. no_step o id ≡ None → IsTrue result ↔ IsFreePlace o id place) }
         ensures after { OfNames self.old (λ terms o. no_step o id ≡ None → IsTrue result →
@@ -206,7 +213,11 @@ impl Names {
         1 <= number && number < 2 * many as u64 && standing.turn.count < self.limit
     }
 
-    /// An identity that may propose a number does. An error where a growth was refused; then what is kept is of no more use.
+    /// Records that an identity proposes a number that it may propose.
+    ///
+    /// # Errors
+    ///
+    /// `AllocError`: the allocation failed. The state is then of no use.
     pub fn propose(&mut self, id: u64, number: u64) -> Result<(), AllocError>
         ensures { OnOk result (OfNames self.old (λ terms o. no_step o id ≡ None → o.last < 2 ^ 62 → MayPropose terms o id number →
             HoldsNames terms self.new (proposed_by id number o))) }
@@ -234,7 +245,8 @@ impl Names {
         Ok(())
     }
 
-    /// Whether in some moment since the last proposal of an identity that has made one another proposes the same.
+    /// Whether another identity proposes the same in some moment since the last proposal of an identity that has made
+    /// one.
     pub fn has_conflict(&self, id: u64) -> bool
         ensures { OfNames self.now (λ terms o. 1 ≤ o.count id → IsTrue result ↔ HasConflict o id) }
     {
@@ -246,7 +258,7 @@ impl Names {
         }
     }
 
-    /// An identity that may step is spent.
+    /// Records that an identity, which may step, is spent.
     pub fn spend(&mut self, id: u64)
         ensures { OfNames self.old (λ terms o. no_step o id ≡ None → HoldsNames terms self.new (after_step o id step.Spent)) }
     {
@@ -260,7 +272,7 @@ impl Names {
         put(&mut self.participants, id, spent);
     }
 
-    /// An identity that may step is given a name.
+    /// Gives a name to an identity that may step.
     pub fn name(&mut self, id: u64, name: u64)
         ensures { OfNames self.old (λ terms o. no_step o id ≡ None → HoldsNames terms self.new (after_step o id (step.Named name []))) }
     {
@@ -274,7 +286,7 @@ impl Names {
         put(&mut self.participants, id, named);
     }
 
-    /// The seat of an identity that has begun, where the number is one that may be proposed.
+    /// The seat of an identity that has begun, if the number is one that may be proposed.
     fn seat_for(&self, id: u64, number: u64) -> Option<usize>
         ensures { MatchOption result (LacksPair (turns_in self.now.participants.items) id number) (HasPair (turns_in self.now.participants.items) id number) }
     {
@@ -302,7 +314,7 @@ impl Names {
         Some(row)
     }
 
-    /// The row of a view, where it is a moment from this one on.
+    /// The row of a view, if it is a moment from `since` on.
     fn row_since(&self, since: usize, view: &[(u64, u64)]) -> Option<Row>
         ensures { (terms : RenameTerms) (o : RenameObject) → (h : HoldsNames terms self.now o) → TellsSince o h.turns.rows since view.now result }
     {
@@ -316,8 +328,8 @@ impl Names {
         Some(row)
     }
 
-    /// Whether a view is a moment since the last proposal of an identity that has made one, in which another proposes the
-    /// same.
+    /// Whether a view is a moment since the last proposal of an identity that has made one, and another proposes the
+    /// same in it.
     pub fn shows_conflict(&self, id: u64, view: &[(u64, u64)]) -> bool
         ensures { OfNames self.now (λ terms o. 1 ≤ o.count id → IsTrue result ↔ ShowsConflict o id view.now) }
     {
@@ -331,8 +343,8 @@ impl Names {
         }
     }
 
-    /// Whether a view is a moment since the last proposal of an identity that has made one, in which it proposes this number
-    /// and no other does.
+    /// Whether a view is a moment since the last proposal of an identity that has made one, and it alone proposes this
+    /// number in it.
     fn shows_sole(&self, id: u64, number: u64, view: &[(u64, u64)]) -> bool
         ensures { OfNames self.now (λ terms o. 1 ≤ o.count id → IsTrue result ↔ ShowsSole o id number view.now) }
     {
@@ -349,7 +361,7 @@ impl Names {
         }
     }
 
-    /// Whether an identity that may step may be given a name, by the view that is shown where one is.
+    /// Whether an identity that may step may be given a name, by the view `shown` if there is one.
     pub fn may_name(&self, id: u64, name: u64, shown: Option<&Pairs>) -> bool
         ensures { OfNames self.now (λ terms o. no_step o id ≡ None → IsTrue result ↔ MayBeNamed o id name (option_copied shown.entry)) }
     {

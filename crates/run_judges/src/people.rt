@@ -5,7 +5,7 @@ ghost use Rattle.step_memory.specs.Participant.{beginner, program_of, with_parti
 
 use step_memory::Participant;
 
-/// What is kept of an identity.
+/// Returns what is kept of an identity, or `None` if the list does not have it.
 pub fn find<P: Copy>(participants: &[Participant<P>], id: u64) -> Option<P>
     ensures { result ≡ program_of id participants.now }
 {
@@ -17,7 +17,7 @@ pub fn find<P: Copy>(participants: &[Participant<P>], id: u64) -> Option<P>
     None
 }
 
-/// Keeps this of an identity from now on, where the list has it.
+/// Replaces what is kept of an identity, if the list has it.
 pub fn put<P: Copy + Drop>(participants: &mut Vec<Participant<P>>, id: u64, program: P)
     ensures { participants.new.items ≡ with_participant (beginner id program) participants.old.items }
 {

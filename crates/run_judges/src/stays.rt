@@ -1,4 +1,4 @@
-//! What is kept of the pool and the slots.
+//! The state of the pool and the slots.
 
 ghost use Rattle.std.specs.Prelude.{◌≡◌, ◌≢◌, ℕ, ◌+◌, ◌-◌, ◌≤◌, ◌↔◌, max, replicate, IfOk, OnOk, IsTrue, None, Ok};
 ghost use Rattle.std.specs.List.{list_any};
@@ -16,16 +16,16 @@ use crate::people::{find, put};
 use std::alloc::{AllocError, Global};
 use step_memory::{Participant, Refusal};
 
-/// A competitor's present stay.
+/// The present stay of a competitor.
 #[derive(Clone, Copy, Drop)]
 pub struct Stay {
-    /// How many probes it has made.
+    /// The number of probes that it has made.
     pub probes: u64,
-    /// The number that it holds, once it holds one.
+    /// The number that it holds, or `None`.
     pub held: Option<u64>,
 }
 
-/// Who competes, with what they hold, and what stands in the slots.
+/// The state of the pool and the slots: the competitors, what they hold, and the values in the slots.
 #[derive(Drop)]
 pub struct Stays {
     size: u64,
@@ -33,7 +33,7 @@ pub struct Stays {
     values: Vec<u64>,
 }
 
-/// Whether someone holds this number.
+/// Whether a competitor holds this number.
 fn is_taken(competitors: &[Participant<Stay>], number: u64) -> bool
     ensures { result ≡ list_any (λ v. is_held number v.program.held) competitors.now }
 {
@@ -43,7 +43,11 @@ fn is_taken(competitors: &[Participant<Stay>], number: u64) -> bool
 }
 
 impl Stays {
-    /// Nobody competes, and each slot holds 0. An error where a growth was refused.
+    /// Makes the state in which nobody competes and each slot holds 0.
+    ///
+    /// # Errors
+    ///
+    /// `AllocError`: the allocation failed.
     pub fn new(alloc: Global, size: u64) -> Result<Stays, AllocError>
         ensures { IfOk result (λ s. 1 ≤ size → size ≤ 64 → HoldsSlots s (fresh_slots size (replicate size 0))) }
     {
@@ -55,7 +59,7 @@ impl Stays {
         })
     }
 
-    /// Why `enter` of an identity is to be refused.
+    /// Returns the error that `enter` of an identity must return, or `None`.
     pub fn enter_refusal(&self, id: u64) -> Option<Refusal>
         ensures { OfSlots self.now (λ o. result ≡ no_entry o.pool id) }
     {
@@ -70,7 +74,7 @@ impl Stays {
         }
     }
 
-    /// Why `probe` of an identity is to be refused.
+    /// Returns the error that `probe` of an identity must return, or `None`.
     pub fn probe_refusal(&self, id: u64) -> Option<Refusal>
         ensures { OfSlots self.now (λ o. result ≡ no_probe o.pool id) }
     {
@@ -83,7 +87,14 @@ impl Stays {
         }
     }
 
-    /// The number that an identity holds, or why `leave`, `put` and `get` of it are to be refused.
+    /// Returns the number that an identity holds, or the error that `leave`, `put` and `get` of it must return.
+    ///
+    /// # Errors
+    ///
+    /// The first that applies is returned:
+    ///
+    /// - `NotCompeting`: the identity does not compete.
+    /// - `NotHolding`: the identity competes and holds no number.
     pub fn number_of(&self, id: u64) -> Result<u64, Refusal>
         ensures { OfSlots self.now (λ o. result ≡ number_in o.pool id) }
     {
@@ -96,7 +107,7 @@ impl Stays {
         }
     }
 
-    /// Why a widening to so many numbers is to be refused.
+    /// Returns the error that a widening to `more` numbers must return, or `None`.
     pub fn widen_refusal(&self, more: u64) -> Option<Refusal>
         ensures { OfSlots self.now (λ o. result ≡ widen_refusal o.pool.size more) }
     {
@@ -107,7 +118,11 @@ impl Stays {
         }
     }
 
-    /// An identity enters that may. An error where a growth was refused; then what is kept is of no more use.
+    /// Records that an identity, which may enter, enters.
+    ///
+    /// # Errors
+    ///
+    /// `AllocError`: the allocation failed. The state is then of no use.
     pub fn enter(&mut self, id: u64) -> Result<(), AllocError>
         ensures { OnOk result (OfSlots self.old (λ o. no_entry o.pool id ≡ None → HoldsSlots self.new (slots_after o (Pooled (Entered id (Ok tt)))))) }
     {
@@ -133,7 +148,7 @@ impl Stays {
         }
     }
 
-    /// An identity that may misses a probe.
+    /// Records that an identity misses a probe that may be missed.
     pub fn miss(&mut self, id: u64)
         ensures { OfSlots self.old (λ o. no_probe o.pool id ≡ None → o.pool.probes id + 1 ≢ max 1 (o.pool.size - 1) →
             HoldsSlots self.new (missed_by id o)) }
@@ -161,7 +176,7 @@ impl Stays {
         !is_taken(&self.competitors, number)
     }
 
-    /// An identity that may probe gains a free number.
+    /// Gives a free number to an identity that may probe.
     pub fn gain(&mut self, id: u64, number: u64)
         ensures { OfSlots self.old (λ o. no_probe o.pool id ≡ None → IsFree o.pool number → HoldsSlots self.new (got_by id number o)) }
     {
@@ -175,7 +190,7 @@ impl Stays {
         put(&mut self.competitors, id, got);
     }
 
-    /// An identity gives back the number that it holds.
+    /// Records that an identity gives back the number that it holds.
     pub fn leave(&mut self, id: u64)
         ensures { OfSlots self.old (λ o. (n : ℕ) → number_in o.pool id ≡ Ok n → HoldsSlots self.new (left_by id n o)) }
     {
@@ -183,7 +198,7 @@ impl Stays {
             .retain(|competitor| competitor.identity != id);
     }
 
-    /// The holder of a number puts a value into its slot.
+    /// Puts a value into the slot of a number that is held.
     pub fn store(&mut self, number: u64, value: u64)
         ensures { OfSlots self.old (λ o. (id : ℕ) → number_in o.pool id ≡ Ok number → HoldsSlots self.new (stored_by id value o)) }
     {
@@ -193,7 +208,7 @@ impl Stays {
         }
     }
 
-    /// Whether the slot of a number has a value.
+    /// Whether the slot of a number has this value.
     pub fn has_value(&self, number: u64, value: u64) -> bool
         ensures { OfSlots self.now (λ o. IsTrue result ↔ IsFetched o.values (Ok number) (Ok value)) }
     {
@@ -201,8 +216,11 @@ impl Stays {
         place < self.values.len() && self.values[place] == value
     }
 
-    /// The pool gets more numbers, up to this one, and each new slot holds 0. An error where a growth was refused; then what is
-    /// kept is of no more use.
+    /// Gives the pool more numbers, up to `more`. Each new slot holds 0.
+    ///
+    /// # Errors
+    ///
+    /// `AllocError`: the allocation failed. The state is then of no use.
     pub fn widen(&mut self, more: u64) -> Result<(), AllocError>
         ensures { OnOk result (OfSlots self.old (λ o. widen_refusal o.pool.size more ≡ None → HoldsSlots self.new (widened_to more o))) }
     {

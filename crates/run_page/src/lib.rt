@@ -12,11 +12,15 @@
 //! the pool. So the script adds nothing of its own, and a page of a thousand events stays small. Another object than a desk may answer
 //! otherwise and be right: then a row has two replies that differ, and the page says so. A line that tells a refusal changes nothing.
 //!
-//! A caller:
+//! From `program_work/src/showing.rt`:
 //!
 //! ```text
-//! let stretch = Stretch { from: 1, count: 1000 };
-//! show(alloc, bytes, stretch, &mut writer)?;      // Yes, with the page written
+//! Stretch {
+//!     from: showing.from,
+//!     count: showing.count,
+//! }
+//! ..
+//! let verdict = show(alloc, bytes.as_slice(), stretch_asked(showing), writer)?;
 //! ```
 #![tactic(auto)]
 

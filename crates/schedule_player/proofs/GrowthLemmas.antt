@@ -139,7 +139,7 @@ reported_by_test : (b : Bool) (o : Option ℕ) → let reported : ShownReply = c
 reported_by_test true o is = cc
 reported_by_test false o is = cc
 
--- who has a name is told, or the number is out of range
+-- who has a name is reported, or the number is out of range
 owner_grants : (w : DeskValue) (n : ℕ) → owner_reply w n ≢ reply.Refused refusal.NoMemory
 owner_grants (OverGrid w) n is = reported_by_test ((n == 0) || nat_le (2 * w.names.snap.most) n) (owner_by n w.names.rounds) is
 owner_grants (OverTree w) n is = reported_by_test ((n == 0) || nat_le (2 * w.names.snap.most) n) (owner_by n w.names.rounds) is

@@ -11,7 +11,7 @@ use Rattle.commands.specs.Requests.Request.{Take, OwnerOf}
 use Rattle.schedule_player.specs.Transcripts.{IsTranscriptOf}
 use Rattle.player.specs.Turns.{Turn}
 
--- an event is answered by the desk's rules, and who has a name is told with nothing changed
+-- an event is answered by the desk's rules, and who has a name is reported with nothing changed
 abbrev pub DeskWorldMay : DeskValue → Request → ShownReply → DeskValue → Type 0
 DeskWorldMay w (Take e) r u = may_by desk_rules w e r u
 DeskWorldMay w (OwnerOf n) r u = (r ≡ owner_reply w n) × (u ≡ w)

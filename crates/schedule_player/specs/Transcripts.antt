@@ -8,11 +8,11 @@ use Rattle.player.specs.Runs.{CouldRun}
 use Rattle.player.specs.Turns.{Turn, exchanges}
 use Rattle.player.specs.Turns.Turn.{Reported}
 
--- for so many participants, everyone who asks who has a name is told right, by the exchanges before
+-- for so many participants, everyone who asks who has a name learns rightly, by the exchanges before
 abbrev pub AreOwnersReported : ℕ → List Turn → Type 0
 AreOwnersReported most ts = (front back : List Turn) (n : ℕ) (r : ShownReply) → ts ≡ front ++ Reported n r ∷ back → IsOwnerReply most (exchanges front) n r
 
--- turns whose exchanges are a run, in which everyone who asks is told right who has a name, for so many participants, and
+-- turns whose exchanges are a run, in which everyone who asks learns rightly who has a name, for so many participants, and
 -- which the rules allow from a fresh world
 pub record IsTranscriptOf {T : Type 0} (IsRun : List Exchange → Type 0) (most : ℕ) (fresh : T → Type 0) (may : T → Request → ShownReply → T → Type 0) (ts : List Turn) : Type 0 where
   pub run : IsRun (exchanges ts)

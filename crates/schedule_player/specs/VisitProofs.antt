@@ -130,7 +130,7 @@ module _ {T X : Type 0} (rules : VisitRules T X) where
   one_visit w u v (Take (Widen more)) a b x y na nb = absurd x
   one_visit w u v (OwnerOf n) a b x y na nb = one_no_name w u v n a b x y
 
-  -- who asks for a name is told right
+  -- who asks for a name learns rightly
   pub visits_tell : (most : ℕ) (w u : T) (ts : List Turn) → Runs (visit_may rules) w ts u → AreOwnersReported most ts
   visits_tell most w u ts run = λ front back n r is.
       let cut = runs-cut (visit_may rules) w u front (Reported n r ∷ back) (subst (λ (l : List Turn). Runs (visit_may rules) w l u) is run) in

@@ -1,4 +1,4 @@
-//! A desk's world answers events, and tells who has a name.
+//! A desk as a world: it answers events, and returns the identity that has a name.
 
 ghost use Rattle.std.specs.Prelude.{true};
 ghost use Rattle.commands.specs.Config.{gives_names};

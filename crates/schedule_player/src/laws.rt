@@ -12,18 +12,19 @@ ghost use Rattle.schedule_player.specs.OneTranscript.{IsOneTranscript};
 use crate::world::World;
 use commands::WorldKind;
 
-/// Runs of one world are determined by their events where no growth is refused.
+/// A law: the events of a run of one world determine its replies, if no allocation fails.
 pub fn law_of_world<D: World<A, H>, A, H>()
     ensures { (config : Config) → IsOneTranscript (CouldRun (D.fresh config) D.may) }
 {}
 
-/// So what is said to the lines of an input is a function of them, where no growth is refused.
+/// A law: the lines of an input determine the replies to them, if no allocation fails.
 pub fn law_of_play()
     ensures { (config : Config) → IsOneTranscript (IsTranscript config) }
 {}
 
-/// A law, which runs nothing, of the worlds with names: without the turns that were refused memory a transcript is one too, so these
-/// are the one difference that such refusals make; and they come only over a tree.
+/// A law of the worlds with names: a transcript without its entries that failed to allocate is a transcript too.
+///
+/// So these entries are the one difference that failed allocations make. They occur only over a tree.
 pub fn law_of_growths()
     ensures left_out { (config : Config) → gives_names config.world ≡ true → (ts : List Turn) → IsTranscript config ts → IsTranscript config (granted ts) }
     ensures only_tree { (config : Config) → config.world ≡ WorldKind.Rename → (ts : List Turn) → IsTranscript config ts → NoneRefusedGrowth ts }

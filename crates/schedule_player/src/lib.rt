@@ -1,26 +1,33 @@
-//! Runs of worlds in the command language, whose lines and replies are `player`'s, and all of it by one name.
+//! Runs of worlds in the command language, whose lines and replies are `player`'s.
 //!
-//! `play` reads the commands that a reader gives, a line each, has a world answer them, and writes the replies, a line
-//! each. Its theorem (`IsPlayed`): there is a transcript of the config, turns to the lines of the input in order, whose events with
-//! their replies are a run that the world's objects can answer, and in which whoever asks is told right who has a name
-//! (`IsTranscript`); the writer has gained the text of its answers, however the bytes were cut; and the summary counts them.
-//! `quit` ends the reading, and no call failed. What a read fault, a write fault and an allocation failure leave is said too.
+//! `play` reads the commands of a reader, one a line, has a world answer them, and writes the replies, one a line. Its
+//! theorem (`IsPlayed`) has these parts:
 //!
-//! `record` plays in a world with names and writes the record of the run in place of the replies: a header, and each event with its
-//! reply as a line of JSON (`record_of`). It has the same theorem with that text (`IsRecorded`).
+//! - There is a transcript of the configuration: entries for the lines of the input, in order (`IsTranscript`). Its
+//!   events with their replies are a run that the world's objects can answer. Each reply to `owner` has the identity
+//!   that was given the name.
+//! - The writer has gained the text of the replies, however the bytes were cut. The summary counts them.
+//! - `quit` ends the reading. The theorem also says what a read fault, a write fault and an allocation failure leave.
 //!
-//! A world is a service that is opened from a config (`World`). `play_in` plays in any world; `play_on` and `record_on` of `player`,
-//! by which all of this goes, play on any service.
+//! `record` plays in a world with names and writes the record of the run in place of the replies: a header, and each
+//! event with its reply as a line of JSON (`record_of`). It has the same theorem with that text (`IsRecorded`).
 //!
-//! A caller:
+//! A world is a service that is opened from a configuration (`World`). `play_in` plays in any world; `play_on` and
+//! `record_on` of `player`, which all of this calls, play on any service.
+//!
+//! From `tests_player/src/playing_tests.rt`:
 //!
 //! ```text
-//! let config = Config::new(WorldKind::Rename, 2, 4, 1000)?;
-//! let mut reader = Tried::new(b"begin 10\nstep 10\n".as_slice());
-//! let mut writer = Tried::new(Vec::new(alloc));
-//! let summary = play(alloc, &mut reader, &mut writer, config)?;
-//! summary.accepted;                       // 2
-//! writer.into_inner();                    // ok, quiet
+//! if case.is_kept && case.config.world.gives_names() {
+//!     record(heap, reader, writer, case.config).err()
+//! } else {
+//!     play(heap, reader, writer, case.config).err()
+//! }
+//! ..
+//! let mut reader = Tried::new(FaultyReader::new(case.input, given, bad_read));
+//! let mut writer = Tried::new(FaultyWriter::new(alloc, taken, bad_write, takes_nothing));
+//! ..
+//! (b"begin 7\nquit\nbegin 8", b"ok\nok\n"),
 //! ```
 #![tactic(auto)]
 
@@ -42,6 +49,6 @@ pub use player::{
     print_header, print_reply, print_words, put_number, put_word, quick_command, quick_number,
     record_on,
 };
-pub use playing::{play, play_any, play_in};
+pub use playing::{play, play_in};
 pub use recording::record;
 pub use world::{Unshared, World};

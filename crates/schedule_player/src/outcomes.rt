@@ -1,4 +1,4 @@
-//! What the outcomes of a splitter's and a grid's steps are answered as.
+//! The replies for the outcomes of a splitter's and a grid's steps.
 
 ghost use Rattle.std.specs.Prelude.{◌≡◌, ℕ, List};
 ghost use Rattle.commands.specs.Replies.{with_view};
@@ -10,7 +10,7 @@ use commands::Reply;
 use splitter::Way;
 use step_memory::{Place, Refusal};
 
-/// What is answered to a step of a visit, by its outcome.
+/// The reply for the outcome of a step of a visit.
 pub(crate) fn visit_reply(outcome: Result<Option<Way>, Refusal>) -> Reply<()>
     ensures { (view : List (ℕ × ℕ)) → with_view result view ≡ said_reply way_reply outcome }
 {
@@ -23,7 +23,7 @@ pub(crate) fn visit_reply(outcome: Result<Option<Way>, Refusal>) -> Reply<()>
     }
 }
 
-/// What is answered to a step of a walk, by its outcome.
+/// The reply for the outcome of a step of a walk.
 pub(crate) fn walk_reply(outcome: Result<Option<Place>, Refusal>) -> Reply<()>
     ensures { (view : List (ℕ × ℕ)) → with_view result view ≡ said_reply place_reply outcome }
 {

@@ -2,8 +2,7 @@
 
 ghost use Rattle.std.specs.Prelude.{◌≡◌, true, ◌^◌, ◌<◌, IfOk, IfErr};
 ghost use Rattle.commands.specs.Config.{gives_names};
-ghost use Rattle.player.specs.Played.{IsPlayed, IsPlayedIn, reading, writing};
-ghost use Rattle.player.specs.Texts.{replies_of};
+ghost use Rattle.player.specs.Played.{IsPlayedIn, reading, writing};
 ghost use Rattle.schedule_player.specs.DeskWorld.{IsDeskTranscript};
 ghost use Rattle.schedule_player.specs.GridWorld.{IsGridTranscript};
 ghost use Rattle.schedule_player.specs.IsTranscript.{IsTranscript};
@@ -18,16 +17,19 @@ use splitter::SplitterWorld;
 use splitter_grid::GridWorld;
 use std::alloc::Allocator;
 
-/// Plays the commands that a reader gives, line by line, and writes the replies, one a line: a transcript of the config's world,
-/// which the world's own clause spells out.
+/// Plays the commands of a reader, one a line, in a fresh world of the configuration, and writes the replies, one a
+/// line.
 ///
-/// The run ends at the end of the input or at `quit`, and then the text of all answers is written. The replies to what one
-/// read gave are written before the next read. All memory is taken before the first read, but for what a world takes to
-/// answer an event.
+/// The run ends at the end of the input or at `quit`. The replies to what one read gave are written before the next
+/// read. All memory is allocated before the first read, except for nodes of a tree. The first three clauses are for one
+/// kind of world each. The last is for every world.
 ///
-/// `Fault::Memory` where it was refused, with nothing read and nothing written; `Fault::Read` where the reader failed or
-/// was read 2^40 times, with the answers to all whole lines written and a cut line not run; `Fault::Write` where the
-/// writer failed or took nothing, with a prefix of the text written.
+/// # Errors
+///
+/// - `Memory`: an allocation failed. Nothing was read and nothing was written.
+/// - `Read`: a read failed, or 2^40 reads were made. The replies to all whole lines are written, and a cut line was not
+///   run.
+/// - `Write`: a write failed or took no byte. A prefix of the replies is written.
 pub fn play<A: Allocator + Clone, R: Source, W: Sink>(
     alloc: A,
     reader: &mut R,
@@ -42,51 +44,23 @@ pub fn play<A: Allocator + Clone, R: Source, W: Sink>(
         (reading R.remaining R.calls R.failed reader.old reader.new) (writing W.contents W.failed writer.old writer.new) result }
     ensures names { gives_names config.world ≡ true → IsPlayedIn (IsDeskTranscript config) config.world
         (reading R.remaining R.calls R.failed reader.old reader.new) (writing W.contents W.failed writer.old writer.new) result }
+    ensures every { IsPlayedIn (IsTranscript config) config.world
+        (reading R.remaining R.calls R.failed reader.old reader.new) (writing W.contents W.failed writer.old writer.new) result }
 {
     match config.world {
-        WorldKind::Splitter => play_fresh::<SplitterWorld<A>, A, R, W>(
-            alloc, reader, writer, config,
+        WorldKind::Splitter => play_in::<SplitterWorld<A>, _, A, R, W>(
+            alloc, &Unshared, reader, writer, config,
         ),
-        WorldKind::Grid => play_fresh::<GridWorld<A>, A, R, W>(alloc, reader, writer, config),
-        WorldKind::Rename | WorldKind::Tree => play_fresh::<Desk<A>, A, R, W>(
-            alloc, reader, writer, config,
+        WorldKind::Grid => play_in::<GridWorld<A>, _, A, R, W>(
+            alloc, &Unshared, reader, writer, config,
+        ),
+        WorldKind::Rename | WorldKind::Tree => play_in::<Desk<A>, _, A, R, W>(
+            alloc, &Unshared, reader, writer, config,
         ),
     }
 }
 
-// Plays in a fresh world of a type. Of whatever type, so that no world is taken apart here.
-fn play_fresh<D: World<A, Unshared> + Drop, A: Allocator + Clone, R: Source, W: Sink>(
-    alloc: A,
-    reader: &mut R,
-    writer: &mut W,
-    config: Config,
-) -> Result<Summary, Fault>
-    requires serves { D.serves config.world ≡ true }
-    requires reads { R.calls reader.old < 2 ^ 64 }
-    requires writes { W.calls writer.old < 2 ^ 64 }
-    ensures { IsPlayedIn (IsTranscriptOf (D.IsRunIn config) config.m (D.fresh config) D.may) config.world
-        (reading R.remaining R.calls R.failed reader.old reader.new) (writing W.contents W.failed writer.old writer.new) result }
-{
-    let mut world = opened::<D, Unshared, A>(&alloc, config)?;
-    play_in(alloc, &Unshared, &mut world, config, reader, writer)
-}
-
-/// As `play`, said once for whatever world the config has, by which all above the player goes.
-pub fn play_any<A: Allocator + Clone, R: Source, W: Sink>(
-    alloc: A,
-    reader: &mut R,
-    writer: &mut W,
-    config: Config,
-) -> Result<Summary, Fault>
-    requires reads { R.calls reader.old < 2 ^ 64 }
-    requires writes { W.calls writer.old < 2 ^ 64 }
-    ensures { IsPlayedIn (IsTranscript config) config.world
-        (reading R.remaining R.calls R.failed reader.old reader.new) (writing W.contents W.failed writer.old writer.new) result }
-{
-    play(alloc, reader, writer, config)
-}
-
-/// A fresh world of a config; `Fault::Memory` where memory was refused.
+/// A fresh world of a configuration; `Memory` if an allocation failed.
 pub(crate) fn opened<D: World<A, H>, H, A: Allocator + Clone>(
     alloc: &A,
     config: Config,
@@ -104,22 +78,26 @@ pub(crate) fn opened<D: World<A, H>, H, A: Allocator + Clone>(
     }
 }
 
-/// Plays in a world that is fresh under a config, as `play`.
-pub fn play_in<D: World<A, H>, H, A: Allocator + Clone, R: Source, W: Sink>(
+/// Plays in a fresh world of any type, as `play` does.
+///
+/// It is a function of its own, so that `play` drops no world, which costs the prover time for each type.
+///
+/// # Errors
+///
+/// Those of `play`.
+pub fn play_in<D: World<A, H> + Drop, H, A: Allocator + Clone, R: Source, W: Sink>(
     alloc: A,
     rt: &H,
-    world: &mut D,
-    config: Config,
     reader: &mut R,
     writer: &mut W,
+    config: Config,
 ) -> Result<Summary, Fault>
     requires serves { D.serves config.world ≡ true }
-    requires fresh { D.fresh config world.old }
     requires reads { R.calls reader.old < 2 ^ 64 }
     requires writes { W.calls writer.old < 2 ^ 64 }
-    ensures { IsPlayed replies_of (IsTranscriptOf (D.IsRunIn config) config.m (D.fresh config) D.may)
-        (IsTranscriptOf (D.IsRunIn config) config.m (D.fresh config) D.may) config.world
+    ensures { IsPlayedIn (IsTranscriptOf (D.IsRunIn config) config.m (D.fresh config) D.may) config.world
         (reading R.remaining R.calls R.failed reader.old reader.new) (writing W.contents W.failed writer.old writer.new) result }
 {
-    play_on(alloc, rt, world, config.world, reader, writer)
+    let mut world = opened::<D, H, A>(&alloc, config)?;
+    play_on(alloc, rt, &mut world, config.world, reader, writer)
 }

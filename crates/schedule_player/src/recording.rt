@@ -12,10 +12,13 @@ use desk::Desk;
 use player::{Fault, Sink, Source, record_on};
 use std::alloc::Allocator;
 
-/// Plays the commands that a reader gives, as `play`, and writes the record of the run in place of the replies: its header
-/// before the first read, and a line for each event with its reply.
+/// Plays the commands of a reader as `play` does, and writes the record of the run in place of the replies.
 ///
-/// Its faults are those of `play`. `Fault::Write` comes with nothing read where not even the header could be written.
+/// The record is a header, which is written before the first read, and a line for each event with its reply.
+///
+/// # Errors
+///
+/// Those of `play`. If the header cannot be written, the error is `Write` and nothing was read.
 pub fn record<A: Allocator + Clone, R: Source, W: Sink>(
     alloc: A,
     reader: &mut R,
@@ -29,7 +32,7 @@ pub fn record<A: Allocator + Clone, R: Source, W: Sink>(
 {
     let mut world = opened::<Desk<A>, Unshared, A>(&alloc, config)?;
     let recorded = record_on(alloc, &Unshared, &mut world, config, reader, writer);
-    // by a call, since it is taken apart wherever it is let go without one
+    // by a call, since otherwise it is dropped at each way out
     drop(world);
     recorded
 }

@@ -1,4 +1,4 @@
-//! A splitter's world answers events.
+//! A splitter as a world: it answers events.
 
 ghost use Rattle.std.proofs.Common.{refl};
 ghost use Rattle.commands.specs.Config.{is_kind};

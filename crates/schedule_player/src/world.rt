@@ -1,4 +1,4 @@
-//! Worlds: services that a config opens, whose runs keep a law.
+//! Worlds: services that a configuration opens, whose runs satisfy a trace specification.
 
 ghost use Rattle.std.specs.Prelude.{◌≡◌, ◌≢◌, List, Bool, true, IfOk, IfErr};
 ghost use Rattle.step_memory.specs.declared.refusal.Refusal.TheVariants as refusal;
@@ -17,43 +17,46 @@ use commands::Config;
 use player::Service;
 use step_memory::Refusal;
 
-/// What a splitter, a grid or a desk needs to wait for: nothing, since one caller has it to itself.
+/// What a splitter, a grid or a desk waits for: nothing, since one caller owns it.
 ///
-/// What implements a trait of `player` for a type of another crate has to name a type of this one: here this is it.
+/// This crate implements a trait of `player` for types of other crates, and so has to name a type of its own: this one.
 #[derive(Clone, Copy)]
 pub struct Unshared;
 
-/// A world of a config, whose runs keep a law.
+/// A world that a configuration opens, whose runs satisfy a trace specification.
 pub trait World<A, R>: Service<R> {
-    /// Whether it serves a kind.
+    /// The kinds that it serves.
     ghost serves: { WorldKind → Bool };
 
-    /// Whether it is fresh under a config.
+    /// It is fresh under a configuration.
     ghost fresh: { Config → Self → Type 0 };
 
-    /// The law: whether exchanges are a run of a config.
+    /// The trace specification: the exchanges are a run of a configuration.
     ghost IsRunIn: { Config → List Exchange → Type 0 };
 
-    /// A fresh one; all the memory that it wants before its first event is taken here. A config is in its range, so want of
-    /// memory is the only refusal.
+    /// Makes a fresh world, and allocates all that it needs before its first event.
+    ///
+    /// # Errors
+    ///
+    /// `NoMemory`: an allocation failed.
     fn open(alloc: A, config: Config) -> Result<Self, Refusal>
         requires { serves config.world ≡ true }
         ensures fresh { IfOk result (λ w. fresh config w) }
         ensures only { IfErr result (λ r. r ≡ Refusal.NoMemory) };
 
-    /// It knows what lines of a kind mean that it serves.
+    /// It knows what lines mean of each kind that it serves.
     ghost meant: { (kind : WorldKind) → serves kind ≡ true → Knows Self.knows kind };
 
-    /// The exchanges of a run under the rules keep the law.
+    /// The exchanges of a run satisfy the trace specification.
     ghost lawful: { (c : Config) (w u : Self) (ts : List Turn) → fresh c w → Runs Self.may w ts u → IsRunIn c (exchanges ts) };
 
-    /// Everyone is told right who has a name.
+    /// Each reply to `owner` has the identity that was given the name.
     ghost tells: { (c : Config) (w u : Self) (ts : List Turn) → fresh c w → Runs Self.may w ts u → AreOwnersReported c.m ts };
 
-    /// All that are fresh under a config are one.
+    /// All that are fresh under one configuration are equal.
     ghost one_fresh: { (c : Config) (w v : Self) → fresh c w → fresh c v → w ≡ v };
 
-    /// Where no growth is refused there is one reply, and one is left.
+    /// If no allocation fails, there is one reply and one next state.
     ghost one_reply: { (w u v : Self) (q : Request) (a b : ShownReply) → Self.may w q a u → Self.may w q b v →
         a ≢ reply.Refused refusal.NoMemory → b ≢ reply.Refused refusal.NoMemory → (a ≡ b) × (u ≡ v) };
 }

@@ -1,24 +1,31 @@
-//! A slot for each number of a pool, used by whoever holds the number.
+//! A slot for each number of a pool, used by the holder of the number.
 //!
-//! A competitor of a pool takes a number, works with the slot of that number alone, and gives the number back; the slot
-//! keeps its value for the next holder. So a thread has a slot of its own as long as it needs one, any number of times,
-//! among as many slots as compete at once. Where the pool gets more numbers there are as many more slots.
+//! A competitor of a pool takes a number, works with the slot of that number alone, and gives the number back. The slot
+//! keeps its value for the next holder. So a thread has a slot of its own while it needs one, any number of times,
+//! among as many slots as compete at once. If the pool gets more numbers, there are as many more slots.
 //!
-//! What is proved, over every list of calls in any order: the pool's part of the list keeps the pool's law
-//! (`bit_allocator`); `put` by the holder of a number changes the slot of that number and nothing else; `get` answers
-//! what stands in the slot of the number held; `widen` fills the new slots and changes no other; each refusal comes exactly
-//! when it is due, and changes nothing. After `new` no call takes memory.
+//! What is proved, over every list of calls in any order:
 //!
-//! A caller, which counts in a slot of its own:
+//! - The pool's part of the list keeps the pool's law (`bit_allocator`).
+//! - `put` by the holder of a number changes the slot of that number, and nothing else.
+//! - `get` returns the value in the slot of the number held.
+//! - `widen` fills the new slots, and changes no other.
+//! - Each error is returned if and only if it is due, and changes nothing.
+//! - After `new` no call allocates.
+//!
+//! From `desk/src/over.rt`:
 //!
 //! ```text
-//! let pool = Pool::new(alloc, 3)?;
-//! let mut slots = Slots::new(pool, vec![in alloc; 0u64; 3]?)?;
-//! slots.enter(5)?;
-//! while slots.probe(5)? == Probe::Missed {}   // the second probe gets a number, or an earlier one
-//! let before = *slots.get(5)?;
-//! slots.put(5, before + 1)?;                  // no other slot changes
-//! slots.leave(5)?;                            // the slot keeps its value
+//! let values = Vec::from_elem(alloc.clone()?, 0u64, size as usize)?;
+//! match Pool::new(alloc.clone()?, size) {
+//!     Ok(pool) => match Slots::new(pool, values) {
+//! ..
+//! Event::Enter(id) => Reply::of_done(self.slots.enter(id)),
+//! Event::Probe(id) => of_probe(self.slots.probe(id)),
+//! Event::Leave(id) => Reply::of_leave(self.slots.leave(id)),
+//! Event::Put(id, value) => Reply::of_done(self.slots.put(id, value)),
+//! Event::Get(id) => Reply::of_value(self.slots.get(id).copied()),
+//! Event::Widen(size) => Reply::of_done(self.slots.widen(size, 0)),
 //! ```
 #![tactic(auto)]
 

@@ -18,13 +18,13 @@ use std::alloc::Allocator;
 use std::marker::Model;
 use step_memory::{NoMemory, Refusal};
 
-/// A pool of numbers with a slot for each.
+/// A pool of numbers, with a slot for each number.
 pub struct Slots<T, A: Allocator> {
     pool: Pool<A>,
     values: Vec<T, A>,
 }
 
-// By hand, so that slots are taken apart here alone, and not wherever some are dropped.
+// By hand, so that the code that drops slots is here alone, and not at each place where some go out of scope.
 impl<T: Drop, A: Allocator> Drop for Slots<T, A> {
     fn drop(self) {
         let Slots { pool: _, values: _ } = self;
@@ -42,7 +42,7 @@ impl<T, A: Allocator> Model for Slots<T, A> {
     ghost invariant = { λ s. (vec_len s.values ≡ s.pool.size) × (64 ≤ vec_capacity s.values) };
 }
 
-/// Puts so many copies of a value at the end, where there is room for them.
+/// Appends `more` copies of a value to a vector that has room for them.
 fn fill<T: Copy, A: Allocator>(values: &mut Vec<T, A>, more: usize, value: T)
     requires { vec_len values.old + more ≤ vec_capacity values.old }
     ensures items { values.new.items ≡ values.old.items ++ replicate more value }
@@ -54,8 +54,13 @@ fn fill<T: Copy, A: Allocator>(values: &mut Vec<T, A>, more: usize, value: T)
 }
 
 impl<T: Drop, A: Allocator> Slots<T, A> {
-    /// Slots that hold these values, that of number 1 first: as many as the pool has numbers. Room for 64 is taken here,
-    /// where the values have less. An error where that room was refused.
+    /// Makes slots over a pool, one for each of its numbers. The slot of number 1 holds the first of `values`.
+    ///
+    /// It allocates room for 64 values, unless `values` has it.
+    ///
+    /// # Errors
+    ///
+    /// `NoMemory`: the allocation failed.
     pub fn new(pool: Pool<A>, values: Vec<T, A>) -> Result<Self, NoMemory>
         requires { vec_len values ≡ pool.size }
         ensures state { IfOk result (λ s. s ≡ record { pool = pool; values = values.items }) }
@@ -70,7 +75,7 @@ impl<T: Drop, A: Allocator> Slots<T, A> {
         }
     }
 
-    /// The pool.
+    /// Returns the pool.
     pub fn pool(&self) -> &Pool<A>
         ensures pool { result.now ≡ self.now.pool }
         ensures after { OnEveryHistory slots (λ first r. Reaches pool_machine first.0 result.now (pool_calls r)) self.now }
@@ -78,14 +83,22 @@ impl<T: Drop, A: Allocator> Slots<T, A> {
         &self.pool
     }
 
-    /// The values in the slots, that of number 1 first.
+    /// Returns the values in the slots. The first is that of number 1.
     pub fn values(&self) -> &[T]
         ensures { result.now ≡ self.now.values }
     {
         self.values.as_slice()
     }
 
-    /// An identity begins to compete, as in the pool.
+    /// Makes `id` a competitor, as `Pool::enter` does.
+    ///
+    /// # Errors
+    ///
+    /// An error changes nothing. The first that applies is returned:
+    ///
+    /// - `ZeroIdentity`: `id` is 0.
+    /// - `AlreadyCompeting`: `id` competes.
+    /// - `Crowded`: as many compete as the pool has numbers.
     #[tactic(auto, using(crate::proofs::SlotsKeep::slots_law))]
     pub fn enter(&mut self, id: u64) -> Result<(), Refusal>
         ensures answer { result ≡ enter_answer self.old.pool id }
@@ -97,7 +110,14 @@ impl<T: Drop, A: Allocator> Slots<T, A> {
         self.pool.enter(id)
     }
 
-    /// One probe, as in the pool.
+    /// Makes one probe of competitor `id`, as `Pool::probe` does: at most one access.
+    ///
+    /// # Errors
+    ///
+    /// An error changes nothing. The first that applies is returned:
+    ///
+    /// - `NotCompeting`: `id` does not compete.
+    /// - `Holding`: `id` holds a number.
     #[tactic(auto, using(crate::proofs::SlotsKeep::slots_law))]
     pub fn probe(&mut self, id: u64) -> Result<Probe, Refusal>
         ensures answer { result ≡ probe_answer self.old.pool id }
@@ -106,8 +126,8 @@ impl<T: Drop, A: Allocator> Slots<T, A> {
         ensures after { Extends slots self.old self.new (Pooled (Probed id result)) }
         ensures law { SatisfiesSpec slots self.new }
 
-        // Nothing of the pool changes but this competitor and the bit that it names, and in another pool that looks alike to
-        // this competitor the answer is the same, and where it then stands.
+        // Nothing of the pool changes except this competitor and the bit that it names. In another pool that this competitor
+        // cannot distinguish, the reply and its new state are the same.
         ensures local { ChangesOnly probe_steps id self.old.pool self.new.pool result }
         ensures alike { (other : PoolState) → Indistinguishable probe_steps id self.old.pool other → result ≡ probe_answer other id }
         ensures stands_alike { (other : PoolState) → Indistinguishable probe_steps id self.old.pool other → StandAlike id self.new.pool (after_probe other id) }
@@ -115,7 +135,15 @@ impl<T: Drop, A: Allocator> Slots<T, A> {
         self.pool.probe(id)
     }
 
-    /// Gives back the number that an identity holds, as in the pool. The number's slot keeps its value.
+    /// Gives back the number that `id` holds, as `Pool::leave` does: at most one access. The number's slot keeps its
+    /// value.
+    ///
+    /// # Errors
+    ///
+    /// An error changes nothing. The first that applies is returned:
+    ///
+    /// - `NotCompeting`: `id` does not compete.
+    /// - `NotHolding`: `id` competes and holds no number.
     #[tactic(auto, using(crate::proofs::SlotsKeep::slots_law))]
     pub fn leave(&mut self, id: u64) -> Result<u8, Refusal>
         ensures answer { result ≡ number_answer self.old.pool id }
@@ -124,8 +152,8 @@ impl<T: Drop, A: Allocator> Slots<T, A> {
         ensures after { Extends slots self.old self.new (Pooled (Left id result)) }
         ensures law { SatisfiesSpec slots self.new }
 
-        // Nothing of the pool changes but this competitor and the bit that it names, and in another pool that looks alike to
-        // this competitor the answer is the same, and where it then stands.
+        // Nothing of the pool changes except this competitor and the bit that it names. In another pool that this competitor
+        // cannot distinguish, the reply and its new state are the same.
         ensures local { ChangesOnly leave_steps id self.old.pool self.new.pool result }
         ensures alike { (other : PoolState) → Indistinguishable leave_steps id self.old.pool other → result ≡ number_answer other id }
         ensures stands_alike { (other : PoolState) → Indistinguishable leave_steps id self.old.pool other → StandAlike id self.new.pool (after_leave other id) }
@@ -133,8 +161,14 @@ impl<T: Drop, A: Allocator> Slots<T, A> {
         self.pool.leave(id)
     }
 
-    /// Puts a value into the slot of the number that an identity holds. Refused where the identity does not compete, then
-    /// where it holds no number.
+    /// Puts a value into the slot of the number that `id` holds. No other slot changes.
+    ///
+    /// # Errors
+    ///
+    /// An error changes nothing. The first that applies is returned:
+    ///
+    /// - `NotCompeting`: `id` does not compete.
+    /// - `NotHolding`: `id` competes and holds no number.
     #[tactic(auto, using(crate::proofs::SlotsKeep::slots_law))]
     pub fn put(&mut self, id: u64, value: T) -> Result<(), Refusal>
         ensures answer { result ≡ stored_reply (number_answer self.old.pool id) }
@@ -149,8 +183,14 @@ impl<T: Drop, A: Allocator> Slots<T, A> {
         Ok(())
     }
 
-    /// The value in the slot of the number that an identity holds. Refused where the identity does not compete, then where
-    /// it holds no number.
+    /// Returns the value in the slot of the number that `id` holds.
+    ///
+    /// # Errors
+    ///
+    /// The first that applies is returned:
+    ///
+    /// - `NotCompeting`: `id` does not compete.
+    /// - `NotHolding`: `id` competes and holds no number.
     #[tactic(auto, using(crate::proofs::SlotsKeep::slots_law))]
     pub fn get(&self, id: u64) -> Result<&T, Refusal>
         ensures answer { IsFetched self.now.values (number_answer self.now.pool id) (result_map_both (λ value. value.now) (λ refusal. refusal) result) }
@@ -163,8 +203,14 @@ impl<T: Drop, A: Allocator> Slots<T, A> {
 }
 
 impl<T: Copy, A: Allocator> Slots<T, A> {
-    /// The pool gets more numbers, as in the pool, and each new slot holds this value; the others keep theirs. Refused where
-    /// the pool refuses the size. It takes no memory.
+    /// Gives the pool more numbers, as `Pool::widen` does. Each new slot holds `value`, and each other slot keeps its
+    /// value.
+    ///
+    /// This makes at most one access and allocates nothing.
+    ///
+    /// # Errors
+    ///
+    /// `OutOfRange`: `size` is not above the present size, or is above 64. Nothing has changed.
     #[tactic(auto, using(crate::proofs::SlotsKeep::slots_law))]
     pub fn widen(&mut self, size: u64, value: T) -> Result<(), Refusal>
         ensures answer { result ≡ widen_answer self.old.pool size }
@@ -174,7 +220,7 @@ impl<T: Copy, A: Allocator> Slots<T, A> {
         ensures after { Extends slots self.old self.new (Extended size value result) }
         ensures law { SatisfiesSpec slots self.new }
 
-        // No competitor stands elsewhere, and no bit changes but that of what was the last number.
+        // No competitor changes, and no bit except that of the number that was the last one.
         ensures local { IsWidened self.old.pool self.new.pool result }
     {
         self.pool.widen(size)?;

@@ -6,7 +6,7 @@ ghost use Rattle.slot_server.specs.declared.server_fault.ServerFault.TheVariants
 use crate::server_fault::ServerFault;
 use std::net::OpenListener;
 
-/// How many connections were accepted, of how many, and whether one could not be. Only a listener that gives one more adds to them.
+/// The connections that were accepted, of a fixed number. Only a listener adds to them.
 #[derive(Drop)]
 pub struct Connections {
     accepted: u64,
@@ -16,7 +16,7 @@ pub struct Connections {
 }
 
 impl Connections {
-    /// None yet, of so many.
+    /// Makes the state before any of `count` connections.
     pub(crate) fn new(count: u64) -> Connections
         ensures { (result.accepted ≡ 0) × (result.count ≡ count) × (result.fault ≡ None) }
     {
@@ -27,14 +27,15 @@ impl Connections {
         }
     }
 
-    /// How many were accepted.
+    /// Returns the number of connections that were accepted.
     pub fn accepted(&self) -> u64
         ensures { result ≡ self.now.accepted }
     {
         self.accepted
     }
 
-    /// Why not all of so many were accepted: one could not be, or nobody was there to accept it. None where all were.
+    /// Returns why fewer than `count` were accepted: an accept failed, or there was no clerk. Returns `None` if all
+    /// were accepted.
     pub(crate) fn lack(&self, count: u64) -> Option<ServerFault>
         ensures { IfNone result (self.now.accepted ≡ count) }
     {
@@ -45,8 +46,9 @@ impl Connections {
         }
     }
 
-    /// The next connection with its number, counted from 0. None where all were accepted, or one could not be: then none is
-    /// from there on.
+    /// Accepts the next connection, and returns it with its number, from 0.
+    ///
+    /// Returns `None` if all were accepted, or if an accept has failed.
     pub(crate) fn accept<N: OpenListener>(&mut self, listener: &N) -> Option<(u64, N::Stream)>
         ensures number { IfSome result (λ c. (c.0 ≡ self.old.accepted) × (self.new.accepted ≡ self.old.accepted + 1)) }
         ensures before { IfSome result (λ c. (self.old.accepted < self.old.count) × (self.old.fault ≡ None)) }

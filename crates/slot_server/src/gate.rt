@@ -1,11 +1,12 @@
-//! What is told of lines and replies.
+//! What is called for lines and replies.
 
-/// What a worker tells of each connection that it serves, and where a test may hold it.
+/// What a worker calls as it serves a connection, so that a test may hold it.
 pub trait Gate<R> {
-    /// A line of a connection is whole, and is not yet applied.
+    /// Called when a line of a connection is read whole, before it is applied. Only tested: that it is called
+    /// (`server_tests`).
     fn read(&self, rt: &R, connection: u64);
 
-    /// A reply to a connection was written.
+    /// Called when a reply to a connection was written whole. Only tested: that it is called (`server_tests`).
     fn answered(&self, rt: &R, connection: u64);
 }
 

@@ -16,16 +16,16 @@ use std::sync::Wait;
 use std::sync::ledger::Blank;
 use std::thread::Threads;
 
-/// What is to be served, over one hall.
+/// What a server serves, over one hall.
 #[derive(Clone, Copy, Drop)]
 pub struct Plan {
-    /// The world of the hall, in which names are given, and its sizes.
+    /// The configuration of the hall, whose world gives names.
     pub config: Config,
-    /// The port that is listened on; with 0 any that is free.
+    /// The port to listen on, or 0 for any that is free.
     pub port: u16,
-    /// How many connections are served at once.
+    /// The number of workers, each of which serves one connection at a time.
     pub workers: u64,
-    /// How many are served.
+    /// The number of connections to serve.
     pub count: u64,
 }
 
@@ -36,7 +36,7 @@ fn line_of(alloc: Global, word: &str, number: u64) -> Result<String, AllocError>
     format!(in alloc; "{word} {number}\n")
 }
 
-// Writes such a line, at once.
+// Writes such a line, and flushes it. Only tested (`tests/serve`).
 fn tell<W: Write>(
     alloc: Global,
     word: &str,
@@ -50,7 +50,7 @@ fn tell<W: Write>(
     Ok(())
 }
 
-// A fault of sockets.
+// The fault for an error of sockets. Only tested (`tests/serve`).
 fn fault_of(error: &io::Error) -> ServeFault {
     if error.kind() == ErrorKind::OutOfMemory {
         ServeFault::Server(ServerFault::Memory)
@@ -59,7 +59,7 @@ fn fault_of(error: &io::Error) -> ServeFault {
     }
 }
 
-// A listener, and the port that it got.
+// A listener, and the port that it got. Only tested (`tests/serve`).
 fn listening<R: Net<Listener = TcpListener, Stream = TcpStream>>(
     rt: &R,
     port: u16,
@@ -74,7 +74,7 @@ fn listening<R: Net<Listener = TcpListener, Stream = TcpStream>>(
     }
 }
 
-// As many clerks of a lock.
+// `count` clerks of a lock. Only tested (`tests/serve`): that there are so many.
 fn clerks_of<L: LockName, R: Wait>(
     rt: &R,
     alloc: Global,
@@ -88,7 +88,7 @@ fn clerks_of<L: LockName, R: Wait>(
     Some(clerks)
 }
 
-// Serves all connections of a plan by these clerks, once it has told the port.
+// Serves all connections of a plan by these clerks, after it has written the port. Only tested (`tests/serve`): what it writes.
 fn serve_all<L: LockName + Send + Sync, R, W: Write>(
     rt: &R,
     alloc: Global,
@@ -107,7 +107,7 @@ where
     }
 }
 
-// Closes the hall against all that its clerks answered, and tells how many connections were served.
+// Closes the hall against all that its clerks kept, and writes how many connections were served. Only tested (`tests/serve`).
 fn end<L: LockName, W: Write>(
     alloc: Global,
     lock: HallLock<L>,
@@ -123,8 +123,17 @@ fn end<L: LockName, W: Write>(
     tell(alloc, "served", served.served, output)
 }
 
-/// Serves connections to 127.0.0.1 over one hall, by threads. Before the first it writes a line with the port that it listens on,
-/// behind the last one, once the hall was closed against all that its clerks answered, with how many it served.
+/// Serves `plan.count` connections to 127.0.0.1 over one hall, by threads.
+///
+/// It writes a line `listening PORT` before the first connection. After the last it closes the hall against all that
+/// its clerks kept, and writes a line `served COUNT`. Only tested: what it writes and returns (`tests/serve`).
+///
+/// # Errors
+///
+/// - `Server(Memory)`: an allocation failed, or more than 1,000,000 workers are asked for.
+/// - `Server(Network)`: to listen or to accept failed, or there are no workers.
+/// - `Write`: a line could not be written.
+/// - `Server(History)`: the history at the end is not what the clerks kept.
 pub fn serve<L: LockName + Send + Sync, R, W: Write>(
     rt: &R,
     alloc: Global,

@@ -1,4 +1,4 @@
-//! Why a server did not come to its end.
+//! Why a server failed.
 
 use std::alloc::AllocError;
 use std::error::Error;
@@ -7,11 +7,11 @@ use std::fmt;
 /// Why a server did not serve all its connections. A fault of one connection is none of these.
 #[derive(Clone, Copy, Debug, Drop, PartialEq, Eq)]
 pub enum ServerFault {
-    /// A growth was refused; the clerks are lost.
+    /// An allocation failed, and the clerks are lost.
     Memory = 3,
     /// To listen or to accept failed.
     Network = 4,
-    /// The history at the end is not what the clients were told: some event in it was not answered, or not so.
+    /// The history at the end is not what the clerks kept.
     History = 5,
 }
 
@@ -27,12 +27,12 @@ impl fmt::Display for ServerFault {
 
 impl Error for ServerFault {}
 
-/// Why a server that tells what it does did not come to its end.
+/// Why `serve` failed.
 #[derive(Clone, Copy, Debug, Drop, PartialEq, Eq)]
 pub enum ServeFault {
-    /// It could not serve all its connections.
+    /// It did not serve all its connections.
     Server(ServerFault),
-    /// What it tells was not taken.
+    /// Its output could not be written.
     Write,
 }
 

@@ -9,12 +9,16 @@ ghost use Rattle.player.specs.Runs.{IsRunTo, CanRun};
 use player::{Fault, Service, Sink, Source, Summary, WorldKind, play_on};
 use std::alloc::Allocator;
 
-/// Answers the commands that a reader gives by a service, line by line, and writes the replies, one a line: as `play` does, of
-/// which it has the theorem. The command language is that of the worlds in which names are given. The replies to what one
-/// read gave are written before the next read.
+/// Plays the commands of a reader by a service, one a line, and writes the replies, one a line.
 ///
-/// `Fault::Memory` where it was refused, with nothing read, nothing written and the service as it was; `Fault::Read` where the
-/// reader failed or was read 2^40 times; `Fault::Write` where the writer failed or took nothing.
+/// It has the theorem of `play`, in the command language of the worlds that give names. The replies to what one read
+/// gave are written before the next read.
+///
+/// # Errors
+///
+/// - `Memory`: an allocation failed. Nothing was read or written, and the service is unchanged.
+/// - `Read`: a read failed, or 2^40 reads were made.
+/// - `Write`: a write failed or took no byte.
 pub fn serve_one<R, A: Allocator + Clone, I: Source, O: Sink, S: Service<R>>(
     rt: &R,
     alloc: A,

@@ -1,4 +1,4 @@
-//! Readers and writers that tell a gate.
+//! Readers and writers that call a gate.
 
 ghost use Rattle.std.specs.Prelude.{◌≡◌};
 
@@ -7,11 +7,12 @@ use player::{Sink, Source};
 use std::io;
 use std::io::{Read, Write};
 
-/// What ends a line.
+/// The byte that ends a line.
 const LF: u8 = 10;
 
-/// A reader or a writer of a connection that tells a gate: of each line that it has read whole, and of each reply that it has
-/// written whole.
+/// A reader or a writer of a connection that calls a gate for each line that it has read or written whole.
+///
+/// Not proved: the calls of the gate, which no clause names. Its bytes are those of the inner reader or writer.
 #[derive(Drop)]
 pub struct Watched<'a, R, G, T> {
     rt: &'a R,
@@ -22,7 +23,7 @@ pub struct Watched<'a, R, G, T> {
 }
 
 impl<'a, R, G: Gate<R>, T> Watched<'a, R, G, T> {
-    /// This reader or writer, of this connection.
+    /// Wraps a reader or a writer of a connection.
     pub fn new(rt: &'a R, gate: &'a G, connection: u64, inner: T) -> Watched<'a, R, G, T>
         ensures inner { result.inner ≡ inner }
         ensures connection { result.connection ≡ connection }
@@ -36,7 +37,7 @@ impl<'a, R, G: Gate<R>, T> Watched<'a, R, G, T> {
         }
     }
 
-    // Tells of each line that ends in these bytes.
+    // Calls the gate for each line that ends in these bytes. Only tested (`server_tests`).
     fn tell_read(&self, bytes: &[u8]) {
         for byte in bytes {
             if *byte == LF {
@@ -45,7 +46,7 @@ impl<'a, R, G: Gate<R>, T> Watched<'a, R, G, T> {
         }
     }
 
-    // Tells of the lines that these bytes make whole. No bytes are the end, at which what has begun is a line.
+    // Calls the gate for the lines that these bytes complete. No bytes are the end, which completes a line that has begun.
     fn has_read(&mut self, bytes: &[u8])
         ensures { self.new.inner ≡ self.old.inner }
     {
@@ -62,7 +63,7 @@ impl<'a, R, G: Gate<R>, T> Watched<'a, R, G, T> {
         }
     }
 
-    // Tells of each reply that ends in these bytes.
+    // Calls the gate for each reply that ends in these bytes. Only tested (`server_tests`).
     fn tell_written(&self, bytes: &[u8]) {
         for byte in bytes {
             if *byte == LF {

@@ -19,27 +19,27 @@ use std::thread;
 use std::thread::Threads;
 use std::time::Duration;
 
-/// What was served.
+/// What `serve_many` served.
 #[derive(Drop)]
 pub struct Served<L: LockName> {
-    /// The connections that were accepted, of which each was served, those that ended by a fault of their own among them.
+    /// The connections that were accepted. Each was served, also if it ended by a fault of its own.
     pub connections: Connections,
-    /// How many that are.
+    /// Their number.
     pub served: u64,
     /// The clerks, with all that they have kept.
     pub clerks: Vec<Clerk<L>>,
-    /// Why not all connections were served.
+    /// Why not all connections were served, or `None`.
     pub fault: Option<ServerFault>,
 }
 
-/// For how many milliseconds a client may pause, once no more is written to it, before its connection is closed.
+/// How many milliseconds a client may pause after the last reply before its connection is closed.
 const PAUSE: u64 = 100;
 
-/// How many reads are passed over then.
+/// How many reads are dropped then at most.
 const PASSED_READS: u64 = 1_000_000;
 
-// Ends a connection: its client finds the end behind the last reply, and what it still sends is passed over until it ends
-// or pauses. To close at once would take back replies that the client has not read.
+// Ends a connection: its client finds the end after the last reply. What it still sends is dropped until it ends or pauses:
+// to close at once would lose replies that the client has not read. Only tested (`tests/serve`).
 fn end(stream: &TcpStream) {
     let pause = Duration::from_millis(PAUSE);
     if stream.shutdown(Shutdown::Write).is_err() || stream.set_read_timeout(Some(pause)).is_err() {
@@ -54,7 +54,7 @@ fn end(stream: &TcpStream) {
     }
 }
 
-// Serves one connection to its end. A fault of it ends it alone.
+// Serves one connection to its end. A fault of the connection ends it alone.
 fn serve_stream<R: Wait, L: LockName, G: Gate<R>>(
     rt: &R,
     alloc: Global,
@@ -72,7 +72,7 @@ fn serve_stream<R: Wait, L: LockName, G: Gate<R>>(
     }
 }
 
-// Serves what a reader gives, and tells whether that came to its end: of any reader and writer, since a proof over those of a stream is long.
+// Serves a reader and a writer of any type, since a proof over those of a stream is long. Returns whether there was no fault.
 fn serve_lines<R: Wait, L: LockName, I: Source, O: Sink>(
     rt: &R,
     alloc: Global,
@@ -87,7 +87,7 @@ fn serve_lines<R: Wait, L: LockName, I: Source, O: Sink>(
     serve_one(rt, alloc, reader, writer, service).is_ok()
 }
 
-// Serves connections as long as there are some.
+// Serves connections while there are some.
 fn work<R: Wait, L: LockName, G: Gate<R>>(
     rt: &R,
     alloc: Global,
@@ -110,13 +110,14 @@ fn work<R: Wait, L: LockName, G: Gate<R>>(
     service.into_clerk()
 }
 
-/// Accepts so many connections and serves each, by one worker for each clerk. A connection, numbered from 0 in order of
-/// acceptance, is served whole by one worker: a client that is slow or silent holds that one, and no lock of the hall. A
-/// fault of one connection ends it alone. A worker for which no thread can be made runs in the caller's.
+/// Accepts `count` connections and serves each, with one worker for each clerk.
 ///
-/// All clerks come back, each with what it had kept and what it answered since, but at `ServerFault::Memory`;
-/// `ServerFault::Network` where no further connection could be accepted, or no clerk was there to serve it. With no fault as
-/// many were accepted as were asked for.
+/// Connections are numbered from 0 in the order in which they are accepted. One worker serves a connection from start
+/// to end. A slow or silent client holds one worker, and no lock of the hall. A fault of one connection ends that
+/// connection alone. A worker for which no thread can be made runs in the caller's thread.
+///
+/// All clerks come back with what they kept, unless `fault` is `Memory`. If there is no `fault`, all `count`
+/// connections were accepted. `fault` is `Network` if an accept failed or there are no clerks.
 pub fn serve_many<L, R, G>(
     rt: &R,
     alloc: Global,

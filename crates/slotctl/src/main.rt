@@ -15,7 +15,7 @@ mod race;
 use hall_host::{HostFailure, HostPlan, Keeping, LogPlan, export_hall, host_hall, write_holders};
 use locked_world::Opened;
 use player::{Fault, Tried};
-use program_work::program::{program_over, report};
+use program_work::program::{program, report};
 use program_work::{
     Failure, Hosting, Keeping as KeepingWords, LogWords, Misuse, Outcome, Serving, in_sight,
     may_take_long, refused,
@@ -46,23 +46,6 @@ fn command_words(rt: &HostRuntime) -> Result<Vec<String>, Misuse> {
         Err(error) if error.kind() == ErrorKind::OutOfMemory => Err(Misuse::Memory),
         Err(_) => Err(refused(alloc, "error: the words are no text\n")),
     }
-}
-
-// What the words ask for, over the standard streams, with threads where runs are drawn.
-fn by_words<'a, T: Threads + Sync>(
-    threads: &T,
-    rt: &HostRuntime,
-    alloc: Global,
-    words: &'a [String],
-) -> Outcome<'a> {
-    program_over(
-        threads,
-        alloc,
-        words,
-        rt.stdin(),
-        rt.stdout(),
-        &mut rt.stderr(),
-    )
 }
 
 // What is to be served.
@@ -194,10 +177,20 @@ fn main(rt: HostRuntime) -> ExitCode {
             return ExitCode::from(report(Failure::Misuse(misuse), &mut output, &mut errors));
         }
     };
+    let mut input = Tried::new(rt.stdin());
     let outcome = if errors.is_terminal() && may_take_long(&words) {
-        in_sight(&rt, rt.stderr(), || by_words(&rt, &rt, alloc, &words))
+        in_sight(&rt, rt.stderr(), || {
+            program(
+                &rt,
+                alloc,
+                &words,
+                &mut input,
+                &mut output,
+                &mut rt.stderr(),
+            )
+        })
     } else {
-        by_words(&rt, &rt, alloc, &words)
+        program(&rt, alloc, &words, &mut input, &mut output, &mut errors)
     };
     let status = match outcome {
         Outcome::Ended(status) => status,

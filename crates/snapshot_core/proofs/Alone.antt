@@ -1,4 +1,4 @@
--- one who steps alone ends what it does soon
+-- one who runs solo ends what it does soon
 use Rattle.std.proofs.Common.{◌≡◌, ◌≢◌, ℕ, zero, suc, ◌+◌, ◌-◌, ◌*◌, ◌≤◌, Bool, false, cond, ◌⊎◌, List, [], ◌∷◌, ◌++◌, length, Some, None, Ok, inl, inr, refl, sym, ap, subst, ◌∙◌, arith, add-one, option_map}
 use Rattle.snapshot_core.proofs.Common.{cases_Bool, eqb_tells, reply_of, Answer, Participant, ends, participant_of, program_of, with_participant, set_at, participant_of-put, set_at-same, Client, Pending, Nothing, Places, Scans, Update, Writing, SnapReply, is_idle, access_for, after_for, note_for, note_after, pending_after, KnownPlaces, PlacesLaws, value_for, scan_after, scan_view, SnapCall, snapshot, Stepped, SnapObject, new_object, observed, Allows, Absent, Idle, Placing, Scanning, Updating, SnapState, reported, clients_over, snap_answer, after_snap_step, way_now, ways_of}
 use Rattle.step_memory.specs.declared.access.Access.{Access}

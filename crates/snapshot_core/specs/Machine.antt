@@ -55,7 +55,7 @@ module _ {S R V U K : Type 0} (t : KnownPlaces S R V U K) where
   abbrev pub IsConsistentAfter : SnapState S U K → Type 0
   IsConsistentAfter w = OnEveryHistoryFromNew (λ first r. t.ties.IsConsistent w.memory (length w.participants) (ways_of w.participants)) w
 
-  -- who was told its place has it
+  -- who got its place has it
   abbrev pub KeepsReported : SnapState S U K → ℕ → Type 0
   KeepsReported w p = OnEveryHistoryFromNew (λ first r. (place : ℕ) → Contains r (Stepped p (Ok (Placed place))) → place_in t w p ≡ Some place) w
 

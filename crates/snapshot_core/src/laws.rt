@@ -14,7 +14,7 @@ use crate::walk::SegmentWalk;
 
 /// What structures over a snapshot object stand on, over any places: it is a machine whose calls lead on, and whose lists of
 /// calls keep the law, where nothing was written at first and the bound on scans leaves room for as many collects as have
-/// begun and one more. Every prefix of a list that keeps the law keeps it. No two have one place, who was told its place has
+/// begun and one more. Every prefix of a list that keeps the law keeps it. No two have one place, who got its place has
 /// it, the memory agrees with the ways of those who have begun, only a step on a way to a place may want memory, and each
 /// access is one for what its participant has to do. A step that is answered leads on, and what it answers, and where the
 /// participant then stands, depends on what this one sees. Over places that do not go by the order of beginning, all who

@@ -26,20 +26,21 @@
 //! gives the j-th to begin the j-th segment, at once; over it the law has the numbers of `snapshot_law`. The crate
 //! `snapshot_places` has a grid and a tree.
 //!
-//! A caller, over three segments in a row:
+//! From `tests_objects/src/snapshot_tests.rt`, over segments in a row:
 //!
 //! ```text
-//! let mut world = SnapWorld::new(alloc, Fixed::new(alloc, 3)?)?;
-//! world.begin(10)?;
-//! world.begin(20)?;
-//! world.update(10, 5)?;
-//! while !matches!(world.step(10)?, SnapReply::Written) {}
-//! world.scan(20)?;
-//! let view = loop {
-//!     if let Some(view) = world.step(20)?.view() {
-//!         break view;                // 10:5
-//!     }
-//! };
+//! Call::Begin => is_asked(world.begin(id), reported),
+//! Call::Update(value) => is_asked(world.update(id, value), reported),
+//! Call::Scan => is_asked(world.scan(id), reported),
+//! ..
+//! (10, Call::Begin, Reported::Done),
+//! (20, Call::Begin, Reported::Done),
+//! (10, Call::Update(5), Reported::Done),
+//! (10, Call::Steps(5), Reported::Written),
+//! (20, Call::Scan, Reported::Done),
+//! (20, Call::Steps(4), Reported::Shown(&[(10, 5)])),
+//! ..
+//! SnapWorld::new(alloc, Fixed::new(alloc, most)?)
 //! ```
 #![tactic(auto)]
 

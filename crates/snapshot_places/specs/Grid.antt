@@ -53,7 +53,7 @@ after_access g a = g
 abbrev pub grid_steps : MemorySteps GridState GridRegister GridValue
 grid_steps = record { register = register_of; after = after_access; may_refuse = λ g a. false }
 
--- an access of a walk, sent to the doors, and what it is told
+-- an access of a walk, sent to the doors, and what it gets
 abbrev pub door_access : Access ℕ ℕ → Access GridRegister GridValue
 door_access (Read r) = Read (Door r)
 door_access (Write r word) = Write (Door r) (Word word)

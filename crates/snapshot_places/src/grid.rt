@@ -18,7 +18,8 @@ use step_memory::{
     Access, Answer, Memory, NoMemory, Note, Place, Refusal, Segment, StepMemory, StepProgram,
 };
 
-/// The doors of a grid, and a segment for each. A segment is kept as the value of its register, so that it can be lent.
+/// The doors of a grid, with a segment at each. A segment is stored as the value of its register, so that it can be
+/// lent.
 #[derive(Drop)]
 pub struct Grid<A: Allocator> {
     doors: Memory<u64, A>,
@@ -40,8 +41,12 @@ impl<A: Allocator> Model for Grid<A> {
 }
 
 impl<A: Allocator + Clone> Grid<A> {
-    /// A grid that no one has entered, for so many participants, from 1 to 16, with empty segments. Refused where they are
-    /// too many or none, then where the room for them was refused.
+    /// Makes a grid that no participant has entered, with empty segments, for `most` participants. No access allocates.
+    ///
+    /// # Errors
+    ///
+    /// - `OutOfRange`: `most` is not from 1 to 16.
+    /// - `NoMemory`: an allocation failed.
     pub fn new(alloc: A, most: usize) -> Result<Self, Refusal>
         ensures empty { IfOk result (λ g. g ≡ fresh_grid most) }
         ensures fresh { IfOk result IsEmptyGrid }
@@ -55,7 +60,7 @@ impl<A: Allocator + Clone> Grid<A> {
         Self::with_room(alloc, most)
     }
 
-    /// A grid that no one has entered. Refused where the room for it was.
+    /// A grid that no participant has entered; `NoMemory` if an allocation failed.
     fn with_room(alloc: A, most: usize) -> Result<Self, Refusal>
         requires few { most ≤ 16 }
         ensures empty { IfOk result (λ g. g ≡ fresh_grid most) }
@@ -73,7 +78,8 @@ impl<A: Allocator + Clone> Grid<A> {
 }
 
 impl<A: Allocator> Grid<A> {
-    /// The segment at a place, for what watches from outside. It is empty where there is none.
+    /// Returns the segment at a place, which is empty if there is no such place. This is no access: it is for
+    /// observers.
     pub fn segment_at(&self, place: Place) -> Segment
         ensures { result ≡ slice_index_or self.now.segments place None }
     {
@@ -84,7 +90,7 @@ impl<A: Allocator> Grid<A> {
         }
     }
 
-    /// What stands in a register, for what watches from outside: this is no access.
+    /// Returns the value of a register. This is no access: it is for observers.
     pub fn value(&self, register: GridRegister) -> GridValue
         ensures { result ≡ (register_of self.now register).0 }
     {
@@ -94,7 +100,7 @@ impl<A: Allocator> Grid<A> {
         }
     }
 
-    /// Puts a segment at a place, where there is one.
+    /// Writes the segment at a place, if there is such a place.
     fn put(&mut self, place: Place, segment: Segment)
         ensures { self.new ≡ with_segments self.old (slice_set self.old.segments place segment) }
     {

@@ -8,23 +8,23 @@ use step_memory::{Place, Segment};
 /// A register of a grid with segments.
 #[derive(Clone, Copy, Debug, Drop, PartialEq, Eq)]
 pub enum GridRegister {
-    /// A register of the doors.
+    /// X or Y of a door, by its number among the doors' registers.
     Door(usize),
     /// The segment at a place.
     Segment(Place),
 }
 
-/// What stands in a register of a grid with segments.
+/// The value of a register of a grid with segments.
 #[derive(Clone, Copy, Debug, Drop)]
 pub enum GridValue {
-    /// What stands in X or in Y.
+    /// The value of X or of Y.
     Word(u64),
-    /// What stands in a segment.
+    /// The value of a segment.
     Contents(Segment),
 }
 
 impl GridValue {
-    /// What stands in a segment, in whose register this stands. Empty where it is the word of a door.
+    /// Returns the segment that this value is, or an empty one if it is the word of a door.
     pub fn contents(&self) -> Segment
         ensures { result ≡ contents_of self.now }
     {

@@ -6,12 +6,12 @@ use crate::grid_register::{GridRegister, GridValue};
 use snapshot_core::SegmentWalk;
 use step_memory::{Place, Record, Segment};
 
-/// A walk over the segments of a grid, by rising place: the next place, and how many segments there are.
+/// A walk over the segments of a grid, by rising place.
 #[derive(Clone, Copy, Debug, Drop, PartialEq, Eq)]
 pub struct GridWalk {
-    /// The place whose segment is read next.
+    /// The place whose segment it reads next.
     pub at: Place,
-    /// How many segments there are.
+    /// The number of segments.
     pub most: Place,
 }
 

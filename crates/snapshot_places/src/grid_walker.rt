@@ -9,7 +9,7 @@ use snapshot_core::PlaceWalker;
 use splitter_grid::Walker;
 use step_memory::{Access, Answer, Note, Place, StepProgram};
 
-/// A walk through the doors of a grid.
+/// A walk through the doors of a grid, over the registers of a grid with segments (Moir and Anderson 1995).
 #[derive(Clone, Copy, Debug, Drop, PartialEq, Eq)]
 pub struct GridWalker {
     /// The walk, over the registers of the doors alone.

@@ -16,10 +16,12 @@ use crate::tree::TreePlaces;
 use snapshot_core::SnapWorld;
 use std::alloc::Allocator;
 
-/// A law, which runs nothing. Over a grid with segments that no one had entered, for at most 16 participants, the calls
-/// of a snapshot object with their replies are those of the object of the law, after every list of calls: where b have
-/// begun, a place comes within 4b steps, and over G segments a scan takes at most G(G + 1) steps and an update one more.
-/// No step wants memory, and all who begin under one identity are alike. A fresh grid is one in which nothing was written.
+/// A law of a snapshot object over a new grid with segments, for at most 16 participants.
+///
+/// - After every list of calls, the calls with their replies are those of the object of the law.
+/// - Where b have begun, a place is reached within 4b steps. Over G segments a scan makes at most G(G + 1) steps, and
+///   an update one more.
+/// - No step allocates. All participants that begin under one identity are alike. In a new grid nothing was written.
 pub fn grid_snapshot_law<A: Allocator>(world: &SnapWorld<Grid<A>, A>)
     ensures law { world.now.most ≤ 16 → SatisfiesSpecFrom grid_places (fresh_grid world.now.most) (grid_bounds world.now.most) world.now }
     ensures fits { BoundsScans grid_places world.now.most (grid_bounds world.now.most).scanning }
@@ -31,11 +33,14 @@ pub fn grid_snapshot_law<A: Allocator>(world: &SnapWorld<Grid<A>, A>)
     let _world = world;
 }
 
-/// A law, which runs nothing. Over a tree that had no node at first, for at most 64, the calls of a snapshot object with
-/// their replies are those of the object of the law, after every list of calls: where b have begun, a place comes within 5b
-/// steps, a scan takes at most (b + 1)(6b - 2) steps and an update one more. No two have one place, and at most 2b - 1
-/// nodes were made. Only a step that makes a node may want memory, and all who begin under one identity are alike. A new
-/// tree is one in which nothing was written.
+/// A law of a snapshot object over a new tree, for at most 64 participants.
+///
+/// - After every list of calls, the calls with their replies are those of the object of the law.
+/// - Where b have begun, a place is reached within 5b steps. A scan makes at most (b + 1)(6b - 2) steps, and an update
+///   one more.
+/// - No two participants have one place, and at most 2b - 1 nodes were made.
+/// - Only a step that makes a node may allocate. All participants that begin under one identity are alike. In a new
+///   tree nothing was written.
 pub fn tree_snapshot_law<A: Allocator + Clone>(world: &SnapWorld<TreePlaces<A>, A>)
     ensures law { world.now.most ≤ 64 → SatisfiesSpecFrom tree_places (new_tree world.now.most) (tree_bounds world.now.most) world.now }
     ensures fits { BoundsScans tree_places world.now.most (tree_bounds world.now.most).scanning }

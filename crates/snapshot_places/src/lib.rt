@@ -1,32 +1,38 @@
 //! Places of a snapshot object: a grid of doors, and a tree that grows, each with a segment at each place.
 //!
-//! A snapshot object (`snapshot_core`) asks of its *places* that each participant gets one of its own, and that a walk over
-//! the segments meets each that was written before the walk began. Over a *grid* (Moir and Anderson 1995) a participant
-//! walks from door to door until it stops; a collect reads the segments of all doors, by rising place. Over a *tree* of the
-//! same doors it walks down from the root, and the node before which it stands is made as it writes the node's mark; a
-//! collect reads the marks and, of marked nodes, the segments, so that it takes as long as the crowd was large. (Mark,
-//! order and counts are this project's profile.)
+//! A snapshot object (`snapshot_core`) needs *places* with two properties. Each participant gets a place of its own. A
+//! walk over the segments meets each segment that was written before the walk began. Over a *grid* (Moir and Anderson
+//! 1995) a participant walks from door to door until it stops. A collect there reads the segments of all doors, by
+//! rising place. Over a *tree* of the same doors it walks down from the root. A collect there reads the marks and the
+//! segments of marked nodes, so that its length depends on the crowd. (The mark, the order and the counts are not in
+//! the papers.)
 //!
-//! The law is that of the snapshot object, over every list of calls, by the same functions: over a grid for m participants,
-//! with G = m(m + 1)/2 segments, a place comes within 4b steps where b have begun, a scan takes at most G(G + 1) reads, and
-//! after `new` no step wants memory. Over a tree a place comes within 5b steps and a scan takes at most (b + 1)(6b - 2)
-//! reads; only a step that makes a node may be refused because an allocation failed, and then nothing has changed. Over both, what one
-//! begins with is a function of its identity and of m alone.
+//! The law is that of the snapshot object, over every list of calls. Where `b` have begun:
 //!
-//! A caller, over a tree for two:
+//! - Over a grid for m participants, with G = m(m + 1)/2 segments, a place is reached within 4b steps. A scan makes at
+//!   most G(G + 1) reads. After `new` no step allocates.
+//! - Over a tree, a place is reached within 5b steps, and a scan makes at most (b + 1)(6b - 2) reads. Only a step that
+//!   makes a node may fail because an allocation failed, and then nothing has changed.
+//!
+//! Over both, the state of a participant that begins is a function of its identity and of m alone.
+//!
+//! From `tests_objects/src/places_tests.rt`, whose rows are made by `world.begin`, `world.scan`, `world.update` and
+//! `world.step`:
 //!
 //! ```text
-//! let mut world = SnapWorld::new(alloc, TreePlaces::new(alloc, 2)?)?;
-//! world.begin(10)?;
-//! while !matches!(world.step(10)?, SnapReply::Placed(_)) {}      // at its fifth step: place 1
-//! world.update(10, 5)?;
-//! while !matches!(world.step(10)?, SnapReply::Written) {}        // at the ninth
-//! world.scan(10)?;
-//! let view = loop {
-//!     if let Some(view) = world.step(10)?.view() {
-//!         break view;                                            // at the eighth: 10:5
-//!     }
-//! };
+//! SnapWorld::new(alloc, Grid::new(alloc, 2)?)
+//! ..
+//! (10, Call::Begin, Reported::Done),
+//! (20, Call::Begin, Reported::Done),
+//! (10, Call::Steps(5), Reported::Placed(1)),
+//! (10, Call::Scan, Reported::Done),
+//! (10, Call::Steps(4), Reported::Quiet),
+//! (20, Call::Steps(8), Reported::Placed(3)),
+//! (20, Call::Update(5), Reported::Done),
+//! (20, Call::Steps(15), Reported::Written),
+//! (10, Call::Steps(14), Reported::Shown(&[(20, 5)])),
+//! ..
+//! SnapWorld::new(alloc, TreePlaces::new(alloc, 2)?)
 //! ```
 #![tactic(auto)]
 

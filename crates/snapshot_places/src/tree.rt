@@ -15,8 +15,9 @@ use std::alloc::Allocator;
 use std::marker::Model;
 use step_memory::{Access, Answer, NoMemory, Note, Place, Refusal, StepMemory};
 
-/// A tree of splitters with a segment at each node. Nodes are made one at a time, as ways come to them. Whoever begins
-/// walks down from the root, and the node at which it stops is its place.
+/// A tree of splitters with a segment at each node. The node at which a participant's walk stops is its place.
+///
+/// Each node is allocated when a walk first reaches it.
 #[derive(Drop)]
 pub struct TreePlaces<A: Allocator> {
     tree: Tree<A>,
@@ -37,7 +38,11 @@ impl<A: Allocator> Model for TreePlaces<A> {
 }
 
 impl<A: Allocator> TreePlaces<A> {
-    /// A tree of no node, for so many participants, from 1 to 64; `OutOfRange` elsewhere. It takes no memory yet.
+    /// Makes a tree with no node, for `most` participants. This allocates nothing.
+    ///
+    /// # Errors
+    ///
+    /// `OutOfRange`: `most` is not from 1 to 64.
     pub fn new(alloc: A, most: usize) -> Result<Self, Refusal>
         ensures empty { IfOk result (λ t. t ≡ new_tree most) }
         ensures fresh { IfOk result IsNewTree }
@@ -54,7 +59,7 @@ impl<A: Allocator> TreePlaces<A> {
         })
     }
 
-    /// What stands in a register, for what watches from outside: this is no access.
+    /// Returns the value of a register. This is no access: it is for observers.
     pub fn value(&self, register: TreeRegister) -> TreeValue
         ensures { result ≡ (register_in self.now register).0 }
     {

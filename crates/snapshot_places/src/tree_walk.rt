@@ -6,11 +6,10 @@ use snapshot_core::SegmentWalk;
 use splitter_tree::{CollectWalk, TreeRegister, TreeValue};
 use step_memory::{Place, Record, Segment};
 
-/// A walk over the nodes that were made, each before its left subtree and that before its right one: it reads the mark of a
-/// node, and where that is set the node's segment and what lies below.
+/// A walk over the segments of the marked nodes: each node first, then its left subtree, then its right one.
 #[derive(Clone, Copy, Debug, Drop, PartialEq, Eq)]
 pub struct TreeWalk {
-    /// The walk, as the tree knows it.
+    /// The walk over marks and segments.
     pub walk: CollectWalk,
 }
 

@@ -8,10 +8,10 @@ use snapshot_core::PlaceWalker;
 use splitter_tree::{TreeRegister, TreeValue, Walker};
 use step_memory::{Access, Answer, Note, Place, StepProgram};
 
-/// A walk down a tree: the node at which it stops is the place.
+/// A walk down a tree to a place: the node at which it stops.
 #[derive(Clone, Copy, Debug, Drop, PartialEq, Eq)]
 pub struct TreeWalker {
-    /// The walk, as the tree knows it.
+    /// The walk, over the registers of the tree.
     pub walker: Walker,
 }
 

@@ -1,4 +1,4 @@
-//! Laws of the splitter, which run nothing: of one splitter, whoever uses it, and of the calls of its world.
+//! Laws of the splitter, which run nothing: of one splitter in any structure, and of the calls of its world.
 
 ghost use Rattle.std.specs.Prelude.{◌≡◌, ◌≢◌, ◌↔◌, ℕ, ◌<◌, ◌≤◌, true, length, Some};
 ghost use Rattle.splitter.specs.Laws.{DoorSpec, GoesOn, TellsPlace, HasOneAtPlace, FourthPlaces, CountsOneMore};
@@ -17,23 +17,27 @@ ghost use Rattle.step_memory.specs.Steps.{ReadsOrWrites};
 ghost use Rattle.step_memory.specs.declared.note.Note.{Note};
 ghost use Rattle.step_memory.specs.declared.note.Note.TheVariants.{Ended};
 
-/// A law, which runs nothing: a splitter that no one has entered is lawful, each access of a visit keeps it so, and a
-/// lawful one keeps the law of the splitter. Structures of many splitters stand on this.
+/// A law of one splitter. Structures of many splitters use it.
+///
+/// A splitter that no visitor has entered is consistent, and each access of a visit keeps it consistent. A consistent
+/// splitter keeps the law of the splitter.
 pub fn law_of_one_door()
     ensures fresh { (x : ℕ) → DoorSatisfiesSpec x 0 (λ p. Stage.Outside) }
     ensures kept { DoorSpec }
     ensures law { (x y : ℕ) (stage : ℕ → Stage) → DoorSatisfiesSpec x y stage → IsSplitter stage }
 {}
 
-/// A law, which runs nothing: who went right is gone by that way, and so is who went down.
+/// A law: a visitor that went right has ended that way, and so has one that went down.
 pub fn law_of_ways()
     ensures right { (s : Stage) → went_right s ≡ true → s ≡ Stage.Gone Way.Right }
     ensures down { (s : Stage) → went_down s ≡ true → s ≡ Stage.Gone Way.Down }
 {}
 
-/// A law, which runs nothing, of walks from door to door, each of which has a splitter: a walk stands at its door until its
-/// visit there ends right or down; what it says tells the place at which it then stands; places are distinct; and a visit
-/// makes at most four accesses, after which the walk has left the door or has its place.
+/// A law of walks from door to door, each of which has a splitter.
+///
+/// - A walk is at its door until its visit there ends right or down.
+/// - Its output is the place at which it then is, and places are distinct.
+/// - A visit makes at most four accesses. The walk has then left the door, or has its place.
 pub fn law_of_walks<W>()
     ensures on { GoesOn W }
     ensures reported { TellsPlace W }
@@ -45,15 +49,15 @@ pub fn law_of_walks<W>()
     ensures more { CountsOneMore }
 {}
 
-/// A law, which runs nothing: an access of a visit reads or writes a register, or reaches none; and what it does where the
-/// visit's two registers stand in a row of registers.
+/// A law: an access of a visit reads or writes a register, or accesses none. It says what the access does to registers
+/// in a row.
 pub fn law_of_one_access()
     ensures own { (v : Visitor ℕ) → ReadsOrWrites (access_of v) }
     ensures access { (m : Registers ℕ) (v : Visitor ℕ) → v.x ≢ v.y → v.x < length m.values → v.y < length m.values → IsAccessOf m v }
 {}
 
-/// A law, which runs nothing: a splitter is a machine whose calls lead on, whose lists of calls, with every prefix of them,
-/// keep the law of the splitter, and each of whose calls is refused exactly where those before it make it due.
+/// A law: a splitter is a machine whose calls extend its history. Each history, with every prefix, keeps the law of the
+/// splitter. A call fails if and only if the calls before it make that due.
 pub fn law_of_splitter_calls()
     ensures { IsProved splitter }
 {}

@@ -1,22 +1,29 @@
 //! The splitter of Moir and Anderson (1995).
 //!
-//! A splitter is a gate of two registers: X, which holds an identity, and Y, a bit. Whoever enters makes at most four
-//! accesses and then stops, goes right or goes down. Its law: of all who have entered, at most one stops; not all go
-//! right; not all go down. So whoever enters alone stops, and a crowd at the gate is split. No test-and-set is needed:
-//! reads and writes do, and nobody waits for anybody.
+//! A splitter has two registers: X, which holds an identity, and Y, a bit. A visitor makes at most four accesses and
+//! then stops, goes right or goes down. Of all visitors that have entered, at most one stops, not all go right, and not
+//! all go down. So a visitor that enters alone stops, and a crowd is split. Reads and writes suffice: no test-and-set,
+//! and no visitor waits for another.
 //!
-//! A caller:
+//! A visit is a program (`Visitor`) that other structures run on registers of theirs. From
+//! `splitter_grid/src/walker.rt`:
 //!
 //! ```text
-//! let mut world = SplitterWorld::new(alloc, 2)?;
-//! world.begin(10)?;
-//! for _ in 0..3 {
-//!     world.step(10)?;                               // None: the visit goes on
-//! }
-//! world.step(10)?;                                   // Some(Way::Stop): alone
-//! world.begin(20)?;
-//! world.step(20)?;                                   // None
-//! world.step(20)?;                                   // Some(Way::Right): Y is set
+//! match self.visitor.resume(got) {
+//!     Note::Ended(Way::Stop) => Note::Ended(Place::from(self.door.number())),
+//!     Note::Ended(Way::Right) => {
+//!         *self = Walker::new(self.visitor.identity, self.door.right());
+//!         Note::Quiet
+//!     }
+//! ```
+//!
+//! `SplitterWorld` is a world of visitors. From `schedule_player/src/splitter_world.rt`:
+//!
+//! ```text
+//! Event::Begin(id) => Reply::of_done(self.begin(id)),
+//! Event::Step(id) => visit_reply(self.step(id)),
+//! ..
+//! SplitterWorld::new(alloc, config.m as usize)
 //! ```
 #![tactic(auto)]
 

@@ -1,4 +1,4 @@
-//! How far a visit has come.
+//! The last access of a visit.
 
 ghost use Rattle.std.specs.Prelude.{◌≡◌};
 ghost use Rattle.splitter.specs.Walk.{place_at_door};
@@ -6,23 +6,23 @@ ghost use Rattle.splitter.specs.Walk.{place_at_door};
 use crate::way::Way;
 use step_memory::Place;
 
-/// How far a visit to a splitter has come.
+/// The last access that a visit to a splitter made.
 #[derive(Clone, Copy, Debug, Drop, PartialEq, Eq)]
 pub enum Stage {
-    /// No access was made.
+    /// It has made no access.
     Outside,
-    /// Its identity is written into X.
+    /// It wrote its identity into X.
     WroteX,
     /// It read Y as clear.
     SawClear,
-    /// It has set Y.
+    /// It set Y.
     WroteY,
     /// The visit has ended.
     Gone(Way),
 }
 
 impl Stage {
-    /// The place of a walk whose visit to a door has come this far: the door, where the visit has stopped.
+    /// Returns `door` if the visit has stopped there, as the place of its walk; otherwise `None`.
     pub fn place_at(self, door: Place) -> Option<Place>
         ensures { result ≡ place_at_door door self }
     {

@@ -7,30 +7,32 @@ use crate::stage::Stage;
 use crate::way::Way;
 use step_memory::{Access, Answer, Note, StepProgram};
 
-/// What stands in Y once it is set; 0 stands there before.
+/// The value of Y once it is set; it is 0 before.
 const SET: u64 = 1;
 
-/// A visit of one identity, which is not 0, to the splitter whose X is the register `x` and whose Y the register
-/// `y`. X holds an identity and 0 at first, Y holds 0 while it is clear.
+/// A visit of one identity, which is not 0, to a splitter (Moir and Anderson 1995): at most four accesses.
+///
+/// The register `x` is the splitter's X, which holds 0 and then an identity. The register `y` is its Y, which holds 0
+/// until it is set.
 ///
 /// 1. Write the identity into X.
-/// 2. Read Y. Where it is set the visit ends to the right.
+/// 2. Read Y. If it is set, the visit ends to the right.
 /// 3. Set Y.
-/// 4. Read X. Where the identity stands there the visit stops, else it ends down.
+/// 4. Read X. If it holds the identity, the visit stops. Otherwise the visit ends down.
 #[derive(Clone, Copy, Debug, Drop, PartialEq, Eq)]
 pub struct Visitor<R> {
-    /// Who visits.
+    /// The identity that visits.
     pub identity: u64,
     /// The register that is the splitter's X.
     pub x: R,
     /// The register that is its Y.
     pub y: R,
-    /// How far the visit has come.
+    /// The last access that the visit made.
     pub stage: Stage,
 }
 
 impl<R: Copy> Visitor<R> {
-    /// A visit that has not begun.
+    /// Makes a visit that has made no access.
     pub fn new(identity: u64, x: R, y: R) -> Visitor<R>
         ensures { result ≡ visitor_at identity x y }
     {

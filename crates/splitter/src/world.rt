@@ -32,8 +32,12 @@ impl<A: Allocator> Model for SplitterWorld<A> {
 }
 
 impl<A: Allocator + Clone> SplitterWorld<A> {
-    /// A splitter that no one has entered, for at most `most` participants, from 1 to 16; `OutOfRange` elsewhere. All
-    /// the memory that its calls want is taken here.
+    /// Makes a splitter that no participant has entered, for at most `most` participants. No other call allocates.
+    ///
+    /// # Errors
+    ///
+    /// - `OutOfRange`: `most` is not from 1 to 16.
+    /// - `NoMemory`: an allocation failed.
     #[tactic(auto, using(crate::proofs::SplitterTied::splitter_contracts))]
     pub fn new(alloc: A, most: usize) -> Result<Self, Refusal>
         ensures fresh { IfOk result (λ w. w ≡ fresh most) }
@@ -49,15 +53,22 @@ impl<A: Allocator + Clone> SplitterWorld<A> {
         open(alloc, most)
     }
 
-    /// A participant begins: its visit has made no access. Refused where the identity is 0, then where it has begun,
-    /// then where as many have begun as there may be.
+    /// Adds participant `id`, whose visit has made no access.
+    ///
+    /// # Errors
+    ///
+    /// An error changes nothing. The first that applies is returned:
+    ///
+    /// - `ZeroIdentity`: `id` is 0.
+    /// - `AlreadyBegun`: `id` has begun.
+    /// - `Full`: as many participants as the world takes have begun.
     #[tactic(auto, using(crate::proofs::SplitterTied::splitter_contracts))]
     pub fn begin(&mut self, id: u64) -> Result<(), Refusal>
         ensures answer { result ≡ done_unless (begin_refusal self.old id) }
         ensures state { self.new ≡ after_begin self.old id (visit_of id) }
         ensures unchanged_on_error { OnErr result (self.new ≡ self.old) }
 
-        // The law, over every list of calls and replies that the world may be after.
+        // The specification, over every history that leads to this world.
         ensures after { Extends splitter self.old self.new (Began id result) }
         ensures law { SatisfiesSpec splitter self.new }
         ensures due { RefusesWhereDue splitter self.new }
@@ -65,21 +76,31 @@ impl<A: Allocator + Clone> SplitterWorld<A> {
         self.world.begin(id, Visitor::new(id, 0, 1))
     }
 
-    /// One step of a visit, which is one access; the way, once the visit ends. Refused where the identity has not
-    /// begun, then where its visit has ended.
+    /// Makes one step of the visit of `id`: one access. Returns the way if the visit ends with it.
+    ///
+    /// # Errors
+    ///
+    /// An error changes nothing. The first that applies is returned:
+    ///
+    /// - `NotBegun`: `id` has not begun.
+    /// - `Finished`: the visit of `id` has ended.
+    ///
+    /// # Steps
+    ///
+    /// A visit makes at most 4.
     #[tactic(auto, using(crate::proofs::SplitterTied::splitter_contracts))]
     pub fn step(&mut self, id: u64) -> Result<Option<Way>, Refusal>
         ensures answer { result ≡ step_reply self.old id }
         ensures state { self.new ≡ world_after_step self.old id }
         ensures unchanged_on_error { OnErr result (self.new ≡ self.old) }
 
-        // Nothing of the world changes but this visit and the register that it names, and in another world that looks
-        // alike to this visit the answer is the same, and where the visit then stands.
+        // Nothing of the world changes except this visit and the register that it names. In another world that this visit
+        // cannot distinguish, the reply and the new visit are the same.
         ensures local { ChangesOnly visitor_steps memory_steps id self.old self.new }
         ensures alike { (other : SplitterState) → Indistinguishable visitor_steps memory_steps id self.old other → result ≡ step_reply other id }
         ensures stands_alike { StaysAlike self.old self.new id }
 
-        // The law, over every list of calls and replies that the world may be after.
+        // The specification, over every history that leads to this world.
         ensures after { Extends splitter self.old self.new (Stepped id result) }
         ensures law { SatisfiesSpec splitter self.new }
         ensures due { RefusesWhereDue splitter self.new }
@@ -88,7 +109,7 @@ impl<A: Allocator + Clone> SplitterWorld<A> {
     }
 }
 
-/// A splitter that no one has entered; `NoMemory` where its room was refused.
+/// A splitter that no participant has entered; `NoMemory` if an allocation failed.
 fn open<A: Allocator + Clone>(alloc: A, most: usize) -> Result<SplitterWorld<A>, Refusal>
     ensures fresh { IfOk result (λ w. w ≡ fresh most) }
     ensures only { IfErr result (λ r. r ≡ Refusal.NoMemory) }

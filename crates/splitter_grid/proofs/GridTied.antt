@@ -140,7 +140,7 @@ grid_proved = world_proved grid_parts IsTied tie
 pub tied_always : (w : GridState) → OnEveryHistory grid (λ most r. IsTied w r) w
 tied_always w = λ most r a. tied_after grid_parts IsTied tie most w r a
 
--- nobody is told a second place
+-- nobody gets a second place
 pub one_place_reported : (p a b : ℕ) (before between rest : List (Call (Option ℕ))) → GridSpec (before ++ Stepped p (Ok (Some a)) ∷ (between ++ Stepped p (Ok (Some b)) ∷ rest)) → ⊥
 one_place_reported p a b before between rest law = no_second_end is_some p (Some a) (Some b) before between rest refl law.ends_once
 

@@ -6,7 +6,7 @@ use Rattle.step_memory.specs.Due.{EndsOnce}
 use Rattle.splitter_grid.specs.Door.{IsDoorWithin}
 
 -- Where b have begun: places are distinct. Row and column of the door of a place are together at most b - 1. Nobody makes
--- more than 4b accepted steps, and who has made so many, and any, has a place. No one makes a step after it was told its
+-- more than 4b accepted steps, and who has made so many, and any, has a place. No one makes a step after it got its
 -- place
 pub record GridSpec (r : List (Call (Option ℕ))) : Type 0 where
   pub distinct : AreDistinct (λ p. outcome_of p r)

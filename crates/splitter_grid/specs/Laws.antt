@@ -50,7 +50,7 @@ HasAccessesLeft =
 abbrev pub HasBegun : Type 0
 HasBegun = (most b : ℕ) (m : Registers ℕ) (walker : ℕ → Option Walker) (p : ℕ) (u : Walker) → IsConsistent most b m walker → walker p ≡ Some u → 1 ≤ b
 
--- nobody is told a second place
+-- nobody gets a second place
 abbrev pub TellsOnePlace : Type 0
 TellsOnePlace =
     (p a b : ℕ) (before between rest : List (Call (Option ℕ))) →

@@ -3,18 +3,17 @@
 ghost use Rattle.std.specs.Prelude.{◌≡◌, ◌+◌, ◌*◌};
 ghost use Rattle.splitter_grid.specs.Door.{corner, number_of, right_of, down_of};
 
-/// A door of the grid. Its row is its depth less its column, so the depth is the sum of row and column: how many doors
-/// a walk has passed before it. The column is at most the depth.
+/// A door of the grid, by its depth and its column. Its depth is the sum of its row and its column.
 #[derive(Clone, Copy, Debug, Drop, PartialEq, Eq)]
 pub struct Door {
     /// How many doors a walk has passed before it.
     pub depth: u8,
-    /// How many of these it left down.
+    /// How many of these it left down: at most the depth.
     pub column: u8,
 }
 
 impl Door {
-    /// The door at which every walk begins.
+    /// Returns the door at which every walk begins.
     pub fn corner() -> Door
         ensures { result ≡ corner }
     {
@@ -24,29 +23,29 @@ impl Door {
         }
     }
 
-    /// The number of the door. Doors are numbered from 0, one diagonal after another, each by rising column (this
-    /// project's profile).
+    /// Returns the number of the door. Numbers go from 0, diagonal by diagonal, and along each by rising column. (Not
+    /// in the papers.)
     pub fn number(self) -> u16
         ensures { result ≡ number_of self }
     {
         u16::from(self.depth) * (u16::from(self.depth) + 1) / 2 + u16::from(self.column)
     }
 
-    /// The register of the door's X.
+    /// Returns the register of the door's X.
     pub fn x(self) -> usize
         ensures { result ≡ 2 * number_of self }
     {
         2 * usize::from(self.number())
     }
 
-    /// The register of the door's Y.
+    /// Returns the register of the door's Y.
     pub fn y(self) -> usize
         ensures { result ≡ 2 * number_of self + 1 }
     {
         self.x() + 1
     }
 
-    /// The door to the right: the next row, the same column. No grid is as deep as the depths of doors go.
+    /// Returns the door to the right: the next row, the same column. A depth of 255, which no grid has, stays 255.
     pub fn right(self) -> Door
         ensures { result ≡ right_of self }
     {
@@ -56,7 +55,7 @@ impl Door {
         }
     }
 
-    /// The door below: the same row, the next column.
+    /// Returns the door below: the same row, the next column. A depth of 255, which no grid has, stays 255.
     pub fn down(self) -> Door
         ensures { result ≡ down_of self }
     {

@@ -14,12 +14,14 @@ ghost use Rattle.step_memory.specs.Steps.{ReadsOrWrites};
 ghost use Rattle.step_memory.specs.declared.access.Answer.{Answer};
 ghost use Rattle.step_memory.specs.declared.note.Note.TheVariants.{Ended};
 
-/// A law, which runs nothing: the doors of a grid that no one has entered are consistent with no walks; one who begins,
-/// each access of a walk, and whatever leaves the doors' registers as they are keep doors and walks consistent; and
-/// where they are, they keep the law of the grid. Where b have begun, a walk that has no place yet has made fewer than 4b
-/// accesses; each brings it nearer to a place, and says that it has ended just where it reaches it. A door on the first b
-/// diagonals has one of the lowest b(b + 1)/2 numbers.
-/// Structures over the places of a grid stand on this.
+/// A law of the doors of a grid and the walks through them. Structures over the places of a grid use this.
+///
+/// - The doors of a new grid are consistent with no walks. A participant that begins, each access of a walk, and
+///   whatever leaves the doors' registers unchanged keep doors and walks consistent. Consistent ones keep the law of
+///   the grid.
+/// - Where b have begun, a walk that has no place yet has made fewer than 4b accesses. Each access brings it nearer to
+///   a place. Its note ends it if and only if it reaches a place.
+/// - A door on one of the first b diagonals has one of the lowest b(b + 1)/2 numbers.
 pub fn law_of_doors_and_walks()
     ensures fresh { (most : ℕ) → most ≤ 64 → IsConsistent most 0 (empty_doors most) (λ p. None) }
     ensures begun { AgreesWithBeginner }
@@ -33,10 +35,14 @@ pub fn law_of_doors_and_walks()
     ensures low { (b k : ℕ) → IsDoorWithin b k → k < b * (b + 1) / 2 }
 {}
 
-/// A law, which runs nothing: a grid is a machine whose calls lead on, whose lists of calls, with every prefix of them, keep the
-/// law of the grid, and each of whose calls is refused exactly where those before it make it due. The places that were
-/// answered are those at which walks have ended. An access of a walk reads or writes a register, or reaches none. A list that
-/// tells somebody a second place keeps no law of the grid, nor is one that refuses whoever comes first refused where it is due.
+/// A law: a grid is a machine whose calls extend its history.
+///
+/// - Each history, with every prefix, keeps the law of the grid. A call fails if and only if the calls before it make
+///   that due.
+/// - The places that were returned are those at which walks have ended.
+/// - An access of a walk reads or writes a register, or accesses none.
+/// - A list in which a participant gets a second place does not keep the law. A list in which the first to begin is
+///   refused fails a call that is not due to fail.
 pub fn law_of_grid_calls()
     ensures machine { IsProved grid }
     ensures own { (u : Walker) → ReadsOrWrites (next_access u) }

@@ -1,25 +1,27 @@
 //! A triangular grid of splitters (Moir and Anderson 1995), in which each participant gets a place of its own.
 //!
-//! The doors of the grid are splitters. A walk begins at the door in the corner. Who stops at a door has it as its place;
-//! who goes right or down goes on to the next door that way. Since not all who enter a door leave it the same way, a crowd
-//! is split at every door, and nobody walks far. The law, where `b` participants have begun: places are distinct; each
-//! door that anyone entered lies on one of the first `b` diagonals, so there are at most `b(b+1)/2` of them; and a place
-//! comes within the first `4b` steps of a walk. The steps are reads and writes, and nobody waits for anybody.
+//! The doors of the grid are splitters. A walk begins at the door in the corner. If it stops at a door, that door is
+//! its place. If it goes right or down, it goes on to the next door that way. Not all that enter a door leave it the
+//! same way, so a crowd is split at every door. Where `b` participants have begun:
 //!
-//! A caller:
+//! - No two have the same place.
+//! - Each door that was entered is on one of the first `b` diagonals, so there are at most `b(b+1)/2` of them.
+//! - A walk reaches its place within `4b` steps, each a read or a write.
+//!
+//! From `tests_objects/src/grid_tests.rt`:
 //!
 //! ```text
-//! let mut world = GridWorld::new(alloc, 2)?;
-//! world.begin(10)?;
-//! world.begin(20)?;
-//! for _ in 0..3 {
-//!     world.step(10)?;                               // None: the walk goes on
+//! fn place_of_next(world: &mut GridWorld<Global>, id: u64) -> Option<u128> {
+//!     let _ = world.begin(id);
+//!     for _ in 0..64 {
+//!         let _ = world.step(id);
+//!     }
+//!     world.place_of(id)
 //! }
-//! world.step(10)?;                                   // Some(0): 10 stops in the corner
-//! for _ in 0..5 {
-//!     world.step(20)?;                               // None: it turns right at the corner
-//! }
-//! world.step(20)?;                                   // Some(1): the door to the right of the corner
+//! ..
+//! world.doors_entered() == 16
+//! ..
+//! let world = GridWorld::new(rt.alloc(), 16);
 //! ```
 #![tactic(auto)]
 

@@ -7,19 +7,20 @@ use crate::door::Door;
 use splitter::{Visitor, Way};
 use step_memory::{Access, Answer, Note, Place, StepProgram};
 
-/// A walk of one identity, which is not 0, through a grid of splitters: the door before which it stands, and its visit
-/// there. A visit that ends to the right or down ends before the next door, of which the next step makes the first
-/// access; one that stops ends the walk (Moir and Anderson 1995).
+/// A walk of one identity, which is not 0, through a grid of splitters (Moir and Anderson 1995).
+///
+/// If the visit to a door ends right or down, the next step makes the first access to the next door that way. If the
+/// visit stops, the walk ends, and the door is the place of the identity.
 #[derive(Clone, Copy, Debug, Drop, PartialEq, Eq)]
 pub struct Walker {
     /// Its visit to that door.
     pub visitor: Visitor<usize>,
-    /// The door before which it stands.
+    /// The door that it visits, or visits next.
     pub door: Door,
 }
 
 impl Walker {
-    /// A walk that stands before a door.
+    /// Makes a walk that has made no access to this door.
     pub fn new(identity: u64, door: Door) -> Walker
         ensures { result ≡ walker_at identity door }
     {
@@ -29,7 +30,7 @@ impl Walker {
         }
     }
 
-    /// The place at which the walk has ended, where it has.
+    /// Returns the place at which the walk has ended, or `None` if it goes on.
     pub fn place(&self) -> Option<Place>
         ensures { result ≡ place_of self.now }
     {

@@ -39,8 +39,12 @@ impl<A: Allocator> Model for GridWorld<A> {
 }
 
 impl<A: Allocator + Clone> GridWorld<A> {
-    /// A grid that no one has entered, for at most `most` participants, from 1 to 16; `OutOfRange` elsewhere. All the
-    /// memory that its calls want is taken here.
+    /// Makes a grid that no participant has entered, for at most `most` participants. No other call allocates.
+    ///
+    /// # Errors
+    ///
+    /// - `OutOfRange`: `most` is not from 1 to 16.
+    /// - `NoMemory`: an allocation failed.
     #[tactic(auto, using(crate::proofs::GridTied::grid_contracts))]
     pub fn new(alloc: A, most: usize) -> Result<Self, Refusal>
         ensures fresh { IfOk result (λ w. w ≡ fresh most) }
@@ -56,15 +60,22 @@ impl<A: Allocator + Clone> GridWorld<A> {
         open(alloc, most)
     }
 
-    /// A participant begins: it stands before the door in the corner and has made no access. Refused where the identity
-    /// is 0, then where it has begun, then where as many have begun as there may be.
+    /// Adds participant `id`, whose walk is at the corner and has made no access.
+    ///
+    /// # Errors
+    ///
+    /// An error changes nothing. The first that applies is returned:
+    ///
+    /// - `ZeroIdentity`: `id` is 0.
+    /// - `AlreadyBegun`: `id` has begun.
+    /// - `Full`: as many participants as the world takes have begun.
     #[tactic(auto, using(crate::proofs::GridTied::grid_contracts))]
     pub fn begin(&mut self, id: u64) -> Result<(), Refusal>
         ensures answer { result ≡ done_unless (begin_refusal self.old id) }
         ensures state { self.new ≡ after_begin self.old id (walk_of id) }
         ensures unchanged_on_error { OnErr result (self.new ≡ self.old) }
 
-        // The law, over every list of calls and replies that the world may be after.
+        // The specification, over every history that leads to this world.
         ensures after { Extends grid self.old self.new (Began id result) }
         ensures law { SatisfiesSpec grid self.new }
         ensures due { RefusesWhereDue grid self.new }
@@ -72,21 +83,31 @@ impl<A: Allocator + Clone> GridWorld<A> {
         self.world.begin(id, Walker::new(id, Door::corner()))
     }
 
-    /// One step of a walk, which is one access; the place, once the walk ends. Refused where the identity has not begun,
-    /// then where its walk has ended.
+    /// Makes one step of the walk of `id`: one access. Returns the place if the walk ends with it.
+    ///
+    /// # Errors
+    ///
+    /// An error changes nothing. The first that applies is returned:
+    ///
+    /// - `NotBegun`: `id` has not begun.
+    /// - `Finished`: the walk of `id` has ended.
+    ///
+    /// # Steps
+    ///
+    /// A walk makes at most `4b`, where `b` participants have begun (Moir and Anderson 1995).
     #[tactic(auto, using(crate::proofs::GridTied::grid_contracts))]
     pub fn step(&mut self, id: u64) -> Result<Option<Place>, Refusal>
         ensures answer { result ≡ step_reply self.old id }
         ensures state { self.new ≡ world_after_step self.old id }
         ensures unchanged_on_error { OnErr result (self.new ≡ self.old) }
 
-        // Nothing of the world changes but this walk and the register that it names, and in another world that looks
-        // alike to this walk the answer is the same, and where the walk then stands.
+        // Nothing of the world changes except this walk and the register that it names. In another world that this walk
+        // cannot distinguish, the reply and the new walk are the same.
         ensures local { ChangesOnly walker_steps memory_steps id self.old self.new }
         ensures alike { (other : GridState) → Indistinguishable walker_steps memory_steps id self.old other → result ≡ step_reply other id }
         ensures stands_alike { StaysAlike self.old self.new id }
 
-        // The law, over every list of calls and replies that the world may be after.
+        // The specification, over every history that leads to this world.
         ensures after { Extends grid self.old self.new (Stepped id result) }
         ensures law { SatisfiesSpec grid self.new }
         ensures due { RefusesWhereDue grid self.new }
@@ -94,7 +115,7 @@ impl<A: Allocator + Clone> GridWorld<A> {
         self.world.step(id).map(Note::outcome)
     }
 
-    /// The place of a participant, once its walk has ended: the one that was answered.
+    /// Returns the place of a participant, as `step` returned it, or `None` if its walk has not ended.
     pub fn place_of(&self, id: u64) -> Option<Place>
         ensures value { result ≡ place_in self.now id }
         ensures answered { OnEveryHistory grid (λ most r. result ≡ outcome_of id r) self.now }
@@ -102,12 +123,15 @@ impl<A: Allocator + Clone> GridWorld<A> {
         self.world.program(id)?.place()
     }
 
-    /// How many doors were entered: those at which anyone has made an access. It makes none itself.
+    /// Returns the number of doors to which a participant has made an access: at most `b(b + 1)/2`, where `b` have
+    /// begun.
+    ///
+    /// This makes no access: it is for observers.
     pub fn doors_entered(&self) -> u64
         ensures count { result ≡ entered_count self.now }
 
-        // The law, over every list of calls and replies that the world may be after: the doors counted are those that
-        // were entered, and all of them lie on the first diagonals, as many as participants have begun.
+        // Over every history that leads to this world: the doors counted are those that were entered. Where b participants
+        // have begun, all of these doors are on the first b diagonals.
         ensures entered { ShowsWhatWasEntered self.now }
         ensures within { OnEveryHistory grid (λ most r. (k : ℕ) → WasEntered most r k → IsDoorWithin (begun_in r) k) self.now }
         ensures few { OnEveryHistory grid (λ most r. 2 * result ≤ begun_in r * (begun_in r + 1)) self.now }
@@ -123,7 +147,7 @@ impl<A: Allocator + Clone> GridWorld<A> {
     }
 }
 
-/// A grid that no one has entered; `NoMemory` where its room was refused.
+/// A grid that no participant has entered; `NoMemory` if an allocation failed.
 fn open<A: Allocator + Clone>(alloc: A, most: usize) -> Result<GridWorld<A>, Refusal>
     requires { most ≤ 16 }
     ensures fresh { IfOk result (λ w. w ≡ fresh most) }

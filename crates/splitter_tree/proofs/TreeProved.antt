@@ -119,7 +119,7 @@ place_by_walk (Some p) = refl
 pub place_answered : (w : TreeWorldState) (id : ℕ) → OnEveryHistory tree (λ first r. option_and_then (λ c. place_of c.walker) (program_of id w.participants) ≡ outcome_of id (way_calls r)) w
 place_answered w id first r a = place_by_walk (participant_of id w.participants) ∙ sym ((tied tree_steps w first r a).reported.outcomes id)
 
--- nobody is told a second place
+-- nobody gets a second place
 pub one_place_reported : (p a b : ℕ) (before between rest : List TreeCall) → PlacesSpec (before ++ Stepped p (Ok (Some a)) ∷ (between ++ Stepped p (Ok (Some b)) ∷ rest)) → ⊥
 one_place_reported p a b before between rest law =
     let later : TreeCall = Stepped p (Ok (Some b)) in

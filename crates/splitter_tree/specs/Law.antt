@@ -6,7 +6,7 @@ use Rattle.step_memory.specs.Due.{EndsOnce}
 use Rattle.splitter_tree.specs.Depth.{IsNodeWithin}
 
 -- Where b have begun: places are distinct, and nodes of depths below b. Nobody makes more than 5b accepted steps on the way
--- to its place, and who has made so many, and any, has a place. No one makes such a step after it was told its place
+-- to its place, and who has made so many, and any, has a place. No one makes such a step after it got its place
 pub record TreeSpec (r : List (Call (Option ℕ))) : Type 0 where
   pub distinct : AreDistinct (λ p. outcome_of p r)
   pub within : (p place : ℕ) → outcome_of p r ≡ Some place → IsNodeWithin (begun_in r) place

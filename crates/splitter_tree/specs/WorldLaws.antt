@@ -58,7 +58,7 @@ NodesAreTree S =
     (memory : MemorySteps S TreeRegister TreeValue) (w : TreeState S) →
     OnEveryHistory (tree_over memory) (λ first r. IsTree memory (begun_in (way_calls r)) w.memory (walkers w.participants)) w
 
--- who has a place was told it
+-- who has a place was given it
 abbrev pub PlacesAreReported : (S : Type 0) → Type 0
 PlacesAreReported S =
     (memory : MemorySteps S TreeRegister TreeValue) (w : TreeState S) (p : ℕ) →
@@ -88,7 +88,7 @@ MakesNodesWithin S =
     (memory : MemorySteps S TreeRegister TreeValue) (w : TreeState S) (k : ℕ) →
     OnEveryHistory (tree_over memory) (λ first r. WasMade memory first.0 first.1 r k → IsNodeWithin (begun_in (way_calls r)) k) w
 
--- nobody is told a second place
+-- nobody gets a second place
 abbrev pub TellsOnePlace : Type 0
 TellsOnePlace =
     (p a b : ℕ) (before between rest : List TreeCall) →

@@ -7,7 +7,7 @@ use crate::collect::Collect;
 use crate::{TreeRegister, TreeValue, Walker};
 use step_memory::{Access, Answer, Note, Place, Record, StepProgram, View};
 
-/// What a step of a participant tells, where it tells anything.
+/// What a step of a participant returns, if it returns anything.
 #[derive(Clone, Copy, Debug, Drop)]
 pub enum TreeReply {
     /// The participant has reached this place.
@@ -18,7 +18,7 @@ pub enum TreeReply {
     Collected(View),
 }
 
-/// The place that a step tells.
+/// Returns the place that a step reports.
 pub(crate) fn place_reported(note: &Note<TreeReply>) -> Option<Place>
     ensures { result ≡ place_reported note.now }
 {
@@ -31,7 +31,7 @@ pub(crate) fn place_reported(note: &Note<TreeReply>) -> Option<Place>
     }
 }
 
-/// The view that a step tells.
+/// Returns the view that a step reports.
 pub(crate) fn view_reported(note: &Note<TreeReply>) -> Option<View>
     ensures { result ≡ view_reported note.now }
 {
@@ -57,17 +57,17 @@ pub enum Task {
     Collecting(Collect),
 }
 
-/// A participant: its way to its place, and what it has still to do.
+/// A participant of a tree: its walk to its place, and what it has still to do.
 #[derive(Clone, Copy, Debug, Drop)]
 pub struct Client {
-    /// Its way to its place.
+    /// Its walk to its place.
     pub walker: Walker,
     /// What it has still to do.
     pub task: Task,
 }
 
 impl Client {
-    /// A participant that begins, before the root.
+    /// Makes a participant whose walk has made no access.
     pub fn new(identity: u64) -> Self
         ensures { result ≡ client_of identity }
     {
@@ -77,7 +77,7 @@ impl Client {
         }
     }
 
-    /// Whether it is on the way to its place.
+    /// Whether it has no place yet.
     pub fn is_placing(&self) -> bool
         ensures { result ≡ is_placing self.now.task }
     {
@@ -98,7 +98,7 @@ impl Client {
         matches!(self.task, Task::Collecting(_))
     }
 
-    /// This participant, asked to store a value.
+    /// Returns this participant with a value to store.
     pub fn storing(&self, value: u64) -> Self
         ensures { result ≡ storing self.now value }
     {
@@ -108,7 +108,7 @@ impl Client {
         }
     }
 
-    /// This participant, asked to collect.
+    /// Returns this participant with a collect that has read nothing.
     pub fn collecting(&self) -> Self
         ensures { result ≡ collecting self.now }
     {
@@ -118,7 +118,7 @@ impl Client {
         }
     }
 
-    /// What it writes into its segment.
+    /// Returns the record that it writes into its segment.
     fn record(&self, value: u64) -> Record
         ensures { result ≡ record_of self.now value }
     {
@@ -130,7 +130,7 @@ impl Client {
         }
     }
 
-    /// Takes the answer to an access on the way to the place.
+    /// Takes the answer to an access of the walk to the place.
     fn resume_placing(&mut self, got: Answer<TreeValue>) -> Note<TreeReply>
         ensures after { self.new ≡ placing_after self.old got }
         ensures note { result ≡ placing_note self.old got }
@@ -145,7 +145,7 @@ impl Client {
         }
     }
 
-    /// Takes the answer to a read of a collect that stands so.
+    /// Takes the answer to a read of this collect.
     fn resume_collect(&mut self, collect: Collect, got: &TreeValue) -> Note<TreeReply>
         ensures after { self.new ≡ collecting_after self.old collect got.now }
         ensures note { result ≡ collecting_note collect got.now }

@@ -6,8 +6,9 @@ ghost use Rattle.splitter_tree.specs.Collect.{first_collect, collect_reads, coll
 use crate::{CollectWalk, TreeRegister, TreeValue};
 use step_memory::{Record, View};
 
-/// A collect under way: its walk over the nodes, and the identities and values in the segments that it has read. A view
-/// has room for as many pairs as there may ever be participants.
+/// A collect under way: its walk over the nodes, and the identities and values that it has read.
+///
+/// Its view has room for 64 pairs, as many as there are participants at most.
 #[derive(Clone, Copy, Debug, Drop)]
 pub struct Collect {
     /// Its walk over the nodes.
@@ -17,7 +18,7 @@ pub struct Collect {
 }
 
 impl Collect {
-    /// A collect that has read nothing.
+    /// Makes a collect that has read nothing.
     pub fn new() -> Self
         ensures { result ≡ first_collect }
     {
@@ -27,14 +28,14 @@ impl Collect {
         }
     }
 
-    /// The register that is read next.
+    /// Returns the register that it reads next.
     pub fn next(&self) -> TreeRegister
         ensures { result ≡ collect_reads self.now }
     {
         self.walk.next()
     }
 
-    /// Puts what a segment holds into the view.
+    /// Puts the contents of a segment into the view.
     fn gather(&mut self, segment: Option<&Record>)
         ensures view { self.new.view ≡ view_with self.old.view (option_copied segment.entry) }
         ensures walk { self.new.walk ≡ self.old.walk }
@@ -46,7 +47,7 @@ impl Collect {
         }
     }
 
-    /// Takes what was read. The view, once the walk is over.
+    /// Takes the value that was read. Returns the view if the walk is over.
     pub fn resume(&mut self, got: &TreeValue) -> Option<View>
         ensures after { self.new ≡ collect_after self.old got.now }
         ensures view { result ≡ collect_view self.old got.now }

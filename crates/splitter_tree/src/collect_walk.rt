@@ -7,19 +7,21 @@ ghost use Rattle.splitter_tree.specs.TreeMemory.{segment_in};
 use crate::register::{MARKED, ROOT, TreeRegister, TreeValue};
 use step_memory::{Place, Record};
 
-/// A walk over the nodes that were made, each before its left subtree and that before its right one. It reads the mark
-/// of a node; where that is 1, the node's segment, and then what lies below. It keeps no list of nodes: the number of
-/// the present one says where it goes next.
+/// A walk over the marked nodes: each node first, then its left subtree, then its right one.
+///
+/// At each node it reads the mark. If the mark is 1, it reads the node's segment, and goes on below the node. It needs
+/// no list of nodes: the next node follows from the number of the present one. (Not in the papers.)
 #[derive(Clone, Copy, Debug, Drop, PartialEq, Eq)]
 pub struct CollectWalk {
-    /// The node at which the walk reads. 0, which is no node's number, once it is over.
+    /// The node at which the walk reads next, or 0, which is no node's number, if it is over.
     pub at: Place,
-    /// Whether it reads the node's segment next; if not, the mark.
+    /// Whether it reads the node's segment next; otherwise it reads the mark.
     pub is_reading_contents: bool,
 }
 
-/// The node that is read next where a node and all below it were read or left out. From a right child one climbs to its
-/// parent; a left child is followed by its sibling. None after the whole tree.
+/// Returns the node to read after a node and all below it, or `None` after the whole tree.
+///
+/// From a right child the walk climbs to the parent. After a left child comes its sibling.
 fn after_subtree(place: Place) -> Option<Place>
     ensures { result ≡ node_after place }
 {
@@ -31,7 +33,7 @@ fn after_subtree(place: Place) -> Option<Place>
 }
 
 impl CollectWalk {
-    /// A walk before its first read, of the root's mark.
+    /// Makes a walk whose first read is that of the root's mark.
     pub fn new() -> Self
         ensures { result ≡ first_walk }
     {
@@ -41,7 +43,7 @@ impl CollectWalk {
         }
     }
 
-    /// The register that is read next.
+    /// Returns the register that it reads next.
     pub fn next(&self) -> TreeRegister
         ensures { result ≡ register_read self.now }
     {
@@ -52,7 +54,7 @@ impl CollectWalk {
         }
     }
 
-    /// The place whose segment that register is, where it is one.
+    /// Returns the place whose segment it reads next, or `None` if it reads a mark next.
     pub fn place(&self) -> Option<Place>
         ensures { result ≡ place_read self.now }
     {
@@ -63,7 +65,7 @@ impl CollectWalk {
         }
     }
 
-    /// Whether it has read a mark, and the node was made.
+    /// Whether it has read a mark that is set.
     fn finds_mark(&self, got: &TreeValue) -> bool
         ensures { result ≡ finds_mark self.now got.now }
     {
@@ -76,8 +78,9 @@ impl CollectWalk {
         }
     }
 
-    /// The node that is read next where no mark was found: the left child, after a segment. The children of a node have
-    /// numbers as long as these fit.
+    /// Returns the node to read next if no set mark was read: after a segment, the left child.
+    ///
+    /// A child whose number does not fit is left out.
     fn next_node(&self) -> Option<Place>
         ensures { result ≡ node_next self.now }
     {
@@ -90,7 +93,7 @@ impl CollectWalk {
         }
     }
 
-    /// Takes what was read. Tells whether the walk is over.
+    /// Takes the value that was read, and returns whether the walk is over.
     pub fn resume(&mut self, got: &TreeValue) -> bool
         ensures after { self.new ≡ walk_resumed self.old got.now }
         ensures over { result ≡ walk_is_over self.old got.now }
@@ -105,7 +108,7 @@ impl CollectWalk {
         next.is_none()
     }
 
-    /// What a segment holds, in whose register this stands.
+    /// Returns the record in the value of a segment, or `None` if the segment is empty or the value is a word.
     pub fn content(value: &TreeValue) -> Option<&Record>
         ensures { option_copied result ≡ segment_in value.now }
     {

@@ -1,4 +1,4 @@
-//! A segment, kept as the value of its register.
+//! A segment, stored as the value of its register.
 
 ghost use Rattle.std.specs.Prelude.{◌≡◌};
 ghost use Rattle.splitter_tree.specs.declared.register.TreeValue.TheVariants as value;
@@ -7,7 +7,7 @@ use crate::register::TreeValue;
 use std::marker::Model;
 use step_memory::Segment;
 
-/// A segment, kept as the value of its register, so that it can be lent. Contracts see the segment.
+/// A segment, stored as the value of its register, so that it can be lent. Contracts see the segment.
 #[derive(Clone, Copy, Debug, Drop)]
 pub struct KeptSegment {
     value: TreeValue,
@@ -31,7 +31,7 @@ impl Model for KeptSegment {
 }
 
 impl KeptSegment {
-    /// This segment.
+    /// Stores a segment.
     pub fn of(segment: Segment) -> Self
         ensures { result ≡ segment }
     {
@@ -40,7 +40,7 @@ impl KeptSegment {
         }
     }
 
-    /// It as the value of its register.
+    /// Returns the value of its register.
     pub fn value(&self) -> &TreeValue
         ensures { result.now ≡ value.Contents self.now }
     {

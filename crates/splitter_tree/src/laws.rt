@@ -37,21 +37,24 @@ ghost use Rattle.splitter_tree.specs.declared.register.TreeRegister.TheVariants.
 ghost use Rattle.splitter_tree.specs.declared.register.TreeValue.{TreeValue};
 ghost use Rattle.step_memory.specs.Steps.{MemorySteps};
 
-/// A law, which runs nothing: a tree is a memory in which a node is within reach once its parent is marked, a node that is
-/// marked keeps what is written to it, and only what marks a node may be refused; and a new tree has no node. Walks and
-/// collects stand on this.
+/// A law of the tree as a memory. Walks and collects use this.
+///
+/// A node is within reach if its parent is marked. A marked node keeps what is written to it. Only an access that marks
+/// a node may fail. A new tree has no node.
 pub fn law_of_tree_memory()
     ensures memory { IsTreeMemory tree_steps }
     ensures empty { IsEmptyTree tree_steps empty_tree }
 {}
 
-/// A law, which runs nothing: a tree of no nodes is consistent with no walks; one who begins, each access of a walk that
-/// was not refused, and whatever leaves the marks, X and Y of the nodes as they are keep nodes and walks
-/// consistent; and where they are, they keep the law of the tree. Where b have begun, a walk that has no place yet has made
-/// fewer than 5b accesses; each brings it nearer to a place, and says that it has ended just where it reaches it. It leaves
-/// all segments as they are, and all marks but that of a node which it marks; and it is refused only where that node was not
-/// marked. What it says of an answer tells its place, where it then has one.
-/// Structures over the places of a tree stand on this.
+/// A law of the nodes of a tree and the walks down it. Structures over the places of a tree use this.
+///
+/// - A tree of no nodes is consistent with no walks. A participant that begins keeps nodes and walks consistent. So do
+///   each access of a walk that does not fail, and whatever leaves the marks, X and Y of the nodes unchanged.
+///   Consistent ones keep the law of the tree.
+/// - Where b have begun, a walk that has no place yet has made fewer than 5b accesses. Each access brings it nearer to
+///   a place. Its note ends it if and only if it reaches a place, and is then that place.
+/// - An access leaves all segments unchanged, and all marks but that of the node that it marks. It fails only if that
+///   node was not marked.
 pub fn law_of_nodes_and_walks<S>()
     ensures fresh { AgreesWhenEmpty S }
     ensures begun { AgreesWithBeginner S }
@@ -67,10 +70,11 @@ pub fn law_of_nodes_and_walks<S>()
     ensures refused { RefusedAtNewNode S }
 {}
 
-/// A law, which runs nothing. A walk surely reads the segment of every node whose path from the root was marked when it
-/// began, and reads no segment twice. Of a walk that has found `nodes` nodes marked, the reads are at most three times
-/// as many and one; and it finds no more than are marked. Collects over the tree stand on this, and so may whatever else
-/// walks over it.
+/// A law of collect walks. Collects over the tree use this, and so may any other walk over it.
+///
+/// A walk reads the segment of every node whose path from the root was marked when it began, and reads no segment
+/// twice. If it has found `nodes` nodes marked, it has made at most `3 nodes + 1` reads. It finds no more nodes than
+/// are marked.
 pub fn law_of_collects()
     ensures first { (marked : ℕ → Bool) (q : ℕ) → IsPathMarked marked q → IsAhead marked first_walk q }
     ensures kept { (marked later : ℕ → Bool) (w : CollectWalk) (q : ℕ) → HasGrown marked later → IsAhead marked w q → IsAhead later w q }
@@ -90,9 +94,11 @@ pub fn law_of_collects()
     ensures few_nodes { FindsFewNodes }
 {}
 
-/// A law, which runs nothing: where the nodes of a tree and the walks to places in it are consistent, each place is ahead
-/// of a collect's walk that begins, as all nodes from the root down to it are marked; and where b have begun such a walk
-/// makes at most 6b - 2 reads, as at most 2b - 1 nodes are marked. Walks to places and writes of segments take no mark back.
+/// A law of collect walks over a tree whose nodes are consistent with the walks to places.
+///
+/// As a collect walk begins, each place is ahead of it, since all nodes from the root to the place are marked. Where b
+/// have begun, at most 2b - 1 nodes are marked, so it makes at most 6b - 2 reads. Walks to places and writes of
+/// segments clear no mark.
 pub fn law_of_collects_at_places<S>()
     ensures paths { PathsAreMarked S }
     ensures ahead { PlacesAreAhead S }

@@ -1,35 +1,37 @@
-//! A tree of splitters that grows one node at a time, in which each walk comes to a place of its own, with a segment.
+//! A tree of splitters that grows one node at a time, in which each participant gets a place of its own, with a
+//! segment.
 //!
-//! The nodes are splitters (Moir and Anderson 1995). A walk begins at the root, node 1. Who stops at a node has it as its
-//! place; who goes down goes on to node 2p, who goes right to node 2p + 1. Before a walk visits a node's splitter it
-//! writes the node's mark, and that access makes the node where it is not there. So the tree is as large as the crowd that
-//! walked down it, whatever the identities are: where `b` participants have begun, at most `2b - 1` nodes were made, none
-//! deeper than `b - 1`, places are distinct, and a place comes within the first `5b` steps of a walk. A node that cannot be
-//! made because an allocation failed is asked for again by the same step.
+//! The nodes are splitters (Moir and Anderson 1995). A walk begins at the root, node 1. If it stops at a node, that
+//! node is its place. If it goes down from node p it goes on to node 2p, and if it goes right, to node 2p + 1. Before a
+//! walk visits a node's splitter it writes the node's mark. That access makes the node if it does not exist. So the
+//! size of the tree depends on the crowd alone. Where `b` participants have begun:
 //!
-//! A *collect walk* (`CollectWalk`) reads, from the root on, a node's mark, and where it is set the node's segment and then
-//! what lies below, left before right: at most `6b - 2` reads. Walks, places and collect walks are laws here, over any memory
-//! that is a tree. (Mark, order and counts are this project's profile.)
+//! - At most `2b - 1` nodes were made, and none is deeper than `b - 1`.
+//! - No two have the same place.
+//! - A walk reaches its place within `5b` steps.
 //!
-//! A `TreeWorld` is a world (`step_memory`) over one tree: its participants get places, store values there, and collect what
-//! all have stored. A step that wants memory for a node has changed nothing, and may be asked again. What a collect shows of each identity is a value that was its last stored one at some moment of the
-//! collect, and it shows each who had stored before it began. It takes at most `6b - 2` steps.
+//! If the allocation of a node fails, the step changes nothing and may be repeated.
 //!
-//! A caller:
+//! A *collect walk* (`CollectWalk`) reads the mark of a node. If the mark is set, it reads the node's segment and then
+//! what lies below, left before right. It makes at most `6b - 2` reads. Walks, places and collect walks are laws here,
+//! over any memory that is a tree. (The mark, the order and the counts are not in the papers.)
+//!
+//! A `TreeWorld` is a world (`step_memory`) over one tree. Its participants get places, store values there, and collect
+//! what all have stored. For each identity a collect shows a value that was its last stored one at some time of the
+//! collect. It shows each identity that had stored before the collect began.
+//!
+//! From `tests_objects/src/tree_tests.rt`:
 //!
 //! ```text
-//! let mut world = TreeWorld::new(alloc, 2)?;
-//! world.begin(10)?;
-//! for _ in 0..4 {
-//!     world.step(10)?;                               // None: the walk goes on
-//! }
-//! world.step(10)?;                                   // Some(1): 10 stops at the root
-//! world.store(10, 5)?;
-//! world.collect_begin(10)?;
-//! for _ in 0..3 {
-//!     world.collect_step(10)?;                       // None: mark 1, segment 1 and mark 2 are read
-//! }
-//! world.collect_step(10)?;                           // Some(10:5): mark 3 is not set
+//! let begun = [world.begin(20), world.begin(10)];
+//! let placed = [walked(world, 10, 5), walked(world, 20, 8)];
+//! let first = (world.store(10, 7), collected(world, 20, 7));
+//! ..
+//! begun == [Ok(()), Ok(())]
+//!     && placed == [Ok(Some(1)), Ok(Some(3))]
+//!     && first == (Ok(()), Ok(Some(view_of(&[(10, 7)]))))
+//! ..
+//! let world = TreeWorld::new(rt.alloc(), 2);
 //! ```
 #![tactic(auto)]
 

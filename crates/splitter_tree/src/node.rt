@@ -11,21 +11,21 @@ use crate::register::{TreeRegister, WrittenValue};
 use std::alloc::Allocator;
 use step_memory::{NoMemory, Place};
 
-/// A node, where it is there.
+/// A node, or none.
 pub type Link<A> = Option<Box<Node<A>, A>>;
 
-/// A node of the tree: what it holds, and its children. Their numbers follow from the way to them.
+/// A node of the tree: its registers and its children. Its number follows from the path to it.
 #[derive(Drop)]
 pub struct Node<A: Allocator> {
     /// Its splitter's X and Y, and its segment.
     pub registers: NodeRegisters,
-    /// Where down leads to: the node with twice the number of this one.
+    /// The node below, reached by down: its number is twice the number of this node.
     pub left: Link<A>,
-    /// Where right leads to: the node with one more than that.
+    /// The node to the right: its number is one more than that of `left`.
     pub right: Link<A>,
 }
 
-/// Whether the way to a place goes right from a node that lies so many levels above it.
+/// Whether the path to a place goes right from the node `depth` levels above it.
 fn goes_right(place: Place, depth: u32) -> bool
     requires above { 0 < depth }
     requires within { depth < 128 }
@@ -40,8 +40,9 @@ fn goes_right(place: Place, depth: u32) -> bool
     }
 }
 
-/// The link to which a way leads that goes so many levels down from this one, by the last digits of `way`: 1 is right. An
-/// empty link on the way, where there is one.
+/// Follows a path of `depth` levels down from a link, by the last `depth` bits of `way`: 1 goes right.
+///
+/// Returns the link at its end, or the first empty link on it.
 fn follow<A: Allocator>(link: &Link<A>, way: u64, depth: u32) -> &Link<A>
     requires within { depth ≤ 64 }
     ensures { LeadsTo link.now result.now way depth }
@@ -62,7 +63,7 @@ fn follow<A: Allocator>(link: &Link<A>, way: u64, depth: u32) -> &Link<A>
     link
 }
 
-/// Writes into a register of a node that lies so many levels below a link, where it is there.
+/// Writes into a register of the node `depth` levels below a link, if that node exists.
 fn write_below<A: Allocator>(
     link: &mut Link<A>,
     depth: u32,
@@ -86,7 +87,7 @@ fn write_below<A: Allocator>(
     }
 }
 
-/// A node that has just been made, with no children.
+/// Makes a node with no children; `NoMemory` if the allocation failed.
 fn leaf<A: Allocator + Clone>(alloc: &A) -> Result<Box<Node<A>, A>, NoMemory>
     ensures { IfOk result (λ b. (p q : ℕ) → registers_below p (Some b) q ≡ set_at (λ _. None) p (Some fresh_registers) q) }
 {
@@ -104,8 +105,9 @@ fn leaf<A: Allocator + Clone>(alloc: &A) -> Result<Box<Node<A>, A>, NoMemory>
     }
 }
 
-/// Makes the node that lies so many levels below a link, where it is not there and its parent is, if it has one below the
-/// link. An error where the node would be made and room for it was refused; nothing has changed then.
+/// Makes the node `depth` levels below a link, if it does not exist and its parent does, or it is the link's own.
+///
+/// `NoMemory`: the node would be made and the allocation failed. Nothing has changed.
 fn grow_below<A: Allocator + Clone>(
     link: &mut Link<A>,
     alloc: &A,
@@ -137,7 +139,7 @@ fn grow_below<A: Allocator + Clone>(
     }
 }
 
-/// What the node with this number holds, where it is there, in a tree with this root.
+/// Returns the registers of the node with this number in the tree with this root, or `None` if it does not exist.
 pub(crate) fn find_from<A: Allocator>(root: &Link<A>, place: Place) -> Option<&NodeRegisters>
     ensures { option_copied result ≡ map.get (nodes_of root.now) place }
 {
@@ -158,8 +160,10 @@ pub(crate) fn find_from<A: Allocator>(root: &Link<A>, place: Place) -> Option<&N
     }
 }
 
-/// Writes into a register of a tree with this root, and makes the node whose mark it sets, where it is not there and can be
-/// made. An error where room for it was refused; nothing has changed then.
+/// Writes into a register of the tree with this root. A write that sets the mark of a node makes the node, if its
+/// parent exists.
+///
+/// `NoMemory`: the node would be made and the allocation failed. Nothing has changed.
 pub(crate) fn write_from<A: Allocator + Clone>(
     root: &mut Link<A>,
     alloc: &A,

@@ -7,19 +7,19 @@ ghost use Rattle.splitter_tree.specs.TreeSteps.{fresh_registers, value_in, value
 use crate::kept_segment::KeptSegment;
 use crate::register::{MARKED, TreeRegister, TreeValue, WrittenValue};
 
-/// What a node of the tree holds: its splitter's X and Y, and its segment. Its mark is set as long as the node is there.
+/// The registers of a node: its splitter's X and Y, and its segment. Its mark is set as long as the node exists.
 #[derive(Clone, Copy, Debug, Drop)]
 pub struct NodeRegisters {
-    /// X: an identity, and 0 at first.
+    /// X: 0 at first, then an identity.
     pub x: u64,
-    /// Y: 1 once it is set, and 0 before.
+    /// Y: 0 at first, and 1 once it is set.
     pub y: u64,
     /// The segment of the participant whose place the node is.
     pub segment: KeptSegment,
 }
 
 impl NodeRegisters {
-    /// A splitter that no one has entered, and an empty segment.
+    /// Makes a splitter that no participant has entered, and an empty segment.
     pub fn new() -> NodeRegisters
         ensures { result ≡ fresh_registers }
     {
@@ -30,7 +30,7 @@ impl NodeRegisters {
         }
     }
 
-    /// What stands in a register of this node.
+    /// Returns the value of a register of this node.
     pub fn read(&self, register: TreeRegister) -> TreeValue
         ensures { result ≡ value_in register (Some self.now) }
     {
@@ -42,7 +42,7 @@ impl NodeRegisters {
         }
     }
 
-    /// The word that stands in a register of this node; none where a segment stands there.
+    /// Returns the word in a register of this node, or `None` if the register is the segment.
     pub fn word(&self, register: TreeRegister) -> Option<u64>
         ensures { IfSome result (λ word. value_in register (Some self.now) ≡ value.Word word) }
     {
@@ -54,7 +54,7 @@ impl NodeRegisters {
         }
     }
 
-    /// Writes into a register of this node. A mark that is set stays set, and a value of the other kind is lost.
+    /// Writes into a register of this node. A mark that is set stays set. A value of the wrong kind changes nothing.
     pub fn write(&mut self, register: TreeRegister, value: WrittenValue)
         ensures { self.new ≡ registers_after_write register (value_of value.entry) self.old }
     {

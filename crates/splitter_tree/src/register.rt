@@ -1,50 +1,51 @@
-//! What the registers of a tree are called, and what stands in them.
+//! The names of the registers of a tree, and their values.
 
 ghost use Rattle.std.specs.Prelude.{◌≡◌};
 ghost use Rattle.splitter_tree.specs.TreeSteps.{number_in, sets_mark, value_of};
 
 use step_memory::{Place, Segment};
 
-/// The node at which every walk begins, which is above all others.
+/// The root, at which every walk begins.
 pub(crate) const ROOT: Place = 1;
 
-/// What stands in the mark of a node once anyone has come to it; 0 stands there before.
+/// The value of a node's mark once a walk has reached the node; it is 0 before.
 pub(crate) const MARKED: u64 = 1;
 
-/// A register of the node with this number. The root has number 1; the children of node p are 2p, which down leads to,
-/// and 2p + 1, to the right.
+/// A register of the node with this number. The root is node 1. The children of node p are 2p (down) and 2p + 1
+/// (right).
 #[derive(Clone, Copy, Debug, Drop, PartialEq, Eq)]
 pub enum TreeRegister {
-    /// Whether anyone has come to the node: 1, and 0 before. A walk writes it before it visits the node's splitter.
+    /// The mark: 0 at first, and 1 once a walk has reached the node. A walk writes it before it visits the node's
+    /// splitter.
     Mark(Place),
-    /// X of the node's splitter: an identity, and 0 at first.
+    /// X of the node's splitter: 0 at first, then an identity.
     X(Place),
-    /// Y of the node's splitter: 1 once it is set, and 0 before.
+    /// Y of the node's splitter: 0 at first, and 1 once it is set.
     Y(Place),
     /// The segment of the participant whose place the node is.
     Contents(Place),
 }
 
-/// What stands in a register of a tree.
+/// The value of a register of a tree.
 #[derive(Clone, Copy, Debug, Drop)]
 pub enum TreeValue {
-    /// What stands in a mark, in X or in Y.
+    /// The value of a mark, of X or of Y.
     Word(u64),
-    /// What stands in a segment.
+    /// The value of a segment.
     Contents(Segment),
 }
 
-/// A value that is to be written: a segment is large, and so it is lent.
+/// A value to write. A segment takes a kilobyte, so it is lent.
 #[derive(Clone, Copy, Drop)]
 pub enum WrittenValue<'a> {
-    /// What is to stand in a mark, in X or in Y.
+    /// The new value of a mark, of X or of Y.
     Word(u64),
-    /// What is to stand in a segment.
+    /// The new value of a segment.
     Contents(&'a Segment),
 }
 
 impl TreeValue {
-    /// This value, to be written.
+    /// Lends this value to be written.
     pub fn to_write(&self) -> WrittenValue
         ensures { value_of result ≡ self.now }
     {
@@ -56,7 +57,7 @@ impl TreeValue {
 }
 
 impl TreeRegister {
-    /// The number of the node whose register it is.
+    /// Returns the number of the node whose register it is.
     pub fn node(self) -> Place
         ensures { result ≡ number_in self }
     {
@@ -68,7 +69,7 @@ impl TreeRegister {
         }
     }
 
-    /// Whether it is a mark, and this value sets it.
+    /// Whether it is a mark and this value sets it.
     pub fn is_set_by(self, value: WrittenValue) -> bool
         ensures { result ≡ sets_mark self (value_of value.entry) }
     {

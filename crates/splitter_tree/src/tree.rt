@@ -17,15 +17,14 @@ use std::alloc::Allocator;
 use std::marker::Model;
 use step_memory::{Access, Answer, NoMemory, Note, Place, StepMemory, StepProgram};
 
-/// Nodes, under an allocator of which each takes its room when it is made. Contracts see the nodes that are there by
-/// their numbers.
+/// A tree of splitters as a memory. Each node is allocated when it is made. Contracts see a map from numbers to nodes.
 #[derive(Drop)]
 pub struct Tree<A: Allocator> {
     root: Link<A>,
     alloc: A,
-    /// What stands in a mark that is set, to be lent.
+    /// The value of a mark that is set, to be lent.
     set: TreeValue,
-    /// What stands in one that is not.
+    /// The value of a mark that is not set.
     clear: TreeValue,
 }
 
@@ -49,7 +48,7 @@ impl<A: Allocator> Model for Tree<A> {
 }
 
 impl<A: Allocator> Tree<A> {
-    /// A tree of no node.
+    /// Makes a tree with no node. This allocates nothing.
     pub fn new(alloc: A) -> Tree<A>
         ensures { result ≡ empty_tree }
     {
@@ -61,15 +60,15 @@ impl<A: Allocator> Tree<A> {
         }
     }
 
-    /// What the node with this number holds, where it is there. This is no access: it is for what watches a tree from
-    /// outside.
+    /// Returns the registers of the node with this number, or `None` if it does not exist. This is no access: it is for
+    /// observers.
     pub fn registers_at(&self, place: Place) -> Option<&NodeRegisters>
         ensures { option_copied result ≡ map.get self.now place }
     {
         find_from(&self.root, place)
     }
 
-    /// What stands in a register. This is no access: it is for what watches a tree from outside.
+    /// Returns the value of a register. This is no access: it is for observers.
     pub fn read(&self, register: TreeRegister) -> TreeValue
         ensures { result ≡ value_in register (map.get self.now (number_in register)) }
     {
@@ -86,7 +85,7 @@ impl<A: Allocator> Tree<A> {
 }
 
 impl<A: Allocator + Clone> Tree<A> {
-    /// The word that stands in a register of a node that is there.
+    /// Returns the word in a register of a node that exists.
     fn word(&self, register: TreeRegister) -> Option<u64>
         ensures { IfSome result (λ word. value_in register (map.get self.now (number_in register)) ≡ value.Word word) }
     {
@@ -122,9 +121,14 @@ impl<A: Allocator + Clone> Tree<A> {
         }
     }
 
-    /// Takes the next step of a walk where it stands, so that no segment is copied, and gives what the walk says. `None` where it
-    /// did not, and an error where the step makes a node and room for that was refused: then nothing has changed, and the step is
-    /// still to be taken.
+    /// Takes the next step of a walk in place, so that no segment is copied, and returns the walk's note.
+    ///
+    /// Returns `None` if it takes no such step. Nothing has then changed.
+    ///
+    /// # Errors
+    ///
+    /// `NoMemory`: the step makes a node and the allocation failed. Nothing has changed, and the step is still to be
+    /// taken.
     pub fn walk_on(&mut self, walker: &mut Walker) -> Result<Option<Note<Place>>, NoMemory>
         ensures note { IfSome (reported_in result) (λ note. note ≡ walker_note walker.old (answer_of self.old (next_access walker.old))) }
         ensures after { IfSome (reported_in result) (λ _. walker.new ≡ walker_after walker.old (answer_of self.old (next_access walker.old))) }

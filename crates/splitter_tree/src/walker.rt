@@ -9,21 +9,21 @@ use crate::register::{MARKED, ROOT, TreeRegister, TreeValue};
 use splitter::{Visitor, Way};
 use step_memory::{Access, Answer, Note, Place, StepProgram};
 
-/// The node that down leads to. No tree is as deep as the numbers of places go.
+/// The child that down leads to. A number that does not fit, which no tree reaches, is the greatest.
 fn left_child(place: Place) -> Place
     ensures { result ≡ left_child place }
 {
     place.saturating_mul(2)
 }
 
-/// The node that right leads to.
+/// The child that right leads to.
 fn right_child(place: Place) -> Place
     ensures { result ≡ right_child place }
 {
     left_child(place).saturating_add(1)
 }
 
-/// The same access, where registers may hold segments too.
+/// The same access, on registers that may hold segments too.
 fn in_words(access: Access<TreeRegister, u64>) -> Access<TreeRegister, TreeValue>
     ensures { result ≡ in_words access }
 {
@@ -36,7 +36,7 @@ fn in_words(access: Access<TreeRegister, u64>) -> Access<TreeRegister, TreeValue
     }
 }
 
-/// What a visit learns from an answer.
+/// The part of an answer that a visit takes.
 fn reported(got: Answer<TreeValue>) -> Answer<u64>
     ensures { result ≡ reported got }
 {
@@ -48,29 +48,30 @@ fn reported(got: Answer<TreeValue>) -> Answer<u64>
     }
 }
 
-/// A walk of one identity, which is not 0, down a tree of splitters from its root: the node before which it stands, and
-/// its visit there. First it writes the node's mark, by which a node that is not there is made; then it visits the
-/// node's splitter. A visit that ends down ends before the left child, one that ends right before the right child, of
-/// which the next step marks the one reached; one that stops ends the walk, and the node is its place.
+/// A walk of one identity, which is not 0, down a tree of splitters (Moir and Anderson 1995) from its root.
+///
+/// At each node it first writes the mark, which makes the node if it does not exist, and then visits the node's
+/// splitter. A visit that ends down leads to the left child, and one that ends right to the right child. If the visit
+/// stops, the walk ends, and the node is the place of the identity. (The mark is not in the papers.)
 #[derive(Clone, Copy, Debug, Drop, PartialEq, Eq)]
 pub struct Walker {
     /// Its visit to that node.
     pub visitor: Visitor<TreeRegister>,
-    /// The number of the node before which it stands.
+    /// The number of the node that it visits, or visits next.
     pub place: Place,
-    /// Whether the next access is that to the mark.
+    /// Whether the next access writes the mark.
     pub is_marking: bool,
 }
 
 impl Walker {
-    /// A walk that begins: it stands before the root and has made no access.
+    /// Makes a walk that is at the root and has made no access.
     pub fn new(identity: u64) -> Walker
         ensures { result ≡ walk_of identity }
     {
         Walker::before(identity, ROOT)
     }
 
-    /// A walk that stands before a node.
+    /// A walk that has made no access to this node.
     fn before(identity: u64, place: Place) -> Walker
         ensures { result ≡ walker_at identity place }
     {
@@ -81,7 +82,7 @@ impl Walker {
         }
     }
 
-    /// The place at which the walk has ended, where it has.
+    /// Returns the place at which the walk has ended, or `None` if it goes on.
     pub fn place(&self) -> Option<Place>
         ensures { result ≡ place_of self.now }
     {

@@ -22,7 +22,7 @@ use std::marker::Model;
 use step_memory::{Place, Refusal, View, World};
 
 /// Participants that walk down one tree, each to a place of its own, store values there, and collect what all have
-/// stored. Nodes are made one at a time, as walks come to them.
+/// stored.
 #[derive(Drop)]
 pub struct TreeWorld<A: Allocator> {
     world: World<Client, Tree<A>, A>,
@@ -44,8 +44,12 @@ impl<A: Allocator> Model for TreeWorld<A> {
 }
 
 impl<A: Allocator + Clone> TreeWorld<A> {
-    /// A tree of no nodes, for at most `most` participants, from 1 to 64; `OutOfRange` elsewhere. The room for the
-    /// participants is taken here, that for a node when a walk comes to it first.
+    /// Makes a tree with no node, for at most `most` participants, and allocates room for the participants.
+    ///
+    /// # Errors
+    ///
+    /// - `OutOfRange`: `most` is not from 1 to 64.
+    /// - `NoMemory`: an allocation failed.
     #[tactic(auto, using(crate::proofs::TreeProved::tree_contracts))]
     pub fn new(alloc: A, most: usize) -> Result<Self, Refusal>
         ensures fresh { IfOk result (λ w. w ≡ fresh_over tree_steps (empty_tree, most)) }
@@ -63,8 +67,15 @@ impl<A: Allocator + Clone> TreeWorld<A> {
         Ok(TreeWorld { world })
     }
 
-    /// A participant begins: its walk has made no access. Refused where the identity is 0, then where it has begun, then
-    /// where as many have begun as there may be.
+    /// Adds participant `id`, whose walk has made no access.
+    ///
+    /// # Errors
+    ///
+    /// An error changes nothing. The first that applies is returned:
+    ///
+    /// - `ZeroIdentity`: `id` is 0.
+    /// - `AlreadyBegun`: `id` has begun.
+    /// - `Full`: as many participants as the world takes have begun.
     #[tactic(auto, using(crate::proofs::TreeProved::tree_contracts))]
     pub fn begin(&mut self, id: u64) -> Result<(), Refusal>
         ensures answer { result ≡ done_unless (begin_refusal self.old id) }
@@ -72,7 +83,7 @@ impl<A: Allocator + Clone> TreeWorld<A> {
         ensures unchanged_on_error { OnErr result (self.new ≡ self.old) }
         ensures after { Extends tree self.old self.new (Began id result) }
 
-        // The law, over every list of calls and replies that the world may be after.
+        // The specification, over every history that leads to this world.
         ensures law { SatisfiesSpec tree self.new }
         ensures due { RefusesWhereDue tree self.new }
         ensures nodes { HasLawfulNodes self.new }
@@ -80,9 +91,19 @@ impl<A: Allocator + Clone> TreeWorld<A> {
         self.world.begin(id, Client::new(id))
     }
 
-    /// One step on the way to a place, which is one access; the place, once it is reached. Refused where the identity
-    /// has not begun, then where it has its place. Refused too where the access makes a node and its growth was refused:
-    /// nothing has then changed, and the same step may be asked again.
+    /// Makes one step of the walk of `id`: one access. Returns the place if the walk ends with it.
+    ///
+    /// # Errors
+    ///
+    /// An error changes nothing. The first that applies is returned:
+    ///
+    /// - `NotBegun`: `id` has not begun.
+    /// - `Finished`: `id` has its place.
+    /// - `NoMemory`: the step makes a node and the allocation failed. The caller may repeat the step.
+    ///
+    /// # Steps
+    ///
+    /// A walk makes at most `5b`, where `b` participants have begun.
     #[tactic(auto, using(crate::proofs::TreeProved::tree_contracts))]
     pub fn step(&mut self, id: u64) -> Result<Option<Place>, Refusal>
         ensures answer { result ≢ Err Refusal.NoMemory → result ≡ place_answer tree_steps self.old id }
@@ -94,8 +115,8 @@ impl<A: Allocator + Clone> TreeWorld<A> {
         ensures due { RefusesWhereDue tree self.new }
         ensures nodes { HasLawfulNodes self.new }
 
-        // Nothing of the world changes but this participant and the register that it names, and in another world that
-        // looks alike to this participant the answer is the same, and where the participant then stands.
+        // Nothing of the world changes except this participant and the register that it names. In another world that this
+        // participant cannot distinguish, the reply and the new participant are the same.
         ensures local { ChangesOnly client_steps tree_steps id self.old self.new }
         ensures alike { result ≢ Err Refusal.NoMemory → AnswersPlaceAlike self.old id result }
         ensures stands_alike { result ≢ Err Refusal.NoMemory → StaysAlikeOnWay self.old self.new id }
@@ -112,8 +133,14 @@ impl<A: Allocator + Clone> TreeWorld<A> {
         }
     }
 
-    /// Stores a value at one's place, by one write. Refused where the identity has not begun, then where it has no place
-    /// yet or a collect of it is under way.
+    /// Stores a value at the place of `id`, by one write.
+    ///
+    /// # Errors
+    ///
+    /// An error changes nothing. The first that applies is returned:
+    ///
+    /// - `NotBegun`: `id` has not begun.
+    /// - `AlreadyBegun`: `id` has no place yet, or a collect of it is under way.
     #[tactic(auto, using(crate::proofs::TreeProved::tree_contracts))]
     pub fn store(&mut self, id: u64, value: u64) -> Result<(), Refusal>
         ensures answer { result ≡ done_unless (asking_refusal self.old id) }
@@ -121,11 +148,11 @@ impl<A: Allocator + Clone> TreeWorld<A> {
         ensures unchanged_on_error { OnErr result (self.new ≡ self.old) }
         ensures after { Extends tree self.old self.new (Stored id value result) }
 
-        // The law, over every list of calls and replies that the world may be after.
+        // The specification, over every history that leads to this world.
         ensures law { SatisfiesSpec tree self.new }
         ensures due { RefusesWhereDue tree self.new }
 
-        // Nothing of the world changes but this participant and the segment at its place.
+        // Nothing of the world changes except this participant and the segment at its place.
         ensures local { ChangesOnlyStore tree_steps id self.old self.new }
     {
         let Some(client) = self.world.program(id) else {
@@ -135,7 +162,7 @@ impl<A: Allocator + Clone> TreeWorld<A> {
             return Err(Refusal::AlreadyBegun);
         }
         let client = client.storing(value);
-        // Whoever has begun may be set.
+        // This succeeds, since the identity has begun.
         let _ = self.world.set(id, client);
         match self.world.step(id) {
             Ok(_) => Ok(()),
@@ -143,8 +170,14 @@ impl<A: Allocator + Clone> TreeWorld<A> {
         }
     }
 
-    /// Begins a collect, which the next calls of `collect_step` make; this call makes no access. Refused where the
-    /// identity has not begun, then where it has no place yet or a collect of it is under way.
+    /// Begins a collect of `id`, which the next calls of `collect_step` make. This call makes no access.
+    ///
+    /// # Errors
+    ///
+    /// An error changes nothing. The first that applies is returned:
+    ///
+    /// - `NotBegun`: `id` has not begun.
+    /// - `AlreadyBegun`: `id` has no place yet, or a collect of it is under way.
     #[tactic(auto, using(crate::proofs::TreeProved::tree_contracts))]
     pub fn collect_begin(&mut self, id: u64) -> Result<(), Refusal>
         ensures answer { result ≡ done_unless (asking_refusal self.old id) }
@@ -164,8 +197,21 @@ impl<A: Allocator + Clone> TreeWorld<A> {
         self.world.set(id, client)
     }
 
-    /// One step of a collect, which is one read; the view, once it ends: what was stored at each place that it met.
-    /// Refused where the identity has not begun, then where no collect of it is under way.
+    /// Makes one step of the collect of `id`: one read. Returns the view if the collect ends with it.
+    ///
+    /// For each identity the view has a value that was its last stored one at some time of the collect. It has every
+    /// identity that had stored before the collect began.
+    ///
+    /// # Errors
+    ///
+    /// An error changes nothing. The first that applies is returned:
+    ///
+    /// - `NotBegun`: `id` has not begun.
+    /// - `Finished`: no collect of `id` is under way.
+    ///
+    /// # Steps
+    ///
+    /// A collect makes at most `6b - 2`, where `b` participants have begun.
     #[tactic(auto, using(crate::proofs::TreeProved::tree_contracts))]
     pub fn collect_step(&mut self, id: u64) -> Result<Option<View>, Refusal>
         ensures answer { result ≡ view_answer tree_steps self.old id }
@@ -190,7 +236,7 @@ impl<A: Allocator + Clone> TreeWorld<A> {
         }
     }
 
-    /// The place of a participant, once it has one: the one that was answered.
+    /// Returns the place of a participant, as `step` returned it, or `None` if it has none.
     pub fn place_of(&self, id: u64) -> Option<Place>
         ensures value { result ≡ option_and_then (λ c. place_of c.walker) (program_of id self.now.participants) }
         ensures answered { OnEveryHistory tree (λ first r. result ≡ outcome_of id (way_calls r)) self.now }
@@ -198,7 +244,7 @@ impl<A: Allocator + Clone> TreeWorld<A> {
         self.world.program(id)?.walker.place()
     }
 
-    /// The tree, for what watches from outside.
+    /// Returns the tree, for observers.
     pub fn tree(&self) -> &Tree<A>
         ensures { result.now ≡ self.now.memory }
     {

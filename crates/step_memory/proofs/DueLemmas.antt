@@ -27,7 +27,7 @@ pub has_ended-push : {X : Type 0} (last : X → Bool) (p : ℕ) (r : List (Call 
 has_ended-push last p [] h = or-false (ends_by last p h)
 has_ended-push last p (k ∷ r) h = ap (λ b. ends_by last p k || b) (has_ended-push last p r h) ∙ sym (or_assoc (ends_by last p k) (has_ended last p r) (ends_by last p h))
 
--- whose program ends with its outcome has ended once it is told
+-- whose program ends with its outcome has ended once it is reported
 some_first : {O : Type 0} (a b : Option O) → is_some (first_of a b) ≡ (is_some a || is_some b)
 some_first None b = refl
 some_first (Some a) b = refl

@@ -157,7 +157,7 @@ drop_further (suc k) (suc n) [] (y ∷ ys) l h e = absurd (omega arith)
 drop_further (suc k) (suc n) (x ∷ xs) [] l h e = absurd (omega arith)
 drop_further (suc k) (suc n) (x ∷ xs) (y ∷ ys) l h e = drop_further k n xs ys (omega arith) (omega arith) e
 
--- the beginning of a list that is equal to another from k on
+-- the prefix of a list that is equal to another from k on
 pub take_cut : {X : Type 0} (k n : ℕ) (xs ys : List X) → length xs ≡ length ys → k ≤ n → drop k xs ≡ drop k ys → take n xs ≡ take k xs ++ drop k (take n ys)
 take_cut zero n xs ys l h e = ap (take n) e
 take_cut (suc k) zero xs ys l h e = absurd (omega arith)
@@ -175,7 +175,7 @@ value_of-below q n (x ∷ xs) rising above le =
       | inr e ↦ rw e.0 (value_of-below q x.0 xs rising.1 rising.0 (omega arith))
     ]
 
--- pairs that rise are told by their values
+-- pairs that rise are reported by their values
 pub equal_values : (xs ys : List (ℕ × ℕ)) → IsRising xs → IsRising ys → ((q : ℕ) → value_of q xs ≡ value_of q ys) → xs ≡ ys
 equal_values [] [] h k e = refl
 equal_values [] (y ∷ ys) h k e =

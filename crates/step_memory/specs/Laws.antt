@@ -153,7 +153,7 @@ CountsBegun P S R V O X =
     (program : ProgramSteps P R V O) (memory : MemorySteps S R V) (shown : Note O → X) (start : ℕ → P) (last : X → Bool) (grows : Bool) →
     (w : WorldState S P) → OnEveryHistory (any_world program memory shown start last grows) (λ first r. begun_in r ≡ length w.participants) w
 
--- who was told its end is not told another
+-- who got its end gets no other
 abbrev pub HasNoSecondEnd : (X : Type 0) → Type 0
 HasNoSecondEnd X =
     (last : X → Bool) (p : ℕ) (a b : X) (before between rest : List (Call X)) → last a ≡ true →
@@ -165,7 +165,7 @@ LetsTheFirstIn X =
     (last : X → Bool) (most : ℕ) (grows : Bool) (p : ℕ) (why : Refusal) (rest : List (Call X)) → 1 ≤ most → p ≢ 0 →
     RefusesAsDue last most grows (Began p (Err why) ∷ rest) → ⊥
 
--- the outcome of p's program is the one that was told before one more call, else the one that this tells
+-- the outcome of p's program is the one that was reported before one more call, else the one that this tells
 abbrev pub KeepsTheFirstOutcome : (X : Type 0) → Type 0
 KeepsTheFirstOutcome X =
     (p : ℕ) (r : List (Call (Option X))) (h : Call (Option X)) → outcome_of p (r ++ h ∷ []) ≡ first_of (outcome_of p r) (outcome_by p h)

@@ -1,11 +1,11 @@
-//! Where a search for a participant begins.
+//! The index at which a search for a participant starts.
 
 ghost use Rattle.std.specs.Prelude.{◌≡◌, ◌<◌, ◌≤◌, true, false, length, drop, option_map, IfSome, Some, ◌+◌};
 ghost use Rattle.step_memory.specs.Participant.{index_of, AreDistinct};
 
 use crate::participant::Participant;
 
-/// Whether another participant stands here, so that the search for an identity goes on after it.
+/// Whether the participant at this index is another one, so that the search for an identity goes on after it.
 #[inline(always)]
 fn is_other<P>(participants: &[Participant<P>], at: usize, id: u64) -> bool
     requires { at < length participants.now }
@@ -15,7 +15,7 @@ fn is_other<P>(participants: &[Participant<P>], at: usize, id: u64) -> bool
     participants[at].identity != id
 }
 
-/// Where the participant of an identity stands, who is none of those before this place.
+/// Finds the index of an identity that no participant before `start` has.
 #[inline(always)]
 fn search_from<P>(participants: &[Participant<P>], start: usize, id: u64) -> Option<usize>
     requires inside { start ≤ length participants.now }
@@ -33,7 +33,7 @@ fn search_from<P>(participants: &[Participant<P>], start: usize, id: u64) -> Opt
     None
 }
 
-/// Where the participant of an identity stands. It looks at four a turn.
+/// Finds the index of the participant with an identity. One round of the loop compares four.
 fn search<P>(participants: &[Participant<P>], id: u64) -> Option<usize>
     ensures answer { result ≡ index_of id participants.now }
     ensures inside { IfSome result (λ i. i < length participants.now) }
@@ -57,25 +57,29 @@ fn search<P>(participants: &[Participant<P>], id: u64) -> Option<usize>
     search_from(participants, at, id)
 }
 
-/// For each value of the lowest six bits of an identity the index at which such a participant was put last: where a search
-/// looks first. A hint may be wrong; then the search goes through all, so that contracts see no hint.
+/// An index to try first for each identity, so that most searches make one comparison.
+///
+/// There is one hint for each value of an identity's lowest six bits: the index of the participant with these bits that
+/// was added last. A hint may be wrong. `find` then searches all participants, so that contracts see no hint.
 #[derive(Clone, Copy, Debug, Drop)]
 pub struct Hints {
     places: [u8; 64],
 }
 
 impl Hints {
-    /// Every search looks at the first participant first.
+    /// Makes hints that try the first participant first. Not proved: which hints these are. `find` is proved for all
+    /// hints.
     pub fn new() -> Self {
         Hints { places: [0; 64] }
     }
 
-    /// A participant of this identity is put at this index.
+    /// Records that the participant with this identity was added at index `at`. Not proved: which hints are then kept.
+    /// `find` is proved for all hints.
     pub fn note(&mut self, id: u64, at: usize) {
         self.places[(id % 64) as usize] = (at % 64) as u8;
     }
 
-    /// Where the participant of an identity stands.
+    /// Returns the index of the participant with identity `id`, or `None` if no participant has it.
     #[inline(always)]
     pub fn find<P>(&self, participants: &[Participant<P>], id: u64) -> Option<usize>
         requires { AreDistinct participants.now }

@@ -1,21 +1,25 @@
 //! Registers that are reached by one access a step, programs that take such steps, and worlds of them.
 //!
-//! A *program* names its next access as a function of where it stands, and takes the answer. A *world* is a memory and
-//! the participants on it. A step of a participant is one access to at most one register: it changes no other
-//! participant, and the rest of the world is nothing to it. The schedule, which is the order of the calls, is the
-//! caller's; a participant that stops is one that no later call names.
+//! A *program* names its next access as a function of its state, and takes the answer. A *world* is a memory with the
+//! participants on it. A step of a participant is one access to at most one register, and changes no other participant.
+//! The caller chooses the schedule, which is the order of the calls. A participant that crashes is one that no later
+//! call names.
 //!
-//! A caller, with a program `Counter` that reads register 0 and writes it back increased:
+//! From `tests_objects/src/memory_tests.rt`:
 //!
 //! ```text
-//! let memory = Memory::new(alloc, 0, 1, 0)?;
-//! let mut world = World::new(alloc, memory, 2)?;
-//! world.begin(10, Counter::new())?;
-//! world.begin(20, Counter::new())?;
-//! world.step(10)?;                    // 10 reads
-//! world.step(20)?;                    // 20 reads the same
-//! world.step(10)?;                    // 10 writes
-//! world.step(20)?;                    // 20 writes the same: one increase is lost
+//! let memory = Memory::new(alloc, 3, 2, 2)?;
+//! Ok(World::new(alloc, memory, 2)?)
+//! ..
+//! let asked = [world.begin(10, write), world.begin(20, read)];
+//! let reported = [world.step(10), world.step(20)];
+//! ..
+//! asked == [Ok(()), Ok(())]
+//!     && reported
+//!         == [
+//!             Ok(Note::Ended(Answer::Done)),
+//!             Ok(Note::Ended(Answer::Value(7))),
+//!         ]
 //! ```
 #![tactic(auto)]
 

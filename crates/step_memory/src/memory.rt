@@ -12,27 +12,31 @@ use crate::refusal::NoMemory;
 use std::alloc::Allocator;
 use std::marker::Model;
 
-/// Registers that are reached by one access at a time, each atomic. An access answers what stands in the register that
-/// it names.
+/// A memory of registers, which participants reach by one atomic access at a time.
 pub trait StepMemory {
     /// What names a register.
     type Reg: Copy;
 
-    /// What stands in a register.
+    /// What a register holds.
     type Value;
 
-    /// What stands in the registers, what an access leaves, and whether it may be refused.
+    /// What the registers hold, what an access leaves, and whether it may fail.
     ghost steps: { MemorySteps Self Self.Reg Self.Value };
 
-    /// One access. An error, where a growth was refused, leaves the memory as it was.
+    /// Makes one access, and returns its answer: what the register held before it.
+    ///
+    /// # Errors
+    ///
+    /// `NoMemory`: the access needed memory and the allocation failed. The memory is unchanged.
     fn access(&mut self, a: Access<Self::Reg, Self::Value>) -> Result<Answer<Self::Value>, NoMemory>
         ensures answer { IfOk result (λ got. got ≡ answer_from (steps.register self.old) a) }
         ensures after { OnOk result (self.new ≡ steps.after self.old a) }
         ensures unchanged_on_error { OnErr result (self.new ≡ self.old) }
         ensures no_memory { OnErr result (steps.may_refuse self.old a ≡ true) };
 
-    /// The value that stands in a register, where it stands, for a `Read` that copies nothing. `None` where none is lent:
-    /// then `access` answers the `Read`.
+    /// Lends the value of a register, for a `Read` that copies nothing.
+    ///
+    /// Returns `None` if the memory lends no value of this register. `access` then answers the `Read`.
     fn look(&self, _register: &Self::Reg) -> Option<&Self::Value>
         ensures value { IfSome result (λ value. value.now ≡ (steps.register self.now _register.now).0) }
         ensures kept { IfSome result (λ value. steps.after self.now (Read _register.now) ≡ self.now) }
@@ -44,8 +48,9 @@ pub trait StepMemory {
     ghost others: { (m : Self) (a : Access Self.Reg Self.Value) (r : Self.Reg) → Spares a r → steps.register (steps.after m a) r ≡ steps.register m r };
 }
 
-/// Registers of values and registers of bits, named by their numbers from 0 and all made at once, so that no access is
-/// refused. A register that is not there reads as never written, and what is written to it is lost.
+/// Registers of values and registers of bits, each numbered from 0. All are made by `new`, so no access fails.
+///
+/// A read of a number that is out of range returns the first value, or a clear bit. A write there changes nothing.
 #[derive(Drop)]
 pub struct Memory<V, A: Allocator> {
     first: V,
@@ -61,7 +66,7 @@ impl<V, A: Allocator> Model for Memory<V, A> {
     ghost view = { λ m. record { first = m.first; values = m.values.items; bits = m.bits.items } };
 }
 
-/// So many copies of a value.
+/// A vector of `n` copies of `x`.
 fn filled<T: Copy, A: Allocator>(alloc: A, x: T, n: usize) -> Result<Vec<T, A>, NoMemory>
     ensures { IfOk result (λ xs. xs.items ≡ replicate n x) }
 {
@@ -75,8 +80,11 @@ fn filled<T: Copy, A: Allocator>(alloc: A, x: T, n: usize) -> Result<Vec<T, A>, 
 }
 
 impl<V: Copy, A: Allocator + Clone> Memory<V, A> {
-    /// So many registers of values, which hold `first`, and so many bits, which are clear. An error where the room for
-    /// them was refused.
+    /// Makes `values` registers that hold `first`, and `bits` bits that are clear.
+    ///
+    /// # Errors
+    ///
+    /// `NoMemory`: an allocation failed.
     pub fn new(alloc: A, first: V, values: usize, bits: usize) -> Result<Self, NoMemory>
         ensures { IfOk result (λ m. m ≡ record { first = first; values = replicate values first; bits = replicate bits false }) }
     {
@@ -92,7 +100,7 @@ impl<V: Copy, A: Allocator + Clone> Memory<V, A> {
 }
 
 impl<V: Copy, A: Allocator> Memory<V, A> {
-    /// The value that stands in a register. This is no access: it is for what watches a world from outside.
+    /// Returns the value of a register. This is no access: it is for observers of a world.
     pub fn value(&self, r: usize) -> V
         ensures { result ≡ (register_of self.now r).0 }
     {
@@ -103,7 +111,7 @@ impl<V: Copy, A: Allocator> Memory<V, A> {
         }
     }
 
-    /// The bit that stands in a register. This is no access: it is for what watches a world from outside.
+    /// Returns whether a bit is set. This is no access: it is for observers of a world.
     pub fn bit(&self, r: usize) -> bool
         ensures { result ≡ (register_of self.now r).1 }
     {

@@ -1,11 +1,11 @@
-//! What a program says of a step.
+//! What a program returns after a step.
 
 ghost use Rattle.std.specs.Prelude.{◌≡◌, ◌↔◌, IsTrue};
 ghost use Rattle.step_memory.specs.Calls.{outcome_in};
 ghost use Rattle.step_memory.specs.declared.note.Note.TheVariants.{Quiet};
 ghost use Rattle.step_memory.specs.Note.{ends};
 
-/// What a program says of the step that it took.
+/// What a program returns after a step.
 #[derive(Clone, Copy, Debug, Drop, PartialEq, Eq)]
 pub enum Note<O> {
     /// Nothing: the program goes on.
@@ -24,7 +24,7 @@ impl<O> Note<O> {
         matches!(self, Note::Ended(_))
     }
 
-    /// Whether the program has said nothing, and goes on.
+    /// Whether the step has no output and the program goes on.
     pub fn is_quiet(&self) -> bool
         ensures { IsTrue result ↔ (self.now ≡ Quiet) }
     {
@@ -33,7 +33,7 @@ impl<O> Note<O> {
 }
 
 impl<O: Drop> Note<O> {
-    /// The outcome, where this is the last output: what the program has ended with.
+    /// Returns the last output of the program, or `None` if the program goes on.
     pub fn outcome(self) -> Option<O>
         ensures { result ≡ outcome_in self }
     {

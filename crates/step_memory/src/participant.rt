@@ -14,19 +14,19 @@ use crate::program::{Request, StepProgram};
 use crate::refusal::NoMemory;
 use crate::shortcut::Shortcut;
 
-/// A participant of a world.
+/// A participant of a world: an identity and its program.
 #[derive(Debug, Drop)]
 pub struct Participant<P> {
-    /// Who it is; not 0.
+    /// Its identity; not 0.
     pub identity: u64,
-    /// Its program, where it stands.
+    /// Its program, with the program's state.
     pub program: P,
     /// Whether its program has ended.
     pub ended: bool,
 }
 
 impl<P: StepProgram> Participant<P> {
-    /// Takes the answer to the access of its program.
+    /// Gives its program the answer to the access, and returns the program's note.
     pub fn resume(&mut self, got: Answer<P::Value>) -> Note<P::Output>
         ensures after { self.new ≡ resumed P.steps self.old got }
         ensures note { result ≡ P.steps.note self.old.program got }
@@ -36,8 +36,9 @@ impl<P: StepProgram> Participant<P> {
         note
     }
 
-    /// Takes the value that the access of its program reads, where it stands, if the program then goes on and says nothing.
-    /// Tells whether it did; where not, nothing has changed.
+    /// Gives its program the value that its access reads, without a copy, if the program then goes on with no output.
+    ///
+    /// Returns whether it did. If not, nothing has changed.
     pub fn read_on(&mut self, got: &P::Value) -> bool
         ensures after { result ≡ true → self.new ≡ resumed P.steps self.old (Value got.now) }
         ensures quiet { result ≡ true → P.steps.note self.old.program (Value got.now) ≡ Quiet }
@@ -50,8 +51,13 @@ impl<P: StepProgram> Participant<P> {
         true
     }
 
-    /// Takes its program's step by this shortcut. What that tells; `None` where it did not, and an error where a growth was
-    /// refused: then nothing has changed.
+    /// Takes the step of its program by the shortcut `Q`, and returns what the shortcut reports.
+    ///
+    /// Returns `None` if the shortcut does not take this step. Nothing has then changed.
+    ///
+    /// # Errors
+    ///
+    /// `NoMemory`: the access needed memory and the allocation failed. Nothing has changed.
     pub fn take<Q: Shortcut<P, S>, S: StepMemory<Reg = P::Reg, Value = P::Value>>(
         &mut self,
         memory: &mut S,
@@ -73,7 +79,7 @@ impl<P: StepProgram> Participant<P> {
 }
 
 impl<P> Participant<P> {
-    /// Asks its program for something, with no access; it has then not ended.
+    /// Makes a request of its program, with no access. The participant has then not ended.
     pub fn ask<Q: Request<P>>(&mut self, request: Q)
         requires { Q.can_ask request self.old.program }
         ensures { self.new ≡ beginner self.old.identity (Q.asked request self.old.program) }

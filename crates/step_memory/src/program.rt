@@ -9,39 +9,42 @@ ghost use Rattle.step_memory.specs.declared.note.Note.TheVariants.{Quiet};
 use crate::access::{Access, Answer};
 use crate::note::Note;
 
-/// A participant's program, and where it stands. Its laws are its contract: the next access is a function of the
-/// program alone, and what comes of it a function of the program and of the answer alone.
+/// A participant's program, with its state.
+///
+/// The next access is a function of the program alone. What follows is a function of the program and of the answer
+/// alone.
 pub trait StepProgram {
     /// What names a register.
     type Reg: Copy;
 
-    /// What stands in a register.
+    /// What a register holds.
     type Value;
 
-    /// What the program tells its caller.
+    /// What the program returns to its caller.
     type Output;
 
-    /// The next access of a program, and what an answer makes of it.
+    /// The next access of a program, and its state after each answer.
     ghost steps: { ProgramSteps Self Self.Reg Self.Value Self.Output };
 
-    /// The access of the next step.
+    /// Returns the access of the next step.
     fn next(&self) -> Access<Self::Reg, Self::Value>
         ensures { result ≡ steps.next self.now };
 
-    /// Takes the answer to that access.
+    /// Takes the answer to that access, and returns the note of the step.
     fn resume(&mut self, got: Answer<Self::Value>) -> Note<Self::Output>
         ensures after { self.new ≡ steps.resumed self.old got }
         ensures note { result ≡ steps.note self.old got };
 
-    /// The register that the access reads, where the program may take the value where it stands (`read_on`).
+    /// Returns the register that the next access reads, if the program can take a value that is lent (`read_on`).
     fn reads(&self) -> Option<Self::Reg>
         ensures { IfSome result (λ register. steps.next self.now ≡ Read register) }
     {
         None
     }
 
-    /// Takes the value that the access reads, where it stands in the memory, if the program then goes on and says nothing.
-    /// Tells whether it did; where not, nothing has changed, and `resume` takes the answer.
+    /// Takes the value that the access reads, without a copy, if the program then goes on with no output.
+    ///
+    /// Returns whether it did. If not, nothing has changed, and `resume` takes the answer.
     fn read_on(&mut self, _got: &Self::Value) -> bool
         ensures after { result ≡ true → self.new ≡ steps.resumed self.old (Value _got.now) }
         ensures quiet { result ≡ true → steps.note self.old (Value _got.now) ≡ Quiet }
@@ -51,23 +54,24 @@ pub trait StepProgram {
     }
 }
 
-/// What may be asked of a program between its steps, with no access.
+/// A request to a program between two steps, which makes no access.
 pub trait Request<P> {
-    /// Whether it may be asked of this program.
+    /// The programs that it may be made of.
     ghost can_ask: { Self → P → Type 0 };
 
-    /// The program once it was asked.
+    /// The program after the request.
     ghost asked: { Self → P → P };
 
-    /// Asks a program, where it stands.
+    /// Makes the request of a program, in place.
     fn ask(self, program: &mut P)
         requires { can_ask self program.old }
         ensures { program.new ≡ asked self program.old };
 }
 
-/// A request for another program in place of this one.
+/// The request to replace a program by `program`.
 #[derive(Drop)]
 pub struct Replace<P> {
+    /// The program that takes the place of the other.
     pub program: P,
 }
 

@@ -1,20 +1,19 @@
-//! What stands in a segment.
+//! What a segment holds.
 
 use crate::view::View;
 
-/// What an update writes into its segment, in one step: whose it is, the value, which write of the segment this is
-/// (counted from 1), and the view that the update scanned, which helps scans under way.
+/// What an update writes into its segment, in one step. Its view helps scans that are under way (Afek et al. 1993).
 #[derive(Clone, Copy, Debug, Drop)]
 pub struct Record {
-    /// Whose it is.
+    /// The identity that wrote it.
     pub identity: u64,
-    /// What was written.
+    /// The value that was written.
     pub value: u64,
-    /// Which write of the segment it is.
+    /// Which write of this segment it is, from 1.
     pub number: u32,
     /// The view that the update scanned.
     pub view: View,
 }
 
-/// A segment: empty, or what its owner wrote last.
+/// A segment: empty, or the last record that its owner wrote.
 pub type Segment = Option<Record>;

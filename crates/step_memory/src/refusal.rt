@@ -1,4 +1,4 @@
-//! Why a call is refused.
+//! Why a call fails.
 
 ghost use Rattle.std.specs.Prelude.{◌≡◌};
 ghost use Rattle.step_memory.specs.Refusal.{refusal_number};
@@ -8,11 +8,11 @@ use std::alloc::AllocError;
 use std::error::Error;
 use std::fmt;
 
-/// A growth was refused.
+/// An allocation failed.
 #[derive(Clone, Copy, Debug, Drop, PartialEq, Eq)]
 pub struct NoMemory;
 
-/// Why a call was refused. A refused call changes nothing. The numbers are this project's profile.
+/// Why a call failed. A call that fails changes nothing. (The numbers are not in the papers.)
 #[derive(Clone, Copy, Debug, Drop, PartialEq, Eq)]
 pub enum Refusal {
     /// The identity is 0.
@@ -37,7 +37,7 @@ pub enum Refusal {
     Holding = 10,
     /// The identity competes and holds no number.
     NotHolding = 11,
-    /// A growth was refused in this call.
+    /// An allocation failed in this call.
     NoMemory = 12,
     /// The history is full.
     HistoryFull = 13,
@@ -46,7 +46,7 @@ pub enum Refusal {
 }
 
 impl Refusal {
-    /// The number of the refusal, from 1 to 14, as replies and records write it.
+    /// Returns the number of the refusal, from 1 to 14, as replies and records write it.
     pub fn number(self) -> u8
         ensures { result ≡ refusal_number self }
     {

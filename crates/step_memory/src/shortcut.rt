@@ -10,19 +10,25 @@ use crate::memory::StepMemory;
 use crate::program::StepProgram;
 use crate::refusal::NoMemory;
 
-/// A way to take some steps of a program on a memory where both stand, so that no value is copied.
+/// A way to take some steps of a program on a memory, both in place, so that no value is copied.
 pub trait Shortcut<P: StepProgram, S: StepMemory<Reg = P::Reg, Value = P::Value>> {
-    /// What it tells of a step.
+    /// What it reports of a step.
     type Reported;
 
     /// The programs whose step it may take.
     ghost takes: { P → Type 0 };
 
-    /// What the program says of a step of which this is told.
+    /// The note of the program for a step of which this is reported.
     ghost note: { Self.Reported → Note P.Output };
 
-    /// Takes the program's step, if it is one after which the program goes on, and tells what it says. `None` where it did
-    /// not, and an error where a growth was refused: then nothing has changed, and the step is still to be taken.
+    /// Takes the program's step if the program goes on after it, and reports its note.
+    ///
+    /// Returns `None` if it does not take this step. Nothing has then changed.
+    ///
+    /// # Errors
+    ///
+    /// `NoMemory`: the access needed memory and the allocation failed. Nothing has changed, and the step is still to be
+    /// taken.
     fn take(program: &mut P, memory: &mut S) -> Result<Option<Self::Reported>, NoMemory>
         ensures takes { IfSome (reported_in result) (λ _. takes program.old) }
         ensures after { IfSome (reported_in result) (λ _. program.new ≡ P.steps.resumed program.old (answer_got P.steps S.steps program.old memory.old)) }

@@ -1,12 +1,13 @@
-//! What a scan shows.
+//! What a scan returns.
 
 ghost use Rattle.std.specs.Prelude.{◌≡◌, ◌<◌, ◌≤◌, ◌+◌, ◌↔◌, ◌⊎◌, [], IsSome, length, take, drop, IsTrue, false, if◌then◌else◌};
 ghost use Rattle.step_memory.specs.View.{value_of, inserted, IsRising};
 
 use std::marker::Model;
 
-/// A list of pairs of an identity and its value, by strictly rising identity: at most 64, in the value itself, so that
-/// it takes no memory. Contracts see the list.
+/// A list of pairs of an identity and its value, by strictly rising identity, as a scan returns it.
+///
+/// It holds at most 64 pairs, in the value itself, so that it allocates nothing. Contracts see the list.
 #[derive(Clone, Copy, Debug, Drop)]
 pub struct View {
     pairs: [(u64, u64); 64],
@@ -30,7 +31,8 @@ impl Model for View {
     ghost inverse_ok = { λ v h i. record { pairs = (given_back v.pairs v.len h).0 i; len = (given_back v.pairs v.len h).1 i } };
 }
 
-/// Puts a pair into the first `len` pairs, in order; a pair of its identity is replaced. Tells whether there is one more.
+/// Puts a pair into the first `len` pairs, in order, or replaces the pair of its identity. Returns whether there is one
+/// more.
 fn put_in(pairs: &mut [(u64, u64)], len: usize, pair: (u64, u64)) -> bool
     requires room { len < length pairs.old }
     requires rising { IsRising (take len pairs.old) }
@@ -53,7 +55,7 @@ fn put_in(pairs: &mut [(u64, u64)], len: usize, pair: (u64, u64)) -> bool
     true
 }
 
-/// Puts a pair in place of the one of its identity, which is there.
+/// Replaces the pair of the same identity, which is present.
 fn replace_in(pairs: &mut [(u64, u64)], pair: (u64, u64))
     requires there { IsSome (value_of pair.0 pairs.old) }
     requires rising { IsRising pairs.old }
@@ -67,7 +69,7 @@ fn replace_in(pairs: &mut [(u64, u64)], pair: (u64, u64))
     }
 }
 
-/// The value of an identity.
+/// Returns the value of an identity.
 fn find_in(pairs: &[(u64, u64)], identity: u64) -> Option<u64>
     ensures { result ≡ value_of identity pairs.now }
 {
@@ -80,10 +82,10 @@ fn find_in(pairs: &[(u64, u64)], identity: u64) -> Option<u64>
 }
 
 impl View {
-    /// How many pairs there is room for.
+    /// The most pairs.
     pub const ROOM: usize = 64;
 
-    /// No pair.
+    /// Makes a view with no pair.
     pub fn new() -> Self
         ensures { result ≡ [] }
     {
@@ -93,7 +95,7 @@ impl View {
         }
     }
 
-    /// How many pairs there are.
+    /// Returns the number of pairs.
     pub fn len(&self) -> usize
         ensures { result ≡ length self.now }
     {
@@ -107,14 +109,14 @@ impl View {
         self.len == 0
     }
 
-    /// Whether there is no room for another pair.
+    /// Whether it holds 64 pairs.
     pub fn is_full(&self) -> bool
         ensures { IsTrue result ↔ (64 ≤ length self.now) }
     {
         64 <= self.len
     }
 
-    /// The pairs, by rising identity.
+    /// Returns the pairs, by rising identity.
     pub fn pairs(&self) -> &[(u64, u64)]
         ensures pairs { result.now ≡ self.now }
         ensures rising { IsRising self.now }
@@ -123,14 +125,16 @@ impl View {
         &self.pairs[..self.len]
     }
 
-    /// The value of an identity.
+    /// Returns the value of an identity, or `None` if it has no pair.
     pub fn get(&self, identity: u64) -> Option<u64>
         ensures { result ≡ value_of identity self.now }
     {
         find_in(self.pairs(), identity)
     }
 
-    /// Gives an identity this value. Its pair is replaced where it has one, so also where there is no room for another.
+    /// Adds the pair of an identity and this value, or replaces the identity's pair.
+    ///
+    /// A view that is full takes only an identity that has a pair.
     pub fn insert(&mut self, identity: u64, value: u64)
         requires { (length self.old < 64) ⊎ IsSome (value_of identity self.old) }
         ensures { self.new ≡ inserted self.old (identity, value) }

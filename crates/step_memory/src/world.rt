@@ -46,7 +46,7 @@ impl<P, S, A: Allocator> World<P, S, A> {
         self.hints.find(&self.participants, id).is_some()
     }
 
-    /// Why an identity may not begin: what `begin` would be refused. It changes nothing.
+    /// Returns the error that `begin` would return, or `None` if it would succeed.
     pub fn begin_refusal(&self, id: u64) -> Option<Refusal>
         ensures { result ≡ begin_refusal self.now id }
     {
@@ -61,7 +61,7 @@ impl<P, S, A: Allocator> World<P, S, A> {
         }
     }
 
-    /// The program of a participant.
+    /// Returns the program of a participant, or `None` if the identity has not begun.
     pub fn program(&self, id: u64) -> Option<&P>
         ensures { option_copied result ≡ program_of id self.now.participants }
     {
@@ -71,29 +71,32 @@ impl<P, S, A: Allocator> World<P, S, A> {
         Some(&self.participants[i].program)
     }
 
-    /// The most participants.
+    /// Returns the most participants of this world.
     pub fn most(&self) -> usize
         ensures { result ≡ self.now.most }
     {
         self.most
     }
 
-    /// The memory, for what watches the world from outside.
+    /// Returns the memory, for observers of the world.
     pub fn memory(&self) -> &S
         ensures { result.now ≡ self.now.memory }
     {
         &self.memory
     }
 
-    /// The participants in the order of beginning.
+    /// Returns the participants, in the order in which they began.
     pub fn participants(&self) -> &[Participant<P>]
         ensures { result.now ≡ self.now.participants }
     {
         &self.participants
     }
 
-    /// Asks a participant's program for something, where it stands, with no access; the participant has then not ended.
-    /// Refused where the identity has not begun.
+    /// Makes a request of a participant's program, in place and with no access. The participant has then not ended.
+    ///
+    /// # Errors
+    ///
+    /// `NotBegun`: `id` has not begun. Nothing has changed.
     pub fn ask<Q: Request<P> + Drop>(&mut self, id: u64, request: Q) -> Result<(), Refusal>
         requires { CanAsk Q.can_ask request id self.old }
         ensures answer { result ≡ set_answer self.old id }
@@ -109,8 +112,15 @@ impl<P, S, A: Allocator> World<P, S, A> {
 }
 
 impl<P: Drop, S, A: Allocator> World<P, S, A> {
-    /// Adds a participant, which stands at the beginning of its program. Refused where the identity is 0, then where it
-    /// has begun, then where the world is full.
+    /// Adds participant `id`, at the start of its program. This makes no access.
+    ///
+    /// # Errors
+    ///
+    /// An error changes nothing. The first that applies is returned:
+    ///
+    /// - `ZeroIdentity`: `id` is 0.
+    /// - `AlreadyBegun`: `id` has begun.
+    /// - `Full`: as many participants as the world takes have begun.
     pub fn begin(&mut self, id: u64, program: P) -> Result<(), Refusal>
         ensures answer { result ≡ done_unless (begin_refusal self.old id) }
         ensures after { self.new ≡ after_begin self.old id program }
@@ -128,8 +138,11 @@ impl<P: Drop, S, A: Allocator> World<P, S, A> {
         Ok(())
     }
 
-    /// Puts another program in place of a participant's, with no access; the participant has then not ended. Refused
-    /// where the identity has not begun.
+    /// Replaces the program of a participant, with no access. The participant has then not ended.
+    ///
+    /// # Errors
+    ///
+    /// `NotBegun`: `id` has not begun. Nothing has changed.
     pub fn set(&mut self, id: u64, program: P) -> Result<(), Refusal>
         ensures answer { result ≡ set_answer self.old id }
         ensures after { self.new ≡ after_set self.old id program }
@@ -144,7 +157,11 @@ impl<
     S: StepMemory<Reg = P::Reg, Value = P::Value> + Drop,
     A: Allocator,
 > World<P, S, A> {
-    /// A world of at most `most` participants, with room for them all. An error where that room was refused.
+    /// Makes a world with no participant, and allocates room for `most`.
+    ///
+    /// # Errors
+    ///
+    /// `NoMemory`: the allocation failed.
     pub fn new(alloc: A, memory: S, most: usize) -> Result<Self, NoMemory>
         ensures { IfOk result (λ w. w ≡ record { memory = memory; most = most; participants = [] }) }
     {
@@ -159,20 +176,26 @@ impl<
         }
     }
 
-    /// One step of a participant: the one access that its program names, whose answer its program takes. Refused where
-    /// the identity has not begun, then where its program has ended, then where the memory refused a growth: then the
-    /// same step may be asked again.
+    /// Makes one step of participant `id`: the one access that its program names. The program takes the answer.
+    ///
+    /// # Errors
+    ///
+    /// An error changes nothing. The first that applies is returned:
+    ///
+    /// - `NotBegun`: `id` has not begun.
+    /// - `Finished`: the program of `id` has ended.
+    /// - `NoMemory`: the access needed memory and the allocation failed. The caller may repeat the step.
     pub fn step(&mut self, id: u64) -> Result<Note<P::Output>, Refusal>
         ensures answer { result ≢ Err Refusal.NoMemory → result ≡ step_answer P.steps S.steps self.old id }
         ensures after { result ≢ Err Refusal.NoMemory → self.new ≡ after_step P.steps S.steps self.old id }
         ensures unchanged_on_error { OnErr result (self.new ≡ self.old) }
         ensures no_memory { result ≡ Err Refusal.NoMemory → may_refuse_step P.steps S.steps self.old id ≡ true }
 
-        // Nothing of the world changes but this participant and the register that it names.
+        // Nothing of the world changes except this participant and the register that its program names.
         ensures local { ChangesOnly P.steps S.steps id self.old self.new }
 
-        // In another world that looks alike to this participant the answer is the same. Where it then stands is the same
-        // too: that is a law (`law_of_locality`).
+        // In another world that this participant cannot distinguish, the reply is the same. So is its new program: that is
+        // a law (`law_of_locality`).
         ensures alike { result ≢ Err Refusal.NoMemory → IsAnsweredAlike P.steps S.steps id self.old result }
     {
         let Some(i) = self.hints.find(&self.participants, id) else {
@@ -188,8 +211,10 @@ impl<
         Ok(self.participants[i].resume(got))
     }
 
-    /// One step of a participant, if it is a read after which its program goes on and says nothing: nothing is copied.
-    /// Tells whether it was made; where not, nothing has changed, and `step` makes it or refuses it.
+    /// Makes one step of participant `id` without a copy, if it is a read after which the program goes on with no
+    /// output.
+    ///
+    /// Returns whether it did. If not, nothing has changed, and `step` makes the step or returns its error.
     pub fn read_on(&mut self, id: u64) -> bool
         ensures answer { result ≡ true → step_answer P.steps S.steps self.old id ≡ Ok Note.Quiet }
         ensures reads { result ≡ true → ReadsNext P.steps self.old id }
@@ -213,9 +238,16 @@ impl<
         self.participants[i].read_on(value)
     }
 
-    /// One step of a participant by a shortcut, if that takes it: nothing is copied. What the shortcut tells; `None` where it
-    /// was not made: then nothing has changed, and `step` makes it or refuses it. An error where the memory refused a growth: then
-    /// nothing has changed, and the same step may be asked again.
+    /// Makes one step of participant `id` by the shortcut `Q`, and returns what the shortcut reports. Nothing is
+    /// copied.
+    ///
+    /// Returns `None` if the shortcut does not take this step. Nothing has then changed, and `step` makes it or returns
+    /// its error.
+    ///
+    /// # Errors
+    ///
+    /// `NoMemory`: the access needed memory and the allocation failed. Nothing has changed, and the caller may repeat
+    /// the step.
     pub fn take<Q: Shortcut<P, S>>(&mut self, id: u64) -> Result<Option<Q::Reported>, NoMemory>
         ensures answer { IfSome (reported_in result) (λ reported. step_answer P.steps S.steps self.old id ≡ Ok (Q.note reported)) }
         ensures takes { IfSome (reported_in result) (λ _. IsTaken Q.takes self.old id) }

@@ -1,7 +1,7 @@
 //! Doubles of what a test hands in, which fail where the test says: an allocator, a reader and a writer.
 //!
 //! No program uses them. What is proved is that they are safe, and do what the traits that they implement promise; that each
-//! fails where it is told to is seen in the tests.
+//! fails where it is to is seen in the tests.
 //!
 //! ```text
 //! let heap = FailingAllocator::new(rt.alloc(), 3);                           // refuses its third growth

@@ -20,7 +20,7 @@ struct Job<L: LockName> {
     seat: ReaderSeat,
 }
 
-/// What a thread hands back: its session, and the grant of the name that it was told.
+/// What a thread hands back: its session, and the grant of the name that it got.
 #[derive(Drop)]
 struct Posted<L: LockName> {
     session: Session<L>,

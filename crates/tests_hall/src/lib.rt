@@ -3,7 +3,7 @@
 //! fails at each call, of other runs, and compacted; a file as a disk; and drawn halls of every size, built anew.
 //!
 //! They stand in a crate of their own, as a package's integration tests do, so that proving them does not prove the hall and
-//! the server again. A trial that is proved returns and breaks no caller's condition; that it passes is seen by running it.
+//! the server again. An integration test that is proved returns and breaks no caller's condition; that it passes is seen by running it.
 #![tactic(auto)]
 
 #[cfg(test)]

@@ -33,7 +33,7 @@ pub(crate) fn has_just(hall: &Hall, events: &[Event]) -> bool {
     true
 }
 
-/// Counts what it is told, and keeps connection 0 until a reply was told of, for so many looks at most.
+/// Counts what it hears of, and keeps connection 0 until it hears of a reply, for so many looks at most.
 #[derive(Drop)]
 struct Holding {
     read: AtomicU64,
@@ -62,7 +62,7 @@ impl<R> Gate<R> for Holding {
 }
 
 impl Holding {
-    /// How many lines and replies it was told of, and how often it gave up.
+    /// How many lines and replies it heard of, and how often it gave up.
     fn reported(&self) -> (u64, u64, u64) {
         (
             self.read.load(Ordering::SeqCst),

@@ -8,10 +8,10 @@ use std::thread::{self, Threads};
 use step_memory::Refusal;
 use word_names::{Dealer, FreshSeat, Names};
 
-/// What a trial tells of what was made: whether it goes so; or why it was not made.
+/// What an integration test tells of what was made: whether it goes so; or why it was not made.
 pub type Reported = Result<bool, Refusal>;
 
-/// Stops a trial unless in this case of it, named by a row or a round, what it tells is what is due.
+/// Stops an integration test unless in this case of it, named by a row or a round, what it tells is what is due.
 pub fn same(rt: &impl Abort, case: usize, reported: Reported, due: Reported) {
     assert_eq!(rt; reported, due, "case {case}");
 }
@@ -156,7 +156,7 @@ fn refusal_after(alloc: Global, most: u64, known: &[u64], identity: u64) -> Resu
     Ok(seat.identity() == identity && seat.number() == known.len() as u64)
 }
 
-/// How many seats there are, to whom some were dealt, who asks next, and what is told.
+/// How many seats there are, to whom some were dealt, who asks next, and what is reported.
 const DEALT: [(u64, &[u64], u64, Result<bool, Refusal>); 7] = [
     (2, &[], 0, Err(Refusal::ZeroIdentity)),
     (2, &[7], 7, Err(Refusal::AlreadyBegun)),

@@ -1,17 +1,17 @@
-//! What the trials share.
+//! What the integration tests share.
 
 use std::process::Abort;
 use step_memory::{Refusal, View};
 
-/// What a trial tells of what was made: whether it goes so; or why it was not made.
+/// What an integration test tells of what was made: whether it goes so; or why it was not made.
 pub type Reported = Result<bool, Refusal>;
 
-/// Stops a trial unless in this case of it, named by a size or a row, what it tells is what is due.
+/// Stops an integration test unless in this case of it, named by a size or a row, what it tells is what is due.
 pub fn same(rt: &impl Abort, case: usize, reported: Reported, due: Reported) {
     assert_eq!(rt; reported, due, "case {case}");
 }
 
-/// What a trial tells of a world that was made, which is lent to it; or why none was made. Here a world is of any type, so that
+/// What an integration test tells of a world that was made, which is lent to it; or why none was made. Here a world is of any type, so that
 /// nothing is proved again of what it holds.
 pub fn lent<W: Drop, F: FnOnce(&mut W) -> bool + Drop>(
     made: Result<W, Refusal>,
@@ -23,7 +23,7 @@ pub fn lent<W: Drop, F: FnOnce(&mut W) -> bool + Drop>(
     Ok(trial(&mut world))
 }
 
-/// Stops a trial unless this case of it, named by a size or a row, is so.
+/// Stops an integration test unless this case of it, named by a size or a row, is so.
 pub fn holds(rt: &impl Abort, case: usize, is_so: bool) {
     assert!(rt; is_so, "case {case}");
 }

@@ -1,4 +1,4 @@
-//! Objects that are made in heaps with more and more room: each allocation failure is told.
+//! Objects that are made in heaps with more and more room: each allocation failure is reported.
 
 use crate::common::holds;
 use linked_list_allocator::LocalHeap;
@@ -11,7 +11,7 @@ use word_grid::WordGrid;
 /// The bytes of a heap in which each of these objects finds room.
 const ROOM: usize = 1_600;
 
-/// Whether an object is made, or else an allocation failure is told; in the whole heap it is made, and with no room it is not.
+/// Whether an object is made, or else an allocation failure is reported; in the whole heap it is made, and with no room it is not.
 fn is_reported<T: Drop>(made: Result<T, Refusal>, taken: usize) -> bool {
     match made {
         Ok(_) => taken < ROOM,

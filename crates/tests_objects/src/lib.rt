@@ -3,7 +3,7 @@
 //! room left. What a clause says of each call is not tried once more.
 //!
 //! They stand in a crate of their own, as a package's integration tests do, so that proving them does not prove the objects
-//! again. A trial that is proved returns and breaks no caller's condition; that it passes is seen by running it.
+//! again. An integration test that is proved returns and breaks no caller's condition; that it passes is seen by running it.
 #![tactic(auto)]
 
 #[cfg(test)]

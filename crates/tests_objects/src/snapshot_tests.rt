@@ -27,7 +27,7 @@ pub enum Reported {
     Refused(Refusal),
 }
 
-/// Whether a call that only asks is told so.
+/// Whether a call that only asks is reported so.
 fn is_asked(answer: Result<(), Refusal>, reported: Reported) -> bool {
     match reported {
         Reported::Done => answer == Ok(()),
@@ -36,12 +36,12 @@ fn is_asked(answer: Result<(), Refusal>, reported: Reported) -> bool {
     }
 }
 
-/// Whether one is at the place that is told.
+/// Whether one is at the place that is reported.
 fn is_placed(place: Option<Place>, reported: Reported) -> bool {
     matches!(reported, Reported::Placed(want) if place == Some(want))
 }
 
-/// Whether a step is told so.
+/// Whether a step is reported so.
 fn is_stepped(answer: &Result<SnapReply, Refusal>, reported: Reported) -> bool {
     match (answer, reported) {
         (Ok(SnapReply::Quiet), Reported::Quiet) => true,
@@ -56,7 +56,7 @@ fn is_stepped(answer: &Result<SnapReply, Refusal>, reported: Reported) -> bool {
 /// Who makes a call, and what it answers.
 pub type Row = (u64, Call, Reported);
 
-/// Whether the last of so many steps is told so, and those before it are quiet.
+/// Whether the last of so many steps is reported so, and those before it are quiet.
 fn are_stepped<W: Places + Drop, A: Allocator>(
     world: &mut SnapWorld<W, A>,
     id: u64,
@@ -76,7 +76,7 @@ where
     is_stepped(&world.step(id), reported)
 }
 
-/// Whether a call of a participant is told so, over any places.
+/// Whether a call of a participant is reported so, over any places.
 fn answers<W: Places + Drop, A: Allocator>(world: &mut SnapWorld<W, A>, row: &Row) -> bool
 where
     W::Walker: Copy,

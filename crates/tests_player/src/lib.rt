@@ -4,7 +4,7 @@
 //! program ends with. What is said of records that differ in one place is tried on the built program, by `tests/records`.
 //!
 //! They stand in a crate of their own, as a package's integration tests do, so that proving them does not prove the player and the checker
-//! again. A trial that is proved returns and breaks no caller's condition; that it passes is seen by running it.
+//! again. An integration test that is proved returns and breaks no caller's condition; that it passes is seen by running it.
 #![tactic(auto)]
 
 #[cfg(test)]

@@ -238,8 +238,7 @@ fn counted<R: Source, W: Sink>(
     requires reads { R.calls reader.old < 2 ^ 64 }
     requires writes { W.calls writer.old < 2 ^ 64 }
 {
-    let mut shelf = <Shelf as World<Global, ()>>::open(alloc, config).ok()?;
-    match play_in(alloc, &(), &mut shelf, config, reader, writer) {
+    match play_in::<Shelf, _, _, R, W>(alloc, &(), reader, writer, config) {
         Ok(summary) => Some((summary.accepted, summary.refused)),
         Err(_) => None,
     }

@@ -5,7 +5,7 @@ use schedule_player::{Fault, REPLY_ROOM, Replies, print_reply};
 use std::alloc::Global;
 use step_memory::{Refusal, View};
 
-/// Replies, most of which no run of the other trials has, with a view of two pairs where they have one, and their texts.
+/// Replies, most of which no run of the other integration tests has, with a view of two pairs where they have one, and their texts.
 const REPLIES: [(Reply<()>, &[u8]); 6] = [
     (
         Reply::Place(u128::MAX),

@@ -216,7 +216,7 @@ impl Clock for Work {
     }
 }
 
-// What is told while work takes so many sleeps.
+// What is reported while work takes so many sleeps.
 fn reported_of(alloc: Global, sleeps: u64) -> Vec<u8> {
     let work = Work {
         left: AtomicU64::new(sleeps),
@@ -227,7 +227,7 @@ fn reported_of(alloc: Global, sleeps: u64) -> Vec<u8> {
     errors
 }
 
-// Sleeps, and what is told.
+// Sleeps, and what is reported.
 const TOLD: [(u64, &[u8]); 5] = [
     (1, b""),
     (19, b""),

@@ -21,7 +21,7 @@ module _ (e : EndedRun Walker ℕ) (h : HasRun walks e) where
   abbrev door : Door
   door = e.program.door
 
-  -- the walk has a place: that which its run was told
+  -- the walk has a place: the one that its run ended with
   placed : place_of e.program ≡ Some e.outcome
   placed = ap (λ o. place_by (option_map (λ v. v.program) o)) (sym h.stands) ∙ place_always h.w (own e.number) e.words.size.most h.r h.after ∙ h.outcome_is
 

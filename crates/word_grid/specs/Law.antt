@@ -1,4 +1,4 @@
--- the law of a grid over raw words (Moir and Anderson 1995), of one walk, and of a table that keeps the rule
+-- the law of a grid over shared atomic words (Moir and Anderson 1995), of one walk, and of a table that keeps the rule
 use Rattle.std.specs.Prelude.{◌≡◌, ◌≢◌, ℕ, ◌+◌, ◌-◌, ◌*◌, ◌/◌, ◌<◌, ◌≤◌, true, List, Option, Some}
 use Rattle.step_memory.specs.Calls.{begun_in}
 use Rattle.step_memory.specs.Participant.{program_of}

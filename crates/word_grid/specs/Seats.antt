@@ -1,4 +1,4 @@
--- a grid over raw words and its seats, as callers see them
+-- a grid over shared atomic words and its seats, as callers see them
 use Rattle.std.specs.Prelude.{ℕ}
 use Rattle.splitter_grid.specs.declared.door.Door.{Door}
 use Rattle.splitter_grid.specs.declared.walker.Walker.{Walker}

@@ -1,4 +1,4 @@
-//! The seats of a grid: before they are dealt, before and after their walks, and what they can show of their places.
+//! The seats of a grid, before they are dealt and before and after their walks, and claims of their places.
 
 ghost use Rattle.std.specs.Prelude.{◌≡◌};
 ghost use Rattle.word_grid.specs.Seats.{place_of};
@@ -8,7 +8,7 @@ use splitter_grid::{Door, Walker};
 use std::marker::Model;
 use step_memory::Place;
 
-/// The seats of a grid that are still to be dealt, by rising number.
+/// The seats of a grid that are not dealt yet, by rising number.
 #[derive(Drop)]
 pub struct Dealer {
     pub(crate) dealer: word_machine::Dealer<Walker>,
@@ -23,7 +23,7 @@ impl Model for Dealer {
 }
 
 impl Dealer {
-    /// How many seats were dealt.
+    /// Returns the number of seats that were dealt.
     pub fn dealt(&self) -> u64
         ensures { result ≡ self.now.dealt }
     {
@@ -31,7 +31,7 @@ impl Dealer {
     }
 }
 
-/// A seat that has not entered. To enter uses it up, so no seat enters twice.
+/// A seat that has not entered. `enter` takes it, so no seat enters twice.
 #[derive(Drop)]
 pub struct FreshSeat {
     pub(crate) seat: word_machine::FreshSeat<Walker>,
@@ -46,7 +46,7 @@ impl Model for FreshSeat {
 }
 
 impl FreshSeat {
-    /// The seat's number, from 0.
+    /// Returns the seat's number, from 0.
     pub fn number(&self) -> u64
         ensures { result ≡ self.now.number }
     {
@@ -54,7 +54,7 @@ impl FreshSeat {
     }
 }
 
-/// A seat that has entered, and the door at which its walk stopped.
+/// A seat that has entered, with the door at which its walk stopped.
 #[derive(Drop)]
 pub struct EnteredSeat {
     pub(crate) seat: word_machine::EnteredSeat<Walker>,
@@ -73,24 +73,27 @@ impl Model for EnteredSeat {
 }
 
 impl EnteredSeat {
-    /// The seat's number, from 0.
+    /// Returns the seat's number, from 0.
     pub fn number(&self) -> u64
         ensures { result ≡ self.now.number }
     {
         self.seat.number()
     }
 
-    /// The place: the number of the door at which the walk stopped, one diagonal after another, from 0.
+    /// Returns its place: the number of the door at which the walk stopped. Numbers go from 0, diagonal by diagonal.
+    ///
+    /// Where `b` walks had begun when this one ended, the place is below `b(b + 1)/2` and the walk made at most `4b`
+    /// accesses.
     pub fn place(&self) -> Place
         ensures value { result ≡ place_of self.now }
 
-        // The law, which each seat that has entered keeps.
+        // The law that each entered seat keeps.
         ensures law { WalkSpec self.now }
     {
         Place::from(self.seat.program().door.number())
     }
 
-    /// The door at which the walk stopped.
+    /// Returns the door at which the walk stopped.
     pub fn door(&self) -> Door
         ensures { result ≡ self.now.door }
     {
@@ -98,7 +101,7 @@ impl EnteredSeat {
     }
 }
 
-/// A claim: that the walk of a seat has ended at a place. Whoever has it can show it, for good.
+/// A claim: the walk of a seat has ended at a place. It stays true.
 #[derive(Drop)]
 pub struct Claim {
     pub(crate) claim: word_machine::Claim<Walker>,
@@ -113,14 +116,14 @@ impl Model for Claim {
 }
 
 impl Claim {
-    /// Whose place it is: the number of a seat, from 0.
+    /// Returns the number of the seat whose place it is, from 0.
     pub fn number(&self) -> u64
         ensures { result ≡ self.now.number }
     {
         self.claim.number()
     }
 
-    /// The place, from 0.
+    /// Returns the place, from 0.
     pub fn place(&self) -> Place
         ensures { result ≡ self.now.place }
     {

@@ -15,7 +15,7 @@ use word_machine::{Size, WordMachine};
 /// The most seats of a grid.
 const MOST_SEATS: u64 = 64;
 
-/// A grid of splitters on atomic words (Moir and Anderson 1995), for as many seats as it is made for.
+/// A triangular grid of splitters on shared atomic words (Moir and Anderson 1995), for a fixed number of seats.
 #[derive(Drop)]
 pub struct WordGrid<A: Allocator> {
     machine: WordMachine<Walker, A>,
@@ -30,8 +30,12 @@ impl<A: Allocator> Model for WordGrid<A> {
 }
 
 impl<A: Allocator + Clone> WordGrid<A> {
-    /// A grid of at most `most` seats, from 1 to 64, that no one has entered, and who deals them. `OutOfRange` elsewhere,
-    /// and `NoMemory` only where its memory was refused.
+    /// Makes a grid that no seat has entered, and the dealer of its seats.
+    ///
+    /// # Errors
+    ///
+    /// - `OutOfRange`: `most` is not from 1 to 64.
+    /// - `NoMemory`: an allocation failed.
     pub fn new(alloc: A, most: u64) -> Result<(WordGrid<A>, Dealer), Refusal>
         ensures grid { IfOk result (λ r. r.0.size ≡ grid_size most) }
         ensures dealer { IfOk result (λ r. r.1 ≡ dealer_of r.0 0) }
@@ -48,7 +52,7 @@ impl<A: Allocator + Clone> WordGrid<A> {
 }
 
 impl<A: Allocator> WordGrid<A> {
-    /// How many seats there are at most.
+    /// Returns the most seats: from 1 to 64.
     pub fn most(&self) -> u64
         ensures count { result ≡ self.now.size.most }
         ensures range { (1 ≤ result) × (result ≤ 64) }
@@ -56,7 +60,8 @@ impl<A: Allocator> WordGrid<A> {
         self.machine.size().most
     }
 
-    /// The seat of the least number that was not dealt, where there is one. The dealer is of this grid.
+    /// Deals the seat of the least number that was not dealt, or returns `None` if all seats were dealt. The dealer is
+    /// of this grid.
     pub fn deal(&self, dealer: &mut Dealer) -> Option<FreshSeat>
         requires ours { dealer.old.grid ≡ self.now }
         ensures ours { dealer.new.grid ≡ self.now }
@@ -68,21 +73,27 @@ impl<A: Allocator> WordGrid<A> {
         Some(FreshSeat { seat })
     }
 
-    /// Walks from the corner, right or down as each splitter says, until it stops: at most four accesses a door, each a read
-    /// or a write, whatever the other seats do. The seat is of this grid.
+    /// Makes the walk of a seat of this grid, by reads and writes (Moir and Anderson 1995).
+    ///
+    /// The walk goes from the corner, right or down as each splitter says, until it stops. If no other walk had begun
+    /// when it ended, it has place 0.
+    ///
+    /// # Steps
+    ///
+    /// At most `4b` accesses, where `b` walks had begun when this one ended, whatever the other seats do.
     pub fn enter(&self, fresh: FreshSeat) -> EnteredSeat
         requires ours { fresh.grid ≡ self.now }
         ensures seat { (result.grid ≡ fresh.grid) × (result.number ≡ fresh.number) }
         ensures law { WalkSpec result }
 
-        // Who was the only one to enter until its walk ended has the place in the corner, by four accesses.
+        // If no other walk had begun when it ended, it has the place in the corner, by four accesses.
         ensures alone { result.entered ≡ 1 → (place_of result ≡ 0) × (result.accesses ≡ 4) }
     {
         let seat = self.machine.enter(fresh.seat);
         EnteredSeat { seat }
     }
 
-    /// Two seats that have entered meet, and show that their places differ. Both are of this grid, and stay as they are.
+    /// Compares two entered seats of this grid, which stay as they are. Their places differ.
     pub fn meet(&self, one: &mut EnteredSeat, other: &mut EnteredSeat)
         requires one { one.old.grid ≡ self.now }
         requires other { other.old.grid ≡ self.now }
@@ -93,9 +104,10 @@ impl<A: Allocator> WordGrid<A> {
         self.machine.meet(&mut one.seat, &mut other.seat);
     }
 
-    /// A seat that has entered meets the dealer, and shows that no more walks had begun when its own ended than seats were
-    /// dealt: so its place is among the first `d(d + 1)/2` where `d` were dealt, and its accesses are at most `4d`. Both are
-    /// of this grid, and stay as they are.
+    /// Compares an entered seat with the dealer, both of this grid, which stay as they are.
+    ///
+    /// Where `d` seats were dealt, at most `d` walks had begun when this one ended. So its place is below `d(d + 1)/2`,
+    /// and its walk made at most `4d` accesses.
     pub fn tally(&self, dealer: &mut Dealer, entered: &mut EnteredSeat)
         requires dealer { dealer.old.grid ≡ self.now }
         requires entered { entered.old.grid ≡ self.now }
@@ -108,8 +120,7 @@ impl<A: Allocator> WordGrid<A> {
         self.machine.tally(&mut dealer.dealer, &mut entered.seat);
     }
 
-    /// A claim of the place of a seat that has entered, for whoever has to be shown it. The seat is of this grid, and stays
-    /// as it is.
+    /// Makes a claim of the place of an entered seat of this grid, which stays as it is.
     pub fn claim(&self, entered: &mut EnteredSeat) -> Claim
         requires ours { entered.old.grid ≡ self.now }
         ensures same { entered.new ≡ entered.old }
@@ -119,8 +130,7 @@ impl<A: Allocator> WordGrid<A> {
         Claim { claim }
     }
 
-    /// Two claims meet, and show that a place is one seat's: where their places are equal, so are their seats. Both are of
-    /// this grid, and stay as they are.
+    /// Compares two claims of this grid, which stay as they are. If their places are equal, so are their seats.
     pub fn compare(&self, one: &mut Claim, other: &mut Claim)
         requires one { one.old.grid ≡ self.now }
         requires other { other.old.grid ≡ self.now }

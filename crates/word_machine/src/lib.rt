@@ -16,15 +16,23 @@
 //! for both ends. The dealer shows that no more had entered than seats were dealt. A claim shows an outcome to each that was
 //! told of it. What is not promised: anything of seats that never meet, and that a thread gets on with its accesses.
 //!
-//! A caller:
+//! From `tests_objects/src/word_machine_tests.rt`, where threads visit a splitter:
 //!
 //! ```text
-//! let (machine, mut dealer) = WordMachine::<Renamer, Global>::new(alloc, Size { most: 16, limit: 64 })?;
-//! let (Some(first), Some(second)) = (machine.deal(&mut dealer), machine.deal(&mut dealer)) else { .. };
-//! let shared = &machine;
-//! let (mut one, mut other) = join(rt, move || shared.enter(first), move || shared.enter(second));
-//! machine.meet(&mut one, &mut other);             // one list of calls led to both outcomes
-//! machine.tally(&mut dealer, &mut one);           // no more than two had entered
+//! let entered = splitter.enter(seat);
+//! *entered.outcome()
+//! ..
+//! if let Some(seat) = splitter.deal(&mut dealer) {
+//!     guests.push(Guest { splitter, seat })?;
+//! }
+//! ..
+//! let (splitter, dealer) = Splitter::new(
+//!     alloc,
+//!     Size {
+//!         most: count,
+//!         limit: 0,
+//!     },
+//! )?;
 //! ```
 #![tactic(auto)]
 

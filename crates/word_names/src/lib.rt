@@ -11,15 +11,15 @@
 //! rounds: `2m` and its place, where there are `m` seats at most. No seat is spent whose limit is above `3(5^m - 1)/4`. What is
 //! not promised: anything of seats that never meet, and that a thread gets on with its accesses.
 //!
-//! A caller:
+//! From `tests_names/src/names_tests.rt`:
 //!
 //! ```text
-//! let (names, mut dealer) = Names::new(alloc, 16, 64)?;
-//! let (Some(first), Some(second)) = (names.deal(&mut dealer), names.deal(&mut dealer)) else { .. };
-//! let shared = &names;
-//! let (mut one, mut other) = join(rt, move || shared.rename(first), move || shared.rename(second));
-//! names.meet(&mut one, &mut other);               // names.name(&one) and names.name(&other) differ
-//! names.tally(&mut dealer, &mut one);             // two were dealt: a name of rounds is 1, 2 or 3
+//! let fresh = names.deal(dealer, identity).ok()?;
+//! let mut renamed = names.rename(fresh);
+//! names.tally(dealer, &mut renamed);
+//! Some(names.name(&renamed))
+//! ..
+//! let (names, dealer) = Names::new(alloc, most, limit)?;
 //! ```
 #![tactic(auto)]
 

@@ -1,6 +1,6 @@
 -- Who gets a number among few gets a small one: the number of a call is at most the most calls that competed, held or
 -- sought, at one moment of it (Moir and Anderson 1995, of long-lived renaming by test-and-set).
--- A moment is told by how many comings and goings of calls were before it. Who competed at a moment is told by when calls
+-- A moment is reported by how many comings and goings of calls were before it. Who competed at a moment is reported by when calls
 -- came and went, which stays in the views of their seats.
 use Rattle.std.specs.Prelude.{◌≡◌, ◌≤◌, ◌+◌, ◌-◌, ℕ, zero, suc, max, List, [], ◌∷◌}
 use mathlib.Core.Option.{some}

@@ -1,4 +1,4 @@
--- The rule of a pool over raw words: the word of each place is the number of calls that hold it, and no place is held twice.
+-- The rule of a pool over shared atomic words: the word of each place is the number of calls that hold it, and no place is held twice.
 -- So a word is 1 exactly where one seat's view holds its place, else 0 (long-lived renaming by test-and-set, Moir and
 -- Anderson 1995; that the words of a table and the views of its seats agree so is this project's profile).
 use Rattle.std.specs.Prelude.{◌≡◌, ◌≤◌, ◌<◌, ◌*◌, ℕ, List, length, slice_index}

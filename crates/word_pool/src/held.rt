@@ -1,5 +1,5 @@
-//! What a call of a pool gives: a number that is held, word that all were held, a receipt for a number given back, and what
-//! was held at the end.
+//! What a call of a pool returns: a held number, that all were found held, the receipt of a number given back, and what was
+//! held at the end.
 
 ghost use Rattle.std.specs.Prelude.{◌≡◌, ◌≤◌, ◌<◌, suc, [], ◌∷◌};
 ghost use Rattle.word_pool.specs.PoolRule.{word_of};
@@ -9,8 +9,9 @@ use crate::pool_view::PoolView;
 use atomic_table::{Badge, Seat};
 use std::marker::Model;
 
-/// A number of a pool that nobody else holds. It has no bytes but the number. Where it is dropped the number stays held for
-/// good: give it to `release`.
+/// A number of a pool that no other thread holds. It takes no bytes but the number's.
+///
+/// Give it to `release`: if it is dropped, the number stays held.
 #[derive(Drop)]
 pub struct Held {
     pub(crate) place: u64,
@@ -42,7 +43,7 @@ impl Held {
         }
     }
 
-    /// The number, from 1.
+    /// Returns the number: from 1 to 4096.
     pub fn number(&self) -> u64
         ensures number { result ≡ self.now.number }
         ensures range { (1 ≤ result) × (result ≤ 4096) }
@@ -51,7 +52,7 @@ impl Held {
     }
 }
 
-/// That a call met each number of a pool held, one after another. It has no bytes.
+/// A call found each number of a pool held, one after another. It takes no bytes.
 #[derive(Drop)]
 pub struct AllHeld {
     pub(crate) badge: Badge<PoolView>,
@@ -65,7 +66,7 @@ impl Model for AllHeld {
     ghost view = { λ a. call_id a.badge.table_id a.badge.id 0 a.badge.views };
 }
 
-/// What a pool's last call met as it looked at each number once, when the pool ended. It has no bytes.
+/// What the last call of a pool found as it read each number's word once. It takes no bytes.
 #[derive(Drop)]
 pub struct LastLook {
     pub(crate) badge: Badge<PoolView>,
@@ -79,7 +80,7 @@ impl Model for LastLook {
     ghost view = { λ l. call_id l.badge.table_id l.badge.id 0 l.badge.views };
 }
 
-/// That a number was given back. It has no bytes.
+/// The receipt of a number that was given back. It takes no bytes.
 #[derive(Drop)]
 pub struct Released {
     pub(crate) badge: Badge<PoolView>,

@@ -1,35 +1,50 @@
-//! Small numbers that threads take and give back over raw atomic words, with no lock: long-lived renaming by test-and-set
-//! (Moir and Anderson 1995). A number has a word, 64 bytes from the next: 1 while somebody holds the number, else 0. A call
-//! walks from 1 upward, looks at each word until it finds one 0, swaps 1 into it, and has the number whose word was 0 at the
-//! swap; where it was not, another was faster, and the call goes on by swaps alone, as it does at the last number. No
-//! call takes a lock, waits for another or repeats an access.
+//! Small numbers that threads take and give back over shared atomic words, with no lock: long-lived renaming by
+//! test-and-set (Moir and Anderson 1995).
 //!
-//! # What is true of each call
+//! A number has a word, 64 bytes from the next: 1 while a thread holds the number, otherwise 0. A call walks from 1
+//! upward and loads each word until it finds one 0. It then swaps 1 into that word, and has the number if the word was
+//! 0 at the swap. If not, another call was faster, and the call goes on by swaps alone, as it does at the last number.
+//! No call takes a lock, waits for another or repeats an access.
 //!
-//! - A number that is held is nobody else's: two that meet show it (`WordPool::meet`, `LinePool::meet`).
-//! - `acquire` gives a number with all below it met held, in order: the number `n` of `k` by at most `n + 1` accesses, and by
-//!   at most `k`, or one more where the call lost a race. A pool of words tells by `AllHeld`, within as many, that it met all
-//!   held so; `acquire_near` tries one number before, by one access more.
-//! - `LinePool::acquire` always gives a number: there are as many tickets as numbers.
-//! - In a line the number is at most the most calls that competed, held or sought, at one moment of the call: `Held` carries
-//!   what its seat saw of that (`law_of_the_line`). In a pool of words this is not so where hints are used, and not proved.
-//! - `release` makes one access. `close` tells the words: of a pool of words each is 1 exactly where a last call met its number
-//!   held (`LastLook`); of a line no more are held than tickets are dealt out.
+//! # What is proved of each call
 //!
-//! What is not promised: that a thread gets on with its accesses; and that a number that was dropped comes back.
+//! - Two numbers that are held at the same time differ (`WordPool::meet`, `LinePool::meet`).
+//! - `acquire` gets a number, and found each number below it held, in order. To get number `n` it makes at most `n + 1`
+//!   accesses. Among `k` numbers it makes at most `k`, or `k + 1` if it lost a race. A pool of words returns `AllHeld`,
+//!   within as many, if it found all held. `acquire_near` tries one number before, by one access more.
+//! - `LinePool::acquire` always gets a number: there are as many tickets as numbers.
+//! - In a line the number is at most the most calls that competed, held or sought, at one moment of the call
+//!   (`law_of_the_line`). Not proved, and not so where hints are used: the same of a pool of words.
+//! - `release` makes one access. `close` returns the words. Of a pool of words each is 1 if and only if a last call
+//!   found its number held (`LastLook`). Of a line at most as many are 1 as tickets were dealt.
 //!
-//! A caller:
+//! Not proved: that a thread makes its next access. A number that is dropped never comes back.
+//!
+//! From `tests_objects/src/word_pool_tests.rt`:
 //!
 //! ```text
-//! let pool = WordPool::new(alloc, 64)?;
-//! let held = pool.acquire().ok();                 // the least free number, or none
-//! // slot `held.number()` is this thread's alone
-//! pool.release(held);
+//! for _ in 0..20_000 {
+//!     let Ok(held) = pool.acquire_near(if near { hint } else { 1 }) else {
+//!         clashes = clashes.saturating_add(u64::from(!near));
+//!         continue;
+//!     };
+//!     hint = held.number();
+//!     clashes = clashes.saturating_add(u64::from(is_clash(marks, hint)));
+//!     pool.release(held);
+//! }
+//! ```
 //!
-//! let (line, mut tickets) = LinePool::new(alloc, 4)?;
-//! let ticket = line.deal(&mut tickets);           // one for each of four threads
-//! let held = line.acquire(ticket);                // always a number
-//! let ticket = line.release(held);
+//! From `tests_objects/src/line_pool_tests.rt`:
+//!
+//! ```text
+//! let held = line.acquire(ticket);
+//! let number = held.number();
+//! ..
+//! ticket = line.release(held);
+//! ..
+//! let one = line.deal(tickets)?;
+//! ..
+//! let (line, mut tickets) = LinePool::new(alloc, numbers)?;
 //! ```
 #![tactic(auto)]
 

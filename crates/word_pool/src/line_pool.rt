@@ -1,4 +1,4 @@
-//! A pool whose numbers are sought from 1 upward, by as many tickets as it has numbers.
+//! A pool with as many tickets as numbers.
 
 ghost use Rattle.std.specs.Prelude.{[], ◌∷◌, ◌≡◌, ◌<◌, ◌≤◌, ◌+◌, ◌-◌, ◌*◌, ◌⊎◌, ◌↔◌, ℕ, suc, Err, IfErr, IfOk, IfSome, IsOk, IsSome, vec_len, slice_index};
 ghost use Rattle.std.specs.Mem.Slots.{slots_items, slots_len, IsFull};
@@ -21,12 +21,17 @@ use atomic_table::{Closed, Seat};
 use std::alloc::{AllocError, Allocator};
 use step_memory::Refusal;
 
-/// The numbers from 1 on, each with a word, and as many tickets: who has a ticket always gets a number.
+/// A line: the numbers from 1 on, each with a shared atomic word, and as many tickets. A thread with a ticket always
+/// gets a number.
 pub type LinePool<A> = PoolOver<Lining, A>;
 
 impl<A: Allocator + Clone> PoolOver<Lining, A> {
-    /// A line of `numbers` numbers, from 1 to 4096, with as many tickets. `OutOfRange` elsewhere, and `NoMemory` only where
-    /// its memory was refused.
+    /// Makes a line of `numbers` numbers, of which none is held, and as many tickets.
+    ///
+    /// # Errors
+    ///
+    /// - `OutOfRange`: `numbers` is not from 1 to 4096.
+    /// - `NoMemory`: an allocation failed.
     #[tactic(auto, using(crate::proofs::Lining::line_steps))]
     pub fn new(alloc: A, numbers: u64) -> Result<(LinePool<A>, Tickets), Refusal>
         ensures pool { IfOk result (λ r. r.0.numbers ≡ numbers) }
@@ -42,7 +47,7 @@ impl<A: Allocator + Clone> PoolOver<Lining, A> {
 }
 
 impl<A: Allocator> PoolOver<Lining, A> {
-    /// A ticket, where there is one left. The tickets are of this line.
+    /// Deals a ticket of this line, or returns `None` if none is left.
     pub fn deal(&self, tickets: &mut Tickets) -> Option<Ticket>
         requires ours { tickets.old.table ≡ self.now.table }
         ensures ours { tickets.new.table ≡ self.now.table }
@@ -61,14 +66,16 @@ impl<A: Allocator> PoolOver<Lining, A> {
         })
     }
 
-    /// A number that nobody else holds, always: the least that a walk from 1 upward finds free. It leaves a number behind only
-    /// where an access met it held. It makes one access for each that it leaves behind and two, a look and a swap, for the
-    /// first that it finds free. Where that swap loses a race it goes on by swaps alone, and the last number it swaps without
-    /// a look: so it makes at most one access for each number of the line, and one more only where it lost a race. The ticket
-    /// is of this line, and comes back with `release`. The number is at most the most calls that competed, held or sought, at
-    /// one moment of this one (Moir and Anderson 1995): `crowds` is how many did at each moment, as `law_of_the_line` says of
-    /// any call that holds in a table that keeps the rule, as `in_line` says of this one; and this call is the next of the
-    /// ticket's seat.
+    /// Takes the least number that a walk from 1 upward finds free, for a ticket of this line (Moir and Anderson 1995).
+    ///
+    /// The walk passes a number only if it finds it held. The number is at most the most calls that competed, held or
+    /// sought, at one moment of this call: `crowds` has how many did at each moment, and `law_of_the_line` says so of
+    /// every call. `release` returns the ticket.
+    ///
+    /// # Steps
+    ///
+    /// At most `n + 1` accesses to get number `n`, and at most `k` in all among `k` numbers, or `k + 1` if it lost a
+    /// race.
     pub fn acquire(&self, ticket: Ticket) -> Held
         requires ours { ticket.pool ≡ self.now.table }
         ensures ours { result.pool ≡ self.now.table }
@@ -97,7 +104,7 @@ impl<A: Allocator> PoolOver<Lining, A> {
         self.take_from(seat, place)
     }
 
-    /// Swaps 1 into the word of one place after another, from this on, until one was free.
+    /// Swaps 1 into one word after another from place `from` on, until a word was 0.
     fn take_from(&self, mut seat: Seat<u8, PoolView>, from: u64) -> Held
         requires ours { seat.table_id ≡ self.now.table }
         requires range { from ≤ self.now.numbers }
@@ -120,12 +127,12 @@ impl<A: Allocator> PoolOver<Lining, A> {
                 return Held::of(seat, place);
             }
         }
-        // No seat stands behind the last number, so this is never reached.
+        // No seat is past the last number, so this is never reached.
         self.table.shared.load::<Never>(&mut seat, 0);
         unreachable!()
     }
 
-    /// Gives a number back, by one access, and has a ticket again. It is of this line.
+    /// Gives a number of this line back, by one access, and returns the ticket.
     pub fn release(&self, held: Held) -> Ticket
         requires ours { held.pool ≡ self.now.table }
         ensures ours { (result.pool ≡ self.now.table) × (result.seat ≡ held.seat) }
@@ -138,8 +145,13 @@ impl<A: Allocator> PoolOver<Lining, A> {
         }
     }
 
-    /// Ends the line, and tells its words by rising number. `out` is what was not given back, as far as the caller has it; all is
-    /// of this line. The word of each number in it is 1, each other is 0 or 1, and at most as many are 1 as tickets are dealt out.
+    /// Ends the line and returns its words, by rising number: 1 or 0. Each number in `out` has word 1.
+    ///
+    /// At most as many words are 1 as tickets were dealt. `out` and the tickets are of this line.
+    ///
+    /// # Errors
+    ///
+    /// `AllocError`: the allocation failed. The line is gone.
     pub fn close<B: Allocator, C: Allocator>(
         self,
         alloc: B,
@@ -166,7 +178,7 @@ impl<A: Allocator> PoolOver<Lining, A> {
     }
 }
 
-/// The words of so many places of a table that is closed, in their order.
+/// The words of `count` numbers of a closed table, in their order.
 pub(crate) fn read_out<A: Allocator, B: Allocator>(
     alloc: B,
     closed: &Closed<u8, A>,

@@ -1,4 +1,4 @@
-//! The rule of a line's table, and the kinds of step that only a line has.
+//! The invariant of a line's table, and the kinds of step that only a line has.
 
 ghost use Rattle.std.specs.Prelude.{[], take, drop};
 ghost use Rattle.word_pool.specs.LineRule.{ComesBySwapInLine, KeepsLineRule, TakesInLine, NeverComes, undealt};
@@ -7,7 +7,7 @@ ghost use Rattle.word_pool.specs.PoolView.{view_of};
 use crate::pool_view::PoolView;
 use atomic_table::{Play, Split, TableRule};
 
-/// The rule of a line of so many numbers and tickets.
+/// The invariant of a line's table.
 pub struct Lining;
 
 impl<S> TableRule<S, PoolView, u64> for Lining {
@@ -16,7 +16,7 @@ impl<S> TableRule<S, PoolView, u64> for Lining {
     ghost first = { λ count. view_of (undealt count) [] };
 }
 
-/// The first call goes to a new seat.
+/// A split: the first call goes to the new seat.
 pub struct Deal;
 
 impl Split<PoolView> for Deal {
@@ -25,21 +25,21 @@ impl Split<PoolView> for Deal {
     ghost right = { λ v. view_of (take 1 v.calls) [] };
 }
 
-/// A call comes by such a swap at the first place.
+/// A call begins, by a swap of 1 into the first word. It holds the number if the word was 0.
 pub struct ComeBySwapInLine;
 
 impl<S> Play<S, PoolView> for ComeBySwapInLine {
     ghost then = { ComesBySwapInLine };
 }
 
-/// A call swaps 1 into the word of its place, and holds it where it was clear: then its number is small.
+/// A call swaps 1 into the word of its place. It holds the number if the word was 0, and the number is then small.
 pub struct TakeInLine;
 
 impl<S> Play<S, PoolView> for TakeInLine {
     ghost then = { TakesInLine };
 }
 
-/// No seat makes this step.
+/// A step that no seat makes.
 pub struct Never;
 
 impl<S> Play<S, PoolView> for Never {

@@ -1,4 +1,4 @@
-//! The words of numbers, under whatever rule of a pool, and what each pool does with them in the same way.
+//! The words of numbers under any invariant of a pool, and what each pool does with them in the same way.
 
 ghost use Rattle.std.specs.Prelude.{[], ◌∷◌, ◌≡◌, ◌≢◌, ◌<◌, ◌≤◌, ◌+◌, ◌⊎◌, ◌↔◌, ℕ, suc, false, Err, IfErr, IfOk, IsOk};
 ghost use lib.ListN.{get_elem?};
@@ -21,14 +21,16 @@ use step_memory::Refusal;
 /// The most numbers of a pool.
 pub(crate) const MOST_NUMBERS: u64 = 4096;
 
-/// How many words apart two numbers are, so that no two of them share a cache line.
+/// The distance of two numbers in words, so that no two of them share a cache line.
 pub(crate) const STRIDE: u64 = 8;
 
-/// The numbers from 1 on, each with a word: 1 while somebody holds it, else 0. `WordPool` and `LinePool` are this under their rules.
+/// The numbers from 1 on, each with a shared atomic word: 1 while a thread holds the number, otherwise 0.
+///
+/// `WordPool` and `LinePool` are this type with their invariants.
 #[derive(Drop)]
 pub struct PoolOver<R: TableRule<u8, PoolView, u64>, A: Allocator> {
     pub(crate) numbers: u64,
-    // It has no slots, so what a slot holds says nothing.
+    // It has no slots: their type means nothing.
     pub(crate) table: Table<u8, PoolView, u64, R, A>,
 }
 
@@ -44,8 +46,9 @@ impl<R: TableRule<u8, PoolView, u64>, A: Allocator> Model for PoolOver<R, A> {
 }
 
 impl<R: TableRule<u8, PoolView, u64>, A: Allocator + Clone> PoolOver<R, A> {
-    /// Words of `numbers` numbers, from 1 to 4096, of which none is held, and the first seat. `OutOfRange` elsewhere, and
-    /// `NoMemory` only where their memory was refused.
+    /// Makes the words of `numbers` numbers, of which none is held, and the first seat.
+    ///
+    /// `OutOfRange` if `numbers` is not from 1 to 4096, or `NoMemory` if an allocation failed.
     pub(crate) fn with_seat(
         alloc: A,
         numbers: u64,
@@ -76,7 +79,7 @@ impl<R: TableRule<u8, PoolView, u64>, A: Allocator + Clone> PoolOver<R, A> {
 }
 
 impl<R: TableRule<u8, PoolView, u64>, A: Allocator> PoolOver<R, A> {
-    /// How many numbers there are.
+    /// Returns the number of numbers: from 1 to 4096.
     pub fn numbers(&self) -> u64
         ensures count { result ≡ self.now.numbers }
         ensures range { (1 ≤ result) × (result ≤ 4096) }
@@ -84,8 +87,8 @@ impl<R: TableRule<u8, PoolView, u64>, A: Allocator> PoolOver<R, A> {
         self.numbers
     }
 
-    /// Looks at one place after another, from that behind the first, until one is free: that place, or the last, at which it
-    /// does not look.
+    /// Reads one word after another from the second on, and returns the first place that is free, or the last, which it
+    /// does not read.
     pub(crate) fn look_on(&self, seat: &mut Seat<u8, PoolView>) -> u64
         requires ours { seat.old.table_id ≡ self.now.table }
         requires some { 1 < self.now.numbers }
@@ -110,7 +113,7 @@ impl<R: TableRule<u8, PoolView, u64>, A: Allocator> PoolOver<R, A> {
         self.numbers - 1
     }
 
-    /// Gives a number back, by one access: the seat whose call has ended. The number is of this pool.
+    /// Gives a number of this pool back, by one access, and returns the seat of the call that ended.
     pub(crate) fn give_back(&self, held: Held) -> Badge<PoolView>
         requires ours { held.pool ≡ self.now.table }
         ensures ours { (result.table_id ≡ self.now.table) × (result.id ≡ held.seat) }
@@ -125,7 +128,7 @@ impl<R: TableRule<u8, PoolView, u64>, A: Allocator> PoolOver<R, A> {
         seat.into_badge()
     }
 
-    /// Two that are held meet, and show that they are two numbers. Both are of this pool, and stay as they are.
+    /// Compares two held numbers of this pool, which stay as they are. They differ.
     pub fn meet(&self, one: &mut Held, other: &mut Held)
         requires one { one.old.pool ≡ self.now.table }
         requires other { other.old.pool ≡ self.now.table }
@@ -140,7 +143,7 @@ impl<R: TableRule<u8, PoolView, u64>, A: Allocator> PoolOver<R, A> {
         other.badge = right.into_badge();
     }
 
-    /// Two seats that hold a place each become one, look at a word and part again.
+    /// Joins two seats that hold a place each, reads a word, and parts them again.
     fn look_together(
         &self,
         mut left: Seat<u8, PoolView>,
@@ -163,7 +166,7 @@ impl<R: TableRule<u8, PoolView, u64>, A: Allocator> PoolOver<R, A> {
         (left, right)
     }
 
-    /// A seat takes over what some numbers are held by.
+    /// Adds the calls of some held numbers to a seat.
     pub(crate) fn gather_all<C: Allocator>(
         &self,
         seat: &mut Seat<u8, PoolView>,
@@ -180,7 +183,7 @@ impl<R: TableRule<u8, PoolView, u64>, A: Allocator> PoolOver<R, A> {
         }
     }
 
-    /// A seat takes over what one number is held by.
+    /// Adds the call of one held number to a seat.
     fn gather(&self, seat: &mut Seat<u8, PoolView>, held: Held)
         requires ours { (seat.old.table_id ≡ self.now.table) × (seat.old.me.1 ≡ []) }
         requires held { held.pool ≡ self.now.table }

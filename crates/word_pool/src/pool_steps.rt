@@ -1,4 +1,4 @@
-//! The rule of a pool's table, and the kinds of step that keep it.
+//! The invariant of a pool's table, and the kinds of step that keep it.
 
 ghost use Rattle.std.specs.Prelude.{take, drop, []};
 ghost use Rattle.word_pool.specs.PoolRule.{KeepsPoolRule};
@@ -8,7 +8,7 @@ ghost use Rattle.word_pool.specs.PoolView.{resting, view_of, no_call, united};
 use crate::pool_view::PoolView;
 use atomic_table::{Join, Play, Split, TableRule};
 
-/// The rule of a pool of so many numbers.
+/// The invariant of a pool's table.
 pub struct Pooling;
 
 impl<S> TableRule<S, PoolView, u64> for Pooling {
@@ -17,77 +17,77 @@ impl<S> TableRule<S, PoolView, u64> for Pooling {
     ghost first = { λ count. resting [] };
 }
 
-/// A call comes, and looks at the first place.
+/// A call begins, and reads the first word.
 pub struct Come;
 
 impl<S> Play<S, PoolView> for Come {
     ghost then = { Comes };
 }
 
-/// A call comes by a swap of 1 into the first place's word, and holds it where it was clear.
+/// A call begins, by a swap of 1 into the first word. It holds the number if the word was 0.
 pub struct ComeBySwap;
 
 impl<S> Play<S, PoolView> for ComeBySwap {
     ghost then = { ComesBySwap };
 }
 
-/// A call looks at its place.
+/// A call reads the word of its place.
 pub struct Look;
 
 impl<S> Play<S, PoolView> for Look {
     ghost then = { Looks };
 }
 
-/// A call swaps 1 into the word of its place, and holds it where it was clear.
+/// A call swaps 1 into the word of its place. It holds the number if the word was 0.
 pub struct Take;
 
 impl<S> Play<S, PoolView> for Take {
     ghost then = { Takes };
 }
 
-/// A call at rest looks at the place of a hint.
+/// A call at rest reads the word of a hint.
 pub struct LookAside;
 
 impl<S> Play<S, PoolView> for LookAside {
     ghost then = { LooksAside };
 }
 
-/// A call at rest swaps 1 into the word of the place of a hint, and holds it where it was clear.
+/// A call at rest swaps 1 into the word of a hint. It holds the number if the word was 0.
 pub struct TakeAside;
 
 impl<S> Play<S, PoolView> for TakeAside {
     ghost then = { TakesAside };
 }
 
-/// The holder clears its word.
+/// The holder of a number clears its word.
 pub struct Free;
 
 impl<S> Play<S, PoolView> for Free {
     ghost then = { Frees };
 }
 
-/// A load that changes nothing, and shows that what the seat holds stands under the rule.
+/// A load that changes nothing, and shows that what the seat holds keeps the invariant.
 pub struct LookOn;
 
 impl<S> Play<S, PoolView> for LookOn {
     ghost then = { LooksOn };
 }
 
-/// The last call of a pool begins, by a look at a place.
+/// The last call of a pool begins, by a load of a word.
 pub struct ReadFirst;
 
 impl<S> Play<S, PoolView> for ReadFirst {
     ghost then = { ReadsFirst };
 }
 
-/// The last call of a pool looks at one place more.
+/// The last call of a pool reads one more word.
 pub struct ReadOn;
 
 impl<S> Play<S, PoolView> for ReadOn {
     ghost then = { ReadsOn };
 }
 
-/// Two seats become one, which has the calls of both. The other is spent.
+/// A join: one seat gets the calls of both. The other then has none.
 pub struct Unite;
 
 impl Join<PoolView> for Unite {
@@ -96,7 +96,7 @@ impl Join<PoolView> for Unite {
     ghost spent = { no_call };
 }
 
-/// The first call stays, with what has ended; the others go to a new seat.
+/// A split: the first call stays, with the calls that have ended. The others go to the new seat.
 pub struct Sever;
 
 impl Split<PoolView> for Sever {

@@ -1,4 +1,4 @@
-//! What lets its owner take a number.
+//! The tickets with which threads take numbers.
 
 ghost use Rattle.std.specs.Prelude.{◌≡◌};
 
@@ -6,8 +6,9 @@ use crate::pool_view::PoolView;
 use atomic_table::{Badge, Seat};
 use std::marker::Model;
 
-/// A ticket of a line, with which its owner takes one number. It has no bytes. Where it is dropped there is one fewer for
-/// good.
+/// A ticket of a line, with which a thread takes one number. It takes no bytes.
+///
+/// If it is dropped, the line has one ticket fewer.
 #[derive(Drop)]
 pub struct Ticket {
     pub(crate) badge: Badge<PoolView>,
@@ -25,7 +26,7 @@ impl Model for Ticket {
     ghost invariant = { λ t. t.badge.views ≡ resting (past_in t.badge.views) ∷ [] };
 }
 
-/// The tickets of a line that are not dealt out yet.
+/// The tickets of a line that are not dealt yet.
 #[derive(Drop)]
 pub struct Tickets {
     pub(crate) left: u64,
@@ -46,7 +47,7 @@ impl Model for Tickets {
 }
 
 impl Tickets {
-    /// How many there are.
+    /// Returns how many there are.
     pub fn count(&self) -> u64
         ensures { result ≡ self.now.numbers }
     {

@@ -15,12 +15,16 @@ use atomic_table::{Seat, Shared};
 use std::alloc::{AllocError, Allocator};
 use step_memory::Refusal;
 
-/// The numbers from 1 on, each with a word: 1 while somebody holds it, else 0.
+/// A pool: the numbers from 1 on, each with a shared atomic word, for any number of threads.
 pub type WordPool<A> = PoolOver<Pooling, A>;
 
 impl<A: Allocator + Clone> PoolOver<Pooling, A> {
-    /// A pool of `numbers` numbers, from 1 to 4096, of which none is held. `OutOfRange` elsewhere, and `NoMemory` only where
-    /// its memory was refused.
+    /// Makes a pool of `numbers` numbers, of which none is held.
+    ///
+    /// # Errors
+    ///
+    /// - `OutOfRange`: `numbers` is not from 1 to 4096.
+    /// - `NoMemory`: an allocation failed.
     #[tactic(auto, using(crate::proofs::Keeping::pool_steps))]
     pub fn new(alloc: A, numbers: u64) -> Result<WordPool<A>, Refusal>
         ensures pool { IfOk result (λ p. p.numbers ≡ numbers) }
@@ -36,7 +40,7 @@ impl<A: Allocator + Clone> PoolOver<Pooling, A> {
 /// The words of a pool's numbers.
 type Words = Shared<u8, PoolView, u64, Pooling>;
 
-/// Swaps 1 into the word of one place after another, from this on, until one of so many was free.
+/// Swaps 1 into one word after another from place `from` on, until a word was 0.
 fn take_from(
     table: &Words,
     numbers: u64,
@@ -71,7 +75,7 @@ fn take_from(
     })
 }
 
-/// The words of so many numbers, by a new call of the seat, which looks at each once.
+/// Reads each word once, by a new call of the seat.
 fn look_at_all<B: Allocator>(
     table: &Words,
     numbers: u64,
@@ -97,11 +101,18 @@ fn look_at_all<B: Allocator>(
 }
 
 impl<A: Allocator> PoolOver<Pooling, A> {
-    /// A number that nobody else holds: the least that a walk from 1 upward finds free. It leaves a number behind only where
-    /// an access met it held, and it tells that all were held where it met each so, in turn. It makes one access for each number
-    /// that it leaves behind and two, a look and a swap, for the first that it finds free. Where that swap loses a race it goes
-    /// on by swaps alone, and the last number it swaps without a look: so it makes at most one access for each number of the
-    /// pool, and one more only where it lost a race.
+    /// Takes the least number that a walk from 1 upward finds free (Moir and Anderson 1995).
+    ///
+    /// The walk passes a number only if it finds it held.
+    ///
+    /// # Errors
+    ///
+    /// `AllHeld`: the walk found each number held, one after another. They need not have been held at the same time.
+    ///
+    /// # Steps
+    ///
+    /// At most `n + 1` accesses to get number `n`, and at most `k` in all among `k` numbers, or `k + 1` if it lost a
+    /// race.
     pub fn acquire(&self) -> Result<Held, AllHeld>
         ensures ours { IfOk result (λ h. h.pool ≡ self.now.table) }
         ensures range { IfOk result (λ h. (1 ≤ h.number) × (h.number ≤ self.now.numbers)) }
@@ -118,7 +129,7 @@ impl<A: Allocator> PoolOver<Pooling, A> {
         self.walk(seat, found)
     }
 
-    /// The walk of a seat whose look at the first place found this. It looks until it finds a place free.
+    /// The walk of a seat that has read the first word. It reads until it finds a word 0, and then swaps.
     fn walk(&self, mut seat: Seat<u8, PoolView>, found: u64) -> Result<Held, AllHeld>
         requires ours { seat.table_id ≡ self.now.table }
         requires some { 1 < self.now.numbers }
@@ -141,7 +152,7 @@ impl<A: Allocator> PoolOver<Pooling, A> {
         take_from(&self.table.shared, self.numbers, seat, place)
     }
 
-    /// The walk of a seat whose swap at the first place found this. It goes on by swaps alone.
+    /// The walk of a seat that has swapped into the first word. It goes on by swaps alone.
     fn walk_by_swaps(&self, seat: Seat<u8, PoolView>, found: u64) -> Result<Held, AllHeld>
         requires ours { seat.table_id ≡ self.now.table }
         requires some { (0 < self.now.numbers) × (0 < self.now.table.words) }
@@ -163,10 +174,18 @@ impl<A: Allocator> PoolOver<Pooling, A> {
         take_from(&self.table.shared, self.numbers, seat, 1)
     }
 
-    /// The same, but it tries the number of a hint first, by a look and, where that finds it free, a swap. Where it is held it
-    /// walks from 1 upward, by swaps alone where the hint's swap lost a race: the call keeps that it met the hint's number held, and that
-    /// it lost a race there. So it makes at most one access more than the pool has numbers, and one more only where it lost a race. A
-    /// hint that is no number of this pool but 1 is none.
+    /// Takes the number `hint` if it is free, and otherwise a number as `acquire` does.
+    ///
+    /// A hint of 1, and one that is no number of this pool, is no hint.
+    ///
+    /// # Errors
+    ///
+    /// `AllHeld`: the call found the hint and each number held, one after another.
+    ///
+    /// # Steps
+    ///
+    /// Two accesses to get the hint. Otherwise at most `n + 2` to get number `n`, and at most `k + 1` in all among `k`
+    /// numbers, or `k + 2` if it lost a race.
     pub fn acquire_near(&self, hint: u64) -> Result<Held, AllHeld>
         ensures ours { IfOk result (λ h. h.pool ≡ self.now.table) }
         ensures range { IfOk result (λ h. (1 ≤ h.number) × (h.number ≤ self.now.numbers)) }
@@ -196,7 +215,7 @@ impl<A: Allocator> PoolOver<Pooling, A> {
         self.walk_by_swaps(seat, found)
     }
 
-    /// Gives a number back, by one access. It is of this pool.
+    /// Gives a number of this pool back, by one access.
     pub fn release(&self, held: Held) -> Released
         requires ours { held.pool ≡ self.now.table }
         ensures ours { result.pool ≡ self.now.table }
@@ -208,10 +227,14 @@ impl<A: Allocator> PoolOver<Pooling, A> {
         }
     }
 
-    /// Ends the pool, and tells its words by rising number: 1 where the number is still held, else 0. `out` is what was not
-    /// given back, as far as the caller has it; all of it is of this pool. The words are what a last call found, which looked
-    /// at each once: `LastLook` keeps which it met held, so that no word is 1 but those. Who holds them, `law_of_the_pool`
-    /// says.
+    /// Ends the pool and returns its words, by rising number: 1 if the number is held, otherwise 0. Each number in
+    /// `out` has word 1.
+    ///
+    /// `LastLook` shows that each word was read once, and which numbers were found held. `out` is of this pool.
+    ///
+    /// # Errors
+    ///
+    /// `AllocError`: the allocation failed. The pool is gone.
     pub fn close<B: Allocator, C: Allocator>(
         self,
         alloc: B,

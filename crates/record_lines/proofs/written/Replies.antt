@@ -122,7 +122,7 @@ view_read (pair ∷ more) s =
     pieces-pass 32 [] (pair_word pair) (pair_words more) (pair_lacks pair (omega arith) (omega arith)) ∙ pieces_of_pairs (pair_word pair) more s.narrow.2 in
     ap (pairs_after 0) cut ∙ read_pairs 0 (pair ∷ more) s.narrow s.above s.rising
 
--- with it the reply is told in full
+-- with it the reply is reported in full
 pub shown_tells : (r : ShownReply) → IsNarrowReply r → reported_with Two (reported_of false r) (shown_of r) ≡ Some (reported_of true r)
 shown_tells (reply.Named name view) h = ap (λ (o : Option (List (ℕ × ℕ))). option_map (λ pairs. reported.Named name (Some pairs)) o) (view_read view h.1)
 shown_tells (reply.Owner owner) h = absurd h

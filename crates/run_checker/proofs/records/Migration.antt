@@ -105,7 +105,7 @@ firsts_next f f' o c l w h g = firsts_after f f' o c w.shows h (subst (λ (x : L
 
 -- ---- one more line
 
--- what is told leads where its lines do
+-- what is reported leads where its lines do
 tellings_follow : (terms : RenameTerms) (o end : DeskObject) (ts : List Telling) → Run after_telling (IsTelling terms) o ts end → Run after_line (CanFollow terms) o (map (λ t. t.line) ts) end
 tellings_follow terms o end [] r = r
 tellings_follow terms o end (t ∷ ts) r = (

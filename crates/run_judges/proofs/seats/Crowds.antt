@@ -61,7 +61,7 @@ some_number k n h = elim (eqb_tells k 0) [
       (same, omega arith)
 ]
 
--- what is told in a row stands at a seat
+-- what is reported in a row stands at a seat
 pub record HasSeat (turns : ℕ → Option Turn) (row : List ℕ) (q n : ℕ) : Type 0 where
   pub turn : Turn
   pub is : turns q ≡ Some turn

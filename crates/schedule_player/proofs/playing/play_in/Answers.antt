@@ -13,8 +13,8 @@ pub returns : goal.returns
 returns g c =
     let config = c.args.config in
     let may = g.D.Service.may in
-    let world = c.args.world.now in
-    let fresh = c.requires.fresh in
+    let world = c.in_ok-world.world in
+    let fresh = c.in_ok-world.ensures.fresh in
     let IsTranscript = IsTranscriptOf (g.D.World.IsRunIn config) config.m (g.D.World.fresh config) may in
     let transcript = transcript_of_run (g.D.World.IsRunIn config) config.m (g.D.World.fresh config) may (g.met.D.World.lawful config) (g.met.D.World.tells config) in
     played_weaker replies_of (IsRunTo may world c.play_on.new.world) (CanRun may world) IsTranscript IsTranscript

@@ -29,7 +29,7 @@ taken g c =
       memory = ap (λ w. w.memory) c.self.view_is;
     }
 
--- two things that hold of what is told, if anything is
+-- two things that hold of what is reported, if anything is
 both_some : {X : Type 0} {P Q S : Type 0} (r : Option X) → IfSome r (λ _. P) → IfSome r (λ _. Q) → (P → Q → S) → IfSome r (λ _. S)
 both_some None p q f = tt
 both_some (Some x) p q f = f p q

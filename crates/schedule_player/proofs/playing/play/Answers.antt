@@ -1,0 +1,12 @@
+-- What is played in a world of a kind is a transcript of the config's world.
+use Rattle.std.proofs.Common.{sym, subst}
+use Rattle.player.specs.Played.{IsPlayedIn, reading, writing}
+use Rattle.commands.specs.declared.kind.WorldKind.{WorldKind}
+use Rattle.schedule_player.specs.IsTranscript.{IsTranscriptByKind}
+use Rattle.schedule_player.proofs.playing.play.Goals as goal
+
+pub returns-in-Splitter-clause-every : goal.returns-in-Splitter-clause-every
+returns-in-Splitter-clause-every g c =
+    let config = c.args.config in
+    subst (λ (kind : WorldKind). IsPlayedIn (IsTranscriptByKind kind config) config.world (reading g.R.Read.remaining g.R.Source.calls g.R.Source.failed c.args.reader.now c.play_in.new.reader)
+        (writing g.W.Write.contents g.W.Sink.failed c.args.writer.now c.play_in.new.writer) c.play_in.result) (sym c.in-Splitter.is) c.play_in.ensures
