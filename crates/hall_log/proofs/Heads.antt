@@ -49,11 +49,11 @@ sixteens (suc k) = 16 * sixteens k
 value_back : (d : ℕ) → d < 16 → digit_value (hex_digit d) ≡ d
 value_back d less = elim (leb_tells (suc d) 10) [
   | inl t ↦
-    let digit : hex_digit d ≡ 48 + d = rw t.0 refl in
-    elim (leb_tells (suc (48 + d)) 58) [ inl s ↦ ap digit_value digit ∙ rw s.0 (omega arith) | inr s ↦ absurd (let a = t.1 in let b = s.1 in omega (arith, a, b)) ]
+      let digit : hex_digit d ≡ 48 + d = rw t.0 refl in
+      elim (leb_tells (suc (48 + d)) 58) [ inl s ↦ ap digit_value digit ∙ rw s.0 (omega arith) | inr s ↦ absurd (let a = t.1 in let b = s.1 in omega (arith, a, b)) ]
   | inr t ↦
-    let digit : hex_digit d ≡ 87 + d = rw t.0 refl in
-    elim (leb_tells (suc (87 + d)) 58) [ inl s ↦ absurd (let a = t.1 in let b = s.1 in omega (arith, a, b)) | inr s ↦ ap digit_value digit ∙ rw s.0 (omega arith) ]
+      let digit : hex_digit d ≡ 87 + d = rw t.0 refl in
+      elim (leb_tells (suc (87 + d)) 58) [ inl s ↦ absurd (let a = t.1 in let b = s.1 in omega (arith, a, b)) | inr s ↦ ap digit_value digit ∙ rw s.0 (omega arith) ]
 ]
 
 digits_back : (k n : ℕ) → n < sixteens k → number_of (hex_digits k n) ≡ n

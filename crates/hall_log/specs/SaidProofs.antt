@@ -70,12 +70,12 @@ made_back (OwnerOf n) = refl
 one_or_not : (p q : Request) → (p ≡ q) ⊎ (p ≡ q → ⊥)
 one_or_not p q = elim (eqb_tells (kind p) (kind q)) [
   | inl k ↦ elim (eqb_tells (named p) (named q)) [
-      | inl n ↦ elim (eqb_tells (value p) (value q)) [
-          | inl v ↦ inl (sym (made_back p) ∙ ap (λ (x : ℕ). made x (named p) (value p)) k.1 ∙ ap (λ (x : ℕ). made (kind q) x (value p)) n.1 ∙ ap (λ (x : ℕ). made (kind q) (named q) x) v.1 ∙ made_back q)
-          | inr v ↦ inr (λ is. v.1 (ap value is))
-        ]
-      | inr n ↦ inr (λ is. n.1 (ap named is))
+    | inl n ↦ elim (eqb_tells (value p) (value q)) [
+      | inl v ↦ inl (sym (made_back p) ∙ ap (λ (x : ℕ). made x (named p) (value p)) k.1 ∙ ap (λ (x : ℕ). made (kind q) x (value p)) n.1 ∙ ap (λ (x : ℕ). made (kind q) (named q) x) v.1 ∙ made_back q)
+      | inr v ↦ inr (λ is. v.1 (ap value is))
     ]
+    | inr n ↦ inr (λ is. n.1 (ap named is))
+  ]
   | inr k ↦ inr (λ is. k.1 (ap kind is))
 ]
 

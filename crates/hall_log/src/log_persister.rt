@@ -294,11 +294,7 @@ impl<S: Store, T: Pause> Persist<ReplyQueue> for LogPersister<S, T> {
         Some(MOST_BATCH - HEAD)
     }
 
-    fn prefetch(
-        &mut self,
-        reply_queue: &mut ReplyQueue,
-        lines: &[u8],
-    ) -> Result<Prefetch, LogFault>
+    fn prefetch(&mut self, reply_queue: &mut ReplyQueue, lines: &[u8]) -> Result<Prefetch, LogFault>
         ensures known { result ≡ Ok Prefetch.Known → IsPrefetchedBy (S.stands self.new.log.store) self.new.log.config self.old.log.replica.place
             self.old.token self.old.count self.new.count lines.now reply_queue.new self.new.log.replica }
         ensures lost { result ≡ Ok Prefetch.Lost → HasGoneOn (S.stands self.old.log.store) (S.stands self.new.log.store)

@@ -209,11 +209,7 @@ fn mend<D: Disk>(disk: &mut D, total: usize, whole: usize, missing: &[u8]) -> Re
 }
 
 /// The write-ahead hall of the record on a disk, once that is put right (`Journal::open_disk`).
-fn restored<D: Disk>(
-    alloc: Global,
-    disk: &mut D,
-    config: Config,
-) -> Result<WriteAhead, OpenFault>
+fn restored<D: Disk>(alloc: Global, disk: &mut D, config: Config) -> Result<WriteAhead, OpenFault>
     ensures config { IfOk result (λ c. c.hall.config ≡ config) }
     ensures reported { IfOk result (λ c. c.reported ≡ length c.hall.history) }
     ensures synced { IfOk result (λ c. (t : DiskState) → D.state disk.new ≡ Some t → HasSynced c t) }
@@ -228,12 +224,7 @@ fn restored<D: Disk>(
     print_header(config, &mut header);
     let (hall, whole) = recovered(alloc, config, header.as_slice(), &bytes)?;
     let write_ahead = WriteAhead::new(alloc, hall)?;
-    mend(
-        disk,
-        bytes.len(),
-        whole,
-        missing(header.as_slice(), whole),
-    )?;
+    mend(disk, bytes.len(), whole, missing(header.as_slice(), whole))?;
     Ok(write_ahead)
 }
 
