@@ -1,12 +1,27 @@
--- first lines of entries
-use Rattle.std.proofs.Common.{◌≡◌, ◌≢◌, ℕ, suc, cond, Bool, inl, inr, subst, List, [], ◌∷◌, ◌++◌, refl, ap, sym, ◌∙◌, arith, append_assoc}
+-- first lines of batches
+use Rattle.std.proofs.Common.{◌≡◌, ◌≢◌, ◌≤◌, ◌<◌, ◌+◌, ◌-◌, ◌*◌, ◌/◌, ◌%◌, ◌^◌, ℕ, zero, suc, cond, Bool, true, false, if◌then◌else◌, ltb, inl, inr, subst, length, List, [], ◌∷◌, ◌++◌, refl, ap, sym, ◌∙◌, arith, append_assoc, length-append}
 use Rattle.std.specs.List.{All}
-use Rattle.std.proofs.lemmas.Bool.Decides.{eqb_tells}
+use Rattle.std.proofs.lemmas.Bool.Decides.{eqb_tells, leb_tells}
 use Rattle.std.proofs.lemmas.List.Elements.{All-append, All-cons, All-nil}
+use Rattle.hall_log.specs.Batches.{batch_of, head_of, hex_digit, hex_digits}
 use Rattle.hall_log.specs.Entries.{behind_first_line}
 
+-- no digit ends a line
+digit_plain : (d : ℕ) → hex_digit d ≢ 10
+digit_plain d = elim (leb_tells (suc d) 10) [ inl t ↦ rw t.0 (λ e. omega (arith, e)) | inr t ↦ rw t.0 (λ e. omega (arith, e)) ]
+
+digits_plain : (k n : ℕ) → All (λ b. b ≢ 10) (hex_digits k n)
+digits_plain zero n = let P : ℕ → Type 0 = λ b. b ≢ 10 in All-nil P
+digits_plain (suc k) n = let P : ℕ → Type 0 = λ b. b ≢ 10 in All-cons P (hex_digit (n % 16)) (hex_digits k (n / 16)) (digit_plain (n % 16)) (digits_plain k (n / 16))
+
+head_plain : (token : List ℕ) (count : ℕ) → All (λ b. b ≢ 10) token → All (λ b. b ≢ 10) (head_of token count)
+head_plain token count plain =
+    let P : ℕ → Type 0 = λ b. b ≢ 10 in
+    let space : 32 ≢ 10 = λ e. omega (arith, e) in
+    All-append P token (32 ∷ hex_digits 16 count) plain (All-cons P 32 (hex_digits 16 count) space (digits_plain 16 count))
+
 -- behind bytes of which none ends a line
-pub behind_head : (head lines : List ℕ) → All (λ b. b ≢ 10) head → behind_first_line (head ++ 10 ∷ lines) ≡ lines
+behind_head : (head lines : List ℕ) → All (λ b. b ≢ 10) head → behind_first_line (head ++ 10 ∷ lines) ≡ lines
 behind_head [] lines h = refl
 behind_head (b ∷ head) lines h =
     let differ : b ≢ 10 = h 0 b (omega arith) in
@@ -14,12 +29,69 @@ behind_head (b ∷ head) lines h =
     let P : Bool → Type 0 = λ t. cond t (head ++ 10 ∷ lines) (behind_first_line (head ++ 10 ∷ lines)) ≡ lines in
     elim (eqb_tells b 10) [ inl e ↦ absurd (differ e.1) | inr e ↦ subst P (sym e.0) rest ]
 
-pub one_more : (bs : List ℕ) (b : ℕ) → All (λ x. x ≢ 10) bs → b ≢ 10 → All (λ x. x ≢ 10) (bs ++ b ∷ [])
-one_more bs b h g =
-    let P : ℕ → Type 0 = λ x. x ≢ 10 in
-    All-append P bs (b ∷ []) h (All-cons P b [] g (All-nil P))
+pub behind_batch : (token : List ℕ) (count : ℕ) (lines : List ℕ) → All (λ b. b ≢ 10) token → behind_first_line (batch_of token count lines) ≡ lines
+behind_batch token count lines plain = behind_head (head_of token count) lines (head_plain token count plain)
 
--- a first line, its end, and what stands behind it, put on a list one after another
-pub behind_pieces : (head ended whole lines : List ℕ) → All (λ b. b ≢ 10) head → ended ≡ head ++ 10 ∷ [] → whole ≡ ended ++ lines → behind_first_line whole ≡ lines
-behind_pieces head ended whole lines plain one two =
-    ap behind_first_line (two ∙ (ap (λ l. l ++ lines) one ∙ append_assoc head (10 ∷ []) lines)) ∙ behind_head head lines plain
+-- ---- batches of two counts differ
+
+-- the number that a digit says, and digits, the lowest first
+abbrev digit_value : ℕ → ℕ
+digit_value b = if ltb b 58 then b - 48 else b - 87
+
+abbrev number_of : List ℕ → ℕ
+number_of [] = 0
+number_of (d ∷ ds) = digit_value d + 16 * number_of ds
+
+abbrev sixteens : ℕ → ℕ
+sixteens zero = 1
+sixteens (suc k) = 16 * sixteens k
+
+value_back : (d : ℕ) → d < 16 → digit_value (hex_digit d) ≡ d
+value_back d less = elim (leb_tells (suc d) 10) [
+  | inl t ↦
+      let digit : hex_digit d ≡ 48 + d = rw t.0 refl in
+      elim (leb_tells (suc (48 + d)) 58) [ inl s ↦ ap digit_value digit ∙ rw s.0 (omega arith) | inr s ↦ absurd (let a = t.1 in let b = s.1 in omega (arith, a, b)) ]
+  | inr t ↦
+      let digit : hex_digit d ≡ 87 + d = rw t.0 refl in
+      elim (leb_tells (suc (87 + d)) 58) [ inl s ↦ absurd (let a = t.1 in let b = s.1 in omega (arith, a, b)) | inr s ↦ ap digit_value digit ∙ rw s.0 (omega arith) ]
+]
+
+digits_back : (k n : ℕ) → n < sixteens k → number_of (hex_digits k n) ≡ n
+digits_back zero n less = omega (arith, less)
+digits_back (suc k) n less =
+    let part : n / 16 < sixteens k = omega (arith, less) in
+    let low = value_back (n % 16) (omega arith) in
+    let rest = digits_back k (n / 16) part in
+    omega (arith, low, rest)
+
+digits_many : (k n : ℕ) → length (hex_digits k n) ≡ k
+digits_many zero n = refl
+digits_many (suc k) n = ap suc (digits_many k (n / 16))
+
+-- two lists of which the fronts are as long
+fronts : (xs us ys vs : List ℕ) → length xs ≡ length us → xs ++ ys ≡ us ++ vs → (xs ≡ us) × (ys ≡ vs)
+fronts [] [] ys vs long e = (refl, e)
+fronts [] (u ∷ us) ys vs long e = absurd (omega (arith, long))
+fronts (x ∷ xs) [] ys vs long e = absurd (omega (arith, long))
+fronts (x ∷ xs) (u ∷ us) ys vs long e =
+    let first : x ≡ u = cc e in
+    let rest = fronts xs us ys vs (omega (arith, long)) (cc e) in
+    (ap (λ (z : ℕ). z ∷ xs) first ∙ ap (λ (zs : List ℕ). u ∷ zs) rest.0, rest.1)
+
+head_long : (token : List ℕ) (count : ℕ) → length (head_of token count) ≡ length token + 17
+head_long token count = let a = length-append token (32 ∷ hex_digits 16 count) in let b = digits_many 16 count in omega (arith, a, b)
+
+pub same_batch : (token other : List ℕ) (c d : ℕ) (lines more : List ℕ) → length token ≡ length other → c < 2 ^ 64 → d < 2 ^ 64 →
+    batch_of token c lines ≡ batch_of other d more → (token ≡ other) × (c ≡ d) × (lines ≡ more)
+same_batch token other c d lines more long first second e =
+    let a = head_long token c in
+    let b = head_long other d in
+    let parts = fronts (head_of token c) (head_of other d) (10 ∷ lines) (10 ∷ more) (omega (arith, a, b, long)) e in
+    let heads = fronts token other (32 ∷ hex_digits 16 c) (32 ∷ hex_digits 16 d) long parts.0 in
+    let digits : hex_digits 16 c ≡ hex_digits 16 d = cc (heads.1) in
+    (heads.0, sym (digits_back 16 c first) ∙ (ap number_of digits ∙ digits_back 16 d second), cc (parts.1))
+
+-- one digit more
+pub digits_more : (k n : ℕ) → 1 ≤ k → hex_digits k n ≡ hex_digit (n % 16) ∷ hex_digits (k - 1) (n / 16)
+digits_more zero n some = absurd (omega (arith, some))
+digits_more (suc k) n some = let e : suc k - 1 ≡ k = omega arith in ap (λ (j : ℕ). hex_digit (n % 16) ∷ hex_digits j (n / 16)) (sym e)

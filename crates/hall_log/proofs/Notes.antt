@@ -1,8 +1,8 @@
 -- what the next note of a queue of replies says
-use Rattle.std.proofs.Common.{◌≡◌, ℕ, zero, suc, ◌+◌, Bool, true, false, List, [], ◌∷◌, drop, map, Some, None, slice_get, inl, inr, refl, ap, sym, ◌∙◌, ◌≤◌, length, arith, add-one}
+use Rattle.std.proofs.Common.{◌≡◌, ℕ, zero, suc, ◌+◌, Bool, true, false, List, [], ◌∷◌, drop, map, Some, None, slice_get, inl, inr, refl, ap, sym, subst, ◌∙◌, ◌≤◌, length, arith, add-one}
 use Rattle.hall_log.proofs.Common.{ShownReply, Request, ReplyQueueState}
 use Rattle.hall_log.specs.declared.note.Note.{Note}
-use Rattle.hall_log.specs.Said.{ReplyQueueReplies, request_of, said_by, reply_queue_of}
+use Rattle.hall_log.specs.Said.{IsNext, ReplyQueueReplies, request_of, said_by, reply_queue_of}
 
 -- it stands before all that are left
 next_said : (notes : List Note) (next : ℕ) (note : Note) → slice_get notes next ≡ Some note → drop next (map said_by notes) ≡ said_by note ∷ drop (suc next) (map said_by notes)
@@ -15,7 +15,7 @@ said_is note q r asked reported = ap (λ p. (p, (said_by note).1)) asked ∙ ap 
 
 pub says_next : (poisoned : Bool) (notes : List Note) (next : ℕ) (note : Note) (w : ReplyQueueState) (q : Request) (r : ShownReply) → record { left = drop next (map said_by notes); poisoned = poisoned } ≡ w →
     slice_get notes next ≡ Some note → request_of note.asked ≡ q → r ≡ (said_by note).1 → ReplyQueueReplies w q r (record { left = drop (next + 1) (map said_by notes); poisoned = poisoned })
-says_next true notes next note w q r is there asked reported = inr refl
+says_next true notes next note w q r is there asked reported = inr (refl, λ well. absurd (let no_way : true ≡ false = ap (λ (t : ReplyQueueState). t.poisoned) is ∙ well in cc))
 says_next false notes next note w q r is there asked reported =
     let left : drop next (map said_by notes) ≡ (q, r) ∷ drop (next + 1) (map said_by notes) =
     next_said notes next note there ∙ (ap (λ p. p ∷ drop (suc next) (map said_by notes)) (said_is note q r asked reported) ∙ ap (λ k. (q, r) ∷ drop k (map said_by notes)) (sym (add-one next))) in
@@ -40,3 +40,16 @@ none_behind (x ∷ notes) (suc next) h = none_behind notes next (omega (arith, h
 pub used_up : (poisoned : Bool) (notes : List Note) (next : ℕ) → poisoned ≡ false → length notes ≤ next → record { left = drop next (map said_by notes); poisoned = poisoned } ≡ reply_queue_of []
 used_up poisoned notes next well all =
     ap (λ (s : Bool). let t : ReplyQueueState = record { left = drop next (map said_by notes); poisoned = s } in t) well ∙ ap reply_queue_of (none_behind notes next all)
+
+-- a queue of replies on which nothing is left has no next request
+pub none_next : (poisoned : Bool) (notes : List Note) (next : ℕ) (w : ReplyQueueState) (q : Request) → record { left = drop next (map said_by notes); poisoned = poisoned } ≡ w → length notes ≤ next → IsNext w.left q → ⊥
+none_next poisoned notes next w q is all =
+    let none : w.left ≡ [] = ap (λ (t : ReplyQueueState). t.left) (sym is) ∙ none_behind notes next all in
+    λ it. subst (λ (l : List (Request × ShownReply)). IsNext l q) none it
+
+-- and where the next note is of another request, that one is next
+pub another_next : (poisoned : Bool) (notes : List Note) (next : ℕ) (note : Note) (w : ReplyQueueState) (q : Request) → record { left = drop next (map said_by notes); poisoned = poisoned } ≡ w →
+    slice_get notes next ≡ Some note → (request_of note.asked ≡ q → ⊥) → IsNext w.left q → ⊥
+another_next poisoned notes next note w q is there other =
+    let left : w.left ≡ said_by note ∷ drop (suc next) (map said_by notes) = ap (λ (t : ReplyQueueState). t.left) (sym is) ∙ next_said notes next note there in
+    λ it. other (subst (λ (l : List (Request × ShownReply)). IsNext l q) left it)

@@ -9,7 +9,7 @@ use Rattle.hall_log.specs.Hosted.{IsHostedOverLog, IsPrefetched, IsUsedUp}
 -- what was said again, by a queue of replies that is not poisoned
 reply_queue_said : (w u : ReplyQueueState) (q : Request) (r : ShownReply) → ReplyQueueReplies w q r u → u.poisoned ≡ false → (w.poisoned ≡ false) × (w.left ≡ (q, r) ∷ u.left)
 reply_queue_said w u q r (inl h) well = (h.0, h.2)
-reply_queue_said w u q r (inr bad) well = absurd (let no_way : true ≡ false = sym bad ∙ well in cc)
+reply_queue_said w u q r (inr bad) well = absurd (let no_way : true ≡ false = sym bad.0 ∙ well in cc)
 
 pub reply_queue_ran : (w u : ReplyQueueState) (ts : List Turn) → Runs ReplyQueueReplies w ts u → u.poisoned ≡ false → (w.poisoned ≡ false) × (w.left ≡ said ts ++ u.left)
 reply_queue_ran w u [] run well = (ap (λ (t : ReplyQueueState). t.poisoned) run ∙ well, ap (λ (t : ReplyQueueState). t.left) run)

@@ -10,6 +10,7 @@ use Rattle.hall.specs.HallState.{HallState}
 use Rattle.hall.specs.Halls.{hall_of}
 use Rattle.hall.specs.Serving.{HallServes}
 use Rattle.event_server.specs.Seats.{RepliesSent, Seating, TurnsTaken}
+use Rattle.hall_log.specs.Batches.{batch_of, next_count}
 use Rattle.hall_log.specs.Entries.{HallApplies, behind_first_line}
 use Rattle.hall_log.specs.Said.{reply_queue_of}
 use Rattle.hall_log.specs.ReplyQueueState.{ReplyQueueState}
@@ -26,15 +27,24 @@ pub record IsPrefetched (stands : ℕ → List ℕ → Type 0) (config : Config)
   pub due : IsDueAt HallApplies stands (hall_of config []) batch reply_queue r
   pub later : place < r.place
 
--- the same, of the lines of a batch
-abbrev pub IsServed : (ℕ → List ℕ → Type 0) → Config → ℕ → List ℕ → ReplyQueueState → ReplicaState HallState → Type 0
-IsServed stands config place batch reply_queue r = IsPrefetched stands config place (behind_first_line batch) reply_queue r
+-- the same, of just this batch
+pub record IsServed (stands : ℕ → List ℕ → Type 0) (config : Config) (place : ℕ) (batch : List ℕ) (reply_queue : ReplyQueueState) (r : ReplicaState HallState) : Type 0 where
+  pub prefetched : IsPrefetched stands config place (behind_first_line batch) reply_queue r
+  pub batch_is : prefetched.batch ≡ batch
+
+-- the same, of a batch of these lines, whose first line has the token of its front end and the count behind that of the batch before
+pub record IsPrefetchedBy (stands : ℕ → List ℕ → Type 0) (config : Config) (place : ℕ) (token : List ℕ) (count count' : ℕ) (lines : List ℕ)
+    (reply_queue : ReplyQueueState) (r : ReplicaState HallState) : Type 0 where
+  pub prefetched : IsPrefetched stands config place lines reply_queue r
+  pub batch_is : prefetched.batch ≡ batch_of token count' lines
+  pub count_is : count' ≡ next_count count
 
 -- A front end went on by itself, or waited in vain: all that stood in the log stands, its hall is of the same config and no earlier, and its
--- queue of replies tells nothing
-pub record HasGoneOn (stood stands : ℕ → List ℕ → Type 0) (config config' : Config) (r r' : ReplicaState HallState) (reply_queue : ReplyQueueState) : Type 0 where
+-- queue of replies tells nothing. Its count is that of one batch more, where one may stand in the log
+pub record HasGoneOn (stood stands : ℕ → List ℕ → Type 0) (config config' : Config) (count count' : ℕ) (r r' : ReplicaState HallState) (reply_queue : ReplyQueueState) : Type 0 where
   pub keeps : Keeps stood stands
   pub config_is : config' ≡ config
+  pub counts : (count' ≡ count) ⊎ (count' ≡ next_count count)
   pub later : r'.poisoned ≡ false → (r.poisoned ≡ false) × (r.place ≤ r'.place)
   pub unreported : reply_queue ≡ reply_queue_of []
 

@@ -6,3 +6,5 @@ pub mod Entries
 pub mod Faults
 pub mod Hosted
 pub mod FollowState
+pub mod Batches
+pub mod Pauses

@@ -40,9 +40,16 @@ said (Misread bad ∷ ts) = said ts
 abbrev pub reply_queue_of : List (Request × ShownReply) → ReplyQueueState
 reply_queue_of left = record { left = left; poisoned = false }
 
--- a queue of replies says what was said to the request that is next, to whoever asks for just that. Where another is asked it is poisoned
+-- the next request that is left is this one
+abbrev pub IsNext : List (Request × ShownReply) → Request → Type 0
+IsNext [] q = ⊥
+IsNext (x ∷ xs) q = x.0 ≡ q
+
+-- a queue of replies says what was said to the request that is next, to whoever asks for just that. It is poisoned only where another is
+-- asked, or was before
 abbrev pub ReplyQueueReplies : ReplyQueueState → Request → ShownReply → ReplyQueueState → Type 0
-ReplyQueueReplies w q r u = ((w.poisoned ≡ false) × (u.poisoned ≡ false) × (w.left ≡ (q, r) ∷ u.left)) ⊎ (u.poisoned ≡ true)
+ReplyQueueReplies w q r u =
+    ((w.poisoned ≡ false) × (u.poisoned ≡ false) × (w.left ≡ (q, r) ∷ u.left)) ⊎ ((u.poisoned ≡ true) × (w.poisoned ≡ false → IsNext w.left q → ⊥))
 
 -- the hall answers, and it is noted; no memory was refused
 pub record IsNoted (w : NotingState) (q : Request) (r : ShownReply) (u : NotingState) : Type 0 where

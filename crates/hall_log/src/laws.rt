@@ -1,6 +1,6 @@
 //! What a turn of the loop is over a queue of replies that was learnt of a log.
 
-ghost use Rattle.std.specs.Prelude.{◌≡◌, ℕ, List, [], Option, false};
+ghost use Rattle.std.specs.Prelude.{◌≡◌, ◌<◌, ◌^◌, ℕ, List, [], Option, false, length};
 ghost use Rattle.commands.specs.declared.config.Config.{Config};
 ghost use Rattle.replicated_log.specs.Groups.{IsDetermined};
 ghost use Rattle.replicated_log.specs.Places.{stands_in};
@@ -9,6 +9,7 @@ ghost use Rattle.replicated_log.specs.ReplicaState.{ReplicaState};
 ghost use Rattle.hall.specs.HallState.{HallState};
 ghost use Rattle.hall.specs.Halls.{hall_of};
 ghost use Rattle.event_server.specs.Seats.{LoopIteration, Seating};
+ghost use Rattle.hall_log.specs.Batches.{batch_of};
 ghost use Rattle.hall_log.specs.Entries.{HallApplies};
 ghost use Rattle.hall_log.specs.Hosted.{IsHostedOverLog, IsPrefetched, IsUsedUp};
 ghost use Rattle.hall_log.specs.Said.{ReplyQueueReplies};
@@ -36,4 +37,11 @@ pub fn law_of_log_hosting<C, K, S: Store>()
         IsPrefetched (S.stands s) config place lines reply_queue r →
         (t : LoopIteration on ReplyQueueReplies IsUsedUp k reply_queue seats l u after) →
         IsHostedOverLog on (S.stands s) config t.log place lines r seats after }
+{}
+
+/// A law, which runs nothing: of two front ends whose tokens are as long, two batches are the same entry only where token, count and lines are
+/// the same.
+pub fn law_of_batches()
+    ensures { (token other : List ℕ) (count next : ℕ) (lines more : List ℕ) → length token ≡ length other → count < 2 ^ 64 → next < 2 ^ 64 →
+        batch_of token count lines ≡ batch_of other next more → (token ≡ other) × (count ≡ next) × (lines ≡ more) }
 {}

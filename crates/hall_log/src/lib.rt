@@ -39,7 +39,7 @@ mod noting;
 pub mod pause;
 pub mod reply_queue;
 
-pub use laws::{law_of_halls, law_of_log_hosting};
+pub use laws::{law_of_batches, law_of_halls, law_of_log_hosting};
 pub use log_fault::LogFault;
 pub use log_hall::LogHall;
 pub use log_persister::LogPersister;

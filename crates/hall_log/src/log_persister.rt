@@ -1,10 +1,12 @@
 //! Serves the clients of one front end over a log.
 
-ghost use Rattle.std.specs.Prelude.{◌≡◌, ◌≢◌, ◌+◌, ◌≤◌, ◌<◌, [], true, false, Ok, OnOk, IfOk, All};
+ghost use Rattle.std.specs.Prelude.{◌≡◌, ◌≢◌, ◌+◌, ◌++◌, ◌≤◌, ◌<◌, [], true, false, Ok, OnOk, IfOk, All};
 ghost use Rattle.std.specs.String.{string_bytes};
 ghost use Rattle.replicated_log.specs.Places.{Keeps};
-ghost use Rattle.hall_log.specs.Entries.{behind_first_line, first_line_of};
-ghost use Rattle.hall_log.specs.Hosted.{IsAtEnd, IsServed};
+ghost use Rattle.hall_log.specs.Batches.{batch_of, head_of, hex_digit, hex_digits, next_count};
+ghost use Rattle.hall_log.specs.Entries.{first_line_of};
+ghost use Rattle.hall_log.specs.Hosted.{HasGoneOn, IsAtEnd, IsPrefetchedBy, IsServed};
+ghost use Rattle.hall_log.specs.Pauses.{IsSpent};
 ghost use Rattle.hall_log.specs.Said.{reply_queue_of};
 
 use crate::log_fault::LogFault;
@@ -62,10 +64,10 @@ impl<S: Store + Drop, T: Pause + Drop> Drop for LogPersister<S, T> {
     }
 }
 
-// A digit below 16.
+// A digit to the base of 16.
 fn hex_digit(digit: u8) -> u8
     requires { digit < 16 }
-    ensures { result ≢ 10 }
+    ensures { result ≡ hex_digit digit }
 {
     if digit < 10 {
         b'0' + digit
@@ -74,33 +76,30 @@ fn hex_digit(digit: u8) -> u8
     }
 }
 
-// Adds 16 digits of a count, the lowest first.
-fn push_count(head: &mut Vec<u8>, count: u64) -> Result<(), AllocError>
-    ensures { OnOk result (All (λ b. b ≢ 10) head.old.items → All (λ b. b ≢ 10) head.new.items) }
+// Adds so many digits of a count to the base of 16, the lowest first.
+fn push_count(head: &mut Vec<u8>, digits: u32, count: u64) -> Result<(), AllocError>
+    ensures { OnOk result (head.new.items ≡ head.old.items ++ hex_digits digits count) }
 {
-    let mut left = count;
-    for _ in 0..16 {
-        head.push(hex_digit((left % 16) as u8))?;
-        left /= 16;
+    if digits == 0 {
+        return Ok(());
     }
-    Ok(())
+    head.push(hex_digit((count % 16) as u8))?;
+    push_count(head, digits - 1, count / 16)
 }
 
-// Puts a first line without its end over a list: a token and a count.
+// Puts a first line without its end over a list: a token, a space and a count.
 fn put_head(head: &mut Vec<u8>, token: &[u8], count: u64) -> Result<(), AllocError>
-    requires { All (λ b. b ≢ 10) token.now }
-    ensures { OnOk result (All (λ b. b ≢ 10) head.new.items) }
+    ensures { OnOk result (head.new.items ≡ head_of token.now count) }
 {
     head.clear();
     head.extend_from_slice(token)?;
     head.push(b' ')?;
-    push_count(head, count)
+    push_count(head, 16, count)
 }
 
 // Puts a batch of these lines over a list: a first line of a token and a count, and then the lines.
 fn put_batch(batch: &mut Vec<u8>, token: &[u8], count: u64, lines: &[u8]) -> Result<(), AllocError>
-    requires { All (λ b. b ≢ 10) token.now }
-    ensures { OnOk result (behind_first_line batch.new.items ≡ lines.now) }
+    ensures { OnOk result (batch.new.items ≡ batch_of token.now count lines.now) }
 {
     put_head(batch, token, count)?;
     batch.push(LF)?;
@@ -230,13 +229,15 @@ impl<S: Store, T: Pause> LogPersister<S, T> {
         ensures prefetched { result ≡ Ok Prefetch.Known →
             IsServed (S.stands self.new.log.store) self.new.log.config self.old.log.replica.place self.old.batch.items reply_queue.new self.new.log.replica }
         ensures lost { result ≢ Ok Prefetch.Known → reply_queue.new ≡ reply_queue_of [] }
+        ensures patient { result ≡ Ok Prefetch.Lost → IsSpent T.is_over T.waited self.new.pause }
         ensures keeps { Keeps (S.stands self.old.log.store) (S.stands self.new.log.store) }
         ensures config { self.new.log.config ≡ self.old.log.config }
+        ensures head { (self.new.count ≡ self.old.count) × (self.new.token ≡ self.old.token) }
         ensures later { self.new.log.replica.poisoned ≡ false → (self.old.log.replica.poisoned ≡ false) × (self.old.log.replica.place ≤ self.new.log.replica.place) }
     {
         reply_queue.clear();
         self.pause.begin();
-        for _ in 0..MOST_TRIES {
+        for _tries in 0..MOST_TRIES {
             let Err(fault) = self.log.serve(&self.batch, reply_queue) else {
                 self.no_space = false;
                 return Ok(Prefetch::Known);
@@ -246,7 +247,7 @@ impl<S: Store, T: Pause> LogPersister<S, T> {
                 return Err(fault);
             }
             if !self.pause.again() {
-                break;
+                return Ok(Prefetch::Lost);
             }
         }
         Ok(Prefetch::Lost)
@@ -254,15 +255,15 @@ impl<S: Store, T: Pause> LogPersister<S, T> {
 }
 
 impl<S: Store, T: Pause> Persist<ReplyQueue> for LogPersister<S, T> {
-    ghost use Rattle.hall_log.specs.Hosted.{HasGoneOn, IsPrefetched, IsUsedUp};
+    ghost use Rattle.hall_log.specs.Hosted.{HasGoneOn, IsPrefetchedBy, IsUsedUp};
 
     type Fault = LogFault;
 
     ghost persists = { λ k w l u. IsUsedUp k w l u };
 
-    ghost prefetches = { λ k w lines l u. IsPrefetched (S.stands l.log.store) l.log.config k.log.replica.place lines u l.log.replica };
+    ghost prefetches = { λ k w lines l u. IsPrefetchedBy (S.stands l.log.store) l.log.config k.log.replica.place k.token k.count l.count lines u l.log.replica };
 
-    ghost waits = { λ k w l u. HasGoneOn (S.stands k.log.store) (S.stands l.log.store) k.log.config l.log.config k.log.replica l.log.replica u };
+    ghost waits = { λ k w l u. HasGoneOn (S.stands k.log.store) (S.stands l.log.store) k.log.config l.log.config k.count l.count k.log.replica l.log.replica u };
 
     ghost use Rattle.desk.specs.Held.{slots_of};
     ghost use Rattle.hall.specs.Halls.{desk_of};
@@ -293,11 +294,17 @@ impl<S: Store, T: Pause> Persist<ReplyQueue> for LogPersister<S, T> {
         Some(MOST_BATCH - HEAD)
     }
 
-    fn prefetch(
-        &mut self,
-        reply_queue: &mut ReplyQueue,
-        lines: &[u8],
-    ) -> Result<Prefetch, LogFault> {
+    fn prefetch(&mut self, reply_queue: &mut ReplyQueue, lines: &[u8]) -> Result<Prefetch, LogFault>
+        ensures known { result ≡ Ok Prefetch.Known → IsPrefetchedBy (S.stands self.new.log.store) self.new.log.config self.old.log.replica.place
+            self.old.token self.old.count self.new.count lines.now reply_queue.new self.new.log.replica }
+        ensures lost { result ≡ Ok Prefetch.Lost → HasGoneOn (S.stands self.old.log.store) (S.stands self.new.log.store)
+            self.old.log.config self.new.log.config self.old.count self.new.count self.old.log.replica self.new.log.replica reply_queue.new }
+
+        // Whatever comes of a batch, no other has its count, nor another token.
+        ensures counted { self.new.count ≡ next_count self.old.count }
+        ensures patient { result ≡ Ok Prefetch.Lost → IsSpent T.is_over T.waited self.new.pause }
+        ensures token { self.new.token ≡ self.old.token }
+    {
         self.count = self.count.wrapping_add(1);
         if put_batch(&mut self.batch, &self.token, self.count, lines).is_err() {
             return Err(LogFault::Memory);

@@ -1,13 +1,12 @@
 //! A request, with what was said to it.
 
-ghost use Rattle.std.specs.Prelude.{◌≡◌, ◌≢◌, ℕ, List, true, false, IfOk};
+ghost use Rattle.std.specs.Prelude.{◌≡◌, ◌≢◌, ◌↔◌, ℕ, List, true, false, IfOk};
 ghost use Rattle.step_memory.specs.declared.refusal.Refusal.TheVariants as refusal;
 ghost use Rattle.commands.specs.declared.reply.Reply.TheVariants as replies;
 ghost use Rattle.commands.specs.Replies.{with_view};
 ghost use Rattle.hall_log.specs.Said.{request_of, said_by, seen};
 
 use commands::{Event, Reply};
-use hall::is_same_event;
 use std::alloc::{AllocError, Global};
 use step_memory::{Refusal, View};
 
@@ -66,12 +65,12 @@ impl Note {
         Ok(Note { asked, reply, view })
     }
 
-    /// Whether it is of this request. `true` is said only where it is.
+    /// Whether it is of this request.
     pub fn is_of(&self, asked: Asked) -> bool
-        ensures { result ≡ true → request_of self.now.asked ≡ request_of asked }
+        ensures { result ≡ true ↔ request_of self.now.asked ≡ request_of asked }
     {
         match (self.asked, asked) {
-            (Asked::ToTake(event), Asked::ToTake(other)) => is_same_event(event, other),
+            (Asked::ToTake(event), Asked::ToTake(other)) => event == other,
             (Asked::ToTell(number), Asked::ToTell(other)) => number == other,
             _ => false,
         }

@@ -1,11 +1,9 @@
 //! What was said to requests, and is said again.
 
-ghost use Rattle.std.specs.Prelude.{◌≡◌, ◌↔◌, [], true, refl, map};
-ghost use Rattle.std.proofs.Common.{inr};
-ghost use Rattle.step_memory.specs.declared.refusal.Refusal.TheVariants as refusal;
-ghost use Rattle.commands.specs.declared.reply.Reply.TheVariants as reply;
+ghost use Rattle.std.specs.Prelude.{◌≡◌, ◌↔◌, [], true, map};
 ghost use Rattle.commands.specs.Replies.{with_view};
 ghost use Rattle.hall_log.specs.Said.{ReplyQueueReplies, request_of, said_by, reply_queue_of};
+ghost use Rattle.hall_log.specs.SaidProofs.{reply_queue_answers};
 
 use crate::note::{Asked, Note};
 use commands::{Event, Reply};
@@ -15,7 +13,7 @@ use std::marker::Model;
 use step_memory::{Refusal, View};
 
 /// What was said to requests, in order. As a service it says it again, to whoever asks the same in the same order. Where another request is
-/// asked than the next, it is poisoned, and what it says then is to be sent to nobody. Contracts see the requests that are left, with what
+/// asked than the next, and only then, it is poisoned, and what it says then is to be sent to nobody. Contracts see the requests that are left, with what
 /// was said to each.
 #[derive(Drop)]
 pub struct ReplyQueue {
@@ -94,7 +92,7 @@ impl<R> Service<R> for ReplyQueue {
 
     ghost may = { ReplyQueueReplies };
 
-    ghost answers = { λ w q known. (reply.Refused refusal.NoMemory, record w { poisoned = true }, inr refl) };
+    ghost answers = { λ w q known. reply_queue_answers w q };
 
     fn apply(&mut self, _rt: &R, event: Event, view: &mut View) -> Reply<()> {
         self.say(Asked::ToTake(event), view)

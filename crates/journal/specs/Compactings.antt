@@ -58,3 +58,7 @@ pub record IsPutOff (c : WriteAheadState) (l : Compactor) (u : WriteAheadState) 
 -- so a compactor and a write-ahead hall may be after a compaction was asked for
 abbrev pub IsPaced : Compactor → WriteAheadState → Compactor → WriteAheadState → Type 0
 IsPaced k c l u = IsNotDue k c l u ⊎ (k.due ≤ length c.hall.history × (IsDone l u ⊎ IsPutOff c l u))
+
+-- and after one that has no journal to be written into: it is never put off
+abbrev pub IsPacedAlone : Compactor → WriteAheadState → Compactor → WriteAheadState → Type 0
+IsPacedAlone k c l u = IsNotDue k c l u ⊎ (k.due ≤ length c.hall.history × IsDone l u)

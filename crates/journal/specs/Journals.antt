@@ -49,6 +49,22 @@ IsWritten bytes (Err why) s t = (part : List ℕ) × IsPrefix part bytes × (t �
 abbrev pub IsMended : ℕ → ℕ → List ℕ → DiskState → DiskState → Type 0
 IsMended total whole missing s t = length s.contents ≡ total → (t.contents ≡ take whole s.contents ++ missing) × (t.synced ≡ length t.contents)
 
+-- the first bytes, so many, stand there still
+abbrev pub KeepsFront : ℕ → DiskState → DiskState → Type 0
+KeepsFront whole s t = IsPrefix (take whole s.contents) t.contents
+
+-- all whole lines stand there still
+abbrev pub KeepsLines : DiskState → DiskState → Type 0
+KeepsLines s t = IsPrefix (without_torn s.contents) t.contents
+
+-- where the first bytes that are left are all of so many, nothing was cut off
+abbrev pub GrowsFrom : ℕ → ℕ → DiskState → DiskState → Type 0
+GrowsFrom total whole s t = total ≤ whole → OnlyGrows s t
+
+-- where no line was torn, nothing was cut off
+abbrev pub GrowsUnlessTorn : DiskState → DiskState → Type 0
+GrowsUnlessTorn s t = without_torn s.contents ≡ s.contents → OnlyGrows s t
+
 -- the bytes, once their torn line is cut, are the record of this hall; or they are a prefix of its header, and it has no event
 abbrev pub IsHallOf : HallState → List ℕ → Type 0
 IsHallOf h bytes = (without_torn bytes ≡ record_of_hall h) ⊎ (IsPrefix bytes (header_line h.config) × (h.history ≡ []))

@@ -8,7 +8,8 @@ use Rattle.run_checker.specs.declared.verdict.Verdict.TheVariants as verdict
 use Rattle.run_checker.specs.Verdict.{IsVerdict}
 use Rattle.journal.specs.declared.opening.OpenFault.{OpenFault}
 use Rattle.journal.specs.declared.opening.OpenFault.TheVariants.{Disk, NoMemory, Judged, OtherConfig, OtherLine, NoNames}
-use Rattle.journal.specs.Journals.{without_torn}
+use Rattle.journal.specs.DiskState.{DiskState}
+use Rattle.journal.specs.Journals.{KeepsLines, without_torn}
 
 -- the lines are no record of a run, as `check` says
 pub record IsNoRun (whole : List ℕ) (v : Verdict) : Type 0 where
@@ -39,3 +40,12 @@ IsFaultOf c whole NoNames = gives_names c.world ≡ false
 -- when a disk of these bytes is
 abbrev pub IsOpenFault : Config → List ℕ → OpenFault → Type 0
 IsOpenFault c bytes why = IsFaultOf c (without_torn bytes) why
+
+-- a disk whose journal was refused for this is as it was; where a call of it failed, its whole lines stand there still
+abbrev pub IsSpared : OpenFault → DiskState → DiskState → Type 0
+IsSpared (Disk why) s t = KeepsLines s t
+IsSpared NoMemory s t = t ≡ s
+IsSpared (Judged v) s t = t ≡ s
+IsSpared OtherConfig s t = t ≡ s
+IsSpared (OtherLine number) s t = t ≡ s
+IsSpared NoNames s t = t ≡ s

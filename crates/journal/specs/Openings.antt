@@ -20,8 +20,8 @@ pub record HasFollowed (c : Config) (h : HallState) (lines : List ℕ) : Type 0 
   pub config : h.config ≡ c
   pub all : lines ≡ flat_map exchange_line h.history
 
--- the bytes are the record of a hall of this config, so many bytes, and a rest with no LF; or a prefix of its header, of one with
--- no event
+-- the bytes are the record of a hall of this config, so many bytes, and a rest with no LF; or a prefix of its header with no LF, of one
+-- with no event
 pub record IsRecord (c : Config) (bytes : List ℕ) (h : HallState) (whole : ℕ) : Type 0 where
   pub config : h.config ≡ c
   pub front : take whole bytes ≡ record_of_hall h
@@ -30,6 +30,7 @@ pub record IsRecord (c : Config) (bytes : List ℕ) (h : HallState) (whole : ℕ
 pub record IsFresh (c : Config) (bytes : List ℕ) (h : HallState) (whole : ℕ) : Type 0 where
   pub none : h ≡ hall_of c []
   pub header : IsPrefix bytes (header_line c)
+  pub torn : has_no_lf bytes ≡ true
   pub zero : whole ≡ 0
 
 abbrev pub IsRecovered : Config → List ℕ → HallState → ℕ → Type 0

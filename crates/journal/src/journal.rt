@@ -7,8 +7,8 @@ ghost use Rattle.hall.specs.Compactions.{IsCompacted};
 ghost use Rattle.hall.specs.Dues.{due_again};
 ghost use Rattle.journal.specs.WriteAheads.{write_ahead_of};
 ghost use Rattle.journal.specs.Compactings.{IsPaced, KeepsEither, KeepsWhenCompacted, MayCompact, TakesHall};
-ghost use Rattle.journal.specs.OpenFaults.{IsOpenFault};
-ghost use Rattle.journal.specs.Journals.{Stands, KeepsAtAnyMoment, IsHallOf, IsMended, IsWritten, missing_in};
+ghost use Rattle.journal.specs.OpenFaults.{IsOpenFault, IsSpared};
+ghost use Rattle.journal.specs.Journals.{Stands, HasSynced, KeepsAtAnyMoment, KeepsFront, GrowsFrom, GrowsUnlessTorn, IsHallOf, IsMended, IsWritten, missing_in};
 
 use crate::opening::{OpenFault, recovered};
 use crate::record::record_of;
@@ -174,6 +174,15 @@ pub struct Opened<D: Disk> {
     pub write_ahead: WriteAhead,
 }
 
+/// A disk whose journal was not opened.
+#[derive(Drop)]
+pub struct NotOpened<D: Disk> {
+    /// Why it was not.
+    pub fault: OpenFault,
+    /// The disk.
+    pub disk: D,
+}
+
 /// What is missing of a record of which so many bytes are whole: its header, where not even that is.
 fn missing(header: &[u8], whole: usize) -> &[u8]
     ensures { result.now ≡ missing_in whole header.now }
@@ -184,9 +193,12 @@ fn missing(header: &[u8], whole: usize) -> &[u8]
     &header[..0]
 }
 
-/// Cuts a disk of so many bytes behind the first ones, puts what is missing behind those, and waits until that is durable.
+/// Cuts a disk of so many bytes behind the first ones, puts what is missing behind those, and waits until that is durable. Where a call of
+/// the disk fails, the first ones stand there still.
 fn mend<D: Disk>(disk: &mut D, total: usize, whole: usize, missing: &[u8]) -> Result<(), DiskFault>
-    ensures { OnOk result (Changes (IsMended total whole missing.now) (D.state disk.old) (D.state disk.new)) }
+    ensures mended { OnOk result (Changes (IsMended total whole missing.now) (D.state disk.old) (D.state disk.new)) }
+    ensures front { OnErr result (Changes (KeepsFront whole) (D.state disk.old) (D.state disk.new)) }
+    ensures grows { OnOk result (Changes (GrowsFrom total whole) (D.state disk.old) (D.state disk.new)) }
 {
     if whole < total {
         disk.cut(whole)?;
@@ -196,11 +208,35 @@ fn mend<D: Disk>(disk: &mut D, total: usize, whole: usize, missing: &[u8]) -> Re
     Ok(())
 }
 
+/// The write-ahead hall of the record on a disk, once that is put right (`Journal::open_disk`).
+fn restored<D: Disk>(alloc: Global, disk: &mut D, config: Config) -> Result<WriteAhead, OpenFault>
+    ensures config { IfOk result (λ c. c.hall.config ≡ config) }
+    ensures reported { IfOk result (λ c. c.reported ≡ length c.hall.history) }
+    ensures synced { IfOk result (λ c. (t : DiskState) → D.state disk.new ≡ Some t → HasSynced c t) }
+    ensures hall { IfOk result (λ c. (s : DiskState) → D.state disk.old ≡ Some s → IsHallOf c.hall s.contents) }
+    ensures grows { OnOk result (Changes GrowsUnlessTorn (D.state disk.old) (D.state disk.new)) }
+    ensures errors { IfErr result (λ why. (s : DiskState) → D.state disk.old ≡ Some s → IsOpenFault config s.contents why) }
+    ensures spared { IfErr result (λ why. Changes (IsSpared why) (D.state disk.old) (D.state disk.new)) }
+{
+    law_of_lines();
+    let bytes = disk.read(alloc)?;
+    let mut header = Replies::new(alloc)?;
+    print_header(config, &mut header);
+    let (hall, whole) = recovered(alloc, config, header.as_slice(), &bytes)?;
+    let write_ahead = WriteAhead::new(alloc, hall)?;
+    mend(disk, bytes.len(), whole, missing(header.as_slice(), whole))?;
+    Ok(write_ahead)
+}
+
 impl<D: Disk> Journal<D> {
     /// Opens a journal, and gives the hall whose record it is. A disk where not even the header is whole gets it, and the hall has no
-    /// event. A last line with no LF, which a crash has torn, is cut off; the rest has to be one that `check` says `Yes` of, of this
-    /// config, with the lines that a hall writes. Nothing is changed before all of it was read so.
-    pub fn open(alloc: Global, disk: D, config: Config) -> Result<Opened<D>, OpenFault>
+    /// event. A last line with no LF, which a crash has torn, is cut off. The rest has to be one that `check` says `Yes` of, of this
+    /// config, with the lines that a hall writes.
+    ///
+    /// # Errors
+    ///
+    /// The disk is handed back. It is as it was, unless a call of it failed while it was put right: then all whole lines stand there still.
+    pub fn open_disk(alloc: Global, disk: D, config: Config) -> Result<Opened<D>, NotOpened<D>>
         ensures config { IfOk result (λ o. o.write_ahead.hall.config ≡ config) }
         ensures reported { IfOk result (λ o. o.write_ahead.reported ≡ length o.write_ahead.hall.history) }
         ensures stands { IfOk result (λ o. Stands D.state o.journal o.write_ahead) }
@@ -208,26 +244,40 @@ impl<D: Disk> Journal<D> {
         // The hall is that of the record that was there, once its torn line is cut.
         ensures hall { IfOk result (λ o. (s : DiskState) → D.state disk ≡ Some s → IsHallOf o.write_ahead.hall s.contents) }
 
+        // Where no line was torn, nothing was cut off, and what was durable was so all the time.
+        ensures grows { IfOk result (λ o. Changes GrowsUnlessTorn (D.state disk) (D.state o.journal.disk)) }
+
+        // Each fault is told of bytes alone that have it, and of a disk that was spared.
+        ensures errors { IfErr result (λ n. (s : DiskState) → D.state disk ≡ Some s → IsOpenFault config s.contents n.fault) }
+        ensures spared { IfErr result (λ n. Changes (IsSpared n.fault) (D.state disk) (D.state n.disk)) }
+    {
+        let mut disk = disk;
+        match restored(alloc, &mut disk, config) {
+            Ok(write_ahead) => Ok(Opened {
+                journal: Journal { disk, ended: false },
+                write_ahead,
+            }),
+            Err(fault) => Err(NotOpened { fault, disk }),
+        }
+    }
+
+    /// Opens a journal as `open_disk` does, and lets a disk go whose journal is refused.
+    pub fn open(alloc: Global, disk: D, config: Config) -> Result<Opened<D>, OpenFault>
+        ensures config { IfOk result (λ o. o.write_ahead.hall.config ≡ config) }
+        ensures reported { IfOk result (λ o. o.write_ahead.reported ≡ length o.write_ahead.hall.history) }
+        ensures stands { IfOk result (λ o. Stands D.state o.journal o.write_ahead) }
+
+        // The hall is that of the record that was there, once its torn line is cut.
+        ensures hall { IfOk result (λ o. (s : DiskState) → D.state disk ≡ Some s → IsHallOf o.write_ahead.hall s.contents) }
+        ensures grows { IfOk result (λ o. Changes GrowsUnlessTorn (D.state disk) (D.state o.journal.disk)) }
+
         // Each fault is told of bytes alone that have it.
         ensures errors { IfErr result (λ why. (s : DiskState) → D.state disk ≡ Some s → IsOpenFault config s.contents why) }
     {
-        law_of_lines();
-        let mut disk = disk;
-        let bytes = disk.read(alloc)?;
-        let mut header = Replies::new(alloc)?;
-        print_header(config, &mut header);
-        let (hall, whole) = recovered(alloc, config, header.as_slice(), &bytes)?;
-        let write_ahead = WriteAhead::new(alloc, hall)?;
-        mend(
-            &mut disk,
-            bytes.len(),
-            whole,
-            missing(header.as_slice(), whole),
-        )?;
-        Ok(Opened {
-            journal: Journal { disk, ended: false },
-            write_ahead,
-        })
+        match Journal::open_disk(alloc, disk, config) {
+            Ok(opened) => Ok(opened),
+            Err(NotOpened { fault, disk: _ }) => Err(fault),
+        }
     }
 
     /// Whether the bytes are still where they were written; after a fault nothing is ever written again.

@@ -8,6 +8,7 @@ ghost use Rattle.journal.specs.Disks.{MayLeaveEither};
 ghost use Rattle.journal.specs.WriteAheads.{record_of_hall};
 ghost use Rattle.journal.specs.Compactings.{LeavesEither};
 ghost use Rattle.journal.specs.Journals.{HasSynced, IsHallOf, KeepsHandedOn, LeavesHall, RecordsHallAfter};
+ghost use Rattle.journal.specs.declared.write_ahead.TheConstants.{MOST_WAITING};
 
 use player::law_of_lines;
 
@@ -23,3 +24,8 @@ pub fn law_of_crashes()
 {
     law_of_lines();
 }
+
+/// A law, which runs nothing: how many bytes of lines wait at most.
+pub fn law_of_limits()
+    ensures { MOST_WAITING ≡ 1048576 }
+{}

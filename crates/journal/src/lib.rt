@@ -41,8 +41,8 @@ pub mod write_ahead;
 
 pub use disk::{Disk, DiskFault};
 pub use file_disk::{FileDisk, FileFault};
-pub use journal::{Journal, JournalFault, Opened};
-pub use laws::law_of_crashes;
+pub use journal::{Journal, JournalFault, NotOpened, Opened};
+pub use laws::{law_of_crashes, law_of_limits};
 pub use memory_disk::MemoryDisk;
 pub use opening::OpenFault;
 pub use write_ahead::{MOST_WAITING, WriteAhead};

@@ -7,7 +7,7 @@ ghost use Rattle.hall.specs.Halls.{HallMay};
 ghost use Rattle.player.specs.Records.{exchange_line};
 ghost use Rattle.hall.specs.Compactions.{IsCompacted};
 ghost use Rattle.journal.specs.WriteAheads.{WriteAheadServes, write_ahead_of, waiting_of};
-ghost use Rattle.journal.specs.Compactings.{MayCompact};
+ghost use Rattle.journal.specs.Compactings.{IsPacedAlone, MayCompact};
 ghost use Rattle.journal.specs.WriteAheadProofs.{write_ahead_answers};
 
 use commands::{Event, Reply};
@@ -137,7 +137,8 @@ impl WriteAhead {
     /// Compacts the hall where that is due and gives a shorter history; what waited is gone then. For a write-ahead hall without a journal:
     /// with one, `Journal::compact_when_due`.
     pub fn compact_when_due(&mut self, alloc: Global, compactor: &mut Compactor)
-        ensures { MayCompact self.old self.new }
+        ensures compacted { MayCompact self.old self.new }
+        ensures paced { IsPacedAlone compactor.old self.old compactor.new self.new }
     {
         if !compactor.is_due(&self.hall) {
             return;

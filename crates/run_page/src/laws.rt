@@ -11,6 +11,7 @@ ghost use Rattle.command_lines.specs.Events.{event_words};
 ghost use Rattle.desk.specs.declared.coming.Register.{Register};
 ghost use Rattle.run_page.specs.declared.form.Form.{Form};
 ghost use Rattle.run_page.specs.declared.standing.Standing.{Standing};
+ghost use Rattle.run_page.specs.declared.state.TheConstants.{MOST_NAMES};
 ghost use Rattle.run_page.specs.declared.stretch.Stretch.{Stretch};
 ghost use Rattle.run_page.specs.Access.{access_words, register_words};
 ghost use Rattle.run_page.specs.Page.{page_data, has_tag};
@@ -26,4 +27,9 @@ pub fn law_of_data()
     ensures accesses { (a : Option Coming) → has_tag (access_words a) ≡ false }
     ensures replies { (t : Reported) → has_tag (reported_words t) ≡ false }
     ensures numbers { (n : ℕ) → has_tag (decimal n) ≡ false }
+{}
+
+/// A law, which runs nothing: how many names a page looks for.
+pub fn law_of_limits()
+    ensures { MOST_NAMES ≡ 127 }
 {}

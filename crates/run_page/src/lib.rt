@@ -39,6 +39,6 @@ mod still;
 pub mod stretch;
 pub mod tail;
 
-pub use laws::law_of_data;
+pub use laws::{law_of_data, law_of_limits};
 pub use showing::show;
 pub use stretch::Stretch;
