@@ -64,7 +64,7 @@ pub fn law_of_nodes_and_walks<S>()
     ensures ended { EndsAtPlace }
     ensures segments { WalkKeepsSegments S }
     ensures marks { WalkMarksItsNode S }
-    ensures unchanged_on_error { RefusedAtNewNode S }
+    ensures refused { RefusedAtNewNode S }
 {}
 
 /// A law, which runs nothing. A walk surely reads the segment of every node whose path from the root was marked when it

@@ -14,5 +14,5 @@ pub returns-in_err-replay-clause-errors : goal.returns-in_err-replay-clause-erro
 returns-in_err-replay-clause-errors c =
     let why = c.in_err-replay.field-0.0 in
     let rest = c.in-Some.lines.now in
-    let so = ends_replay c.args.config c.args.whole.now why (record { yes = c.in-Yes.ensures; rest = rest; is = c.in-Some.ensures.rest ∙ ap (λ (l : List ℕ). l ++ rest) c.requires }) c.in_err-replay.ensures.refused in
+    let so = ends_replay c.args.config c.args.whole.now why (record { yes = c.in-Yes.ensures; rest = rest; is = c.in-Some.ensures.rest ∙ ap (λ (l : List ℕ). l ++ rest) c.requires }) c.in_err-replay.ensures.errors in
     on_err (λ f. f ≡ why) _ c.from_residual-in_err-replay.result c.from_residual-in_err-replay.ensures.1 (λ e is. subst (λ (f : OpenFault). IsFaultOf c.args.config c.args.whole.now f) (sym is) so)

@@ -18,7 +18,7 @@ returns-in_default g c =
     record {
       answer = answer;
       state = state;
-      refused = refl;
+      unchanged_on_error = refl;
       after = pool_proved.call c.args.self.now c.args.self.now (Probed c.args.id (Err NotCompeting)) state answer;
       law = pool_law _;
       local = refused_local probe_steps c.args.id c.args.self.now NotCompeting;
@@ -40,7 +40,7 @@ returns-in-Settled g c =
     record {
       answer = answer;
       state = state;
-      refused = refl;
+      unchanged_on_error = refl;
       after = pool_proved.call c.args.self.now c.args.self.now (Probed c.args.id (Err Holding)) state answer;
       law = pool_law _;
       local = refused_local probe_steps c.args.id c.args.self.now Holding;
@@ -66,7 +66,7 @@ returns g c =
     record {
       answer = answer;
       state = state;
-      refused = tt;
+      unchanged_on_error = tt;
       after = pool_proved.call c.args.self.now new (Probed c.args.id (Ok c.probe_reply.result)) state answer;
       law = pool_law _;
       local = rw (state, answer) (probe_local c.args.id c.args.self.now);

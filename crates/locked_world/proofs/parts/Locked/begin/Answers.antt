@@ -21,7 +21,7 @@ returns g c =
       opened = (refl, opened g.L.LockName.config c.args.id mid new (ap (λ (s : CallerState). s.kept) c.in_ok-clerk.ensures.new.0) taken);
       hall = subst (λ (q : ShownReply). HallMay h (Begin c.args.id) q u) is may;
       same = tt;
-      refused = tt;
+      errors = tt;
       more = c.apply-reply.ensures.opened ∙ c.in_ok-clerk.ensures.more;
       full = λ all. let no : c.open.result ≡ Err Full = c.open.ensures.full.1 all in let was = c.in_ok-clerk.was in absurd cc;
       due = tt;

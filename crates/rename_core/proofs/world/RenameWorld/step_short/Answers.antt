@@ -19,7 +19,7 @@ returns g c =
     record {
       answer = c.take_step.ensures.answer;
       state = c.take_step.ensures.state;
-      refused = c.take_step.ensures.unchanged_on_error;
+      unchanged_on_error = c.take_step.ensures.unchanged_on_error;
       no_memory = c.take_step.ensures.no_memory;
       after = step_leads_on (known g) g.W.RenamePlaces.world c.args.self.now c.take_step.new.self c.args.id reported
           (λ e. c.take_step.ensures.state (goes e)) (λ e. c.take_step.ensures.answer (goes e)) (λ e. let m = c.take_step.ensures.no_memory (short e) in (kept e, m.0, m.1));

@@ -23,7 +23,7 @@ pub returns-in-Ok : goal.returns-in-Ok
 returns-in-Ok g c =
     let s = (goal.at.returns-in-Ok g c).After-index_mut in
     let h = taken_step (known g) (before g s) c.args.id c.in-Ok.at c.index_mut.result.now _ (there g s) c.index_mut.ensures.value c.take.result c.take.new.view c.take.new.snap c.take.new.participant c.take.ensures (ready g s) in
-    rw (← c.self.view_is) (record { answer = h.answer; state = h.state; refused = h.refused; no_memory = h.no_memory })
+    rw (← c.self.view_is) (record { answer = h.answer; state = h.state; unchanged_on_error = h.refused; no_memory = h.no_memory })
 
 -- the refusal is the one that is due
 refusal_is : (g : _) (c : In-Err g) → step_refusal c.args.self.now c.args.id ≡ Some c.in-Err.refusal

@@ -20,7 +20,7 @@ returns-then-read_on g c =
     record {
       answer = λ _. sym answer;
       state = λ _. state;
-      refused = tt;
+      unchanged_on_error = tt;
       on_way = λ e. absurd (no_lack Quiet e);
       no_memory = λ e. absurd (no_lack Quiet e);
       after = c.read_on.ensures.after c.if-read_on.true;
@@ -44,7 +44,7 @@ returns-in_err-note g c =
     record {
       answer = λ goes. absurd (goes is);
       state = λ goes. absurd (goes is);
-      refused = rw is kept;
+      unchanged_on_error = rw is kept;
       on_way = λ h. lacks_on_way (known g) g.met.W.Places.laws c.args.self.now c.args.id lacks;
       no_memory = λ h. lacks;
       after = after_step_call (known g) c.args.self.now c.walk_on.new.self c.args.id c.from_residual.result (λ goes. absurd (goes is)) (λ goes. absurd (goes is)) (λ e. (kept, lacks));
@@ -64,7 +64,7 @@ returns-in-Some g c =
     record {
       answer = λ _. ap Ok c.of_way.ensures ∙ sym answer;
       state = λ _. state;
-      refused = tt;
+      unchanged_on_error = tt;
       on_way = λ e. absurd (no_lack c.of_way.result e);
       no_memory = λ e. absurd (no_lack c.of_way.result e);
       after = rw (c.in-Some.is, still, sym c.of_way.ensures) at c.in_ok-note.ensures.after;
@@ -86,7 +86,7 @@ returns g c =
     record {
       answer = answer;
       state = state;
-      refused = rw kept at c.take_step.ensures.unchanged_on_error;
+      unchanged_on_error = rw kept at c.take_step.ensures.unchanged_on_error;
       on_way = λ h. lacks_on_way (known g) g.met.W.Places.laws c.args.self.now c.args.id (lacks h);
       no_memory = lacks;
       after = after_step_call (known g) c.args.self.now c.take_step.new.self c.args.id c.take_step.result state answer (λ e. (refused e ∙ kept, lacks e));

@@ -28,7 +28,7 @@ returns-in_default g c =
     record {
       answer = h.answer;
       state = h.state;
-      refused = refl;
+      unchanged_on_error = refl;
       no_memory = λ e. absurd (cc);
       local = unchanged_local (clients_over (known g)) (known g).memory c.args.id c.args.self.now;
       alike = λ goes other alike. h.answer goes ∙ snap_alike (known g) c.args.self.now other c.args.id alike;
@@ -40,7 +40,7 @@ returns-then-is_idle g c =
     record {
       answer = h.answer;
       state = h.state;
-      refused = refl;
+      unchanged_on_error = refl;
       no_memory = λ e. absurd (cc);
       local = unchanged_local (clients_over (known g)) (known g).memory c.args.id c.args.self.now;
       alike = λ goes other alike. h.answer goes ∙ snap_alike (known g) c.args.self.now other c.args.id alike;
@@ -54,7 +54,7 @@ returns g c =
     record {
       answer = h.step.answer;
       state = h.step.state;
-      refused = h.refused;
+      unchanged_on_error = h.refused;
       no_memory = h.no_memory;
       local = rw c.self.view_is at c.step.ensures.local;
       alike = λ goes other alike. h.step.answer goes ∙ snap_alike (known g) c.args.self.now other c.args.id alike;

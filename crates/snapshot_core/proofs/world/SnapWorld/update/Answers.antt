@@ -22,7 +22,7 @@ returns-in_default g c =
     record {
       answer = h.answer;
       state = h.state;
-      refused = refl;
+      unchanged_on_error = refl;
       no_access = refl;
       after = updated_leads_on (known g) c.args.self.now c.args.self.now c.args.id c.args.value _ h.state h.answer;
       law = law_holds (known g) g.met.W.Places.laws c.args.self.now;
@@ -34,7 +34,7 @@ returns-then-not-is_idle g c =
     record {
       answer = h.answer;
       state = h.state;
-      refused = refl;
+      unchanged_on_error = refl;
       no_access = refl;
       after = updated_leads_on (known g) c.args.self.now c.args.self.now c.args.id c.args.value _ h.state h.answer;
       law = law_holds (known g) g.met.W.Places.laws c.args.self.now;
@@ -46,7 +46,7 @@ returns-then-client-ge-MOST_UPDATES g c =
     record {
       answer = h.answer;
       state = h.state;
-      refused = refl;
+      unchanged_on_error = refl;
       no_access = refl;
       after = updated_leads_on (known g) c.args.self.now c.args.self.now c.args.id c.args.value _ h.state h.answer;
       law = law_holds (known g) g.met.W.Places.laws c.args.self.now;
@@ -58,7 +58,7 @@ returns g c =
     record {
       answer = h.answer;
       state = h.state;
-      refused = rw c.self.view_is at c.ask.ensures.unchanged_on_error;
+      unchanged_on_error = rw c.self.view_is at c.ask.ensures.unchanged_on_error;
       no_access = h.spares;
       after = updated_leads_on (known g) c.args.self.now c.ask.new.self c.args.id c.args.value c.ask.result h.state h.answer;
       law = law_holds (known g) g.met.W.Places.laws c.ask.new.self;

@@ -8,7 +8,7 @@ returns g c =
     record {
       answer = answer;
       state = state;
-      refused = rw c.self.view_is at c.begin.ensures.unchanged_on_error;
+      unchanged_on_error = rw c.self.view_is at c.begin.ensures.unchanged_on_error;
       after = tree_begins c.args.self.now c.begin.new.self c.args.id c.begin.result state answer;
       law = tree_law c.begin.new.self;
       due = tree_due c.begin.new.self;

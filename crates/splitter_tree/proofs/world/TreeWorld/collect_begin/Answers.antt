@@ -17,7 +17,7 @@ returns-in_default g c =
     record {
       answer = h.answer;
       state = h.state;
-      refused = refl;
+      unchanged_on_error = refl;
       after = tree_collects c.args.self.now c.args.self.now c.args.id _ h.state h.answer;
       law = tree_law c.args.self.now;
       due = tree_due c.args.self.now;
@@ -29,7 +29,7 @@ returns-then-not-is_idle g c =
     record {
       answer = h.answer;
       state = h.state;
-      refused = refl;
+      unchanged_on_error = refl;
       after = tree_collects c.args.self.now c.args.self.now c.args.id _ h.state h.answer;
       law = tree_law c.args.self.now;
       due = tree_due c.args.self.now;
@@ -42,7 +42,7 @@ returns g c =
     record {
       answer = h.answer;
       state = h.state;
-      refused = rw c.self.view_is at c.set.ensures.unchanged_on_error;
+      unchanged_on_error = rw c.self.view_is at c.set.ensures.unchanged_on_error;
       after = tree_collects c.args.self.now c.set.new.self c.args.id c.set.result h.state h.answer;
       law = tree_law c.set.new.self;
       due = tree_due c.set.new.self;

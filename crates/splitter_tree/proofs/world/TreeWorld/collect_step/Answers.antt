@@ -26,7 +26,7 @@ returns-in_default g c =
     record {
       answer = h.answer;
       state = h.state;
-      refused = refl;
+      unchanged_on_error = refl;
       after = tree_reads_on c.args.self.now c.args.self.now c.args.id _ h.state h.answer;
       law = tree_law c.args.self.now;
       due = tree_due c.args.self.now;
@@ -41,7 +41,7 @@ returns-then-not-is_collecting g c =
     record {
       answer = h.answer;
       state = h.state;
-      refused = refl;
+      unchanged_on_error = refl;
       after = tree_reads_on c.args.self.now c.args.self.now c.args.id _ h.state h.answer;
       law = tree_law c.args.self.now;
       due = tree_due c.args.self.now;
@@ -58,7 +58,7 @@ returns g c =
     record {
       answer = h.answer;
       state = h.state;
-      refused = rw reported (refused_too view_reported _ c.step.result (rw c.self.view_is at c.step.ensures.unchanged_on_error));
+      unchanged_on_error = rw reported (refused_too view_reported _ c.step.result (rw c.self.view_is at c.step.ensures.unchanged_on_error));
       after = tree_reads_on c.args.self.now c.step.new.self c.args.id c.match-step.result h.state h.answer;
       law = tree_law c.step.new.self;
       due = tree_due c.step.new.self;

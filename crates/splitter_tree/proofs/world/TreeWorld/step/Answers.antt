@@ -26,7 +26,7 @@ returns-in_default g c =
     record {
       answer = h.answer;
       state = h.state;
-      refused = refl;
+      unchanged_on_error = refl;
       no_memory = λ e. absurd (cc);
       after = tree_goes_on c.args.self.now c.args.self.now c.args.id _ h.state h.answer (λ e. refl) (λ e. absurd (cc));
       law = tree_law c.args.self.now;
@@ -43,7 +43,7 @@ returns-then-not-is_placing g c =
     record {
       answer = h.answer;
       state = h.state;
-      refused = refl;
+      unchanged_on_error = refl;
       no_memory = λ e. absurd (cc);
       after = tree_goes_on c.args.self.now c.args.self.now c.args.id _ h.state h.answer (λ e. refl) (λ e. absurd (cc));
       law = tree_law c.args.self.now;
@@ -62,7 +62,7 @@ returns g c =
     record {
       answer = h.answer;
       state = h.state;
-      refused = rw reported (refused_too place_reported _ c.step.result (rw c.self.view_is at c.step.ensures.unchanged_on_error));
+      unchanged_on_error = rw reported (refused_too place_reported _ c.step.result (rw c.self.view_is at c.step.ensures.unchanged_on_error));
       no_memory = λ e. (rw c.self.view_is at c.step.ensures.no_memory) (lacked_too place_reported c.step.result (sym reported ∙ e));
       after = tree_goes_on c.args.self.now c.step.new.self c.args.id c.match-step.result h.state h.answer (λ e. kept_too place_reported _ c.step.result (rw c.self.view_is at c.step.ensures.unchanged_on_error) (sym reported ∙ e)) (λ e. (rw c.self.view_is at c.step.ensures.no_memory) (lacked_too place_reported c.step.result (sym reported ∙ e)));
       law = tree_law c.step.new.self;

@@ -29,7 +29,7 @@ returns-in_default g c =
     record {
       answer = h.answer;
       state = h.state;
-      refused = refl;
+      unchanged_on_error = refl;
       after = tree_stores c.args.self.now c.args.self.now c.args.id c.args.value _ h.state h.answer;
       law = tree_law c.args.self.now;
       due = tree_due c.args.self.now;
@@ -42,7 +42,7 @@ returns-then-not-is_idle g c =
     record {
       answer = h.answer;
       state = h.state;
-      refused = refl;
+      unchanged_on_error = refl;
       after = tree_stores c.args.self.now c.args.self.now c.args.id c.args.value _ h.state h.answer;
       law = tree_law c.args.self.now;
       due = tree_due c.args.self.now;
@@ -58,7 +58,7 @@ returns g c =
     record {
       answer = h.answer;
       state = h.state;
-      refused = h.refused;
+      unchanged_on_error = h.refused;
       after = tree_stores c.args.self.now c.step.new.self c.args.id c.args.value c.match-step.result h.state h.answer;
       law = tree_law c.step.new.self;
       due = tree_due c.step.new.self;
