@@ -47,7 +47,9 @@ pub mod progress;
 pub mod showing;
 pub mod words;
 
-pub use asked::{Ask, Drawing, Hosting, Keeping, LogWords, Playing, Racing, Serving, Showing};
+pub use asked::{
+    Ask, Drawing, Endpoints, Hosting, Keeping, LogWords, Playing, Racing, Serving, Showing,
+};
 pub use checking::check_for;
 pub use drawing::draw_for;
 pub use failure::Failure;
