@@ -23,7 +23,7 @@ pub use Rattle.word_machine.specs.declared.seat_view.Ending.{Ending}
 pub use Rattle.word_machine.specs.declared.seat_view.SeatView.{SeatView}
 pub use Rattle.word_machine.specs.declared.size.Size.{Size}
 pub use Rattle.word_machine.specs.SeatViews.{own, no_size, stand_at, view_of, lone_view, unbegun, unbegun_from, undealt_from}
-pub use Rattle.word_machine.specs.WordLaw.{WordLaw, IsOwnAccess, IsSound, IsOnce, IsFresh, records_in, answer_in, one_more, program_at, GoesOn}
+pub use Rattle.word_machine.specs.WordLaw.{WordLaw, IsOwnAccess, IsSound, IsOnce, IsFresh, skipped, GoesAhead, IsAfterHead, records_in, answer_in, one_more, program_at, GoesOn}
 pub use Rattle.word_machine.specs.RunRule.{row, begun_of, all_words, slot_start, slot_row, value_in, slot_of, Spells, IsRead, IsStand, IsEnding, Shows, IsRunning, KeepsRun}
-pub use Rattle.word_machine.specs.RunSteps.{accesses_in, IsAtRest, Recalls, with_word, Stores, standing, gone_on, stand_after, stepped, IsUnderRule, IsUnder, Looks, Named, Reads, written_on, Writes, Stands, HasGot, HasStepped, HasEnded, HasRead, read_in, prepared, with_private, ended_at}
+pub use Rattle.word_machine.specs.RunSteps.{accesses_in, IsAtRest, Recalls, with_word, Stores, standing, gone_on, stand_after, stepped, IsUnderRule, IsUnder, Looks, Named, Reads, written_on, Writes, Stands, HasGot, HasStepped, HasEnded, HasFound, StandsAfter, HasComeOn, HasRead, read_in, prepared, with_private, ended_at}
 pub use Rattle.word_machine.specs.Ids.{WordsId}

@@ -3,6 +3,7 @@ pub mod Slots
 mod Stepping
 mod Reaching
 mod Running
+mod GoingAhead
 mod Dealing
 mod Counting
 mod Meeting

@@ -1,5 +1,6 @@
 -- what words and slots are after a store
 use Rattle.std.proofs.Common.{◌≡◌, ◌≢◌, ℕ, zero, suc, ◌+◌, ◌*◌, ◌<◌, ◌≤◌, List, [], ◌∷◌, ◌++◌, length, slice_set, slice_index, inl, inr, refl, sym, ap, ◌∙◌, arith, length-append, mul-le-mul_right, suc-mul}
+use Rattle.std.proofs.lemmas.List.{append-nil, append_assoc}
 use Rattle.word_machine.proofs.Common.{WordLaw, Size, row, slot_start, slot_row}
 use Rattle.std.proofs.lemmas.Bool.Decides.{eqb_tells, leb_tells}
 use Rattle.std.proofs.lemmas.List.{get_or-set_same, get_or-set_other, get_or_append_left, get_or_push}
@@ -18,6 +19,14 @@ row_at f (suc k) i l = elim (eqb_tells i k) [
 pub row_same : (f g : ℕ → ℕ) (k : ℕ) → ((i : ℕ) → i < k → f i ≡ g i) → row f k ≡ row g k
 row_same f g zero same = refl
 row_same f g (suc k) same = (λ t. row_same f g k (λ i l. same i (omega arith)) t ++ same k (omega arith) t ∷ [])
+
+-- the first values go on with others
+pub row_goes_on : (f : ℕ → ℕ) (a k : ℕ) → a ≤ k → (rest : List ℕ) × (row f k ≡ row f a ++ rest)
+row_goes_on f a zero l = ([], ap (row f) (let e : zero ≡ a = omega arith in e) ∙ sym (append-nil (row f a)))
+row_goes_on f a (suc k) l = elim (eqb_tells a (suc k)) [
+  | inl e ↦ ([], ap (row f) (sym e.1) ∙ sym (append-nil (row f a)))
+  | inr e ↦ let other = e.1 in let before = row_goes_on f a k (omega arith) in (before.0 ++ f k ∷ [], ap (λ xs. xs ++ f k ∷ []) before.1 ∙ append_assoc (row f a) before.0 (f k ∷ []))
+]
 
 further : (x y n : ℕ) → x < y → x * n + n ≤ y * n
 further x y n h = let a : suc x * n ≤ y * n = mul-le-mul_right n h in omega (arith, suc-mul x n)

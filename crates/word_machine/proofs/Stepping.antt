@@ -3,7 +3,7 @@ use Rattle.std.proofs.Common.{◌≡◌, ◌≢◌, ℕ, zero, suc, ◌+◌, ◌
 use Rattle.word_machine.proofs.Common.{Step, Allows, keeps, set_at, set_at-same, set_at-other, set_at-cases, Call, outcome_in, steps_of, begun_in, ends, answer_in, one_more, program_at, IsOnce, records_in, begun_of, count_to, fun_ext, ProgramSteps, Read, Write, Value, Done, Answer, Participant, each_set, there_still, each_map, Stand, Ending, SeatView, Size, own, stand_at, lone_view, WordLaw, IsSound, all_words, slot_start, slot_row, value_in, slot_of, IsRead, IsStand, IsEnding, Shows, IsRunning, KeepsRun, GoesOn, Recalls, Stores, standing, stand_after, IsUnder, Named, Reads, written_on, Writes}
 use Rattle.step_memory.proofs.SetAtLemmas.{set_at-as_is}
 use Rattle.step_memory.proofs.CountLemmas.{count_more, count_to-lt, count_to-le}
-use Rattle.word_machine.proofs.Slots.{row_length, row_at, apart, inside, slots_stay, registers_stay, others_stay, own_grows}
+use Rattle.word_machine.proofs.Slots.{row_length, row_at, row_goes_on, apart, inside, slots_stay, registers_stay, others_stay, own_grows}
 use Rattle.std.proofs.lemmas.List.{length-set, set-get_or, get_or-set_same, get_or-set_other}
 use Rattle.std.proofs.lemmas.Bool.Decides.{eqb_tells}
 use Rattle.atomic_table.proofs.Lists.{set_again}
@@ -435,7 +435,9 @@ module _ {P R V O : Type 0} (program : ProgramSteps P R V O) (law : WordLaw P R 
             stay = λ s o. set_at-cases out sl true (λ b. b ≡ true) s (λ _. refl) (λ _. o);
             others = λ n k ne l o. set_at-other out sl true (slot_of law size n k) (apart n number size.limit k written ne l room) ∙ o;
             own_in = λ k le l o. set_at-other out sl true (slot_of law size number k) (λ same. absurd (omega arith)) ∙ o;
-            says = rw kind (sym (ap law.decode (slots_stay law size words word (suc sl) sl law.length inside_word ∙ ap (slot_row law size words sl) (sym (sound.long value fits)) ∙ private) ∙ sound.spelled value fits));
+            says =
+                (let more = row_goes_on (λ i. slice_index words (slot_start law size sl + i)) (length (law.encode value)) law.length (sound.long value fits) in
+                rw kind (sym (ap law.decode (slots_stay law size words word (suc sl) sl law.length inside_word ∙ more.1 ∙ ap (λ (xs : List ℕ). xs ++ more.0) private) ∙ sound.spelled value more.0 fits)));
             names = λ _ s e. (let one : s ≡ sl = omega arith in ap now one ∙ set_at-same out sl true);
           },
         ))

@@ -47,6 +47,8 @@ module _ {P O : Type 0} (local : LocalMachine P ℕ O) where
     encode = λ v. v ∷ [];
     decode = λ words. slice_index words 0;
     Fits = λ v. Unit {0};
+    ahead = λ u. 0;
+    head = 0;
   }
 
 -- both say the same of an access
@@ -155,6 +157,15 @@ module _ {P O : Type 0} (program : ProgramSteps P ℕ ℕ O) (local : LocalMachi
       bounded = λ size may. few_accesses size.most may.0;
       short = omega arith;
       some_long = omega arith;
-      long = λ v fits. refl;
-      spelled = λ v fits. refl;
+      short_head = omega arith;
+      within_head = omega arith;
+      long = λ v fits. omega arith;
+      spelled = λ v rest fits. refl;
+      goes_ahead = λ size u. record {
+        register = λ i. i;
+        reads = λ i none. absurd (omega arith);
+        holds_record = λ i none. absurd (omega arith);
+        place = λ i none. absurd (omega arith);
+        quiet = λ i none. absurd (omega arith);
+      };
     }

@@ -173,3 +173,21 @@ module _ {P R V O : Type 0} (program : ProgramSteps P R V O) (law : WordLaw P R 
     pub one_more : accesses_in after ≡ accesses_in before + 1
     pub me_is : after ≡ (lone_view size (stand_at number (Some (record { identity = own number; program = u; ended = ends note })) (outcome_in note) accesses entered written [] slot read), [])
     pub under : IsUnder law after.0 entered
+
+  -- the participant of this number has read a record of this slot, by as many accesses as these and that one, and its program was not told
+  -- it yet: it stood so before
+  pub record HasFound (size : Size) (number written slot : ℕ) (u : P) (accesses : ℕ) (me : Me ℕ (SeatView P O)) : Type 0 where
+    pub before : Me ℕ (SeatView P O)
+    pub stands : Stands {S = ℕ} size number written u [] before
+    pub got : HasGot {S = ℕ} (Value (law.decode (read_in me))) 0 before me
+    pub there : HasRead law {S = ℕ} size slot me
+    pub counted : accesses_in before ≡ accesses
+
+  -- the participant of this number stands here, by so many accesses
+  abbrev pub StandsAfter : Size → ℕ → ℕ → P → ℕ → Me ℕ (SeatView P O) → Type 0
+  StandsAfter size number written u accesses me = Stands {S = ℕ} size number written u [] me × (accesses_in me ≡ accesses)
+
+  -- the participant of this number has come here by steps of which the last said this
+  pub record HasComeOn (size : Size) (number written : ℕ) (u : P) (note : Note O) (after : Me ℕ (SeatView P O)) : Type 0 where
+    pub before : Me ℕ (SeatView P O)
+    pub stepped : HasStepped {S = ℕ} size number written u note before after

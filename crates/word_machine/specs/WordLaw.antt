@@ -1,10 +1,11 @@
 -- machines each of whose steps is one access of one participant's program to registers that words hold, how words spell what
 -- stands in them, and what has to be proved (this project's profile)
-use Rattle.std.specs.Prelude.{◌≡◌, ◌≢◌, ℕ, ◌+◌, ◌*◌, ◌^◌, ◌<◌, ◌≤◌, Bool, true, false, if◌then◌else◌, List, [], length, Option, Some, None}
+use Rattle.std.specs.Prelude.{◌≡◌, ◌≢◌, ℕ, ◌+◌, ◌*◌, ◌^◌, ◌<◌, ◌≤◌, zero, suc, ◌++◌, Bool, true, false, if◌then◌else◌, List, [], length, Option, Some, None}
 use Rattle.step_memory.specs.declared.access.Access.{Access}
 use Rattle.step_memory.specs.declared.access.Access.TheVariants.{Read, Write}
 use Rattle.step_memory.specs.declared.access.Answer.{Answer}
 use Rattle.step_memory.specs.declared.access.Answer.TheVariants.{Value, Done}
+use Rattle.step_memory.specs.declared.note.Note.TheVariants.{Quiet}
 use Rattle.step_memory.specs.declared.participant.Participant.{Participant}
 use Rattle.step_memory.specs.Note.{ends}
 use Rattle.step_memory.specs.Steps.{ProgramSteps, Spares}
@@ -16,7 +17,9 @@ use Rattle.word_machine.specs.declared.size.Size.{Size}
 -- its end, and how many records one has written; what is known of a state and of the calls that led to it; for which sizes it may start,
 -- the program of an identity, and the most accesses of one.
 -- The words: which registers there are, how many and where; whether a register is one word or holds a record; what a word of the first
--- kind says; what a register of the second kind holds until a record is written, and how so many words spell a record
+-- kind says; what a register of the second kind holds until a record is written, how words spell a record, and how many there is room
+-- for; how many reads of such registers, at words one after another, are ahead of a program while nobody wrote there; and how many of the
+-- first words of a record say whether a program goes on
 pub record WordLaw (P R V O : Type 0) : Type 1 where
   pub State : Type 0
   pub Start : Type 0
@@ -42,6 +45,13 @@ pub record WordLaw (P R V O : Type 0) : Type 1 where
   pub encode : V → List ℕ
   pub decode : List ℕ → V
   pub Fits : V → Type 0
+  pub ahead : P → ℕ
+  pub head : ℕ
+
+-- a program that took this as the answer to so many accesses
+abbrev pub skipped : {P R V O : Type 0} → ProgramSteps P R V O → V → P → ℕ → P
+skipped program first u zero = u
+skipped program first u (suc n) = program.resumed (skipped program first u n) (Value first)
 
 -- what an access answers, where this stands in the registers
 abbrev pub answer_in : {R V : Type 0} → (R → V) → Access R V → Answer V
@@ -101,6 +111,19 @@ module _ {P R V O : Type 0} (program : ProgramSteps P R V O) (law : WordLaw P R 
     pub written : (q : ℕ) → q ≢ p → law.written q r ≡ law.written q r0
     pub begun : begun_in r ≡ begun_in r0 + one_more o
 
+  -- These accesses of a program read registers that hold records, at words one after another. As long as nobody wrote there the program goes
+  -- on and says nothing
+  pub record GoesAhead (size : Size) (u : P) : Type 0 where
+    pub register : ℕ → R
+    pub reads : (i : ℕ) → i < law.ahead u → program.next (skipped program law.first u i) ≡ Read (register i)
+    pub holds_record : (i : ℕ) → i < law.ahead u → law.is_word (register i) ≡ false
+    pub place : (i : ℕ) → i < law.ahead u → law.place size (register i) ≡ law.place size (register 0) + i
+    pub quiet : (i : ℕ) → i < law.ahead u → program.note (skipped program law.first u i) (Value law.first) ≡ Quiet
+
+  -- whatever words follow, by the record that begins with these the program becomes this one, and says nothing
+  abbrev pub IsAfterHead : P → List ℕ → P → Type 0
+  IsAfterHead u head v = (rest : List ℕ) → (v ≡ program.resumed u (Value (law.decode (head ++ rest)))) × (program.note u (Value (law.decode (head ++ rest))) ≡ Quiet)
+
   -- it starts with what nobody wrote in each register, and nobody has begun
   pub record IsFresh (size : Size) : Type 0 where
     pub holds : law.Holds size (law.machine.first (law.start_of size)) []
@@ -112,7 +135,8 @@ module _ {P R V O : Type 0} (program : ProgramSteps P R V O) (law : WordLaw P R 
   -- What is proved of it. `takes`: who stands somewhere and has not ended makes one access, as its program says, and begins with it where
   -- it has not begun and there is room. `few`: nobody makes more accesses than the bound, nor writes more records than the limit. `begins`,
   -- `own`: each access of who has not ended is one that words can serve. `within`, `apart`: each register has a word of its own. `small`,
-  -- `bounded`: words and accesses are few enough to be counted. `long`, `spelled`: words spell what fits
+  -- `bounded`: words and accesses are few enough to be counted. `long`, `spelled`: words spell what fits,
+  -- whatever words follow
   pub record IsSound : Type 0 where
     pub after : (size : Size) (w : law.State) (r : List (Call law.X)) → law.Holds size w r → Reaches law.machine (law.start_of size) w r
     pub fresh : (size : Size) → law.MayStart size → IsFresh size
@@ -129,5 +153,8 @@ module _ {P R V O : Type 0} (program : ProgramSteps P R V O) (law : WordLaw P R 
     pub bounded : (size : Size) → law.MayStart size → law.bound size < 2 ^ 64
     pub short : law.length ≤ 132
     pub some_long : 1 ≤ law.length
-    pub long : (v : V) → law.Fits v → length (law.encode v) ≡ law.length
-    pub spelled : (v : V) → law.Fits v → law.decode (law.encode v) ≡ v
+    pub short_head : law.head ≤ 4
+    pub within_head : law.head ≤ law.length
+    pub long : (v : V) → law.Fits v → length (law.encode v) ≤ law.length
+    pub spelled : (v : V) (rest : List ℕ) → law.Fits v → law.decode (law.encode v ++ rest) ≡ v
+    pub goes_ahead : (size : Size) (u : P) → GoesAhead size u

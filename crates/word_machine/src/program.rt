@@ -1,7 +1,7 @@
 //! Programs whose registers are words and records.
 
-ghost use Rattle.std.specs.Prelude.{◌≡◌, ◌<◌, ◌≤◌, ℕ, slice_index, length};
-ghost use Rattle.word_machine.specs.WordLaw.{WordLaw, IsSound};
+ghost use Rattle.std.specs.Prelude.{◌≡◌, ◌<◌, ◌≤◌, ℕ, slice_index, length, true, false};
+ghost use Rattle.word_machine.specs.WordLaw.{WordLaw, IsSound, IsAfterHead, skipped};
 
 use crate::size::Size;
 use step_memory::StepProgram;
@@ -49,16 +49,44 @@ pub trait WordProgram: StepProgram {
     fn length() -> usize
         ensures { result ≡ law.length };
 
-    /// One of the words that spell a record. Every value of the type is one that words can spell.
-    fn spell(value: &Self::Value, at: usize) -> u64
-        requires { at < law.length }
-        ensures word { result ≡ slice_index (law.encode value.now) at }
+    /// How many words spell this record, from the first on. Every value of the type is one that words can spell.
+    fn spelled_by(value: &Self::Value) -> usize
+        ensures count { result ≡ length (law.encode value.now) }
         ensures fits { law.Fits value.now };
+
+    /// One of the words that spell a record.
+    fn spell(value: &Self::Value, at: usize) -> u64
+        requires { at < length (law.encode value.now) }
+        ensures { result ≡ slice_index (law.encode value.now) at };
 
     /// The record that words spell.
     fn read(words: &[u64]) -> Self::Value
         requires { length words.now ≡ law.length }
         ensures { result ≡ law.decode words.now };
+
+    /// How many accesses from here on are reads of registers that hold records, at words one after another, as long as nobody
+    /// wrote there.
+    fn ahead(&self) -> usize
+        ensures { result ≤ law.ahead self.now };
+
+    /// Takes what nobody wrote as the answer to so many of these reads.
+    fn skip(&mut self, count: usize)
+        requires { count ≤ law.ahead self.old }
+        ensures { self.new ≡ skipped Self.steps law.first self.old count };
+
+    /// How many of the first words of a record say whether the program goes on after reading it.
+    fn head() -> usize
+        ensures { result ≡ law.head };
+
+    /// A value for `read_head` to write into.
+    fn scratch() -> Self::Value;
+
+    /// Takes the record whose first words are these, if the program then goes on and says nothing, whatever the other words are.
+    /// Tells whether it did; where not, nothing has changed.
+    fn read_head(&mut self, head: &[u64], scratch: &mut Self::Value) -> bool
+        requires { length head.now ≡ law.head }
+        ensures after { result ≡ true → IsAfterHead Self.steps law self.old head.now self.new }
+        ensures kept { result ≡ false → self.new ≡ self.old };
 
     /// What is proved of the machine.
     ghost sound: { IsSound Self.steps law };

@@ -59,12 +59,34 @@ impl WordProgram for Visitor<usize> {
         1
     }
 
+    fn spelled_by(_value: &u64) -> usize {
+        1
+    }
+
     fn spell(value: &u64, _at: usize) -> u64 {
         *value
     }
 
     fn read(words: &[u64]) -> u64 {
         words[0]
+    }
+
+    fn ahead(&self) -> usize {
+        0
+    }
+
+    fn skip(&mut self, _count: usize) {}
+
+    fn head() -> usize {
+        0
+    }
+
+    fn scratch() -> u64 {
+        0
+    }
+
+    fn read_head(&mut self, _head: &[u64], _scratch: &mut u64) -> bool {
+        false
     }
 
     ghost sound = { visit_words_sound };

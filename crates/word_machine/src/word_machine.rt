@@ -91,7 +91,8 @@ where
         ensures few { result.accesses ≤ P.law.bound self.now.size }
     {
         let FreshSeat { number, mut seat } = fresh;
-        let (program, outcome, accesses) = self.words.run(&mut seat, number);
+        let mut program = P::start(self.words.size(), number + 1);
+        let (outcome, accesses) = self.words.run(&mut seat, number, &mut program);
         EnteredSeat {
             number,
             program,
@@ -138,9 +139,15 @@ where
         // Opens the words, so that the machine's bound is known to be small.
         let _size = self.words.size();
         let first = P::first();
-        let note = self
-            .words
-            .step(&mut seat, number, &mut written, &mut program, &first);
+        let mut scratch = P::scratch();
+        let note = self.words.step(
+            &mut seat,
+            number,
+            &mut written,
+            &mut program,
+            &first,
+            &mut scratch,
+        );
         let accesses = accesses + 1;
         match note.outcome() {
             Some(outcome) => Ok(EnteredSeat {

@@ -1,11 +1,11 @@
 //! The words. They are reached through this type alone, of which each access of a program is counted in the view of its seat.
 
-ghost use Rattle.std.specs.Prelude.{◌≡◌, ◌<◌, ◌≤◌, ◌+◌, ◌++◌, ◌∷◌, [], List, IfOk, IsSome, true, false};
+ghost use Rattle.std.specs.Prelude.{◌≡◌, ◌<◌, ◌≤◌, ◌+◌, ◌++◌, ◌∷◌, [], List, IfOk, IsSome, true, false, take, length, ◌≢◌, ◌-◌};
 ghost use Rattle.step_memory.specs.declared.access.Access.TheVariants.{Read, Write};
 ghost use Rattle.step_memory.specs.declared.access.Answer.TheVariants as answer;
-ghost use Rattle.word_machine.specs.SeatViews.{lone_view, undealt_from, unbegun, view_of, endings_of};
+ghost use Rattle.word_machine.specs.SeatViews.{own, lone_view, undealt_from, unbegun, view_of, endings_of};
 ghost use Rattle.word_machine.specs.WordLaw.{records_in};
-ghost use Rattle.word_machine.specs.RunSteps.{Stands, HasGot, HasStepped, HasEnded, HasRead, IsUnderRule, accesses_in, read_in};
+ghost use Rattle.word_machine.specs.RunSteps.{Stands, StandsAfter, HasGot, HasStepped, HasComeOn, HasEnded, HasRead, HasFound, IsUnderRule, accesses_in, read_in};
 ghost use Rattle.word_machine.specs.declared.seat_view.Stand.{Stand};
 ghost use Rattle.word_machine.specs.declared.seat_view.Ending.{Ending};
 
@@ -23,6 +23,9 @@ use step_memory::{Access, Answer, Note, StepProgram};
 
 /// The most words of a record.
 const MOST_WORDS: usize = 132;
+
+/// The most of its first words that say whether a program goes on.
+const MOST_HEAD: usize = 4;
 
 /// Words that programs share.
 #[derive(Drop)]
@@ -108,14 +111,26 @@ impl<P: WordProgram, A: Allocator> Words<P, A> {
         ensures same { seat.new.me ≡ seat.old.me }
         ensures value { result ≡ P.law.decode (read_in seat.old.me) }
     {
-        let start = self.registers + slot * self.length;
         let mut words = [0u64; MOST_WORDS];
+        self.recall_first(seat, slot, &mut words[..self.length]);
+        P::read(&words[..self.length])
+    }
+
+    /// The first words of the record that was read last.
+    fn recall_first(&self, seat: &mut Seat<u8, SeatView<P, P::Output>>, slot: usize, words: &mut [u64])
+        requires ours { seat.old.table_id ≡ self.now.table }
+        requires read { HasRead P.law self.now.size slot seat.old.me }
+        requires few { length words.old ≤ P.law.length }
+        ensures ours { seat.new.table_id ≡ self.now.table }
+        ensures same { seat.new.me ≡ seat.old.me }
+        ensures words { words.new ≡ take (length words.old) (read_in seat.old.me) }
+    {
+        let start = self.registers + slot * self.length;
         let mut i = 0;
-        while i < self.length {
+        while i < words.len() {
             words[i] = self.table.shared.load::<Recall<P>>(seat, start + i);
             i += 1;
         }
-        P::read(&words[..self.length])
     }
 
     /// The participant's read of a register.
@@ -167,8 +182,9 @@ impl<P: WordProgram, A: Allocator> Words<P, A> {
         let at = P::place(self.size, register);
         let slot = number as usize * self.size.limit as usize + written;
         let start = self.registers + slot * self.length;
+        let long = P::spelled_by(value);
         let mut i = 0;
-        while i < self.length {
+        while i < long {
             self.table
                 .shared
                 .store::<Prepare<P>>(seat, start + i, P::spell(value, i));
@@ -283,6 +299,32 @@ where
         seat: &mut Seat<u8, SeatView<P, P::Output>>,
         program: &mut P,
         slot: usize,
+        scratch: &mut P::Value,
+    ) -> Note<P::Output>
+        requires ours { seat.old.table_id ≡ self.now.table }
+        requires read { HasRead P.law self.now.size slot seat.old.me }
+        ensures ours { seat.new.table_id ≡ self.now.table }
+        ensures same { seat.new.me ≡ seat.old.me }
+        ensures after { program.new ≡ P.steps.resumed program.old (answer.Value (P.law.decode (read_in seat.old.me))) }
+        ensures note { result ≡ P.steps.note program.old (answer.Value (P.law.decode (read_in seat.old.me))) }
+    {
+        let mut head = [0u64; MOST_HEAD];
+        let many = P::head();
+        self.recall_first(seat, slot, &mut head[..many]);
+        if program.read_head(&head[..many], scratch) {
+            return Note::Quiet;
+        }
+        self.take_whole(seat, program, slot)
+    }
+
+    /// The same, by all words of the record. A function of its own, since most records say by their first words that the
+    /// program goes on.
+    #[inline(never)]
+    fn take_whole(
+        &self,
+        seat: &mut Seat<u8, SeatView<P, P::Output>>,
+        program: &mut P,
+        slot: usize,
     ) -> Note<P::Output>
         requires ours { seat.old.table_id ≡ self.now.table }
         requires read { HasRead P.law self.now.size slot seat.old.me }
@@ -292,9 +334,6 @@ where
         ensures note { result ≡ P.steps.note program.old (answer.Value (P.law.decode (read_in seat.old.me))) }
     {
         let got = self.recall(seat, slot);
-        if program.read_on(&got) {
-            return Note::Quiet;
-        }
         program.resume(Answer::Value(got))
     }
 
@@ -317,6 +356,7 @@ where
         program: &mut P,
         register: P::Reg,
         first: &P::Value,
+        scratch: &mut P::Value,
     ) -> Note<P::Output>
         requires ours { seat.old.table_id ≡ self.now.table }
         requires before { Stands P.steps P.law self.now.size number written program.old [] seat.old.me }
@@ -329,7 +369,7 @@ where
         let at = P::place(self.size, register);
         let found = self.table.shared.load::<ReadRecord<P>>(seat, at);
         if found != 0 {
-            return self.take_written(seat, program, (found - 1) as usize);
+            return self.take_written(seat, program, (found - 1) as usize, scratch);
         }
         if program.read_on(first) {
             return Note::Quiet;
@@ -346,6 +386,7 @@ where
         written: &mut usize,
         program: &mut P,
         first: &P::Value,
+        scratch: &mut P::Value,
     ) -> Note<P::Output>
         requires ours { seat.old.table_id ≡ self.now.table }
         requires before { Stands P.steps P.law self.now.size number written.old program.old [] seat.old.me }
@@ -360,7 +401,83 @@ where
         if P::is_word(register) {
             return self.step_whole(seat, number, written, program);
         }
-        self.step_read(seat, number, *written, program, register, first)
+        self.step_read(seat, number, *written, program, register, first, scratch)
+    }
+
+    /// Reads of registers that nobody wrote, one after another, up to one that names a slot: the number of that one plus one;
+    /// or 0 where there is none, and the program goes on by another access. Nothing is moved, and the program takes all at once.
+    fn read_ahead(
+        &self,
+        seat: &mut Seat<u8, SeatView<P, P::Output>>,
+        number: u64,
+        written: usize,
+        program: &mut P,
+        accesses: &mut u64,
+    ) -> u64
+        requires ours { seat.old.table_id ≡ self.now.table }
+        requires before { StandsAfter P.steps P.law self.now.size number written program.old accesses.old seat.old.me }
+        requires few { accesses.old ≤ P.law.bound self.now.size }
+        ensures ours { seat.new.table_id ≡ self.now.table }
+        ensures none { result ≡ 0 → StandsAfter P.steps P.law self.now.size number written program.new accesses.new seat.new.me }
+        ensures found { result ≢ 0 → HasFound P.steps P.law self.now.size number written (result - 1) program.new accesses.new seat.new.me }
+        ensures more { accesses.old ≤ accesses.new }
+    {
+        let count = program.ahead();
+        if count == 0 {
+            return 0;
+        }
+        let Some(register) = program.reads() else {
+            return 0;
+        };
+        let at = P::place(self.size, register);
+        let mut i = 0;
+        while i < count {
+            let found = self.table.shared.load::<ReadRecord<P>>(seat, at + i);
+            if found != 0 {
+                program.skip(i);
+                *accesses += i as u64;
+                return found;
+            }
+            i += 1;
+        }
+        program.skip(count);
+        *accesses += count as u64;
+        0
+    }
+
+    /// Accesses of a program up to one that reads what was written, or another than a read ahead, and what the program makes of
+    /// its answer.
+    fn step_ahead(
+        &self,
+        seat: &mut Seat<u8, SeatView<P, P::Output>>,
+        number: u64,
+        written: &mut usize,
+        program: &mut P,
+        accesses: &mut u64,
+        first: &P::Value,
+        scratch: &mut P::Value,
+    ) -> Note<P::Output>
+        requires ours { seat.old.table_id ≡ self.now.table }
+        requires before { StandsAfter P.steps P.law self.now.size number written.old program.old accesses.old seat.old.me }
+        requires range { number < self.now.size.most }
+        requires first { first.now ≡ P.law.first }
+        requires few { accesses.old ≤ P.law.bound self.now.size }
+        ensures ours { seat.new.table_id ≡ self.now.table }
+        ensures after { HasComeOn P.steps P.law self.now.size number written.new program.new result seat.new.me }
+        ensures counted { accesses.new ≡ accesses_in seat.new.me }
+        ensures more { accesses.old < accesses.new }
+    {
+        // Opens the words, so that the machine's bound is known to be small.
+        let _size = self.size;
+        let found = self.read_ahead(seat, number, *written, program, accesses);
+        if found != 0 {
+            let note = self.take_written(seat, program, (found - 1) as usize, scratch);
+            *accesses += 1;
+            return note;
+        }
+        let note = self.step(seat, number, written, program, first, scratch);
+        *accesses += 1;
+        note
     }
 
     /// One access of a program, and what the program makes of the answer, which is moved to it.
@@ -397,30 +514,39 @@ where
     P::Value: Drop,
     P::Output: Drop,
 {
-    /// The accesses of a program, one after another, until it ends: the program then, with what, and how many they were.
+    /// The accesses of a program that has not begun, one after another, until it ends: with what, and how many they were.
     pub(crate) fn run(
         &self,
         seat: &mut Seat<u8, SeatView<P, P::Output>>,
         number: u64,
-    ) -> (P, P::Output, u64)
+        program: &mut P,
+    ) -> (P::Output, u64)
         requires ours { seat.old.table_id ≡ self.now.table }
         requires fresh { seat.old.me ≡ (lone_view self.now.size (unbegun number), []) }
         requires range { number < self.now.size.most }
+        requires program { program.old ≡ P.law.start self.now.size (own number) }
         ensures ours { seat.new.table_id ≡ self.now.table }
-        ensures ended { HasEnded P.law self.now.size number result.0 result.1 seat.new.me }
-        ensures counted { result.2 ≡ accesses_in seat.new.me }
+        ensures ended { HasEnded P.law self.now.size number program.new result.0 seat.new.me }
+        ensures counted { result.1 ≡ accesses_in seat.new.me }
     {
         // Opens the words, so that the range of `most`, which `number` is below, is known.
         let _most = self.size.most;
-        let mut program = P::start(self.size, number + 1);
         let mut written = 0;
         let mut accesses = 0;
         let first = P::first();
+        let mut scratch = P::scratch();
         loop {
-            let note = self.step(seat, number, &mut written, &mut program, &first);
-            accesses += 1;
+            let note = self.step_ahead(
+                seat,
+                number,
+                &mut written,
+                program,
+                &mut accesses,
+                &first,
+                &mut scratch,
+            );
             if let Some(outcome) = note.outcome() {
-                return (program, outcome, accesses);
+                return (outcome, accesses);
             }
         }
     }

@@ -9,6 +9,7 @@ pub mod Counting
 pub mod Stepping
 pub mod Accesses
 pub mod Beginning
+pub mod Ahead
 pub mod Sound
 pub mod Seats
 pub mod NameLaw

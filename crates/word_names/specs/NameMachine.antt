@@ -1,5 +1,5 @@
 -- the renaming machine over a grid, as a machine of programs over words and records
-use Rattle.std.specs.Prelude.{◌≡◌, ℕ, ◌+◌, ◌*◌, ◌<◌, ◌≤◌, ◌==◌, ◌⊎◌, Bool, true, false, if◌then◌else◌, is_some, List, [], ◌∷◌, length, Option, Some, None, Result, Ok, Err}
+use Rattle.std.specs.Prelude.{◌≡◌, ℕ, ◌+◌, ◌-◌, ◌*◌, ◌<◌, ◌≤◌, ◌==◌, ◌⊎◌, Bool, true, false, if◌then◌else◌, is_some, List, [], ◌∷◌, length, Option, Some, None, Result, Ok, Err}
 use Rattle.step_memory.specs.declared.participant.Participant.{Participant}
 use Rattle.step_memory.specs.declared.refusal.Refusal.{Refusal}
 use Rattle.step_memory.specs.Calls.{Call, outcome_in, first_of, steps_of, begun_in}
@@ -9,7 +9,8 @@ use Rattle.step_memory.specs.Participant.{participant_of}
 use Rattle.step_memory.specs.Steps.{ProgramSteps}
 use Rattle.commands.specs.declared.kind.WorldKind.TheVariants as kind
 use Rattle.snapshot_core.specs.declared.client.Client.{Client}
-use Rattle.snapshot_core.specs.declared.client.Pending.TheVariants.{Placing as OnWay, Scan as Scans, Update, Write as Writing}
+use Rattle.snapshot_core.specs.declared.client.Pending.{Pending}
+use Rattle.snapshot_core.specs.declared.client.Pending.TheVariants.{Nothing, Placing as OnWay, Scan as Scans, Update, Write as Writing}
 use Rattle.snapshot_core.specs.Client.{client_at}
 use Rattle.snapshot_core.specs.SnapWorld.{clients_over, ways_of}
 use Rattle.snapshot_places.specs.declared.grid_register.GridRegister.{GridRegister}
@@ -165,6 +166,21 @@ abbrev pub place_for : Size → GridRegister → ℕ
 place_for size (Door r) = r
 place_for size (Segment place) = size.most * (size.most + 1) + place
 
+-- the reads of a walk before its last
+abbrev pub reads_in : GridWalk → ℕ
+reads_in k = k.most - (k.at + 1)
+
+abbrev pub ahead_in : Pending → GridWalk → ℕ
+ahead_in Nothing k = 0
+ahead_in OnWay k = 0
+ahead_in Scans k = reads_in k
+ahead_in (Update n) k = reads_in k
+ahead_in (Writing n view) k = 0
+
+-- those of a collect under way
+abbrev pub reads_ahead : Naming → ℕ
+reads_ahead x = ahead_in x.client.pending x.client.scan.walk
+
 abbrev pub names_law : WordLaw Naming GridRegister GridValue (Option ℕ)
 names_law = record {
   State = World;
@@ -191,4 +207,6 @@ names_law = record {
   encode = spelled_by;
   decode = value_in;
   Fits = Fits;
+  ahead = reads_ahead;
+  head = 4;
 }

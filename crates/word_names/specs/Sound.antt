@@ -32,6 +32,7 @@ use Rattle.word_machine.specs.WordLaw.{IsSound, IsOnce, IsFresh, IsOwnAccess, Go
 use Rattle.word_names.specs.Renamers.{note_of, resumed_on}
 use Rattle.word_names.specs.NameMachine.{World, Walking, Naming, MayStart, IsKnown, IsRegister, names_machine, names_law, naming_steps, naming_of, naming_at, naming_from, start_of, place_for, outcome_of, outcome_by, is_proposal, proposals_of, proposals_by}
 use Rattle.word_names.specs.Spelled.{spelled, long}
+use Rattle.word_names.specs.Ahead.{goes_ahead}
 use Rattle.word_names.specs.Stepping.{ends_so, step, follow, new, call, known_step}
 use Rattle.word_names.specs.Accesses.{served_own, served_answer, served_wrote, served_at, records_at, IsServed}
 use Rattle.word_names.specs.Beginning as beginning
@@ -244,6 +245,9 @@ names_sound = record {
   bounded = λ size may. few_accesses size.most may.few;
   short = omega arith;
   some_long = omega arith;
-  long = λ v fits. long v;
+  short_head = omega arith;
+  within_head = omega arith;
+  long = long;
   spelled = spelled;
+  goes_ahead = goes_ahead;
 }

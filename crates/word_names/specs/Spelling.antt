@@ -1,6 +1,6 @@
--- how words spell what stands in the registers of a grid with segments. A door's word says itself. A record is spelled by 132 words: what
--- it is and how long its view, its identity, value and number, and then the identities and the values of its view
-use Rattle.std.specs.Prelude.{ℕ, zero, suc, ◌+◌, ◌-◌, ◌%◌, ◌<◌, ◌≤◌, ◌==◌, nat_lt, if◌then◌else◌, List, [], length, slice_index, Option, Some, None}
+-- how words spell what stands in the registers of a grid with segments. A door's word says itself. A record is spelled by at most 132
+-- words: what it is and how long its view, its identity, value and number, and then the pairs of its view, an identity and its value each
+use Rattle.std.specs.Prelude.{ℕ, zero, suc, ◌+◌, ◌-◌, ◌*◌, ◌/◌, ◌%◌, ◌<◌, ◌≤◌, ◌==◌, nat_lt, if◌then◌else◌, List, [], length, slice_index, Option, Some, None}
 use Rattle.std.proofs.Common.{get_or}
 use Rattle.step_memory.specs.declared.record.Record.{Record}
 use Rattle.step_memory.specs.View.{inserted, IsRising}
@@ -19,8 +19,8 @@ record_word r i =
     else if i == 1 then r.identity
     else if i == 2 then r.value
     else if i == 3 then r.number
-    else if nat_lt i 68 then (get_or r.view (i - 4) (0, 0)).0
-    else (get_or r.view (i - 68) (0, 0)).1
+    else if i % 2 == 0 then (get_or r.view ((i - 4) / 2) (0, 0)).0
+    else (get_or r.view ((i - 4) / 2) (0, 0)).1
 
 abbrev pub contents_word : Option Record → ℕ → ℕ
 contents_word None i = 0
@@ -30,13 +30,19 @@ abbrev pub word_at : GridValue → ℕ → ℕ
 word_at (Word word) i = if i == 0 then 100 else if i == 2 then word else 0
 word_at (Contents segment) i = contents_word segment i
 
+-- how many words spell it
+abbrev pub words_of : GridValue → ℕ
+words_of (Word word) = 3
+words_of (Contents None) = 1
+words_of (Contents (Some r)) = 4 + 2 * length r.view
+
 abbrev pub spelled_by : GridValue → List ℕ
-spelled_by v = row (word_at v) 132
+spelled_by v = row (word_at v) (words_of v)
 
 -- so many pairs of a view, from this one on
 abbrev pub pairs_in : List ℕ → ℕ → ℕ → List (ℕ × ℕ)
 pairs_in words at zero = []
-pairs_in words at (suc n) = inserted (pairs_in words (at + 1) n) (slice_index words (4 + at), slice_index words (68 + at))
+pairs_in words at (suc n) = inserted (pairs_in words (at + 1) n) (slice_index words (4 + 2 * at), slice_index words (5 + 2 * at))
 
 abbrev pub pairs_of : ℕ → ℕ
 pairs_of kind = if nat_lt (kind - 1) 64 then kind - 1 else 64

@@ -1,22 +1,25 @@
 //! The registers of a grid with segments as words and records, and how words spell what stands in them.
 
-ghost use Rattle.std.specs.Prelude.{◌≡◌, ◌≤◌, ◌<◌, ◌+◌, ◌*◌, length, slice_index, if◌then◌else◌};
+ghost use Rattle.std.specs.Prelude.{◌≡◌, ◌≤◌, ◌<◌, ◌+◌, ◌*◌, length, slice_index, if◌then◌else◌, true, false, None};
 ghost use Rattle.std.proofs.Common.{get_or};
 ghost use Rattle.word_machine.specs.declared.size.Size.{Size};
-ghost use Rattle.word_names.specs.NameMachine.{names_law, place_for, is_door, naming_from, MayStart};
-ghost use Rattle.word_names.specs.Spelling.{record_word, contents_word, pairs_in, pairs_of, value_in, word_in, FitsRecord, FitsContents, Fits};
+ghost use Rattle.snapshot_places.specs.declared.grid_register.GridValue.TheVariants.{Contents};
+ghost use Rattle.word_machine.specs.WordLaw.{IsAfterHead, skipped};
+ghost use Rattle.word_names.specs.Ahead.{HasHead};
+ghost use Rattle.word_names.specs.NameMachine.{names_law, naming_steps, place_for, is_door, naming_from, reads_in, reads_ahead, MayStart};
+ghost use Rattle.word_names.specs.Spelling.{record_word, contents_word, pairs_in, pairs_of, value_in, word_in, FitsRecord, Fits};
 ghost use Rattle.word_names.specs.Sound.{names_sound};
 
 use crate::renamer::Renamer;
 use rename_core::Round;
-use snapshot_core::Client;
+use snapshot_core::{Client, Pending};
 use snapshot_places::{GridRegister, GridValue, GridWalk, GridWalker};
 use splitter_grid::{Door, Walker};
 use step_memory::{Place, Record, Segment, View};
 use word_machine::{Size, WordProgram};
 
-/// How many words spell a record: what kind of value it is and how long its view, identity, value and number, and the view's
-/// identities and values.
+/// How many words spell a record at most: what kind of value it is and how long its view, identity, value and number, and the view's
+/// pairs of an identity and a value.
 const RECORD_WORDS: usize = 132;
 
 /// The first word of what is no record but the word of a door.
@@ -29,10 +32,18 @@ fn of_pairs(pairs: &[(u64, u64)], at: usize) -> (u64, u64)
     if at < pairs.len() { pairs[at] } else { (0, 0) }
 }
 
+/// How many words spell a record.
+fn words_of_record(written: &Record) -> usize
+    ensures count { result ≡ 4 + 2 * length written.now.view }
+    ensures fits { FitsRecord written.now }
+{
+    let _number = written.number;
+    4 + 2 * written.view.pairs().len()
+}
+
 /// One of the words that spell a record.
 fn spell_record(written: &Record, at: usize) -> u64
-    ensures word { result ≡ record_word written.now at }
-    ensures fits { FitsRecord written.now }
+    ensures { result ≡ record_word written.now at }
 {
     let number = written.number;
     let pairs = written.view.pairs();
@@ -44,17 +55,16 @@ fn spell_record(written: &Record, at: usize) -> u64
         written.value
     } else if at == 3 {
         number as u64
-    } else if at < 68 {
-        of_pairs(pairs, at - 4).0
+    } else if at % 2 == 0 {
+        of_pairs(pairs, (at - 4) / 2).0
     } else {
-        of_pairs(pairs, at - 68).1
+        of_pairs(pairs, (at - 4) / 2).1
     }
 }
 
 /// One of the words that spell what stands in a segment.
 fn spell_segment(segment: &Segment, at: usize) -> u64
-    ensures word { result ≡ contents_word segment.now at }
-    ensures fits { FitsContents segment.now }
+    ensures { result ≡ contents_word segment.now at }
 {
     match segment {
         None => 0,
@@ -85,9 +95,36 @@ fn read_view(words: &[u64], pairs: usize) -> View
     let mut at = pairs;
     while 0 < at {
         at -= 1;
-        view.insert(words[4 + at], words[68 + at]);
+        view.insert(words[4 + 2 * at], words[5 + 2 * at]);
     }
     view
+}
+
+/// How many segments a walk reads before its last.
+fn count_ahead(walk: GridWalk) -> usize
+    ensures { result ≤ reads_in walk }
+{
+    if walk.most <= walk.at {
+        return 0;
+    }
+    let left = walk.most - walk.at - 1;
+    if left < 1000 { left as usize } else { 0 }
+}
+
+/// Puts what the first words of a record say into a record, which keeps its view. False if the value is none.
+fn put_head(head: &[u64], scratch: &mut GridValue) -> bool
+    requires { length head.now ≡ 4 }
+    ensures { result ≡ true → HasHead head.now scratch.new }
+{
+    match scratch {
+        GridValue::Contents(Some(record)) => {
+            record.identity = head[1];
+            record.value = head[2];
+            record.number = (head[3] % 4_294_967_296) as u32;
+            true
+        }
+        _ => false,
+    }
 }
 
 impl WordProgram for Renamer<GridWalker, GridWalk> {
@@ -163,10 +200,20 @@ impl WordProgram for Renamer<GridWalker, GridWalk> {
         RECORD_WORDS
     }
 
-    fn spell(value: &GridValue, at: usize) -> u64
-        requires { at < 132 }
-        ensures word { result ≡ slice_index (names_law.encode value.now) at }
+    fn spelled_by(value: &GridValue) -> usize
+        ensures count { result ≡ length (names_law.encode value.now) }
         ensures fits { Fits value.now }
+    {
+        match value {
+            GridValue::Word(_) => 3,
+            GridValue::Contents(None) => 1,
+            GridValue::Contents(Some(record)) => words_of_record(record),
+        }
+    }
+
+    fn spell(value: &GridValue, at: usize) -> u64
+        requires { at < length (names_law.encode value.now) }
+        ensures { result ≡ slice_index (names_law.encode value.now) at }
     {
         match value {
             GridValue::Word(word) => {
@@ -198,6 +245,58 @@ impl WordProgram for Renamer<GridWalker, GridWalk> {
             number: (words[3] % 4_294_967_296) as u32,
             view: read_view(words, pairs_spelled(words[0])),
         }))
+    }
+
+    fn ahead(&self) -> usize
+        ensures { result ≤ reads_ahead self.now }
+    {
+        match self.client.pending {
+            Pending::Scan | Pending::Update(_) => count_ahead(self.client.scan.walk),
+            Pending::Nothing => 0,
+            Pending::Placing => 0,
+            Pending::Write(_, _) => 0,
+        }
+    }
+
+    fn skip(&mut self, count: usize)
+        requires { count ≤ reads_ahead self.old }
+        ensures { self.new ≡ skipped naming_steps (Contents None) self.old count }
+    {
+        self.client.scan.walk.at += count as Place;
+    }
+
+    fn head() -> usize {
+        4
+    }
+
+    fn scratch() -> GridValue {
+        GridValue::Contents(Some(Record {
+            identity: 0,
+            value: 0,
+            number: 0,
+            view: View::new(),
+        }))
+    }
+
+    fn read_head(&mut self, head: &[u64], scratch: &mut GridValue) -> bool
+        requires { length head.now ≡ 4 }
+        ensures after { result ≡ true → IsAfterHead naming_steps names_law self.old head.now self.new }
+        ensures kept { result ≡ false → self.new ≡ self.old }
+    {
+        if head[0] == 0 || head[0] == DOOR_WORD {
+            return false;
+        }
+        if !put_head(head, scratch) {
+            return false;
+        }
+        match self.client.pending {
+            Pending::Scan | Pending::Update(_) => {
+                self.client.scan.read_on(scratch, self.client.walk)
+            }
+            Pending::Nothing => false,
+            Pending::Placing => false,
+            Pending::Write(_, _) => false,
+        }
     }
 
     ghost sound = { names_sound };

@@ -1,4 +1,4 @@
-use Rattle.std.proofs.Common.{◌-◌, ◌+◌, arith, ap, ◌∙◌, length, slice_index}
+use Rattle.std.proofs.Common.{◌-◌, ◌+◌, ◌*◌, arith, ap, ◌∙◌, length, slice_index}
 use Rattle.step_memory.specs.View.{inserted}
 use Rattle.step_memory.proofs.ViewLemmas.{length-inserted}
 use Rattle.word_names.specs.Spelled.{pairs_more}
@@ -8,7 +8,7 @@ pub loop-at-preserved : goal.loop-at-preserved
 loop-at-preserved c =
     let words = c.args.words.now in
     let k = c.loop-at.at - 1 in
-    let more = length-inserted c.loop-at.view (slice_index words (4 + k), slice_index words (68 + k)) in
+    let more = length-inserted c.loop-at.view (slice_index words (4 + 2 * k), slice_index words (5 + 2 * k)) in
     let some = c.loop-at-test.true in
     let inside = c.loop-at.invariant.inside in
     let room = c.loop-at.invariant.room in
@@ -16,5 +16,5 @@ loop-at-preserved c =
     record {
       inside = omega arith;
       room = omega arith;
-      read = c.insert.ensures ∙ ap (λ v. inserted v (slice_index words (4 + k), slice_index words (68 + k))) c.loop-at.invariant.read ∙ pairs_more words c.loop-at.at c.args.pairs (omega arith) inside;
+      read = c.insert.ensures ∙ ap (λ v. inserted v (slice_index words (4 + 2 * k), slice_index words (5 + 2 * k))) c.loop-at.invariant.read ∙ pairs_more words c.loop-at.at c.args.pairs (omega arith) inside;
     }

@@ -24,7 +24,6 @@ pub loop-i-init : goal.loop-i-init
 loop-i-init g c = record {
   ours = c.requires.ours;
   few = omega arith;
-  fits = λ l. absurd (omega arith);
   me_is = unprepared g.P.StepProgram.steps g.P.WordProgram.law g.met.P.WordProgram.sound _ c.args.self.now.size refl c.args.number c.args.written c.args.program.now c.args.seat.now.me c.requires.before;
 }
 
@@ -34,12 +33,13 @@ store-requires g c =
     let size : c.self.inside.size ≡ c.args.self.now.size = ap (λ (w : WordsId). w.size) c.self.view_is in
     let room = c.requires.before.room _ _ c.requires.writes c.requires.record in
     let own = own_slot law c.self.inside.size c.args.self.now.size size g.met.P.WordProgram.sound.some_long (g.met.P.WordProgram.sound.small c.self.inside.size c.self.invariant.1) c.args.number c.args.written c.requires.range room in
-    let long = g.met.P.WordProgram.sound.long c.args.value.now c.spell.ensures.fits in
+    let many = c.spelled_by-long.ensures.count in
+    let long = g.met.P.WordProgram.sound.long c.args.value.now c.spelled_by-long.ensures.fits in
     let len = c.self.invariant.4 in
     let test = c.loop-i-test.true in
     let taken : length (take c.loop-i.i (law.encode c.args.value.now)) ≡ c.loop-i.i = length-take-le c.loop-i.i (law.encode c.args.value.now) (omega arith) in (
       c.loop-i.invariant.ours ∙ ap (λ (w : WordsId). w.table) (sym c.self.view_is),
-      word_inside law c.self.inside.size _ _ _ c.self.invariant.3 c.self.invariant.4 c.self.invariant.5 (c.args.number * c.self.inside.size.limit + c.args.written) c.loop-i.i own.0 c.loop-i-test.true,
+      word_inside law c.self.inside.size _ _ _ c.self.invariant.3 c.self.invariant.4 c.self.invariant.5 (c.args.number * c.self.inside.size.limit + c.args.written) c.loop-i.i own.0 (omega arith),
       may_store g.P.StepProgram.steps law g.met.P.WordProgram.sound _ c.args.self.now.size (sym size ∙ sym c.self.invariant.2) c.args.number c.args.written c.args.program.now c.args.seat.now.me c.requires.before _ _ (step 0 0 0 0 none) (take c.loop-i.i (law.encode c.args.value.now)) c.loop-i.seat.me _ _ c.loop-i.invariant.me_is
           (word_is law c.self.inside.size _ _ 0 c.self.invariant.3 c.self.invariant.4 (c.args.number * c.self.inside.size.limit + c.args.written) c.loop-i.i ∙ ap (λ (k : Size). slot_start law k (slot_of law k c.args.number c.args.written) + c.loop-i.i) size ∙ ap (λ (k : ℕ). slot_start law c.args.self.now.size (slot_of law c.args.self.now.size c.args.number c.args.written) + k) (sym taken))
           room (omega arith),
@@ -48,15 +48,15 @@ store-requires g c =
 pub loop-i-preserved : goal.loop-i-preserved
 loop-i-preserved g c =
     let law = g.P.WordProgram.law in
-    let long = g.met.P.WordProgram.sound.long c.args.value.now c.spell.ensures.fits in
+    let many = c.spelled_by-long.ensures.count in
+    let long = g.met.P.WordProgram.sound.long c.args.value.now c.spelled_by-long.ensures.fits in
     let len = c.self.invariant.4 in
     let test = c.loop-i-test.true in
     let next = stored g.P.StepProgram.steps law g.met.P.WordProgram.sound _ c.args.self.now.size refl c.args.number c.args.written c.args.program.now c.args.seat.now.me c.requires.before (step 0 0 0 0 none) (take c.loop-i.i (law.encode c.args.value.now)) c.spell.result c.loop-i.seat.me c.store.new.seat.me c.loop-i.invariant.me_is c.store.ensures.2 in
     record {
       ours = c.store.ensures.0 ∙ c.loop-i.invariant.ours;
       few = omega arith;
-      fits = λ _. c.spell.ensures.fits;
-      me_is = next ∙ ap (λ xs. prepared xs c.args.seat.now.me) (ap (λ x. take c.loop-i.i (law.encode c.args.value.now) ++ x ∷ []) c.spell.ensures.word ∙ sym (take_at_read (law.encode c.args.value.now) c.loop-i.i 0 (omega arith)).1);
+      me_is = next ∙ ap (λ xs. prepared xs c.args.seat.now.me) (ap (λ x. take c.loop-i.i (law.encode c.args.value.now) ++ x ∷ []) c.spell.ensures ∙ sym (take_at_read (law.encode c.args.value.now) c.loop-i.i 0 (omega arith)).1);
     }
 
 pub overflow_add-slot-2 : goal.overflow_add-slot-2
@@ -76,8 +76,8 @@ store-requires-2 g c =
     let upto = c.loop-i.invariant.few in
     let len = c.self.invariant.4 in
     let some_long = g.met.P.WordProgram.sound.some_long in
-    let fits = c.loop-i.invariant.fits (omega arith) in
-    let long = g.met.P.WordProgram.sound.long c.args.value.now fits in
+    let fits = c.spelled_by-long.ensures.fits in
+    let many = c.spelled_by-long.ensures.count in
     let low = g.met.P.WordProgram.sound.within c.self.inside.size c.args.register (subst (λ (n : Size). law.IsRegister n c.args.register) (sym size) there) in
     let at = c.place-at.ensures in
     let all = c.self.invariant.5 in (

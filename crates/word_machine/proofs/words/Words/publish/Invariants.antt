@@ -1,14 +1,13 @@
-use Rattle.std.proofs.Common.{◌-◌, ◌≡◌, ◌≤◌, ◌<◌, take}
+use Rattle.std.proofs.Common.{◌-◌, ◌≡◌, ◌≤◌, take}
 use Rattle.word_machine.proofs.Common.{prepared}
 use Rattle.word_machine.proofs.words.Words.publish.Given as goal
 
 abbrev pub invariant-loop-i : goal.invariant-loop-i
 invariant-loop-i g l = record {
   ours : l.seat.table_id ≡ l.self.table;
-  few : l.i ≤ l.self-inside.length;
-  fits : 0 < l.i → g.P.WordProgram.law.Fits l.value;
+  few : l.i ≤ l.long;
   me_is : l.seat.me ≡ prepared (take l.i (g.P.WordProgram.law.encode l.value)) l.fn.seat.me;
 }
 
 abbrev pub decreases-loop-i : goal.decreases-loop-i
-decreases-loop-i g l = l.self-inside.length - l.i
+decreases-loop-i g l = l.long - l.i

@@ -1,20 +1,25 @@
 use Rattle.std.proofs.Common.{ap, sym, refl, subst, ◌≡◌, ◌≤◌, ◌+◌, ◌∙◌, arith}
 use Rattle.word_machine.proofs.Common.{WordsId, own, Me, accesses_in}
-use Rattle.word_machine.proofs.Running.{begins, few, smaller, goes_on, has_ended, still_on, ended_with}
+use Rattle.word_machine.proofs.Running.{begins, few, goes_on, has_ended, still_on, ended_with}
 use Rattle.word_machine.proofs.words.Words.run.Goals as goal
 
 pub loop-outcome-init : goal.loop-outcome-init
 loop-outcome-init g c = record {
   ours = c.requires.ours;
-  stands = begins g.P.StepProgram.steps g.P.WordProgram.law g.met.P.WordProgram.sound _ _ _ _ (subst (λ (w : WordsId). 1 ≤ w.size.most) c.self.view_is c.self.invariant.0) (subst (λ (w : WordsId). g.P.WordProgram.law.MayStart w.size) c.self.view_is c.self.invariant.1) c.requires.range (c.start-program.ensures ∙ ap (λ (w : WordsId). g.P.WordProgram.law.start w.size (own c.args.number)) c.self.view_is) c.requires.fresh;
+  stands = begins g.P.StepProgram.steps g.P.WordProgram.law g.met.P.WordProgram.sound _ _ _ _ (subst (λ (w : WordsId). 1 ≤ w.size.most) c.self.view_is c.self.invariant.0) (subst (λ (w : WordsId). g.P.WordProgram.law.MayStart w.size) c.self.view_is c.self.invariant.1) c.requires.range c.requires.program c.requires.fresh;
   counted = sym (ap accesses_in c.requires.fresh);
+  few = omega arith;
 }
 
 pub loop-outcome-preserved : goal.loop-outcome-preserved
 loop-outcome-preserved g c =
     let none = sym c.outcome.ensures ∙ c.in_default.is in
+    let come = c.step_ahead-note.ensures.after.stepped in
+    let counted = c.step_ahead-note.ensures.counted in
+    let bound = few g.P.StepProgram.steps g.P.WordProgram.law g.met.P.WordProgram.sound _ _ _ _ _ _ _ come in
     record {
-      ours = c.step-note.ensures.ours;
-      stands = goes_on g.P.StepProgram.steps g.P.WordProgram.law g.met.P.WordProgram.sound _ _ _ _ _ _ _ c.step-note.ensures.after (still_on _ none) none;
-      counted = (let before = c.loop-outcome.invariant.counted in let one = c.step-note.ensures.after.one_more in omega arith);
+      ours = c.step_ahead-note.ensures.ours;
+      stands = goes_on g.P.StepProgram.steps g.P.WordProgram.law g.met.P.WordProgram.sound _ _ _ _ _ _ _ come (still_on _ none) none;
+      counted = counted;
+      few = omega arith;
     }

@@ -1,4 +1,4 @@
-use Rattle.std.proofs.Common.{◌≡◌, ◌-◌, ℕ, []}
+use Rattle.std.proofs.Common.{◌≡◌, ◌≤◌, ◌-◌, ℕ, []}
 use Rattle.word_machine.proofs.Common.{Stands, accesses_in}
 use Rattle.word_machine.proofs.words.Words.run.Given as goal
 
@@ -7,6 +7,7 @@ invariant-loop-outcome g l = record {
   ours : l.seat.table_id ≡ l.self.table;
   stands : Stands g.P.StepProgram.steps g.P.WordProgram.law {S = ℕ} l.self.size l.number l.written l.program [] l.seat.me;
   counted : l.accesses ≡ accesses_in l.seat.me;
+  few : l.accesses ≤ g.P.WordProgram.law.bound l.self.size;
 }
 
 abbrev pub decreases-loop-outcome : goal.decreases-loop-outcome

@@ -1,0 +1,151 @@
+-- the reads that a collect makes of segments that nobody wrote, and what the first words of a record say to a scan
+use Rattle.std.proofs.Common.{◌≡◌, ◌≢◌, ℕ, zero, suc, ◌+◌, ◌-◌, ◌*◌, ◌%◌, ◌<◌, ◌≤◌, ◌⊎◌, nat_lt, nat_le, Bool, true, false, List, [], ◌∷◌, ◌++◌, length, slice_index, Option, Some, None, inl, inr, refl, sym, ap, subst, ◌∙◌, arith}
+use Rattle.std.proofs.lemmas.Bool.{cases_Bool}
+use Rattle.std.proofs.lemmas.Bool.Decides.{nat_tests}
+use Rattle.std.proofs.lemmas.List.{get_or_append_left}
+use Rattle.step_memory.specs.declared.access.Access.TheVariants.{Read}
+use Rattle.step_memory.specs.declared.access.Answer.TheVariants.{Value}
+use Rattle.step_memory.specs.declared.note.Note.TheVariants.{Quiet}
+use Rattle.step_memory.specs.declared.record.Record.{Record}
+use Rattle.snapshot_core.specs.declared.client.Pending.{Pending}
+use Rattle.snapshot_core.specs.declared.client.Pending.TheVariants.{Nothing, Placing as OnWay, Scan as Scans, Update, Write as Writing}
+use Rattle.snapshot_core.specs.declared.scan.Scan.{Scan}
+use Rattle.snapshot_core.specs.declared.sightings.Met.{Met}
+use Rattle.snapshot_core.specs.Scan.{is_second_change, met_anew, goes_after, goes_view, scan_after, scan_view}
+use Rattle.snapshot_core.specs.Sightings.{met_in}
+use Rattle.snapshot_places.specs.declared.grid_register.GridValue.{GridValue}
+use Rattle.snapshot_places.specs.declared.grid_register.GridValue.TheVariants.{Contents}
+use Rattle.snapshot_places.specs.declared.grid_register.GridRegister.TheVariants.{Segment}
+use Rattle.snapshot_places.specs.declared.grid_walk.GridWalk.{GridWalk}
+use Rattle.snapshot_places.specs.Grid.{grid_walks}
+use Rattle.word_machine.specs.declared.size.Size.{Size}
+use Rattle.word_machine.specs.WordLaw.{skipped, GoesAhead, IsAfterHead}
+use Rattle.word_names.specs.NameMachine.{Naming, naming_steps, names_law, reads_in, ahead_in, reads_ahead}
+use Rattle.word_names.specs.Spelling.{record_in, value_in}
+use Rattle.word_names.specs.Spelled.{record_read}
+
+-- a collect is under way
+abbrev pub IsReading : Pending → Type 0
+IsReading Nothing = ⊥
+IsReading OnWay = ⊥
+IsReading Scans = Unit {0}
+IsReading (Update n) = Unit {0}
+IsReading (Writing n view) = ⊥
+
+-- one whose scan is this, and one whose collect has come to this place
+abbrev pub with_scan : Naming → Scan GridWalk → Naming
+with_scan x s = record { identity = x.identity; limit = x.limit; client = record x.client { scan = s }; round = x.round }
+
+abbrev pub scan_to : Scan GridWalk → ℕ → Scan GridWalk
+scan_to s at = record s { walk = record { at = at; most = s.walk.most } }
+
+abbrev pub moved_to : Naming → ℕ → Naming
+moved_to x at = with_scan x (scan_to x.client.scan at)
+
+-- a read that does not end its scan
+on_reading : (x : Naming) (p : Pending) → x.client.pending ≡ p → IsReading p → (v : GridValue) → scan_view grid_walks x.client.scan v ≡ None
+    → (naming_steps.resumed x (Value v) ≡ with_scan x (scan_after grid_walks x.client.scan v x.client.walk)) × (naming_steps.note x (Value v) ≡ Quiet)
+on_reading x Nothing is reading v none = absurd reading
+on_reading x OnWay is reading v none = absurd reading
+on_reading x Scans is reading v none = rw (is, none) (refl, refl)
+on_reading x (Update n) is reading v none = rw (is, none) (refl, refl)
+on_reading x (Writing n view) is reading v none = absurd reading
+
+next_is : (x : Naming) (p : Pending) → x.client.pending ≡ p → IsReading p → naming_steps.next x ≡ Read (Segment x.client.scan.walk.at)
+next_is x Nothing is reading = absurd reading
+next_is x OnWay is reading = absurd reading
+next_is x Scans is reading = rw is refl
+next_is x (Update n) is reading = rw is refl
+next_is x (Writing n view) is reading = absurd reading
+
+-- a read of a segment that nobody wrote, which is not the last of its collect
+on_scan : (s : Scan GridWalk) (walk : GridWalk) → s.walk.at + 1 < s.walk.most → (scan_after grid_walks s (Contents None) walk ≡ scan_to s (s.walk.at + 1)) × (scan_view grid_walks s (Contents None) ≡ None)
+on_scan s walk l =
+    let more : nat_lt s.walk.at s.walk.most ≡ true = grind (arith, nat_tests) in
+    let not_over : nat_le s.walk.most (s.walk.at + 1) ≡ false = grind (arith, nat_tests) in
+    rw (more, not_over) (refl, refl)
+
+on_one : (x : Naming) → IsReading x.client.pending → x.client.scan.walk.at + 1 < x.client.scan.walk.most → (naming_steps.resumed x (Value (Contents None)) ≡ moved_to x (x.client.scan.walk.at + 1)) × (naming_steps.note x (Value (Contents None)) ≡ Quiet)
+on_one x reading l =
+    let on = on_scan x.client.scan x.client.walk l in
+    let read = on_reading x x.client.pending refl reading (Contents None) on.1 in
+    (read.0 ∙ ap (with_scan x) on.0, read.1)
+
+-- reads are ahead only of one that reads
+reading_of : (p : Pending) (k : GridWalk) (i : ℕ) → i < ahead_in p k → IsReading p × (i < reads_in k)
+reading_of Nothing k i l = absurd (omega arith)
+reading_of OnWay k i l = absurd (omega arith)
+reading_of Scans k i l = (tt, l)
+reading_of (Update n) k i l = (tt, l)
+reading_of (Writing n view) k i l = absurd (omega arith)
+
+-- so many reads leave the walk before its end
+pub walk_fits : (p : Pending) (k : GridWalk) (n : ℕ) → n ≤ ahead_in p k → (n ≡ 0) ⊎ (k.at + n < k.most)
+walk_fits p k zero l = inl refl
+walk_fits p k (suc n) l = let low = (reading_of p k n (omega arith)).1 in inr (omega arith)
+
+pub skipped_is : (x : Naming) (n : ℕ) → n ≤ reads_ahead x → skipped naming_steps (Contents None) x n ≡ moved_to x (x.client.scan.walk.at + n)
+skipped_is x zero l = sym (ap (moved_to x) (let none : x.client.scan.walk.at + 0 ≡ x.client.scan.walk.at = omega arith in none))
+skipped_is x (suc n) l =
+    let before = skipped_is x n (omega arith) in
+    let reading = reading_of x.client.pending x.client.scan.walk n (omega arith) in
+    let low = reading.1 in
+    let one = on_one (moved_to x (x.client.scan.walk.at + n)) reading.0 (omega arith) in
+    ap (λ (y : Naming). naming_steps.resumed y (Value (Contents None))) before ∙ one.0 ∙ ap (moved_to x) (let next : x.client.scan.walk.at + n + 1 ≡ x.client.scan.walk.at + suc n = omega arith in next)
+
+pub goes_ahead : (size : Size) (x : Naming) → GoesAhead naming_steps names_law size x
+goes_ahead size x = record {
+  register = λ i. Segment (x.client.scan.walk.at + i);
+  reads = λ i low. (let reading = reading_of x.client.pending x.client.scan.walk i low in ap naming_steps.next (skipped_is x i (omega arith)) ∙ next_is (moved_to x (x.client.scan.walk.at + i)) x.client.pending refl reading.0);
+  holds_record = λ i low. refl;
+  place = λ i low. omega arith;
+  quiet = λ i low. (let reading = reading_of x.client.pending x.client.scan.walk i low in let inside = reading.1 in
+      ap (λ (y : Naming). naming_steps.note y (Value (Contents None))) (skipped_is x i (omega arith)) ∙ (on_one (moved_to x (x.client.scan.walk.at + i)) reading.0 (omega arith)).1);
+}
+
+-- a scan that met this, and goes on
+abbrev anew : Scan GridWalk → Met → Scan GridWalk
+anew s m = met_anew s s.walk.at (record { identity = m.identity; value = m.value; number = m.number; view = [] })
+
+abbrev after_met : Scan GridWalk → GridWalk → Met → Scan GridWalk
+after_met s walk m = goes_after grid_walks None (anew s m) (Contents None) walk
+
+abbrev view_met : Scan GridWalk → Met → Option (List (ℕ × ℕ))
+view_met s m = goes_view grid_walks None (anew s m) (Contents None)
+
+by_met : (s : Scan GridWalk) (walk : GridWalk) (r : Record) → is_second_change s s.walk.at r ≡ false → (scan_after grid_walks s (Contents (Some r)) walk ≡ after_met s walk (met_in r)) × (scan_view grid_walks s (Contents (Some r)) ≡ view_met s (met_in r))
+by_met s walk r first = rw first (refl, refl)
+
+first_change : (s : Scan GridWalk) (r : Record) → scan_view grid_walks s (Contents (Some r)) ≡ None → is_second_change s s.walk.at r ≡ false
+first_change s r none = elim (cases_Bool (is_second_change s s.walk.at r)) [
+  | inl e ↦ absurd (let view : scan_view grid_walks s (Contents (Some r)) ≡ Some r.view = rw e refl in cc)
+  | inr e ↦ e
+]
+
+-- a scan that goes on makes the same of two records of which it keeps the same
+same_met : (s : Scan GridWalk) (walk : GridWalk) (f r : Record) → met_in f ≡ met_in r → scan_view grid_walks s (Contents (Some f)) ≡ None
+    → (scan_after grid_walks s (Contents (Some f)) walk ≡ scan_after grid_walks s (Contents (Some r)) walk) × (scan_view grid_walks s (Contents (Some r)) ≡ None)
+same_met s walk f r same none =
+    let first = first_change s f none in
+    let other : is_second_change s s.walk.at r ≡ false = sym (ap (λ (m : Met). is_second_change s s.walk.at (record { identity = m.identity; value = m.value; number = m.number; view = [] })) same) ∙ first in
+    let one = by_met s walk f first in
+    let two = by_met s walk r other in
+    (one.0 ∙ ap (after_met s walk) same ∙ sym two.0, two.1 ∙ sym (ap (view_met s) same) ∙ sym one.1 ∙ none)
+
+-- a value is a record of which these are the first words
+abbrev pub HasHead : List ℕ → GridValue → Type 0
+HasHead head v = (view : List (ℕ × ℕ)) × (v ≡ Contents (Some (record { identity = slice_index head 1; value = slice_index head 2; number = slice_index head 3 % 4294967296; view = view })))
+
+pub after_head : (x : Naming) (p : Pending) → x.client.pending ≡ p → IsReading p → (head : List ℕ) → length head ≡ 4 → slice_index head 0 ≢ 0 → slice_index head 0 ≢ 100 → (v : GridValue) → HasHead head v → scan_view grid_walks x.client.scan v ≡ None
+    → IsAfterHead naming_steps names_law x head (with_scan x (scan_after grid_walks x.client.scan v x.client.walk))
+after_head x p is reading head long kind door v has none rest =
+    let f : Record = record { identity = slice_index head 1; value = slice_index head 2; number = slice_index head 3 % 4294967296; view = has.0 } in
+    let at : (i : ℕ) → i < 4 → slice_index (head ++ rest) i ≡ slice_index head i = (λ i l. get_or_append_left head rest 0 i (omega arith)) in
+    let r : Record = record_in (head ++ rest) in
+    let kind_is = at 0 (omega arith) in
+    let says : Contents (Some r) ≡ value_in (head ++ rest) = record_read (head ++ rest) (λ e. kind (sym kind_is ∙ e)) (λ e. door (sym kind_is ∙ e)) r refl in
+    let same : met_in f ≡ met_in r = (λ i. record { identity = sym (at 1 (omega arith)) i; value = sym (at 2 (omega arith)) i; number = sym (at 3 (omega arith)) i % 4294967296 }) in
+    let met = same_met x.client.scan x.client.walk f r same (sym (ap (scan_view grid_walks x.client.scan) has.1) ∙ none) in
+    let read = on_reading x p is reading (Contents (Some r)) met.1 in
+    (ap (λ (w : GridValue). with_scan x (scan_after grid_walks x.client.scan w x.client.walk)) has.1 ∙ ap (with_scan x) met.0 ∙ sym read.0 ∙ ap (λ (w : GridValue). naming_steps.resumed x (Value w)) says,
+    sym (ap (λ (w : GridValue). naming_steps.note x (Value w)) says) ∙ read.1)
