@@ -70,7 +70,7 @@ HasName p r = (n : ℕ) × WasNamed p n r
 abbrev pub IsNamedWithin : ℕ → ℕ → List Exchange → List Exchange → Type 0
 IsNamedWithin most p before more = HasName p (before ++ more) ⊎ ((WasSpent p (before ++ more) → ⊥) × (steps_of p more < most))
 
--- cut each run in two at any point. A participant that has two proposals left there, and then runs solo, is named by
+-- cut each run in two at any point. A participant that has two proposals left there, and then runs solo, is named at
 -- its `steps_alone`-th step after the cut, or earlier
 abbrev pub NamesSoonAlone : Type 0
 NamesSoonAlone = (terms : RenameTerms) (bounds : SnapBounds) (size : ℕ) (before more : List Exchange) → IsDeskRun terms bounds size (before ++ more) →

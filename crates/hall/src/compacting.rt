@@ -82,7 +82,7 @@ fn rebuilt(alloc: Global, hall: &Hall) -> Result<Hall, Stuck>
 /// Returns a hall of the same config, with the same desk and fewer events.
 ///
 /// It has the events of renaming as they are. In place of those of the pool and the slots it has events that lead there
-/// from the start, at most some 150,000. That it has so few is only tested.
+/// from the start. Not proved: these are at most some 150,000.
 ///
 /// Returns `None` if the new hall would not have fewer events, or if an allocation failed. The time is linear in the
 /// length of the history.

@@ -163,7 +163,7 @@ impl Hall {
         self.held.desk.slots()
     }
 
-    /// Returns the reply that names the owner of a name, or `nobody` if no participant has it. This changes nothing.
+    /// Returns the owner of a name, or that no participant has it. This changes nothing.
     ///
     /// The reply is the refusal `OutOfRange` if the number is not from 1 to `2m - 1`, for m participants.
     pub fn owner(&self, number: u64) -> Reply<View>

@@ -11,7 +11,7 @@ use std::alloc::Allocator;
 use std::marker::Model;
 use step_memory::{NoMemory, View};
 
-/// Exchanges in order. Each takes 40 bytes, and those that show a view a kilobyte more.
+/// Exchanges in order. Each takes 40 bytes, and a kilobyte more if its reply shows a view or is of a rare kind.
 #[derive(Drop)]
 pub struct Log<A: Allocator> {
     entries: Vec<Entry, A>,

@@ -60,7 +60,7 @@ module _ {T : Type 0} (may : T → Request → ShownReply → T → Type 0) wher
   IsTurnOf w s Ended u s' = (u ≡ w) × (s' ≡ record s { over = true })
   IsTurnOf w s (Misread bad) u s' = (u ≡ w) × (s' ≡ s)
 
-  -- where this is written of each turn
+  -- each turn has this text
   module _ (text : Turn → List ℕ) where
     -- by these turns, which the service allows, it goes from w to u. Their text is appended to the replies, and this
     -- side of the transcript has read up to what follows

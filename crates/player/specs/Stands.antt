@@ -30,7 +30,7 @@ pub record IsSent (s : PlayerState) (old : Option (List ℕ)) (s' : PlayerState)
   pub kept : s' ≡ record s { replies = s'.replies }
 
 module _ {T : Type 0} (may : T → Request → ShownReply → T → Type 0) where
-  -- where this is written of each turn
+  -- each turn has this text
   module _ (text : Turn → List ℕ) where
     -- service and player have answered what p asks for, by turns that the service allows. The text of these turns is
     -- what the writer has gained, and then the replies that the player still holds

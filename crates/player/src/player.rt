@@ -47,7 +47,7 @@ impl<A: Allocator, F: Form> Model for Player<A, F> {
 }
 
 impl<A: Allocator + Clone, F: Form> Player<A, F> {
-    /// Makes a run that has read nothing. No other call of a player allocates.
+    /// Makes a run that has read nothing. Later calls allocate only what the service allocates.
     ///
     /// # Errors
     ///

@@ -47,7 +47,7 @@ impl<A: Allocator, F: Form> Model for Responder<A, F> {
 }
 
 impl<A: Allocator, F: Form> Responder<A, F> {
-    /// Makes a transcript without a turn. No other call allocates.
+    /// Makes a transcript without a turn. Later calls allocate only what the service allocates.
     ///
     /// # Errors
     ///

@@ -33,7 +33,7 @@ steps_alone bounds = bounds.placing bounds.most + 11 * bounds.collecting + 1
 abbrev pub IsNamedWithin : ℕ → RenameObject → ℕ → List (Call StepReply) → Type 0
 IsNamedWithin most now p more = (is_some (now.name p) ≡ true) ⊎ ((now.spent p ≡ false) × (steps_of p more < most))
 
--- cut these calls in two at any point. A participant that has two proposals left there, and then runs solo, is named by
+-- cut these calls in two at any point. A participant that has two proposals left there, and then runs solo, is named at
 -- its `steps_alone`-th step after the cut, or earlier
 abbrev pub IsNamedAlone : RenameTerms → SnapBounds → List (Call StepReply) → Type 0
 IsNamedAlone terms bounds r = (before more : List (Call StepReply)) (o now : RenameObject) (p : ℕ) → before ++ more ≡ r → IsRun terms before o → IsRun terms r now →

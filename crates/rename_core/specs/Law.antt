@@ -10,8 +10,9 @@ use Rattle.rename_core.specs.Alone.{IsNamedAlone}
 use Rattle.rename_core.specs.Ends.{EndsAmong}
 
 -- The replies are those of the renaming object, in order. No two participants have one name, and if b have begun, each
--- name is from 1 to 2b - 1. The replies to each identity are in their order, within their bounds. A participant in a
--- solo run is named within a bound, and rounds end, whatever the others do
+-- name is from 1 to 2b - 1. The replies to each identity are in their order, within their bounds. A participant with
+-- two proposals left that runs solo is named within a bound. Each is named or spent within a bound, whatever the others
+-- do
 pub record RenameSpec (terms : RenameTerms) (bounds : SnapBounds) (r : List (Call StepReply)) : Type 0 where
   pub object : RenameObject
   pub run : IsRun terms r object

@@ -42,7 +42,7 @@ pub record IsStepOf (bounds : SnapBounds) (t : Pace) (p : ℕ) (phase : Phase) :
   pub is : t.phase p ≡ phase
   pub within : t.steps p + 1 ≤ most_steps bounds t.begun phase
 
--- the reply ends what p does next. Where it goes on, steps are left: so nobody goes on for ever
+-- the reply ends what p does next. If that goes on, steps of it are left, so that it ends
 abbrev pub IsInTime : SnapBounds → Pace → ℕ → StepReply → Type 0
 IsInTime bounds t p Quiet = t.steps p + 1 < most_steps bounds t.begun (t.phase p)
 IsInTime bounds t p (Placed place) = IsStepOf bounds t p ToPlace

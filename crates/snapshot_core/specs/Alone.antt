@@ -23,8 +23,8 @@ module _ {S R V U K : Type 0} (t : KnownPlaces S R V U K) where
   abbrev pub most_reads : SnapState S U K → ℕ
   most_reads w = t.ties.reads w.most w.most
 
-  -- alone, a scan that has read nothing makes two collects; any other has at most one read less than three collects left.
-  -- An update writes once after its scan. Where someone has begun a collect has a read
+  -- In a solo run a scan that has read nothing makes two collects. Any other scan has at most one read less than three
+  -- collects left. An update writes once after its scan. If a participant has begun, a collect has a read
   pub record EndsSoon (w : SnapState S U K) (o : SnapObject) (p : ℕ) : Type 0 where
     pub some : o.task p ≢ Absent → 1 ≤ most_reads w
     pub new_scan : o.task p ≡ Scanning → o.steps p ≡ 0 → EndsAlone w p (2 * most_reads w)

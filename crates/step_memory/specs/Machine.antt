@@ -14,7 +14,7 @@ pub record Machine (Start State Call : Type 0) : Type 1 where
   pub IsReply : State → Call → Type 0
   -- the specification of lists of calls
   pub Spec : Start → List Call → Type 0
-  -- each call of the list returns the error that is due, and no other
+  -- each call of the list returns the error that is due, and no other, failed allocations aside
   pub RefusesAsDue : Start → List Call → Type 0
 
 module _ {Start State Call : Type 0} (machine : Machine Start State Call) where
@@ -43,7 +43,8 @@ module _ {Start State Call : Type 0} (machine : Machine Start State Call) where
   abbrev pub SatisfiesSpec : State → Type 0
   SatisfiesSpec w = OnEveryHistory machine.Spec w
 
-  -- each call that led to this state returned an error if and only if the calls before it make that error due
+  -- failed allocations aside, each call that led to this state returned an error if and only if the calls before it
+  -- make that error due
   abbrev pub RefusesWhereDue : State → Type 0
   RefusesWhereDue w = OnEveryHistory machine.RefusesAsDue w
 
