@@ -1,4 +1,12 @@
 //! How long calls took: how many took how long, how long all took together, and how long the last took.
+//!
+//! From `journal/src/file_disk.rt`:
+//!
+//! ```text
+//! times: DurationHistogram::new(),
+//! ..
+//! self.times.note(took);
+//! ```
 #![tactic(auto)]
 
 use std::time::Duration;

@@ -15,7 +15,7 @@
 //! ```text
 //! HostPlan {
 //!     config: hosting.config,
-//!     address: hosting.address,
+//!     listen: listen_plan_of(hosting.endpoints),
 //! ..
 //! host_hall(rt, alloc, host_plan_of(hosting, seen), output, errors)
 //! ```

@@ -1,6 +1,12 @@
 //! What a server listens on: a port of the network, a socket of the file system, and a port for whoever watches it.
 //!
 //! Nothing is promised of what the system does: that is shown by running it.
+//!
+//! From `hall_host/src/start.rt`:
+//!
+//! ```text
+//! let Listening { listeners, file } = listen(rt, alloc, plan.listen)?;
+//! ```
 #![tactic(auto)]
 
 pub mod fault;
