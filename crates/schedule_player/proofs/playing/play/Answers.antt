@@ -1,5 +1,5 @@
 -- What is played in a world of a kind is a transcript of the config's world.
-use Rattle.std.proofs.Common.{◌≡◌, sym, subst}
+use Rattle.std.proofs.Common.{inl, inr, sym, subst}
 use Rattle.player.specs.Played.{IsPlayedIn, reading, writing}
 use Rattle.commands.specs.declared.kind.WorldKind.{WorldKind}
 use Rattle.schedule_player.specs.IsTranscript.{IsTranscriptByKind}
