@@ -15,7 +15,7 @@ returns g c =
     record {
       answer = λ goes. c.with_in.ensures ∙ short.answer (made g s goes);
       state = λ goes. short.state (made g s goes);
-      unchanged_on_error = rw c.with_in.ensures (kept_short _ c.step_short-outcome.result c.step_short-outcome.new.view short.refused);
+      unchanged_on_error = rw c.with_in.ensures (kept_short _ c.step_short-outcome.result c.step_short-outcome.new.view short.unchanged_on_error);
       no_memory = λ e. short.no_memory (refused_short c.step_short-outcome.result c.step_short-outcome.new.view NoMemory (sym c.with_in.ensures ∙ e));
       after = rw c.with_in.ensures short.after;
       law = short.law;
