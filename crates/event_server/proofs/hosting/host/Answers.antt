@@ -15,7 +15,7 @@ into_iter-iterator-requires g c κs = λ within.
 
 pub loop-init : goal.loop-init
 loop-init g c = record {
-  room = c.in_ok-room.ensures;
+  room = c.in_ok-shared.ensures;
   served = served_none g.D.Service.may g.K.Persist.prefetches g.K.Persist.persists g.K.Persist.waits c.args.persister.now c.args.service.now;
 }
 
