@@ -11,7 +11,7 @@ returns-clause-dealt g c = λ _.
     let old = c.dealer.view_is in
     let last = c.in-Some.ensures.seat.1 in
     let long : c.dealt-dealt.result < length ids =
-    (let sized = c.dealer.reported in let low = c.in-Some.ensures.some.0 refl in let few = c.size-most.ensures.may.few in let most = ap (λ (z : Size). z.most) c.size-most.ensures.count in omega arith) in
+    (let sized = c.dealer.told in let low = c.in-Some.ensures.some.0 refl in let few = c.size-most.ensures.may.few in let most = ap (λ (z : Size). z.most) c.size-most.ensures.count in omega arith) in
     let words : c.deal.new.dealer.words ≡ c.args.self.now = c.in-Some.ensures.ours ∙ c.self.view_is in
     let dealt : c.deal.new.dealer.dealt ≡ c.args.dealer.now.dealt + 1 = last ∙ ap (λ (d : DealerId). d.dealt + 1) old in
     let known : take c.deal.new.dealer.dealt (slice_set ids c.dealt-dealt.result c.args.identity) ≡ c.args.dealer.now.known ++ c.args.identity ∷ [] =
