@@ -106,6 +106,13 @@ impl<A: Allocator> Buffers<A> {
         self.broken
     }
 
+    /// How many lines were taken.
+    pub fn lines(&self) -> u64
+        ensures { result ≡ self.now.responder.summary.lines }
+    {
+        self.responder.summary().lines
+    }
+
     /// Whether bytes that came wait to be taken.
     pub fn has_input(&self) -> bool
         ensures some { IsTrue result ↔ (0 < length self.now.inbox) }

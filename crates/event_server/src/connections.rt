@@ -7,11 +7,9 @@ use crate::connection::{Connection, Stage};
 use crate::socket::Socket;
 use commands::WorldKind;
 use mio::event::Event;
-use mio::net::TcpStream;
-use mio::{Interest, Poll, Token};
+use mio::{Poll, Token};
 use std::alloc::{AllocError, Global};
 use std::mem;
-use std::net::Shutdown;
 
 /// For so many clients at most room is taken at once, in lists that lie below all that clients make grow: so what those leave goes back to
 /// the system.
@@ -31,6 +29,10 @@ pub struct ConnectionTable {
     pub open: usize,
     /// How many connections have left.
     pub served: u64,
+    /// How many of them left by a fault.
+    pub faults: u64,
+    /// How many lines were taken of those that have left.
+    lines: u64,
     later: Vec<usize>,
     empty: Vec<usize>,
 }
@@ -52,6 +54,8 @@ impl ConnectionTable {
             ready: Vec::with_capacity(alloc, few)?,
             open: 0,
             served: 0,
+            faults: 0,
+            lines: 0,
             later: Vec::with_capacity(alloc, few)?,
             empty: Vec::with_capacity(alloc, few)?,
         })
@@ -94,24 +98,19 @@ impl ConnectionTable {
         alloc: Global,
         poll: &Poll,
         kind: WorldKind,
-        mut stream: TcpStream,
+        mut stream: Socket,
         tick: u64,
     ) -> Result<(), AllocError> {
-        let _ = stream.set_nodelay(true);
+        stream.hurry();
         let key = self.empty_seat()?;
-        let both = Interest::READABLE | Interest::WRITABLE;
-        if poll
-            .registry()
-            .register(&mut stream, Token(key), both)
-            .is_err()
-        {
+        if stream.register(poll, Token(key)).is_err() {
             let _ = self.empty.push(key);
             return Ok(());
         }
         let Ok(buffers) = Buffers::new(alloc, kind) else {
             return Err(AllocError);
         };
-        let connection = Connection::new(Socket { stream }, buffers, tick);
+        let connection = Connection::new(stream, buffers, tick);
         if self.fill(key, Some(connection)) {
             self.open = self.open.saturating_add(1);
         }
@@ -147,7 +146,7 @@ impl ConnectionTable {
         if !connection.buffers.is_over() {
             connection.since = tick;
         } else if connection.buffers.unsent().is_empty() {
-            let _ = connection.stream.stream.shutdown(Shutdown::Write);
+            connection.stream.end();
         }
         if connection.goes_on() {
             connection.stage = Stage::Queued;
@@ -156,8 +155,19 @@ impl ConnectionTable {
         Ok(())
     }
 
+    // Notes of whoever sits there and leaves how many lines it sent, and whether it leaves by a fault.
+    fn note_leaving(&mut self, key: usize) {
+        let (lines, broken) = match self.seated(key) {
+            Some(connection) => (connection.buffers.lines(), connection.buffers.is_broken()),
+            None => (0, false),
+        };
+        self.lines = self.lines.saturating_add(lines);
+        self.faults = self.faults.saturating_add(u64::from(broken));
+    }
+
     // Whoever sits there leaves, and the seat is empty then.
     fn leave(&mut self, key: usize) {
+        self.note_leaving(key);
         self.fill(key, None);
         let _ = self.empty.push(key);
         self.open = self.open.saturating_sub(1);
@@ -208,6 +218,22 @@ impl ConnectionTable {
             Some(most) if rests && most <= quiet => self.leave(key),
             _ => {}
         }
+    }
+
+    /// How many lines were taken of all connections. It takes time as there are seats.
+    pub fn lines(&self) -> u64 {
+        let mut lines = self.lines;
+        for seat in &self.seats {
+            if let Some(connection) = seat {
+                lines = lines.saturating_add(connection.buffers.lines());
+            }
+        }
+        lines
+    }
+
+    /// How many connections were accepted: those that have left, and those that are there.
+    pub fn accepted(&self) -> u64 {
+        self.served.saturating_add(self.open as u64)
     }
 
     /// Whether replies wait to be sent to any.

@@ -8,6 +8,7 @@ ghost use Rattle.event_server.specs.Rounds.{WasServed};
 use crate::answering::answer_queries;
 use crate::connection::Connection;
 use crate::connections::ConnectionTable;
+use crate::doors::{Accepted, Doors};
 use crate::gathering::{Batch, Called, iterate_prefetched};
 use crate::host_fault::HostFault;
 use crate::persist::{Persist, Tally};
@@ -15,22 +16,23 @@ use crate::shared::SharedBuffers;
 use crate::socket::Socket;
 use crate::teller::Teller;
 use crate::turns::iterate;
+use crate::watching::{LoopNumbers, Watch};
 use commands::WorldKind;
+use listeners::Listeners;
+use metrics_page::Scrapers;
+use mio::event::Event;
 use mio::net::TcpListener;
 use mio::unix::SourceFd;
 use mio::{Events, Interest, Poll, Token};
 use player::Service;
 use std::alloc::{AllocError, Global};
-use std::io::{self, ErrorKind, Write};
-use std::net::{Net, SocketAddr};
+use std::io::{self, Write};
+use std::net::Net;
 use std::rt::Clock;
 use std::sync::Wait;
 use std::time::{Duration, Instant};
 
-/// The token of the listener; no seat has it.
-const LISTENER: Token = Token(1 << 60);
-
-/// The token of standard input.
+/// The token of standard input; no seat has it.
 const STOPPER: Token = Token((1 << 60) + 1);
 
 /// How many events are told at once.
@@ -49,8 +51,6 @@ const LAST_ROUNDS: u64 = 11;
 /// What a host serves.
 #[derive(Clone, Copy, Debug, Drop)]
 pub struct HostOptions {
-    /// The address and port that are listened on; with port 0 any that is free.
-    pub address: SocketAddr,
     /// The world whose commands clients speak.
     pub kind: WorldKind,
     /// How many clients are served at once; others wait to be accepted.
@@ -75,14 +75,14 @@ struct Hosting {
     poll: Poll,
     /// What the system told last.
     events: Events<Global>,
-    listener: TcpListener,
+    doors: Doors,
     connections: ConnectionTable,
     start: Instant,
-    /// The second that is under way, and the one at which the next report is due.
+    /// The second since the start that is under way.
+    second: u64,
+    /// How many seconds were counted, and at which count the next report is due.
     tick: u64,
     report: u64,
-    /// Whether connections may wait to be accepted.
-    waiting: bool,
     /// Whether one could not be accepted, until one leaves.
     full: bool,
     /// Whether it was said that one could not be accepted.
@@ -102,6 +102,8 @@ struct Hosting {
     teller: Teller,
     /// Whether it was said that something is amiss with the persister.
     said_trouble: bool,
+    /// Those who watch, where any may.
+    watch: Option<Watch>,
 }
 
 // By hand, so that a server is taken apart here alone, and not where it is let go.
@@ -112,12 +114,12 @@ impl Drop for Hosting {
             options: _,
             poll: _,
             events: _,
-            listener: _,
+            doors: _,
             connections: _,
             start: _,
+            second: _,
             tick: _,
             report: _,
-            waiting: _,
             full: _,
             said: _,
             lost: _,
@@ -129,20 +131,23 @@ impl Drop for Hosting {
             sweeps: _,
             teller: _,
             said_trouble: _,
+            watch: _,
         } = self;
     }
 }
 
 /// Serves clients of one service, each its own transcript, in one thread.
 ///
-/// A line `listening ADDRESS:PORT` is written first. Each turn takes what clients have sent, keeps what the service tells of it, and only then
+/// Lines `listening ADDRESS:PORT`, `listening PATH` and `metrics ADDRESS:PORT` are written first, of what is listened on. Each turn takes what clients have sent, keeps what the service tells of it, and only then
 /// sends replies (`turn`); where the service learns its answers ahead, what was read is told to the persister before (`iterate_prefetched`), which is
 /// called once a second too. It ends at the end of standard input where that is a pipe, or else never: then replies are sent, as far as
-/// clients take them within a second, and a line `served N` is written.
+/// clients take them within a second, and a line `served N` is written. Those who watch are served between the turns: what they ask changes neither
+/// the service nor the persister.
 pub fn host<R, D: Service<R>, K: Persist<D>, W: Write, E: Write>(
     rt: &R,
     alloc: Global,
     options: HostOptions,
+    listeners: Listeners,
     service: &mut D,
     persister: &mut K,
     output: &mut W,
@@ -154,8 +159,8 @@ where
     ensures { OnOk result (WasServed D.may K.prefetches K.persists K.waits persister.old service.old persister.new service.new) }
 {
     let mut shared = SharedBuffers::new(alloc)?;
-    let mut hosting = Hosting::new(rt, alloc, options, persister.most_prefetched())?;
-    hosting.tell_port(output)?;
+    let mut hosting = Hosting::new(rt, alloc, options, listeners, persister.most_prefetched())?;
+    hosting.tell_listening(output)?;
     hosting.tell_trouble(persister.trouble(), errors);
     for _ in rt.forever() {
         hosting.go_round(rt, service, persister, &mut shared, errors)?;
@@ -166,16 +171,34 @@ where
     hosting.tell_end(output)
 }
 
-// A listener at an address, of which it is told who waits there, and of standard input when it ends.
-fn listen<R: Net>(rt: &R, poll: &Poll, address: SocketAddr) -> io::Result<TcpListener> {
-    let mut listener = TcpListener::bind(rt, address)?;
-    poll.registry()
-        .register(&mut listener, LISTENER, Interest::READABLE)?;
+// A poll that tells of standard input when it ends.
+fn new_poll<R: Net>(rt: &R) -> io::Result<Poll> {
+    let poll = Poll::new(rt)?;
     // A file or the null device cannot be waited for, and never stops the server.
     let _ = poll
         .registry()
         .register(&mut SourceFd(&0), STOPPER, Interest::READABLE);
-    Ok(listener)
+    Ok(poll)
+}
+
+// Those who watch, where a listener for them is given.
+fn watch_at(
+    alloc: Global,
+    poll: &Poll,
+    listener: Option<TcpListener>,
+) -> io::Result<Option<Watch>> {
+    match listener {
+        Some(listener) => Ok(Some(Watch::new(Scrapers::new(alloc, poll, listener)?))),
+        None => Ok(None),
+    }
+}
+
+// Whether an event is of those who watch, and noted then.
+fn note_watcher(watch: &mut Option<Watch>, event: &Event) -> bool {
+    match watch {
+        Some(watch) => watch.scrapers().note(event),
+        None => false,
+    }
 }
 
 impl Hosting {
@@ -184,14 +207,21 @@ impl Hosting {
         rt: &R,
         alloc: Global,
         options: HostOptions,
+        listeners: Listeners,
         most_prefetched: Option<usize>,
     ) -> Result<Hosting, HostFault<F>> {
         let start = Instant::now(rt)?;
         let Ok(events) = Events::with_capacity(alloc, EVENTS) else {
             return Err(HostFault::Memory);
         };
-        let poll = Poll::new(rt)?;
-        let listener = listen(rt, &poll, options.address)?;
+        let Listeners {
+            network,
+            local,
+            metrics,
+        } = listeners;
+        let poll = new_poll(rt)?;
+        let doors = Doors::new(&poll, network, local)?;
+        let watch = watch_at(alloc, &poll, metrics)?;
         let batch = match most_prefetched {
             Some(most) => Some(Batch::new(alloc, options.kind, most)),
             None => None,
@@ -201,12 +231,12 @@ impl Hosting {
             options,
             poll,
             events,
-            listener,
+            doors,
             connections: ConnectionTable::new(alloc, options.clients)?,
             start,
+            second: 0,
             tick: 0,
             report: 0,
-            waiting: false,
             full: false,
             said: false,
             lost: false,
@@ -218,10 +248,11 @@ impl Hosting {
             sweeps: false,
             teller: Teller::new(rt, alloc)?,
             said_trouble: false,
+            watch,
         })
     }
 
-    // Once round: waits, accepts, has the persister go on, serves, and tells how much there is where that is due.
+    // Once round: waits, accepts, has the persister go on, serves, and tells how much there is where that is due or asked.
     fn go_round<R: Clock, D: Service<R>, K: Persist<D>, E: Write>(
         &mut self,
         rt: &R,
@@ -245,6 +276,7 @@ impl Hosting {
         if self.is_report_due() {
             self.tell_tally(persister.tally(service), errors);
         }
+        self.serve_watchers(service, persister);
         Ok(())
     }
 
@@ -257,26 +289,43 @@ impl Hosting {
         self.last == 0 || !self.connections.has_unsent()
     }
 
-    // Whether a connection that waits can be accepted: the system tells only once that some wait.
+    // Whether a connection that waits can be accepted.
     fn can_accept(&self) -> bool {
-        self.waiting && !self.full && self.connections.open < self.options.clients && !self.stop
+        self.doors.are_waited_at()
+            && !self.full
+            && self.connections.open < self.options.clients
+            && !self.stop
     }
 
-    // For how long nothing need be done: a tenth of a second at the end, no time where connections are due or wait to be accepted, a second
-    // where some are open, else a minute.
-    fn next_wait(&self) -> Duration {
-        if self.stop {
-            Duration::from_millis(100)
-        } else if self.can_accept() || !self.connections.ready.is_empty() {
-            Duration::from_millis(0)
-        } else if 0 < self.connections.open
+    // Whether anything is to be done at once: connections or watchers are due, or connections wait to be accepted.
+    fn is_busy(&self) -> bool {
+        let watched = match &self.watch {
+            Some(watch) => watch.is_due(),
+            None => false,
+        };
+        watched || self.can_accept() || !self.connections.ready.is_empty()
+    }
+
+    // Whether seconds are to be counted: clients are there or may be let in again, or somebody looks on.
+    fn counts_seconds(&self) -> bool {
+        0 < self.connections.open
             || self.full
             || self.options.reports
             || self.batch.is_some()
-        {
+            || self.watch.is_some()
+    }
+
+    // For how long nothing need be done: a tenth of a second at the end, no time where anything is due, a second where seconds are to be
+    // counted, else twenty.
+    fn next_wait(&self) -> Duration {
+        if self.stop {
+            Duration::from_millis(100)
+        } else if self.is_busy() {
+            Duration::from_millis(0)
+        } else if self.counts_seconds() {
             Duration::from_millis(1000)
         } else {
-            Duration::from_secs(60)
+            Duration::from_secs(20)
         }
     }
 
@@ -298,19 +347,21 @@ impl Hosting {
         let mut reported = false;
         for event in &self.events {
             reported = true;
-            match event.token() {
-                LISTENER => self.waiting = true,
-                STOPPER => self.stop = self.stop || event.is_read_closed(),
-                _ => self.connections.note(event)?,
+            if event.token() == STOPPER {
+                self.stop = self.stop || event.is_read_closed();
+            } else if !self.doors.note(event.token()) && !note_watcher(&mut self.watch, event) {
+                self.connections.note(event)?;
             }
         }
         Ok(reported)
     }
 
-    // Notes that a second has passed. After a stall of many seconds the ticks catch up by one a round, so that what clients sent meanwhile is
-    // taken before they count as idle.
+    // Notes that a second has passed. Where the loop stalled for many they count as one, so that nobody counts as idle for what was no fault
+    // of his, and that no later second counts for many.
     fn note_tick<R: Clock, F>(&mut self, rt: &R) -> Result<(), HostFault<F>> {
-        if self.tick < self.start.elapsed(rt)?.as_secs() {
+        let second = self.start.elapsed(rt)?.as_secs();
+        if self.second < second {
+            self.second = second;
             self.tick = self.tick.saturating_add(1);
             self.full = false;
             self.ticked = true;
@@ -407,21 +458,14 @@ impl Hosting {
 
     // Accepts one connection, if one waits. Where the system has no room for it, none is accepted until another leaves.
     fn accept(&mut self) -> Result<(), AllocError> {
-        match self.listener.accept() {
-            Ok((stream, _)) => {
-                self.connections.admit(
-                    self.alloc,
-                    &self.poll,
-                    self.options.kind,
-                    stream,
-                    self.tick,
-                )?;
+        match self.doors.accept() {
+            Accepted::Stream(stream) => {
+                let kind = self.options.kind;
+                self.connections
+                    .admit(self.alloc, &self.poll, kind, stream, self.tick)?;
             }
-            Err(e) => match e.kind() {
-                ErrorKind::WouldBlock => self.waiting = false,
-                ErrorKind::Interrupted | ErrorKind::ConnectionAborted => {}
-                _ => self.full = true,
-            },
+            Accepted::Nobody => {}
+            Accepted::Full => self.full = true,
         }
         Ok(())
     }
@@ -489,7 +533,8 @@ impl Hosting {
     // Tells how much there is.
     fn tell_tally<E: Write>(&mut self, tally: Tally, errors: &mut E) {
         self.report = self.tick.saturating_add(REPORT_TICKS);
-        let Tally { events, bytes } = tally;
+        let events = tally.events;
+        let bytes = tally.journal_bytes.unwrap_or(0);
         let clients = self.connections.open;
         // Who looks on is told nothing where the text is not taken, and served all the same.
         if let Ok(line) = format!(in self.alloc;
@@ -499,18 +544,54 @@ impl Hosting {
         }
     }
 
-    // Says where clients are listened for.
-    fn tell_port<W: Write, F>(&self, output: &mut W) -> Result<(), HostFault<F>> {
-        let address = self.listener.local_addr()?;
-        put_line(format!(in self.alloc; "listening {address}\n"), output)
+    // Says where clients are listened for, and those who watch.
+    fn tell_listening<W: Write, F>(&self, output: &mut W) -> Result<(), HostFault<F>> {
+        if let Some(address) = self.doors.address()? {
+            put_line(format!(in self.alloc; "listening {address}\n"), output)?;
+        }
+        if let Some(path) = self.doors.path() {
+            put_line(format!(in self.alloc; "listening {path}\n"), output)?;
+        }
+        if let Some(watch) = &self.watch {
+            let address = watch.address()?;
+            put_line(format!(in self.alloc; "metrics {address}\n"), output)?;
+        }
+        Ok(())
+    }
+
+    // What the loop itself knows.
+    fn numbers(&self) -> LoopNumbers {
+        LoopNumbers {
+            clients: self.connections.open as u64,
+            accepted: self.connections.accepted(),
+            faults: self.connections.faults,
+            lines: self.connections.lines(),
+            ticks: self.tick,
+            learnt: !self.lost,
+        }
+    }
+
+    // Serves those who watch, as far as they may go on now.
+    fn serve_watchers<D, K: Persist<D>>(&mut self, service: &D, persister: &K) {
+        let Some(mut watch) = self.watch.take() else {
+            return;
+        };
+        if watch.wants_look(self.tick) {
+            let tally = persister.tally(service);
+            watch.note(&tally, self.tick);
+            watch.scrapers().read(&self.poll, self.tick);
+            if watch.scrapers().want_answers() {
+                let numbers = watch.numbers(&self.numbers(), &tally);
+                watch.scrapers().answer(&numbers);
+            }
+            watch.scrapers().send(self.tick);
+        }
+        self.watch = Some(watch);
     }
 
     // Says how many were served: those that have left, and those that are there.
     fn tell_end<W: Write, F>(&self, output: &mut W) -> Result<Hosted, HostFault<F>> {
-        let served = self
-            .connections
-            .served
-            .saturating_add(self.connections.open as u64);
+        let served = self.connections.accepted();
         put_line(format!(in self.alloc; "served {served}\n"), output)?;
         Ok(Hosted { served })
     }

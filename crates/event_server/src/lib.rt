@@ -27,6 +27,7 @@ mod asking;
 pub mod buffers;
 pub mod connection;
 pub mod connections;
+pub mod doors;
 pub mod gathering;
 pub mod host_fault;
 pub mod hosting;
@@ -37,6 +38,7 @@ pub mod socket;
 pub mod stream;
 pub mod teller;
 pub mod turns;
+pub mod watching;
 
 pub use answering::answer_queries;
 pub use buffers::{Buffers, MOST_LINES, UNSENT_ROOM};

@@ -7,16 +7,51 @@ ghost use Rattle.held_lines.specs.Held.{held_text};
 ghost use Rattle.held_lines.specs.declared.telling.TheConstants.{HELD_ROOM};
 
 use command_lines::{HELD_REPLIES, Replies};
+use duration_histogram::DurationHistogram;
 use held_lines::{HELD_ROOM, HeldQuery};
 use std::alloc::Allocator;
 
-/// What a service and its persister tell of themselves to whoever looks on.
+/// What a service and its persister tell of themselves to whoever looks on. What does not apply there, or is not known, is none.
 #[derive(Clone, Copy, Debug, Drop, PartialEq, Eq)]
 pub struct Tally {
-    /// How many events the service has taken.
+    /// How many events the history has.
     pub events: u64,
-    /// How many bytes are kept of them.
-    pub bytes: u64,
+    /// How many more it takes.
+    pub events_left: Option<u64>,
+    /// How often the history was compacted since the start.
+    pub compactions: Option<u64>,
+    /// How many identities compete for numbers, those that hold one among them.
+    pub competitors: Option<u64>,
+    /// How many numbers nobody holds.
+    pub numbers_free: Option<u64>,
+    /// How many names are given.
+    pub names_given: Option<u64>,
+    /// How many bytes of a journal are kept.
+    pub journal_bytes: Option<u64>,
+    /// How long the syncs of a journal took.
+    pub syncs: Option<DurationHistogram>,
+    /// How many entries of a log are applied.
+    pub log_place: Option<u64>,
+    /// Whether the log answered when it was last asked.
+    pub log_answers: Option<bool>,
+}
+
+impl Tally {
+    /// Nothing is known but how many events there are.
+    pub fn of_events(events: u64) -> Tally {
+        Tally {
+            events,
+            events_left: None,
+            compactions: None,
+            competitors: None,
+            numbers_free: None,
+            names_given: None,
+            journal_bytes: None,
+            syncs: None,
+            log_place: None,
+            log_answers: None,
+        }
+    }
 }
 
 /// Whether a persister has learnt the answers to the lines that it was told.
@@ -68,13 +103,13 @@ pub trait Persist<D> {
         ensures known { result ≡ Ok Prefetch.Known → prefetches self.old service.old lines.now self.new service.new }
         ensures lost { result ≡ Ok Prefetch.Lost → waits self.old service.old self.new service.new };
 
-    /// Is called about once a second while clients are there, and once a minute while none is.
+    /// Is called about once a second while clients are there or watchers may be, and three times a minute else.
     fn tick(&mut self, service: &mut D) -> Result<(), Self::Fault>
         ensures { OnOk result (waits self.old service.old self.new service.new) };
 
     /// What is amiss and does not end the server, for people; `None` where nothing is.
     fn trouble(&self) -> Option<&'static str>;
 
-    /// How much there is, for people.
+    /// How much there is, for people. It takes time as there are numbers and names, which are few.
     fn tally(&self, service: &D) -> Tally;
 }

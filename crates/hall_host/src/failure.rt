@@ -3,6 +3,7 @@
 use event_server::HostFault;
 use hall_log::LogFault;
 use journal::{DiskFault, FileFault, JournalFault, OpenFault};
+use listeners::ListenFault;
 use run_checker::Verdict;
 use std::io::ErrorKind;
 use step_memory::{NoMemory, Refusal};
@@ -17,6 +18,9 @@ pub enum HostFailure {
     /// To listen or to wait failed, so the system told.
     #[error("network fault: {0}")]
     Network(ErrorKind),
+    /// Nothing is listened on.
+    #[error("{0}")]
+    Listen(ListenFault),
     /// What it was to read could not be read.
     #[error("read fault")]
     Input,
@@ -68,6 +72,12 @@ pub enum HostFailure {
     /// The members of the log did not answer, or the log failed.
     #[error("log fault: {0}")]
     Log(LogFault),
+}
+
+impl From<ListenFault> for HostFailure {
+    fn from(fault: ListenFault) -> HostFailure {
+        HostFailure::Listen(fault)
+    }
 }
 
 impl From<FileFault> for HostFailure {

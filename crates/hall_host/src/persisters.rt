@@ -9,6 +9,7 @@ ghost use Rattle.hall_host.specs.Kept.{KeptBy, MayCompactHall, Rests};
 
 use event_server::{Persist, Prefetch, Tally};
 use hall::{Compactor, Hall};
+use hall_log::tally_of;
 use held_lines::{HeldQuery, put_held};
 use journal::{Disk, Journal, JournalFault, WriteAhead, law_of_crashes};
 use player::Replies;
@@ -29,6 +30,8 @@ pub struct Unrecorded {
     pub alloc: Global,
     /// When that is due.
     pub compactor: Compactor,
+    /// How often it was compacted.
+    pub compactions: u64,
 }
 
 impl Persist<Hall> for Unrecorded {
@@ -57,6 +60,7 @@ impl Persist<Hall> for Unrecorded {
         }
         if let Some(shorter) = self.compactor.compacted(self.alloc, hall) {
             *hall = shorter;
+            self.compactions = self.compactions.saturating_add(1);
         }
         Ok(())
     }
@@ -79,8 +83,8 @@ impl Persist<Hall> for Unrecorded {
 
     fn tally(&self, hall: &Hall) -> Tally {
         Tally {
-            events: hall.len() as u64,
-            bytes: 0,
+            compactions: Some(self.compactions),
+            ..tally_of(hall)
         }
     }
 }
@@ -94,6 +98,8 @@ pub struct Recorded<D: Disk> {
     pub alloc: Global,
     /// When that is due.
     pub compactor: Compactor,
+    /// How often it was compacted.
+    pub compactions: u64,
 }
 
 impl<D: Disk> Recorded<D> {
@@ -103,8 +109,14 @@ impl<D: Disk> Recorded<D> {
         ensures stands { OnOk result (Stands D.state self.old.journal write_ahead.old → Stands D.state self.new.journal write_ahead.new) }
         ensures any_moment { Stands D.state self.old.journal write_ahead.old → KeepsWhenCompacted D.state self.old.journal self.new.journal write_ahead.old }
     {
-        self.journal
-            .compact_when_due(self.alloc, &mut self.compactor, write_ahead)
+        let before = write_ahead.hall().len();
+        let compacted = self
+            .journal
+            .compact_when_due(self.alloc, &mut self.compactor, write_ahead);
+        if write_ahead.hall().len() < before {
+            self.compactions = self.compactions.saturating_add(1);
+        }
+        compacted
     }
 }
 
@@ -169,8 +181,10 @@ impl<D: Disk> Persist<WriteAhead> for Recorded<D> {
 
     fn tally(&self, write_ahead: &WriteAhead) -> Tally {
         Tally {
-            events: write_ahead.hall().len() as u64,
-            bytes: self.journal.disk().size(),
+            compactions: Some(self.compactions),
+            journal_bytes: Some(self.journal.disk().size()),
+            syncs: self.journal.disk().sync_times(),
+            ..tally_of(write_ahead.hall())
         }
     }
 }

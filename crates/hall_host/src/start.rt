@@ -6,15 +6,16 @@ use crate::log_plan::{LogPlan, MEMBER_SECONDS, Patience, fresh_token, members_of
 use crate::persisters::{Recorded, Unrecorded};
 use commands::Config;
 use etcd_log::{EtcdStore, TcpDial};
-use event_server::{HostFault, HostOptions, host};
+use event_server::{HostOptions, Hosted, host};
 use hall::{Compactor, Hall};
 use hall_log::{LogPersister, Pause, ReplyQueue};
 use journal::{Disk, FileDisk, Journal, Opened};
+use listeners::{ListenPlan, Listening, SocketFile, listen};
 use replicated_log::Store;
 use std::alloc::{AllocGlobal, Global};
 use std::fs::File;
 use std::io::Write;
-use std::net::{IpAddr, Net, SocketAddr};
+use std::net::Net;
 use std::rt::{Clock, Files};
 use std::sync::Wait;
 use std::time::Duration;
@@ -35,10 +36,8 @@ pub enum Keeping<'a> {
 pub struct HostPlan<'a> {
     /// The world of the hall, in which names are given, and its sizes.
     pub config: Config,
-    /// The address that is listened on. Whoever reaches it may say everything: nothing is encrypted, nobody is asked who he is.
-    pub address: IpAddr,
-    /// The port that is listened on; with 0 any that is free.
-    pub port: u16,
+    /// What is listened on. Whoever reaches it may say everything: nothing is encrypted, nobody is asked who he is.
+    pub listen: ListenPlan<'a>,
     /// How many clients are served at once; others wait to be accepted.
     pub clients: usize,
     /// After how many seconds a client that says nothing is closed; never, where it is not given.
@@ -53,7 +52,6 @@ impl HostPlan<'_> {
     // What the loop serves.
     fn options(&self) -> HostOptions {
         HostOptions {
-            address: SocketAddr::new(self.address, self.port),
             kind: self.config.world,
             clients: self.clients,
             idle: self.idle,
@@ -62,8 +60,25 @@ impl HostPlan<'_> {
     }
 }
 
+// Tells how serving ended. Where it ended well the file of the socket is removed.
+fn ended<R: Files>(
+    rt: &R,
+    file: Option<SocketFile>,
+    hosted: Result<Hosted, HostFailure>,
+) -> Result<(), HostFailure> {
+    match hosted {
+        Ok(_) => {
+            if let Some(file) = file {
+                file.remove(rt);
+            }
+            Ok(())
+        }
+        Err(failure) => Err(failure),
+    }
+}
+
 // Opens the journal of a path: a file that is missing is made, and one that another server has is refused.
-fn open_journal<R: Files<File = File> + AllocGlobal + Copy + Drop>(
+fn open_journal<R: Clock + Files<File = File> + AllocGlobal + Copy + Drop>(
     rt: &R,
     alloc: Global,
     config: Config,
@@ -92,7 +107,7 @@ where
 }
 
 // Serves what was read of a journal, which is compacted before where it is long.
-fn host_recorded<R: Net + Wait + Clock, D: Disk, W: Write, E: Write>(
+fn host_recorded<R: Net + Wait + Clock + Files, D: Disk, W: Write, E: Write>(
     rt: &R,
     alloc: Global,
     plan: &HostPlan<'_>,
@@ -108,27 +123,30 @@ fn host_recorded<R: Net + Wait + Clock, D: Disk, W: Write, E: Write>(
         journal,
         alloc,
         compactor: Compactor::new(),
+        compactions: 0,
     };
-    let hosted = match persister.compact_when_due(&mut write_ahead) {
-        Ok(()) => host(
-            rt,
-            alloc,
-            plan.options(),
-            &mut write_ahead,
-            &mut persister,
-            output,
-            errors,
-        ),
-        Err(fault) => Err(HostFault::Persist(fault)),
-    };
-    match hosted {
-        Ok(_) => Ok(()),
-        Err(fault) => Err(HostFailure::from(fault)),
+    if let Err(fault) = persister.compact_when_due(&mut write_ahead) {
+        return Err(HostFailure::from(fault));
     }
+    let Listening { listeners, file } = match listen(rt, alloc, plan.listen) {
+        Ok(listening) => listening,
+        Err(fault) => return Err(HostFailure::from(fault)),
+    };
+    let hosted = host(
+        rt,
+        alloc,
+        plan.options(),
+        listeners,
+        &mut write_ahead,
+        &mut persister,
+        output,
+        errors,
+    );
+    ended(rt, file, hosted.map_err(HostFailure::from))
 }
 
 // Serves a hall whose history ends with the program.
-fn host_unrecorded<R: Net + Wait + Clock, W: Write, E: Write>(
+fn host_unrecorded<R: Net + Wait + Clock + Files, W: Write, E: Write>(
     rt: &R,
     alloc: Global,
     plan: &HostPlan<'_>,
@@ -139,19 +157,20 @@ fn host_unrecorded<R: Net + Wait + Clock, W: Write, E: Write>(
     let mut persister = Unrecorded {
         alloc,
         compactor: Compactor::new(),
+        compactions: 0,
     };
-    match host(
+    let Listening { listeners, file } = listen(rt, alloc, plan.listen)?;
+    let hosted = host(
         rt,
         alloc,
         plan.options(),
+        listeners,
         &mut hall,
         &mut persister,
         output,
         errors,
-    ) {
-        Ok(_) => Ok(()),
-        Err(fault) => Err(HostFailure::from(fault)),
-    }
+    );
+    ended(rt, file, hosted.map_err(HostFailure::from))
 }
 
 // The store in which the log of a plan stands.
@@ -218,19 +237,22 @@ where
         Ok(persister) => persister,
         Err(failure) => return Err(failure),
     };
+    let Listening { listeners, file } = match listen(rt, alloc, plan.listen) {
+        Ok(listening) => listening,
+        Err(fault) => return Err(HostFailure::from(fault)),
+    };
     let mut reply_queue = ReplyQueue::new(alloc);
-    match host(
+    let hosted = host(
         rt,
         alloc,
         plan.options(),
+        listeners,
         &mut reply_queue,
         &mut persister,
         output,
         errors,
-    ) {
-        Ok(_) => Ok(()),
-        Err(fault) => Err(HostFailure::from(fault)),
-    }
+    );
+    ended(rt, file, hosted.map_err(HostFailure::from))
 }
 
 /// Writes the accepted events of the history that stands in a log as the lines of commands that ask for them, and serves nobody.
@@ -272,7 +294,8 @@ fn export_followed<R: Files<File = File>, S: Store + Drop, P: Pause + Drop, W: W
 /// Where a log is named, the hall is that of all that stands in it, by whichever server of the hall it came there, and each reply is sent
 /// once its line stands there. Clients wait while the members do not answer, and are closed once the plan's patience ends.
 ///
-/// The first line written is `listening ADDRESS:PORT`, the last `served N`. Where the journal cannot be written, nothing is sent of that
+/// The first lines written are `listening ADDRESS:PORT` and `listening PATH`, of what is listened on, and `metrics ADDRESS:PORT`; the last is
+/// `served N`. At a good end the file of the socket is removed. Where the journal cannot be written, nothing is sent of that
 /// turn, and the server ends.
 pub fn host_hall<R, W: Write, E: Write>(
     rt: &R,

@@ -26,6 +26,7 @@ pub mod note;
 mod noting;
 pub mod pause;
 pub mod reply_queue;
+pub mod tallying;
 
 pub use laws::{law_of_halls, law_of_log_hosting};
 pub use log_fault::LogFault;
@@ -35,3 +36,4 @@ pub use machine::HallMachine;
 pub use note::{Asked, Note};
 pub use pause::Pause;
 pub use reply_queue::ReplyQueue;
+pub use tallying::tally_of;

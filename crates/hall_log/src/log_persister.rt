@@ -11,6 +11,7 @@ use crate::log_fault::LogFault;
 use crate::log_hall::LogHall;
 use crate::pause::Pause;
 use crate::reply_queue::ReplyQueue;
+use crate::tallying::tally_of;
 use commands::Config;
 use event_server::{Persist, Prefetch, Tally};
 use hall::Hall;
@@ -44,6 +45,8 @@ pub struct LogPersister<S: Store, T: Pause> {
     pause: T,
     /// Whether the store had no room for the last batch.
     no_space: bool,
+    /// Whether the store answered when it was last asked.
+    answers: bool,
     ghost one_line: { All (λ b. b ≢ 10) token },
 }
 
@@ -58,6 +61,7 @@ impl<S: Store + Drop, T: Pause + Drop> Drop for LogPersister<S, T> {
             count: _,
             pause: _,
             no_space: _,
+            answers: _,
         } = self;
     }
 }
@@ -148,6 +152,7 @@ impl<S: Store + Drop, T: Pause + Drop> LogPersister<S, T> {
             count: 0,
             pause,
             no_space: false,
+            answers: true,
         };
         match persister.start(line.as_bytes()) {
             Ok(()) => Ok(persister),
@@ -239,6 +244,7 @@ impl<S: Store, T: Pause> LogPersister<S, T> {
         for _ in 0..MOST_TRIES {
             let Err(fault) = self.log.serve(&self.batch, reply_queue) else {
                 self.no_space = false;
+                self.answers = true;
                 return Ok(Prefetch::Known);
             };
             self.no_space = fault == ServeFault::Unknown(Cause::Store(StoreFault::NoSpace));
@@ -306,7 +312,9 @@ impl<S: Store, T: Pause> Persist<ReplyQueue> for LogPersister<S, T> {
     }
 
     fn tick(&mut self, reply_queue: &mut ReplyQueue) -> Result<(), LogFault> {
-        let Err(cause) = self.log.catch_up(TICK_ENTRIES, reply_queue) else {
+        let caught_up = self.log.catch_up(TICK_ENTRIES, reply_queue);
+        self.answers = caught_up.is_ok();
+        let Err(cause) = caught_up else {
             return Ok(());
         };
         match LogFault::of_cause(cause) {
@@ -321,8 +329,9 @@ impl<S: Store, T: Pause> Persist<ReplyQueue> for LogPersister<S, T> {
 
     fn tally(&self, _reply_queue: &ReplyQueue) -> Tally {
         Tally {
-            events: self.log.hall().len() as u64,
-            bytes: 0,
+            log_place: Some(self.log.place()),
+            log_answers: Some(self.answers),
+            ..tally_of(self.log.hall())
         }
     }
 }

@@ -4,6 +4,7 @@ ghost use Rattle.std.specs.Prelude.{Option};
 ghost use Rattle.journal.specs.DiskState.{DiskState};
 ghost use Rattle.journal.specs.Disks.{Changes, IsAppended, IsSynced, IsCut, IsReplaced, Reads};
 
+use duration_histogram::DurationHistogram;
 use std::alloc::{AllocError, Global};
 use std::io::{self, ErrorKind};
 
@@ -71,4 +72,9 @@ pub trait Disk: Drop {
 
     /// How many bytes it has, for people; none where the system does not tell.
     fn size(&self) -> u64;
+
+    /// How long its syncs took, for people; `None` where nobody measures that.
+    fn sync_times(&self) -> Option<DurationHistogram> {
+        None
+    }
 }

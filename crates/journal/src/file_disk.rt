@@ -3,11 +3,13 @@
 ghost use Rattle.std.specs.Prelude.{None};
 
 use crate::disk::{Disk, DiskFault};
+use duration_histogram::DurationHistogram;
 use std::alloc::Global;
 use std::fs::{File, Metadata, TryLockError};
 use std::io::{ErrorKind, Read, Seek, SeekFrom, Write};
 use std::os::unix::fs::{MetadataExt, OpenOptionsExt};
-use std::rt::Files;
+use std::rt::{Clock, Files};
+use std::time::Instant;
 use std::{fs, io};
 
 /// Who may read and write a file that is made: its owner both, its group read.
@@ -41,6 +43,8 @@ pub struct FileDisk<R> {
     file: File,
     /// How many bytes it has by what was written.
     len: u64,
+    /// How long its syncs took.
+    times: DurationHistogram,
 }
 
 /// The folder of a path.
@@ -142,6 +146,7 @@ impl<R: Files<File = File> + AllocGlobal + Copy> FileDisk<R> {
             path,
             file,
             len,
+            times: DurationHistogram::new(),
         })
     }
 }
@@ -153,7 +158,18 @@ impl<R: Files<File = File> + Drop> FileDisk<R> {
     }
 }
 
-impl<R: Files<File = File> + Drop> Disk for FileDisk<R> {
+impl<R: Files<File = File> + Clock + Drop> FileDisk<R> {
+    /// Notes a sync that was begun then. Where the clock fails, none is noted.
+    fn note_sync(&mut self, begun: io::Result<Instant>) {
+        if let Ok(begun) = begun {
+            if let Ok(took) = begun.elapsed(&self.files) {
+                self.times.note(took);
+            }
+        }
+    }
+}
+
+impl<R: Files<File = File> + Clock + Drop> Disk for FileDisk<R> {
     ghost state = { λ d. None };
 
     fn read(&mut self, alloc: Global) -> Result<Vec<u8>, DiskFault> {
@@ -169,10 +185,13 @@ impl<R: Files<File = File> + Drop> Disk for FileDisk<R> {
         Ok(())
     }
 
-    /// A file that was deleted, moved or cut short in the meantime fails.
+    /// A file that was deleted, moved or cut short in the meantime fails. What is measured is the sync and that look.
     fn sync(&mut self) -> Result<(), DiskFault> {
+        let begun = Instant::now(&self.files);
         File::sync_data(&self.file)?;
-        self.look()
+        self.look()?;
+        self.note_sync(begun);
+        Ok(())
     }
 
     fn cut(&mut self, len: usize) -> Result<(), DiskFault> {
@@ -213,5 +232,9 @@ impl<R: Files<File = File> + Drop> Disk for FileDisk<R> {
 
     fn size(&self) -> u64 {
         self.len
+    }
+
+    fn sync_times(&self) -> Option<DurationHistogram> {
+        Some(self.times)
     }
 }

@@ -1,5 +1,5 @@
 -- what words ask for
-use Rattle.std.specs.Prelude.{◌≡◌, ◌⊎◌, ◌||◌, ℕ, Bool, true, false, not, ⊤, List, [], Option, Some, None, is_some, codes, Result, Ok, Err}
+use Rattle.std.specs.Prelude.{◌≡◌, ◌⊎◌, ◌||◌, ◌<◌, ◌^◌, MatchOption, ℕ, Bool, true, false, not, ⊤, List, [], Option, Some, None, is_some, codes, Result, Ok, Err}
 use Rattle.std.specs.Str.{bytes_eq}
 use Rattle.std.specs.Str.Parse.{IsNumeral, digits_value, without_leading_plus}
 use Rattle.std.specs.List.{list_any}
@@ -18,6 +18,7 @@ use Rattle.program_work.specs.CommandLine.{slotctl_app}
 use Rattle.program_work.specs.declared.asked.Ask.{Ask}
 use Rattle.program_work.specs.declared.asked.Ask.TheVariants.{Play, Check, Migrate, Show, Draw, Race, Serve, Host, Held}
 use Rattle.program_work.specs.declared.asked.Drawing.{Drawing}
+use Rattle.program_work.specs.declared.asked.Endpoints.{Endpoints}
 use Rattle.program_work.specs.declared.asked.Hosting.{Hosting}
 use Rattle.program_work.specs.declared.asked.Keeping.{Keeping}
 use Rattle.program_work.specs.declared.asked.Keeping.TheVariants.{Nothing, Journal, Log}
@@ -89,9 +90,17 @@ pub record IsServingOf (rows : List Row) (s : Serving) : Type 0 where
   pub workers : HasNumber rows (codes "workers") s.workers
   pub count : HasNumber rows (codes "count") s.count
 
--- the address's text among what clap matched is one of this address
-abbrev pub HasAddress : List Row → IpAddr → Type 0
-HasAddress rows a = (text : List ℕ) × (first_of (codes "address") rows ≡ Some text) × IsIpText text a
+-- this option's text among what clap matched is one of this address
+abbrev pub HasAddress : List Row → List ℕ → IpAddr → Type 0
+HasAddress rows id a = (text : List ℕ) × (first_of id rows ≡ Some text) × IsIpText text a
+
+-- this option's number among what clap matched is this, or there is none
+abbrev pub MayHaveNumber : List Row → List ℕ → Option ℕ → Type 0
+MayHaveNumber rows id o = MatchOption o ((n : ℕ) → n < 2 ^ 64 → HasNumber rows id n → ⊥) (HasNumber rows id)
+
+-- the text of the mode among what clap matched is octal digits of these bits, at most 777, and a plus may stand first
+abbrev pub HasMode : List Row → ℕ → Type 0
+HasMode rows mode = (text : List ℕ) × (first_of (codes "mode") rows ≡ Some text) × IsNumeral 8 (without_leading_plus text) × (digits_value 8 (without_leading_plus text) ≡ mode)
 
 -- this option's text is among what clap matched, or none is
 abbrev pub HasText : List Row → List ℕ → Option (Bor (List ℕ)) → Type 0
@@ -114,11 +123,20 @@ IsKeepingOf rows Nothing = (first_of (codes "journal") rows ≡ None) × (asks_l
 IsKeepingOf rows (Journal path) = (first_of (codes "journal") rows ≡ Some path.now) × (asks_log rows ≡ false)
 IsKeepingOf rows (Log l) = (first_of (codes "journal") rows ≡ None) × IsLogOf rows l
 
+-- what the options of `host` have the hall reached by: a port where one is named, a socket where a path is, and a port for those who watch where
+-- one is
+pub record AreEndpointsOf (rows : List Row) (e : Endpoints) : Type 0 where
+  pub address : HasAddress rows (codes "address") e.address
+  pub port : MayHaveNumber rows (codes "port") e.port
+  pub unix : HasText rows (codes "unix") e.unix
+  pub mode : HasMode rows e.mode
+  pub metrics_address : HasAddress rows (codes "metrics-address") e.metrics_address
+  pub metrics : MayHaveNumber rows (codes "metrics") e.metrics
+
 -- the hosting that the options of `host` give, as clap matched them, each number in its range
 pub record IsHostingOf (rows : List Row) (h : Hosting) : Type 0 where
   pub config : IsConfigOf rows h.config
-  pub address : HasAddress rows h.address
-  pub port : HasNumber rows (codes "port") h.port
+  pub endpoints : AreEndpointsOf rows h.endpoints
   pub clients : HasNumber rows (codes "clients") h.clients
   pub idle : HasNumber rows (codes "idle") h.idle
   pub keeping : IsKeepingOf rows h.keeping

@@ -10,7 +10,7 @@ use Rattle.program_work.specs.declared.command_line.Manual.{Manual}
 use Rattle.program_work.specs.declared.command_line.Subcommand.{Subcommand}
 use Rattle.program_work.specs.declared.command_line.Subcommand.TheVariants.{Play, Check, Migrate, Show, Draw, Race, Serve, Host, Held}
 use Rattle.program_work.specs.declared.command_line.Takes.{Takes}
-use Rattle.program_work.specs.declared.command_line.Takes.TheVariants.{Text, TextOr, Number, Needed, Nothing}
+use Rattle.program_work.specs.declared.command_line.Takes.TheVariants.{Text, TextOr, Number, SomeNumber, Needed, Nothing}
 
 -- a command is this one, and no option of it is one of its subcommands too
 pub record IsCommandOf (app : App) (command : Command) : Type 0 where
@@ -38,6 +38,15 @@ number_option name least most text = record (new_rule name) {
   value_names = 1;
   parser = Some (Unsigned least most);
   defaults = text ∷ [];
+}
+
+-- an option of this name with a number in this range, or none
+abbrev pub some_number_option : List ℕ → ℕ → ℕ → Rule
+some_number_option name least most = record (new_rule name) {
+  long = Some name;
+  action = Some Set;
+  value_names = 1;
+  parser = Some (Unsigned least most);
 }
 
 -- an option of this name with a number up to the most, which has to be given
@@ -109,11 +118,14 @@ abbrev pub serve_app : App
 serve_app = with_options (codes "serve") (world_option ∷ m_option ∷ k_option ∷ limit_option ∷ port_option
     ∷ number_option (codes "workers") 1 16 (codes "2") ∷ number_option (codes "count") 1 1000000 (codes "1") ∷ [])
 
--- `--address ADDRESS`, or 127.0.0.1; `--clients NUMBER`, from 1 to 1,000,000, or 10000; `--idle NUMBER`, at most 31,536,000, or 600; `--journal
+-- `--address ADDRESS`, or 127.0.0.1; `--port NUMBER`, of 16 bits, or none; `--unix PATH`, or none; `--mode BITS`, or 660; `--metrics NUMBER`, of 16
+-- bits, or none; `--metrics-address ADDRESS`, or 127.0.0.1; `--clients NUMBER`, from 1 to 1,000,000, or 10000; `--idle NUMBER`, at most 31,536,000, or 600; `--journal
 -- FILE`, `--etcd MEMBERS` and `--prefix NAME`, or none; `--patience NUMBER`, from 1 to 3,600, or 10
 abbrev pub host_app : App
 host_app = with_options (codes "host") (world_option ∷ m_option ∷ k_option ∷ limit_option
-    ∷ chosen_option (codes "address") (codes "127.0.0.1") ∷ port_option ∷ number_option (codes "clients") 1 1000000 (codes "10000")
+    ∷ chosen_option (codes "address") (codes "127.0.0.1") ∷ some_number_option (codes "port") 0 65535
+    ∷ text_option (codes "unix") ∷ chosen_option (codes "mode") (codes "660")
+    ∷ some_number_option (codes "metrics") 0 65535 ∷ chosen_option (codes "metrics-address") (codes "127.0.0.1") ∷ number_option (codes "clients") 1 1000000 (codes "10000")
     ∷ number_option (codes "idle") 0 31536000 (codes "600") ∷ text_option (codes "journal") ∷ text_option (codes "etcd") ∷ text_option (codes "prefix")
     ∷ number_option (codes "patience") 1 3600 (codes "10") ∷ flag (codes "export") ∷ flag (codes "verbose") ∷ [])
 
@@ -137,6 +149,7 @@ abbrev pub rule_taking : List ℕ → Takes → Rule
 rule_taking name (Text value) = text_option name
 rule_taking name (TextOr value text) = chosen_option name text.now
 rule_taking name (Number least most text) = number_option name least most text.now
+rule_taking name (SomeNumber least most) = some_number_option name least most
 rule_taking name (Needed least most) = needed_option name least most
 rule_taking name Nothing = flag name
 

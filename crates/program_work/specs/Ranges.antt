@@ -1,5 +1,5 @@
 -- the ranges of what is asked for (this project's profile)
-use Rattle.std.specs.Prelude.{◌≡◌, ℕ, ◌<◌, ◌≤◌, ◌^◌, Bool, true}
+use Rattle.std.specs.Prelude.{◌≡◌, ℕ, ◌<◌, ◌≤◌, ◌^◌, Bool, true, Option, IfSome}
 use Rattle.commands.specs.declared.kind.WorldKind.{WorldKind}
 use Rattle.commands.specs.Config.{gives_names}
 
@@ -16,9 +16,13 @@ IsRacingRange threads rounds seed = (1 ≤ threads) × (threads ≤ 16) × (1 �
 abbrev pub IsServingRange : WorldKind → ℕ → ℕ → ℕ → Type 0
 IsServingRange world port workers count = (port ≤ 65535) × (1 ≤ workers) × (workers ≤ 16) × (1 ≤ count) × (count ≤ 1000000) × (gives_names world ≡ true)
 
--- the port has 16 bits, there are 1 to 1,000,000 clients, one is idle for at most a year, and names are given in the world
-abbrev pub IsHostingRange : WorldKind → ℕ → ℕ → ℕ → Type 0
-IsHostingRange world port clients idle = (port ≤ 65535) × (1 ≤ clients) × (clients ≤ 1000000) × (idle ≤ 31536000) × (gives_names world ≡ true)
+-- a port that is named has 16 bits, and the mode of a file 9
+abbrev pub AreEndpointRanges : Option ℕ → Option ℕ → ℕ → Type 0
+AreEndpointRanges port metrics mode = IfSome port (λ p. p ≤ 65535) × IfSome metrics (λ p. p ≤ 65535) × (mode ≤ 511)
+
+-- there are 1 to 1,000,000 clients, one is idle for at most a year, and names are given in the world
+abbrev pub IsHostingRange : WorldKind → ℕ → ℕ → Type 0
+IsHostingRange world clients idle = (1 ≤ clients) × (clients ≤ 1000000) × (idle ≤ 31536000) × (gives_names world ≡ true)
 
 -- a log is waited for from 1 to 3,600 seconds
 abbrev pub IsPatience : ℕ → Type 0

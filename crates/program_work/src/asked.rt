@@ -1,7 +1,7 @@
 //! What the program can be asked for.
 
-ghost use Rattle.std.specs.Prelude.{◌≡◌, IfSome, IsSome, ◌↔◌};
-ghost use Rattle.program_work.specs.Ranges.{IsDrawingRange, IsHostingRange, IsRacingRange, IsServingRange, IsShowingRange, IsPatience, CanBeWritten};
+ghost use Rattle.std.specs.Prelude.{◌≡◌, ◌≤◌, false, IfSome, IsSome, ◌↔◌};
+ghost use Rattle.program_work.specs.Ranges.{AreEndpointRanges, IsDrawingRange, IsHostingRange, IsRacingRange, IsServingRange, IsShowingRange, IsPatience, CanBeWritten};
 
 use commands::Config;
 use std::net::IpAddr;
@@ -236,15 +236,69 @@ pub enum Keeping<'a> {
     Log(LogWords<'a>),
 }
 
+/// What a hall is reached by.
+#[derive(Clone, Copy, Drop)]
+pub struct Endpoints<'a> {
+    /// The address of the port.
+    pub address: IpAddr,
+    /// The port for clients, at most 65,535, where one is named; with 0 any that is free.
+    pub port: Option<u64>,
+    /// The path of the socket for clients of this machine, where one is named.
+    pub unix: Option<&'a str>,
+    /// The bits of the mode of that socket, at most 0o777.
+    pub mode: u64,
+    /// The address of the port for those who watch.
+    pub metrics_address: IpAddr,
+    /// The port for those who watch, at most 65,535, where one is named; with 0 any that is free.
+    pub metrics: Option<u64>,
+    ghost in_range: { AreEndpointRanges port metrics mode },
+}
+
+// Whether a port that is named is none.
+fn is_no_port(port: Option<u64>) -> bool
+    ensures { result ≡ false ↔ IfSome port (λ p. p ≤ 65535) }
+{
+    match port {
+        Some(port) => 65_535 < port,
+        None => false,
+    }
+}
+
+impl<'a> Endpoints<'a> {
+    /// Endpoints of these values; none where a port or the mode is outside its range.
+    pub fn new(
+        address: IpAddr,
+        port: Option<u64>,
+        unix: Option<&'a str>,
+        mode: u64,
+        metrics_address: IpAddr,
+        metrics: Option<u64>,
+    ) -> Option<Endpoints<'a>>
+        ensures clients { IfSome result (λ e. (e.address ≡ address) × (e.port ≡ port) × (e.unix ≡ unix.entry) × (e.mode ≡ mode)) }
+        ensures watchers { IfSome result (λ e. (e.metrics_address ≡ metrics_address) × (e.metrics ≡ metrics)) }
+        ensures range { IsSome result ↔ AreEndpointRanges port metrics mode }
+    {
+        if is_no_port(port) || is_no_port(metrics) || 0o777 < mode {
+            return None;
+        }
+        Some(Endpoints {
+            address,
+            port,
+            unix,
+            mode,
+            metrics_address,
+            metrics,
+        })
+    }
+}
+
 /// The hall that is hosted.
 #[derive(Clone, Copy, Drop)]
 pub struct Hosting<'a> {
     /// The world of the hall, in which names are given, and its sizes.
     pub config: Config,
-    /// The address that is listened on.
-    pub address: IpAddr,
-    /// The port that is listened on, at most 65,535; with 0 any that is free.
-    pub port: u64,
+    /// What it is reached by.
+    pub endpoints: Endpoints<'a>,
     /// How many clients are served at once, from 1 to 1,000,000.
     pub clients: u64,
     /// After how many seconds a client that says nothing is closed, at most 31,536,000; with 0 never.
@@ -253,25 +307,24 @@ pub struct Hosting<'a> {
     pub keeping: Keeping<'a>,
     /// Whether it tells once a minute how much there is.
     pub verbose: bool,
-    ghost in_range: { IsHostingRange config.world port clients idle },
+    ghost in_range: { IsHostingRange config.world clients idle },
 }
 
 impl<'a> Hosting<'a> {
     /// A hosting of these values; none where one of them is outside its range.
     pub fn new(
         config: Config,
-        address: IpAddr,
-        port: u64,
+        endpoints: Endpoints<'a>,
         clients: u64,
         idle: u64,
         keeping: Keeping<'a>,
         verbose: bool,
     ) -> Option<Hosting<'a>>
-        ensures sizes { IfSome result (λ h. (h.config ≡ config) × (h.port ≡ port) × (h.clients ≡ clients) × (h.idle ≡ idle)) }
-        ensures others { IfSome result (λ h. (h.address ≡ address) × (h.keeping ≡ keeping.entry) × (h.verbose ≡ verbose)) }
-        ensures range { IsSome result ↔ IsHostingRange config.world port clients idle }
+        ensures sizes { IfSome result (λ h. (h.config ≡ config) × (h.clients ≡ clients) × (h.idle ≡ idle)) }
+        ensures others { IfSome result (λ h. (h.endpoints ≡ endpoints.entry) × (h.keeping ≡ keeping.entry) × (h.verbose ≡ verbose)) }
+        ensures range { IsSome result ↔ IsHostingRange config.world clients idle }
     {
-        if 65_535 < port || clients < 1 || 1_000_000 < clients || 31_536_000 < idle {
+        if clients < 1 || 1_000_000 < clients || 31_536_000 < idle {
             return None;
         }
         if !config.world.gives_names() {
@@ -279,8 +332,7 @@ impl<'a> Hosting<'a> {
         }
         Some(Hosting {
             config,
-            address,
-            port,
+            endpoints,
             clients,
             idle,
             keeping,

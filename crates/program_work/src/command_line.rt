@@ -2,7 +2,7 @@
 
 ghost use Rattle.std.specs.Prelude.{◌≡◌, false, fold, IfOk};
 ghost use Rattle.clap.specs.Words.{App, app_of, rule_of};
-ghost use Rattle.program_work.specs.CommandLine.{IsCommandOf, chosen_option, flag, manual_app, needed_option, number_option, rule_for, slotctl_app, subcommand_app, text_option, with_entry};
+ghost use Rattle.program_work.specs.CommandLine.{IsCommandOf, chosen_option, flag, manual_app, needed_option, number_option, rule_for, slotctl_app, some_number_option, subcommand_app, text_option, with_entry};
 
 use clap::builder::ValueParser;
 use clap::{Arg, ArgAction, Command};
@@ -18,6 +18,8 @@ enum Takes {
     TextOr(&'static str, &'static str),
     /// A number in this range, and a text of the one that it has where it is not given.
     Number(u64, u64, &'static str),
+    /// A number in this range, or none.
+    SomeNumber(u64, u64),
     /// A number in this range, which has to be given.
     Needed(u64, u64),
     /// No value.
@@ -244,6 +246,7 @@ const HOST: Manual = Manual {
     about: "Hosts a hall: clients of a socket in one thread, with a journal or a log",
     examples: "Examples:
   slotctl host --port 7070 --journal slots.record
+  slotctl host --unix /run/slotctl/socket --mode 660 --metrics 9470 --journal slots.record
   slotctl host --port 7070 --etcd 10.0.0.1:2379,10.0.0.2:2379 --prefix slots/
   slotctl host --etcd 10.0.0.1:2379 --prefix slots/ --export | slotctl play",
     choices: &[
@@ -256,7 +259,31 @@ const HOST: Manual = Manual {
             takes: Takes::TextOr("ADDRESS", "127.0.0.1"),
             help: "the address; whoever reaches another than this may say everything: no encryption, no authentication",
         },
-        PORT,
+        Choice {
+            name: "port",
+            takes: Takes::SomeNumber(0, 65_535),
+            help: "the port, or 0 for one that is free, which is taken too where neither this nor --unix is given",
+        },
+        Choice {
+            name: "unix",
+            takes: Takes::Text("PATH"),
+            help: "a socket of the file system, beside the port or without one; an old one on which nobody listens is replaced",
+        },
+        Choice {
+            name: "mode",
+            takes: Takes::TextOr("BITS", "660"),
+            help: "the mode of that socket, in octal digits; whoever may write may connect",
+        },
+        Choice {
+            name: "metrics",
+            takes: Takes::SomeNumber(0, 65_535),
+            help: "a port for Prometheus: /metrics, /healthz and /readyz, or 0 for one that is free",
+        },
+        Choice {
+            name: "metrics-address",
+            takes: Takes::TextOr("ADDRESS", "127.0.0.1"),
+            help: "the address of that port",
+        },
         Choice {
             name: "clients",
             takes: Takes::Number(1, 1_000_000, "10000"),
@@ -399,6 +426,20 @@ fn number_option<'a>(
         .default_value(default)
 }
 
+// An option with a number in this range, or none.
+fn some_number_option<'a>(
+    alloc: Global,
+    name: &'a str,
+    least: u64,
+    most: u64,
+    help: &'a str,
+) -> Arg<'a>
+    ensures rule { rule_of result ≡ some_number_option name.now least most }
+    ensures local { result.global ≡ false }
+{
+    text_option(alloc, name, "NUMBER", help).value_parser(ValueParser::unsigned(least, most))
+}
+
 // An option with a number in this range, which has to be given.
 fn needed_option<'a>(alloc: Global, name: &'a str, least: u64, most: u64, help: &'a str) -> Arg<'a>
     ensures rule { rule_of result ≡ needed_option name.now least most }
@@ -432,6 +473,7 @@ fn option_of<'a>(alloc: Global, choice: Choice) -> Arg<'a>
         Takes::Number(least, most, default) => {
             number_option(alloc, name, least, most, default, help)
         }
+        Takes::SomeNumber(least, most) => some_number_option(alloc, name, least, most, help),
         Takes::Needed(least, most) => needed_option(alloc, name, least, most, help),
         Takes::Nothing => flag(alloc, name, help),
     }

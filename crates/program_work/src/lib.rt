@@ -53,7 +53,9 @@ pub mod showing;
 pub mod words;
 pub mod working;
 
-pub use asked::{Ask, Drawing, Hosting, Keeping, LogWords, Playing, Racing, Serving, Showing};
+pub use asked::{
+    Ask, Drawing, Endpoints, Hosting, Keeping, LogWords, Playing, Racing, Serving, Showing,
+};
 pub use checking::check_for;
 pub use failure::Failure;
 pub use migrating::migrate_for;

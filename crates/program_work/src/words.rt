@@ -1,11 +1,12 @@
 //! What the words of a command line ask for.
 
-ghost use Rattle.std.specs.Prelude.{◌≡◌, ℕ, ◌<◌, ◌^◌, MatchOption, Some, map};
+ghost use Rattle.std.specs.Prelude.{◌≡◌, ℕ, ◌<◌, ◌^◌, IfSome, MatchOption, Some, map};
 ghost use Rattle.clap.specs.Words.{found_of, kind_of, rows_of, subcommand_rows_of};
-ghost use Rattle.program_work.specs.Asked.{HasNumber, HasWorld, IsAsked, IsConfigOf, HasAddress, HasText, IsDrawingOf, IsHostingOf, IsKeepingOf, IsLogOf, IsMisuseOf, IsPlayingOf, IsRacingOf, IsRead, IsRefusal, IsServingOf, IsShowingOf, asks_flag, asks_log};
+ghost use Rattle.program_work.specs.Asked.{AreEndpointsOf, HasMode, HasNumber, HasWorld, IsAsked, IsConfigOf, HasAddress, HasText, MayHaveNumber, IsDrawingOf, IsHostingOf, IsKeepingOf, IsLogOf, IsMisuseOf, IsPlayingOf, IsRacingOf, IsRead, IsRefusal, IsServingOf, IsShowingOf, asks_flag, asks_log};
 ghost use Rattle.commands.specs.declared.config.Config.{Config};
 ghost use Rattle.commands.specs.declared.kind.WorldKind.{WorldKind};
 ghost use Rattle.program_work.specs.declared.asked.Drawing.{Drawing};
+ghost use Rattle.program_work.specs.declared.asked.Endpoints.{Endpoints};
 ghost use Rattle.program_work.specs.declared.asked.Hosting.{Hosting};
 ghost use Rattle.program_work.specs.declared.asked.Keeping.{Keeping};
 ghost use Rattle.program_work.specs.declared.asked.LogWords.{LogWords};
@@ -15,7 +16,9 @@ ghost use Rattle.program_work.specs.declared.asked.Serving.{Serving};
 ghost use Rattle.program_work.specs.declared.asked.Showing.{Showing};
 ghost use Rattle.program_work.specs.declared.asked.Ask.{Ask};
 
-use crate::asked::{Ask, Drawing, Hosting, Keeping, LogWords, Playing, Racing, Serving, Showing};
+use crate::asked::{
+    Ask, Drawing, Endpoints, Hosting, Keeping, LogWords, Playing, Racing, Serving, Showing,
+};
 use crate::command_line::slotctl_command;
 use crate::misuse::Misuse;
 use clap::error::ErrorKind;
@@ -115,11 +118,27 @@ fn serve_given(matches: &ArgMatches<'_>) -> Option<Serving>
     Serving::new(config, port, workers, count)
 }
 
-// The address that is matched, where it is one.
-fn address_given(matches: &ArgMatches<'_>) -> Option<IpAddr>
-    ensures { MatchOption result ((a : IpAddr) → HasAddress (rows_of (found_of matches.now)) a → ⊥) (HasAddress (rows_of (found_of matches.now))) }
+// The address that is matched for an option, where it is one.
+fn address_given(matches: &ArgMatches<'_>, name: &str) -> Option<IpAddr>
+    ensures { MatchOption result ((a : IpAddr) → HasAddress (rows_of (found_of matches.now)) name.now a → ⊥)
+        (HasAddress (rows_of (found_of matches.now)) name.now) }
 {
-    matches.get_str("address")?.parse::<IpAddr>().ok()
+    matches.get_str(name)?.parse::<IpAddr>().ok()
+}
+
+// The port that is matched for an option, where there is one.
+fn port_given(matches: &ArgMatches<'_>, name: &str) -> Option<u64>
+    ensures value { MayHaveNumber (rows_of (found_of matches.now)) name.now result }
+    ensures small { IfSome result (λ n. n < 2 ^ 64) }
+{
+    number_given(matches, name)
+}
+
+// The mode that is matched, where it is octal digits.
+fn mode_given(matches: &ArgMatches<'_>) -> Option<u64>
+    ensures { MatchOption result ((m : ℕ) → m < 2 ^ 64 → HasMode (rows_of (found_of matches.now)) m → ⊥) (HasMode (rows_of (found_of matches.now))) }
+{
+    u64::from_str_radix(matches.get_str("mode")?, 8).ok()
 }
 
 // The text that is matched for an option, where there is one.
@@ -161,18 +180,30 @@ fn keeping_given<'a>(matches: &ArgMatches<'a>) -> Option<Keeping<'a>>
     }
 }
 
+// What the options of `host` have the hall reached by, where they say so.
+fn endpoints_given<'a>(matches: &ArgMatches<'a>) -> Option<Endpoints<'a>>
+    ensures { MatchOption result ((e : Endpoints) → AreEndpointsOf (rows_of (found_of matches.now)) e → ⊥) (AreEndpointsOf (rows_of (found_of matches.now))) }
+{
+    let address = address_given(matches, "address")?;
+    let port = port_given(matches, "port");
+    let unix = text_given(matches, "unix");
+    let mode = mode_given(matches)?;
+    let metrics_address = address_given(matches, "metrics-address")?;
+    let metrics = port_given(matches, "metrics");
+    Endpoints::new(address, port, unix, mode, metrics_address, metrics)
+}
+
 // What the options of `host` give, where they give something.
 fn host_given<'a>(matches: &ArgMatches<'a>) -> Option<Hosting<'a>>
     ensures { MatchOption result ((h : Hosting) → IsHostingOf (rows_of (found_of matches.now)) h → ⊥) (IsHostingOf (rows_of (found_of matches.now))) }
 {
     let config = config_given(matches)?;
-    let address = address_given(matches)?;
-    let port = number_given(matches, "port")?;
+    let endpoints = endpoints_given(matches)?;
     let clients = number_given(matches, "clients")?;
     let idle = number_given(matches, "idle")?;
     let keeping = keeping_given(matches)?;
     let verbose = flag_given(matches, "verbose");
-    Hosting::new(config, address, port, clients, idle, keeping, verbose)
+    Hosting::new(config, endpoints, clients, idle, keeping, verbose)
 }
 
 // What a subcommand with these options asks for, where it asks for something.
@@ -210,8 +241,14 @@ fn why_nothing_in(world: WorldKind, options: &ArgMatches<'_>) -> &'static str {
     if !world.gives_names() {
         return "error: no names are given in this world: '--record', draw, serve and host want rename or tree\n";
     }
-    if address_given(options).is_none() {
+    if address_given(options, "address").is_none() {
         return "error: '--address' wants an IPv4 or IPv6 address; no names are looked up, and '--port' gives the port\n";
+    }
+    if address_given(options, "metrics-address").is_none() {
+        return "error: '--metrics-address' wants an IPv4 or IPv6 address; no names are looked up, and '--metrics' gives the port\n";
+    }
+    if !mode_given(options).is_some_and(|mode| mode <= 0o777) {
+        return "error: '--mode' wants octal digits, at most 777\n";
     }
     if text_given(options, "journal").is_some() {
         return "error: '--journal' goes with none of '--etcd', '--prefix' and '--export'\n";

@@ -8,17 +8,18 @@
 //! an allocation failure; at 2 and 3, and where a page was asked for at 1, a text on the standard error says why.
 #![tactic(auto)]
 
-ghost use Rattle.std.specs.Prelude.{◌≡◌};
+ghost use Rattle.std.specs.Prelude.{◌≡◌, ◌≤◌, IfSome};
 
 mod race;
 
 use hall_host::{HostFailure, HostPlan, Keeping, LogPlan, export_hall, host_hall, write_holders};
+use listeners::{ListenPlan, SocketPlan};
 use locked_world::Opened;
 use player::{Fault, Tried};
 use program_work::program::{program_over, report};
 use program_work::{
-    Failure, Hosting, Keeping as KeepingWords, LogWords, Misuse, Outcome, Serving, in_sight,
-    may_take_long, refused,
+    Endpoints, Failure, Hosting, Keeping as KeepingWords, LogWords, Misuse, Outcome, Serving,
+    in_sight, may_take_long, refused,
 };
 use slot_server::{Plan, ServeFault, serve};
 use std::alloc::{AllocGlobal, Global};
@@ -27,7 +28,7 @@ use std::fmt::Display;
 use std::fs::File;
 use std::io::{ErrorKind, IsTerminal, Write};
 use std::marker::Brand;
-use std::net::Net;
+use std::net::{IpAddr, Net, SocketAddr};
 use std::process::ExitCode;
 use std::rt::{Clock, Files};
 use std::sync::Wait;
@@ -112,12 +113,40 @@ fn keeping_of<'a>(words: KeepingWords<'a>) -> Keeping<'a> {
     }
 }
 
+// A port of an address, where one is named.
+fn port_at(address: IpAddr, port: Option<u64>) -> Option<SocketAddr>
+    requires { IfSome port (λ p. p ≤ 65535) }
+{
+    match port {
+        Some(port) => Some(SocketAddr::new(address, port as u16)),
+        None => None,
+    }
+}
+
+// What is to be listened on: where neither a port nor a socket is named, a port that is free.
+fn listen_plan_of<'a>(endpoints: Endpoints<'a>) -> ListenPlan<'a> {
+    let port = match (endpoints.port, endpoints.unix) {
+        (None, None) => Some(0),
+        (port, _) => port,
+    };
+    ListenPlan {
+        network: port_at(endpoints.address, port),
+        local: match endpoints.unix {
+            Some(path) => Some(SocketPlan {
+                path,
+                mode: endpoints.mode as u32,
+            }),
+            None => None,
+        },
+        metrics: port_at(endpoints.metrics_address, endpoints.metrics),
+    }
+}
+
 // What is to be hosted, where somebody may look on.
 fn host_plan_of<'a>(hosting: Hosting<'a>, seen: bool) -> HostPlan<'a> {
     HostPlan {
         config: hosting.config,
-        address: hosting.address,
-        port: hosting.port as u16,
+        listen: listen_plan_of(hosting.endpoints),
         clients: hosting.clients as usize,
         idle: if hosting.idle == 0 {
             None

@@ -190,9 +190,6 @@ impl Persist<Reported> for Teller {
     }
 
     fn tally(&self, _service: &Reported) -> Tally {
-        Tally {
-            events: 0,
-            bytes: 0,
-        }
+        Tally::of_events(0)
     }
 }

@@ -1,0 +1,193 @@
+//! Those who ask for pages.
+
+use crate::numbers::Numbers;
+use crate::scraper::Scraper;
+use mio::event::Event;
+use mio::net::{TcpListener, TcpStream};
+use mio::{Interest, Poll, Token};
+use std::alloc::{AllocError, Global};
+use std::io::{self, ErrorKind};
+use std::net::SocketAddr;
+
+/// How many ask at once; others wait to be accepted.
+pub const MOST_SCRAPERS: usize = 8;
+
+/// For how many ticks one may be there.
+const MOST_TICKS: u64 = 10;
+
+/// The token of their listener. Those of the seats follow it.
+const LISTENER: usize = 1 << 61;
+
+/// Those who ask for pages, on seats.
+#[derive(Drop)]
+pub struct Scrapers {
+    alloc: Global,
+    listener: TcpListener,
+    seats: Vec<Option<Scraper>>,
+    /// Whether some may wait to be accepted.
+    waiting: bool,
+}
+
+// Whether whoever sits there is due.
+fn is_due(seat: &Option<Scraper>) -> bool {
+    match seat {
+        Some(scraper) => scraper.is_due(),
+        None => false,
+    }
+}
+
+// Whether whoever sits there asked and has no answer.
+fn wants_answer(seat: &Option<Scraper>) -> bool {
+    match seat {
+        Some(scraper) => scraper.wants_answer(),
+        None => false,
+    }
+}
+
+// Whether nobody sits there.
+fn is_empty(seat: &Option<Scraper>) -> bool {
+    seat.is_none()
+}
+
+// Whoever sits there is sent what waits. Says whether he is to be closed.
+fn is_left(seat: &mut Option<Scraper>, tick: u64) -> bool {
+    match seat {
+        Some(scraper) => {
+            scraper.send();
+            scraper.is_over() || MOST_TICKS <= scraper.age(tick)
+        }
+        None => false,
+    }
+}
+
+impl Scrapers {
+    /// Nobody asks yet.
+    ///
+    /// # Errors
+    ///
+    /// What the system says where it does not wait for the listener, and `ErrorKind::OutOfMemory`.
+    pub fn new(alloc: Global, poll: &Poll, listener: TcpListener) -> io::Result<Scrapers> {
+        let mut listener = listener;
+        poll.registry()
+            .register(&mut listener, Token(LISTENER), Interest::READABLE)?;
+        let mut seats = Vec::with_capacity(alloc, MOST_SCRAPERS)?;
+        for _ in 0..MOST_SCRAPERS {
+            let pushed: Result<(), AllocError> = seats.push(None).map_err(|_| AllocError);
+            pushed?;
+        }
+        Ok(Scrapers {
+            alloc,
+            listener,
+            seats,
+            waiting: false,
+        })
+    }
+
+    /// The address that is listened on.
+    ///
+    /// # Errors
+    ///
+    /// What the system says.
+    pub fn local_addr(&self) -> io::Result<SocketAddr> {
+        self.listener.local_addr()
+    }
+
+    /// Notes what the system tells, and says whether that is of those who ask.
+    pub fn note(&mut self, event: &Event) -> bool {
+        let token = event.token().0;
+        if token < LISTENER {
+            return false;
+        }
+        if token == LISTENER {
+            self.waiting = true;
+        } else if let Some(Some(scraper)) = self.seats.get_mut(token - LISTENER - 1) {
+            scraper.note(event);
+        }
+        true
+    }
+
+    /// Whether any may go on with no word of the system.
+    pub fn is_due(&self) -> bool {
+        (self.waiting && self.seats.iter().any(is_empty)) || self.seats.iter().any(is_due)
+    }
+
+    /// Whether nobody is there.
+    pub fn is_empty(&self) -> bool {
+        self.seats.iter().all(is_empty)
+    }
+
+    /// Whether any asked and has no answer.
+    pub fn want_answers(&self) -> bool {
+        self.seats.iter().any(wants_answer)
+    }
+
+    // Gives a seat to a stream. One that cannot be waited for is closed.
+    fn admit(&mut self, poll: &Poll, at: usize, mut stream: TcpStream, tick: u64) {
+        let both = Interest::READABLE | Interest::WRITABLE;
+        let token = Token((LISTENER + 1).saturating_add(at));
+        if poll.registry().register(&mut stream, token, both).is_err() {
+            return;
+        }
+        if let Some(seat) = self.seats.get_mut(at) {
+            *seat = Some(Scraper::new(self.alloc, stream, tick));
+        }
+    }
+
+    // Accepts one, if one waits. Where the system has no room for it, they wait for the next tick.
+    fn accept(&mut self, poll: &Poll, at: usize, tick: u64) {
+        match self.listener.accept() {
+            Ok((stream, _)) => self.admit(poll, at, stream, tick),
+            Err(error) => match error.kind() {
+                ErrorKind::Interrupted | ErrorKind::ConnectionAborted => {}
+                _ => self.waiting = false,
+            },
+        }
+    }
+
+    // Accepts who waits, as far as there are seats.
+    fn accept_all(&mut self, poll: &Poll, tick: u64) {
+        for at in 0..MOST_SCRAPERS {
+            if !self.waiting {
+                break;
+            }
+            if let Some(None) = self.seats.get(at) {
+                self.accept(poll, at, tick);
+            }
+        }
+    }
+
+    /// Accepts who waits, as far as there are seats, and reads what came of their requests.
+    pub fn read(&mut self, poll: &Poll, tick: u64) {
+        self.accept_all(poll, tick);
+        for seat in &mut self.seats {
+            if let Some(scraper) = seat {
+                scraper.read();
+            }
+        }
+    }
+
+    /// Answers those who asked.
+    pub fn answer(&mut self, numbers: &Numbers) {
+        for seat in &mut self.seats {
+            if let Some(scraper) = seat {
+                if scraper.wants_answer() {
+                    scraper.answer(self.alloc, numbers);
+                }
+            }
+        }
+    }
+
+    /// Sends what waits, as far as the streams take it now, and closes who is over or has been there for ten ticks.
+    pub fn send(&mut self, tick: u64) {
+        for seat in &mut self.seats {
+            if is_left(seat, tick) {
+                *seat = None;
+            }
+        }
+    }
+
+    /// Notes that a second has passed: who could not be accepted is tried again.
+    pub fn tick(&mut self) {
+        self.waiting = true;
+    }
+}
