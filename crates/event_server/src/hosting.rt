@@ -138,11 +138,11 @@ impl Drop for Hosting {
 
 /// Serves clients of one service, each its own transcript, in one thread.
 ///
-/// Lines `listening ADDRESS:PORT`, `listening PATH` and `metrics ADDRESS:PORT` are written first, of what is listened on. Each turn takes what clients have sent, keeps what the service tells of it, and only then
-/// sends replies (`turn`); where the service learns its answers ahead, what was read is told to the persister before (`iterate_prefetched`), which is
-/// called once a second too. It ends at the end of standard input where that is a pipe, or else never: then replies are sent, as far as
-/// clients take them within a second, and a line `served N` is written. Those who watch are served between the turns: what they ask changes neither
-/// the service nor the persister.
+/// Lines `listening ADDRESS:PORT`, `listening PATH` and `metrics ADDRESS:PORT` are written first, of what is listened on. Each turn takes what
+/// clients have sent, keeps what the service tells of it, and only then sends replies (`turn`); where the service learns its answers ahead, what
+/// was read is told to the persister before (`iterate_prefetched`), which is called once a second too. It ends at the end of standard input where
+/// that is a pipe, or else never: then replies are sent, as far as clients take them within a second, and a line `served N` is written. Those who
+/// watch are served between the turns: what they ask changes neither the service nor the persister.
 pub fn host<R, D: Service<R>, K: Persist<D>, W: Write, E: Write>(
     rt: &R,
     alloc: Global,
@@ -193,6 +193,26 @@ fn watch_at(
     }
 }
 
+// What a server waits on, and who comes in there.
+struct Entrance {
+    poll: Poll,
+    doors: Doors,
+    watch: Option<Watch>,
+}
+
+// Waits on listeners.
+fn enter_at<R: Net>(rt: &R, alloc: Global, listeners: Listeners) -> io::Result<Entrance> {
+    let Listeners {
+        network,
+        local,
+        metrics,
+    } = listeners;
+    let poll = new_poll(rt)?;
+    let doors = Doors::new(&poll, network, local)?;
+    let watch = watch_at(alloc, &poll, metrics)?;
+    Ok(Entrance { poll, doors, watch })
+}
+
 // Whether an event is of those who watch, and noted then.
 fn note_watcher(watch: &mut Option<Watch>, event: &Event) -> bool {
     match watch {
@@ -214,14 +234,7 @@ impl Hosting {
         let Ok(events) = Events::with_capacity(alloc, EVENTS) else {
             return Err(HostFault::Memory);
         };
-        let Listeners {
-            network,
-            local,
-            metrics,
-        } = listeners;
-        let poll = new_poll(rt)?;
-        let doors = Doors::new(&poll, network, local)?;
-        let watch = watch_at(alloc, &poll, metrics)?;
+        let Entrance { poll, doors, watch } = enter_at(rt, alloc, listeners)?;
         let batch = match most_prefetched {
             Some(most) => Some(Batch::new(alloc, options.kind, most)),
             None => None,
