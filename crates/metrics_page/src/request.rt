@@ -1,7 +1,7 @@
 //! What a request asks for.
 
-ghost use Rattle.std.specs.Prelude.{◌≡◌, ℕ, List, Some, codes};
-ghost use Rattle.httparse.specs.Grammar.{HasNoRequest, ReadsRequest, RequestHead};
+ghost use Rattle.std.specs.Prelude.{◌≡◌, None};
+ghost use Rattle.httparse.specs.Grammar.{HasNoRequest};
 
 use httparse::Status;
 use httparse::spans::{EMPTY_HEADER_SPAN, parse_request};
@@ -51,7 +51,9 @@ fn asked_of(method: &[u8], target: &[u8]) -> Asked {
 }
 
 /// What the request asks for whose head begins these bytes; none where more of it is to come.
-pub fn asked_by(bytes: &[u8]) -> Option<Asked> {
+pub fn asked_by(bytes: &[u8]) -> Option<Asked>
+    ensures { result ≡ None → HasNoRequest bytes.now }
+{
     let mut fields = [EMPTY_HEADER_SPAN; MOST_FIELDS];
     match parse_request(bytes, &mut fields) {
         Ok(Status::Complete(head)) => Some(asked_of(head.method.of(bytes), head.path.of(bytes))),
