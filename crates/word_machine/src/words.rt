@@ -117,7 +117,12 @@ impl<P: WordProgram, A: Allocator> Words<P, A> {
     }
 
     /// The first words of the record that was read last.
-    fn recall_first(&self, seat: &mut Seat<u8, SeatView<P, P::Output>>, slot: usize, words: &mut [u64])
+    fn recall_first(
+        &self,
+        seat: &mut Seat<u8, SeatView<P, P::Output>>,
+        slot: usize,
+        words: &mut [u64],
+    )
         requires ours { seat.old.table_id ≡ self.now.table }
         requires read { HasRead P.law self.now.size slot seat.old.me }
         requires few { length words.old ≤ P.law.length }

@@ -1,28 +1,26 @@
--- the reads that a collect makes of segments that nobody wrote, and what the first words of a record say to a scan
-use Rattle.std.proofs.Common.{◌≡◌, ◌≢◌, ℕ, zero, suc, ◌+◌, ◌-◌, ◌*◌, ◌%◌, ◌<◌, ◌≤◌, ◌⊎◌, nat_lt, nat_le, Bool, true, false, List, [], ◌∷◌, ◌++◌, length, slice_index, Option, Some, None, inl, inr, refl, sym, ap, subst, ◌∙◌, arith}
-use Rattle.std.proofs.lemmas.Bool.{cases_Bool}
+-- the reads that a collect makes of segments that nobody wrote
+use Rattle.std.proofs.Common.{◌≡◌, ℕ, zero, suc, ◌+◌, ◌%◌, ◌<◌, ◌≤◌, ◌⊎◌, nat_lt, nat_le, true, false, List, slice_index, Option, Some, None, inl, inr, refl, sym, ap, ◌∙◌, arith}
 use Rattle.std.proofs.lemmas.Bool.Decides.{nat_tests}
-use Rattle.std.proofs.lemmas.List.{get_or_append_left}
 use Rattle.step_memory.specs.declared.access.Access.TheVariants.{Read}
 use Rattle.step_memory.specs.declared.access.Answer.TheVariants.{Value}
+use Rattle.step_memory.specs.declared.note.Note.{Note}
 use Rattle.step_memory.specs.declared.note.Note.TheVariants.{Quiet}
-use Rattle.step_memory.specs.declared.record.Record.{Record}
 use Rattle.snapshot_core.specs.declared.client.Pending.{Pending}
 use Rattle.snapshot_core.specs.declared.client.Pending.TheVariants.{Nothing, Placing as OnWay, Scan as Scans, Update, Write as Writing}
 use Rattle.snapshot_core.specs.declared.scan.Scan.{Scan}
-use Rattle.snapshot_core.specs.declared.sightings.Met.{Met}
-use Rattle.snapshot_core.specs.Scan.{is_second_change, met_anew, goes_after, goes_view, scan_after, scan_view}
-use Rattle.snapshot_core.specs.Sightings.{met_in}
+use Rattle.snapshot_core.specs.Scan.{scan_after, scan_view}
+use Rattle.snapshot_core.specs.Client.{note_after}
+use Rattle.snapshot_core.specs.SnapWorld.{reported}
+use Rattle.rename_core.specs.Round.{followed}
 use Rattle.snapshot_places.specs.declared.grid_register.GridValue.{GridValue}
 use Rattle.snapshot_places.specs.declared.grid_register.GridValue.TheVariants.{Contents}
 use Rattle.snapshot_places.specs.declared.grid_register.GridRegister.TheVariants.{Segment}
 use Rattle.snapshot_places.specs.declared.grid_walk.GridWalk.{GridWalk}
 use Rattle.snapshot_places.specs.Grid.{grid_walks}
 use Rattle.word_machine.specs.declared.size.Size.{Size}
-use Rattle.word_machine.specs.WordLaw.{skipped, GoesAhead, IsAfterHead}
+use Rattle.word_machine.specs.WordLaw.{skipped, GoesAhead}
 use Rattle.word_names.specs.NameMachine.{Naming, naming_steps, names_law, reads_in, ahead_in, reads_ahead}
-use Rattle.word_names.specs.Spelling.{record_in, value_in}
-use Rattle.word_names.specs.Spelled.{record_read}
+use Rattle.word_names.specs.Renamers.{note_of}
 
 -- a collect is under way
 abbrev pub IsReading : Pending → Type 0
@@ -43,13 +41,27 @@ abbrev pub moved_to : Naming → ℕ → Naming
 moved_to x at = with_scan x (scan_to x.client.scan at)
 
 -- a read that does not end its scan
+resumed_reading : (x : Naming) (p : Pending) → x.client.pending ≡ p → IsReading p → (v : GridValue) → scan_view grid_walks x.client.scan v ≡ None → naming_steps.resumed x (Value v) ≡ with_scan x (scan_after grid_walks x.client.scan v x.client.walk)
+resumed_reading x Nothing is reading v none = absurd reading
+resumed_reading x OnWay is reading v none = absurd reading
+resumed_reading x Scans is reading v none = rw (is, none) refl
+resumed_reading x (Update n) is reading v none = rw (is, none) refl
+resumed_reading x (Writing n view) is reading v none = absurd reading
+
+-- what is said of a read by which a scan shows this
+abbrev said : Naming → Option ℕ → Option (List (ℕ × ℕ)) → Note (Option ℕ)
+said x updates_with view = note_of (followed x.round x.identity (reported (note_after view updates_with)) x.limit).reply
+
+noted_reading : (x : Naming) (p : Pending) → x.client.pending ≡ p → IsReading p → (v : GridValue) → scan_view grid_walks x.client.scan v ≡ None → naming_steps.note x (Value v) ≡ Quiet
+noted_reading x Nothing is reading v none = absurd reading
+noted_reading x OnWay is reading v none = absurd reading
+noted_reading x Scans is reading v none = rw is (ap (said x None) none)
+noted_reading x (Update n) is reading v none = rw is (ap (said x (Some n)) none)
+noted_reading x (Writing n view) is reading v none = absurd reading
+
 on_reading : (x : Naming) (p : Pending) → x.client.pending ≡ p → IsReading p → (v : GridValue) → scan_view grid_walks x.client.scan v ≡ None
     → (naming_steps.resumed x (Value v) ≡ with_scan x (scan_after grid_walks x.client.scan v x.client.walk)) × (naming_steps.note x (Value v) ≡ Quiet)
-on_reading x Nothing is reading v none = absurd reading
-on_reading x OnWay is reading v none = absurd reading
-on_reading x Scans is reading v none = rw (is, none) (refl, refl)
-on_reading x (Update n) is reading v none = rw (is, none) (refl, refl)
-on_reading x (Writing n view) is reading v none = absurd reading
+on_reading x p is reading v none = (resumed_reading x p is reading v none, noted_reading x p is reading v none)
 
 next_is : (x : Naming) (p : Pending) → x.client.pending ≡ p → IsReading p → naming_steps.next x ≡ Read (Segment x.client.scan.walk.at)
 next_is x Nothing is reading = absurd reading
@@ -103,49 +115,6 @@ goes_ahead size x = record {
       ap (λ (y : Naming). naming_steps.note y (Value (Contents None))) (skipped_is x i (omega arith)) ∙ (on_one (moved_to x (x.client.scan.walk.at + i)) reading.0 (omega arith)).1);
 }
 
--- a scan that met this, and goes on
-abbrev anew : Scan GridWalk → Met → Scan GridWalk
-anew s m = met_anew s s.walk.at (record { identity = m.identity; value = m.value; number = m.number; view = [] })
-
-abbrev after_met : Scan GridWalk → GridWalk → Met → Scan GridWalk
-after_met s walk m = goes_after grid_walks None (anew s m) (Contents None) walk
-
-abbrev view_met : Scan GridWalk → Met → Option (List (ℕ × ℕ))
-view_met s m = goes_view grid_walks None (anew s m) (Contents None)
-
-by_met : (s : Scan GridWalk) (walk : GridWalk) (r : Record) → is_second_change s s.walk.at r ≡ false → (scan_after grid_walks s (Contents (Some r)) walk ≡ after_met s walk (met_in r)) × (scan_view grid_walks s (Contents (Some r)) ≡ view_met s (met_in r))
-by_met s walk r first = rw first (refl, refl)
-
-first_change : (s : Scan GridWalk) (r : Record) → scan_view grid_walks s (Contents (Some r)) ≡ None → is_second_change s s.walk.at r ≡ false
-first_change s r none = elim (cases_Bool (is_second_change s s.walk.at r)) [
-  | inl e ↦ absurd (let view : scan_view grid_walks s (Contents (Some r)) ≡ Some r.view = rw e refl in cc)
-  | inr e ↦ e
-]
-
--- a scan that goes on makes the same of two records of which it keeps the same
-same_met : (s : Scan GridWalk) (walk : GridWalk) (f r : Record) → met_in f ≡ met_in r → scan_view grid_walks s (Contents (Some f)) ≡ None
-    → (scan_after grid_walks s (Contents (Some f)) walk ≡ scan_after grid_walks s (Contents (Some r)) walk) × (scan_view grid_walks s (Contents (Some r)) ≡ None)
-same_met s walk f r same none =
-    let first = first_change s f none in
-    let other : is_second_change s s.walk.at r ≡ false = sym (ap (λ (m : Met). is_second_change s s.walk.at (record { identity = m.identity; value = m.value; number = m.number; view = [] })) same) ∙ first in
-    let one = by_met s walk f first in
-    let two = by_met s walk r other in
-    (one.0 ∙ ap (after_met s walk) same ∙ sym two.0, two.1 ∙ sym (ap (view_met s) same) ∙ sym one.1 ∙ none)
-
 -- a value is a record of which these are the first words
 abbrev pub HasHead : List ℕ → GridValue → Type 0
 HasHead head v = (view : List (ℕ × ℕ)) × (v ≡ Contents (Some (record { identity = slice_index head 1; value = slice_index head 2; number = slice_index head 3 % 4294967296; view = view })))
-
-pub after_head : (x : Naming) (p : Pending) → x.client.pending ≡ p → IsReading p → (head : List ℕ) → length head ≡ 4 → slice_index head 0 ≢ 0 → slice_index head 0 ≢ 100 → (v : GridValue) → HasHead head v → scan_view grid_walks x.client.scan v ≡ None
-    → IsAfterHead naming_steps names_law x head (with_scan x (scan_after grid_walks x.client.scan v x.client.walk))
-after_head x p is reading head long kind door v has none rest =
-    let f : Record = record { identity = slice_index head 1; value = slice_index head 2; number = slice_index head 3 % 4294967296; view = has.0 } in
-    let at : (i : ℕ) → i < 4 → slice_index (head ++ rest) i ≡ slice_index head i = (λ i l. get_or_append_left head rest 0 i (omega arith)) in
-    let r : Record = record_in (head ++ rest) in
-    let kind_is = at 0 (omega arith) in
-    let says : Contents (Some r) ≡ value_in (head ++ rest) = record_read (head ++ rest) (λ e. kind (sym kind_is ∙ e)) (λ e. door (sym kind_is ∙ e)) r refl in
-    let same : met_in f ≡ met_in r = (λ i. record { identity = sym (at 1 (omega arith)) i; value = sym (at 2 (omega arith)) i; number = sym (at 3 (omega arith)) i % 4294967296 }) in
-    let met = same_met x.client.scan x.client.walk f r same (sym (ap (scan_view grid_walks x.client.scan) has.1) ∙ none) in
-    let read = on_reading x p is reading (Contents (Some r)) met.1 in
-    (ap (λ (w : GridValue). with_scan x (scan_after grid_walks x.client.scan w x.client.walk)) has.1 ∙ ap (with_scan x) met.0 ∙ sym read.0 ∙ ap (λ (w : GridValue). naming_steps.resumed x (Value w)) says,
-    sym (ap (λ (w : GridValue). naming_steps.note x (Value w)) says) ∙ read.1)

@@ -1,5 +1,5 @@
 -- what is proved of the renaming machine over a grid, as one of programs over words and records
-use Rattle.std.proofs.Common.{◌≡◌, ◌≢◌, ◌==◌, ℕ, zero, suc, ◌+◌, ◌-◌, ◌*◌, ◌/◌, ◌^◌, ◌<◌, ◌≤◌, inl, inr, Bool, true, false, cond, is_some, List, [], ◌∷◌, ◌++◌, replicate, slice_index_or, Option, Some, None, Ok, refl, sym, ap, subst, ◌∙◌, arith, option_map}
+use Rattle.std.proofs.Common.{◌≡◌, ◌≢◌, ◌==◌, ℕ, zero, suc, ◌+◌, ◌-◌, ◌*◌, ◌^◌, ◌<◌, ◌≤◌, inl, inr, Bool, true, false, cond, is_some, List, [], ◌∷◌, ◌++◌, replicate, slice_index_or, Option, Some, None, Ok, refl, sym, ap, subst, ◌∙◌, arith, option_map}
 use Rattle.std.proofs.lemmas.Bool.Decides.{eqb_tells}
 use Rattle.std.proofs.lemmas.Nat.{mul-le}
 use Rattle.step_memory.specs.declared.access.Access.{Access}

@@ -7,7 +7,7 @@ ghost use Rattle.snapshot_places.specs.declared.grid_register.GridValue.TheVaria
 ghost use Rattle.word_machine.specs.WordLaw.{IsAfterHead, skipped};
 ghost use Rattle.word_names.specs.Ahead.{HasHead};
 ghost use Rattle.word_names.specs.NameMachine.{names_law, naming_steps, place_for, is_door, naming_from, reads_in, reads_ahead, MayStart};
-ghost use Rattle.word_names.specs.Spelling.{record_word, contents_word, pairs_in, pairs_of, value_in, word_in, FitsRecord, Fits};
+ghost use Rattle.word_names.specs.Spelling.{record_word, contents_word, pairs_in, pairs_of, value_in, word_in, words_of, FitsRecord, FitsContents, Fits};
 ghost use Rattle.word_names.specs.Sound.{names_sound};
 
 use crate::renamer::Renamer;
@@ -39,6 +39,17 @@ fn words_of_record(written: &Record) -> usize
 {
     let _number = written.number;
     4 + 2 * written.view.pairs().len()
+}
+
+/// How many words spell what stands in a segment.
+fn words_of_segment(segment: &Segment) -> usize
+    ensures count { result ≡ words_of (Contents segment.now) }
+    ensures fits { FitsContents segment.now }
+{
+    match segment {
+        None => 1,
+        Some(record) => words_of_record(record),
+    }
 }
 
 /// One of the words that spell a record.
@@ -206,8 +217,7 @@ impl WordProgram for Renamer<GridWalker, GridWalk> {
     {
         match value {
             GridValue::Word(_) => 3,
-            GridValue::Contents(None) => 1,
-            GridValue::Contents(Some(record)) => words_of_record(record),
+            GridValue::Contents(segment) => words_of_segment(segment),
         }
     }
 
@@ -262,7 +272,8 @@ impl WordProgram for Renamer<GridWalker, GridWalk> {
         requires { count ≤ reads_ahead self.old }
         ensures { self.new ≡ skipped naming_steps (Contents None) self.old count }
     {
-        self.client.scan.walk.at += count as Place;
+        let walk = self.client.scan.walk;
+        self.client.scan.walk.at = walk.at + count as Place;
     }
 
     fn head() -> usize {
