@@ -1,4 +1,4 @@
--- what a wire takes
+-- what the buffers of a connection take
 use Rattle.std.proofs.Common.{◌≡◌, ◌⊎◌, inl, inr, ◌≤◌, ◌<◌, ◌+◌, ℕ, length, true, false, Bool, List, [], ◌∷◌, ◌++◌, ◌||◌, take, drop, Option, Some, None, Result, Ok, Err, refl, sym, ap, subst, ◌∙◌, arith, append_assoc}
 use Rattle.event_server.proofs.Common.{Consumes-nil, ShownReply, Request, WorldKind, Runs, Turn, BuffersState, bytes_of, Peek}
 use Rattle.std.proofs.lemmas.Grind.{flat_map-append}

@@ -163,7 +163,7 @@ peeked_to_end kind kind' long asks batch bytes at long' asks' batch' at'' ends a
       λ h. (let a = asked h in let b = so.asked a.0 in (b.0, all ∙ rw (b.1, a.1) refl)),
     ))
 
--- or without it, as the beginning of one line
+-- or without it, as the prefix of one line
 pub peeked_long : (kind : WorldKind) (long asks : Bool) (batch bytes : List ℕ) (at : ℕ) (long' asks' ends : Bool) (batch' : List ℕ) → HasPeeked kind long asks batch bytes at long' asks' batch' → has_no_lf (drop at bytes) ≡ true → ends ≡ false →
     (batch' ≡ batch ++ with_ends (requests_in kind long (take (length bytes) bytes) ends)) × (asks' ≡ false → (asks ≡ false) × (requests_in kind long (take (length bytes) bytes) ends ≡ []))
 peeked_long kind long asks batch bytes at long' asks' ends batch' so none ends_is =

@@ -1,4 +1,4 @@
--- what is told of seats, one after another, and taken of them
+-- what is reported of seats, one after another, and taken of them
 use Rattle.std.proofs.Common.{◌≡◌, ◌⊎◌, inl, inr, ℕ, zero, suc, ◌+◌, ◌<◌, ◌≤◌, Bool, true, false, set, List, [], ◌∷◌, ◌++◌, length, take, get_or, Option, Some, None, refl, sym, ap, subst, ◌∙◌, arith}
 use Rattle.event_server.proofs.Common.{WorldKind, ShownReply, Request, with_ends, Runs, TurnLog, turns_of, tagged, all-append, all-tagged, of-append, of-same, of-other, Turn, Seating, SeatIdle, TakesPeeked, Peek}
 use Rattle.std.proofs.lemmas.List.{append-nil, get_or-set_same, get_or-set_other, get_or-take, length-take-le}
@@ -8,7 +8,7 @@ use Rattle.event_server.specs.Reported.{SeatLines, EndsWith, IsAmong, all_lines,
 use Rattle.event_server.proofs.PeekLemmas.{ends_append}
 use Rattle.event_server.proofs.SeatLemmas.{Going, seat_took}
 
--- the lines that are told of one seat more
+-- the lines that are reported of one seat more
 pub reported_behind : (batch batch' : List ℕ) (reported : SeatLines) (key : ℕ) (more : List (List ℕ)) → batch ≡ with_ends (all_lines reported) → batch' ≡ batch ++ with_ends more → batch' ≡ with_ends (all_lines (reported ++ tagged key more))
 reported_behind batch batch' reported key more is is' =
     is' ∙ ap (λ l. l ++ with_ends more) is ∙ sym (ends_append (all_lines reported) more)
@@ -192,7 +192,7 @@ module _ {C : Type 0} (on : Seating C) (peek : C → Option Peek) (Due : C → T
   reported_takes kind ls turns (Some c) None reported takes = absurd takes
   reported_takes kind ls turns (Some c) (Some d) reported takes = (reported c refl takes.0, takes.1)
 
-  -- what is taken was told
+  -- what is taken was reported
   pub taken_reported : (kind : WorldKind) (keys : List ℕ) (reported : SeatLines) (log : TurnLog) (seats seats' : List (Option C)) → Reported on peek Due kind keys reported seats → TakenPeeked on peek Due keys log seats seats' →
       (i : ℕ) → (turns_of i log ≡ []) ⊎ SeatReportedAndTakes on peek Due kind (lines_of i reported) (turns_of i log) (get_or seats i None) (get_or seats' i None)
   taken_reported kind keys reported log seats seats' t taken i = elim (taken.each i) as (λ _. (turns_of i log ≡ []) ⊎ SeatReportedAndTakes on peek Due kind (lines_of i reported) (turns_of i log) (get_or seats i None) (get_or seats' i None)) [
@@ -200,7 +200,7 @@ module _ {C : Type 0} (on : Seating C) (peek : C → Option Peek) (Due : C → T
     | inr k ↦ inr (reported_takes kind (lines_of i reported) (turns_of i log) (get_or seats i None) (get_or seats' i None) (λ c there due. t.each i c k.0 there due) k.1)
   ]
 
-  -- whose lines were told is at fault
+  -- whose lines are in the batch is at fault
   pub reported_broken : (kind : WorldKind) (keys : List ℕ) (reported : SeatLines) (seats seats' : List (Option C)) → Reported on peek Due kind keys reported seats →
       ((i : ℕ) → IsAmong i keys → SeatAsks peek (get_or seats i None) → SeatBroken on (get_or seats' i None)) → (i : ℕ) → (lines_of i reported ≡ []) ⊎ SeatBroken on (get_or seats' i None)
   reported_broken kind keys reported seats seats' t given i = elim (t.known i) as (λ _. (lines_of i reported ≡ []) ⊎ SeatBroken on (get_or seats' i None)) [

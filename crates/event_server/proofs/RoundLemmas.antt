@@ -45,7 +45,7 @@ module _ {T K : Type 0} (may : T → Request → ShownReply → T → Type 0) (p
     pub served_turn : (k l : K) (w u : T) (seats seats' : List (Option C)) → LoopIteration on may persists k w seats l u seats' → WasServed may prefetches persists waits k w l u
     served_turn k l w u seats seats' t = (Serves (all_turns t.log) ∷ [], (l, u, (t.reported, t.taken.run, t.kept), (refl, refl)))
 
-    -- and one whose answers were learnt before
+    -- and one whose answers were prefetched before
     pub served_prefetched : (peek : C → Option Peek) (Due : C → Type 0) (kind : WorldKind) (k l : K) (w u : T) (lines : List ℕ) (seats seats' : List (Option C)) → PrefetchedIteration on peek Due may prefetches persists kind k w seats lines l u seats' →
         WasServed may prefetches persists waits k w l u
     served_prefetched peek Due kind k l w u lines seats seats' t =

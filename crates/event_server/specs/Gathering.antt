@@ -1,4 +1,4 @@
--- what a connection has of its stream before its lines are taken, and a turn of the loop whose answers were learnt before
+-- what a connection has of its stream before its lines are taken, and a turn of the loop whose answers were prefetched before
 use Rattle.std.specs.Prelude.{◌≡◌, ◌⊎◌, ℕ, ◌++◌, List, [], length, get_or, true, false, Option, Some, None}
 use Rattle.std.specs.Io.KnownBytes.{Consumes}
 use Rattle.commands.specs.Replies.{ShownReply}
@@ -29,7 +29,7 @@ abbrev pub count_of : Called → ℕ
 count_of (called.Served count) = count
 count_of (called.Unserved count) = count
 
--- the connection at a seat, where this was looked at of each, asks for what was told
+-- the connection at a seat, where this was looked at of each, asks for what was reported
 abbrev pub SeatAsks : {C : Type 0} → (C → Option Peek) → Option C → Type 0
 SeatAsks peek None = ⊥
 SeatAsks peek (Some c) = asks_of (peek c) ≡ true
@@ -52,7 +52,7 @@ module _ {C : Type 0} (on : Seating C) where
     pub each : (i : ℕ) → SeatGathers (get_or seats i None) (get_or seats' i None)
     pub many : length seats' ≡ length seats
 
-  -- A turn before which the answers were not learnt: what came was gathered, and nothing taken or sent; whoever has one of these lines is at
+  -- A turn before which the answers were not prefetched: what came was gathered, and nothing taken or sent; whoever has one of these lines is at
   -- fault
   pub record NotPrefetched (seats : List (Option C)) (lines : List ℕ) (seats' : List (Option C)) : Type 0 where
     pub gathered : Gathered seats seats'
@@ -73,8 +73,8 @@ module _ {C : Type 0} (on : Seating C) where
       pub asks : asks_of (peek is) ≡ false → (asks_of (peek was) ≡ false) × (more ≡ [])
       pub others : (i : ℕ) → (i ≡ key → ⊥) → get_or seats' i None ≡ get_or seats i None
 
-    -- Of these seats, whose connections were looked at, these lines are told: of one that is due the requests among what was seen of it, and
-    -- whose lines are told knows it
+    -- Of these seats, whose connections were looked at, these lines are reported: of one that is due the requests among what was seen of it, and
+    -- whose lines are in the batch knows it
     pub record Reported (kind : WorldKind) (keys : List ℕ) (reported : SeatLines) (seats : List (Option C)) : Type 0 where
       pub each : (i : ℕ) (c : C) → IsAmong i keys → get_or seats i None ≡ Some c → Due c → EndsWith (lines_of i reported) (requests_seen kind (on.buffers c) (peek c))
       pub known : (i : ℕ) → (lines_of i reported ≡ []) ⊎ (IsAmong i keys × SeatAsks peek (get_or seats i None))
@@ -94,15 +94,15 @@ module _ {C : Type 0} (on : Seating C) where
     pub record TakenPeeked (keys : List ℕ) (log : TurnLog) (seats seats' : List (Option C)) : Type 0 where
       pub each : (i : ℕ) → (turns_of i log ≡ []) ⊎ (IsAmong i keys × SeatTakesPeeked (turns_of i log) (get_or seats i None) (get_or seats' i None))
 
-    -- what a connection takes by these turns is a prefix of what was looked at, and all requests in that are told: these lines end with them
+    -- what a connection takes by these turns is a prefix of what was looked at, and all requests in that are reported: these lines end with them
     abbrev pub SeatReportedAndTakes : WorldKind → List (List ℕ) → List Turn → Option C → Option C → Type 0
     SeatReportedAndTakes kind ls turns None y = ⊥
     SeatReportedAndTakes kind ls turns (Some c) None = ⊥
     SeatReportedAndTakes kind ls turns (Some c) (Some d) =
         EndsWith ls (requests_seen kind (on.buffers c) (peek c)) × TakesPeeked turns (peek c) (on.left c) (on.buffers c) (on.left d) (on.buffers d)
 
-    -- A turn of the loop, before which its answers were learnt: what came was gathered, and nothing sent; the answers to these lines were
-    -- learnt, where there were any; and then all took their turns over a service that knows the answers, and only then was anything sent.
+    -- A turn of the loop, before which its answers were prefetched: what came was gathered, and nothing sent; the answers to these lines were
+    -- prefetched, where there were any; and then all took their turns over a service that knows the answers, and only then was anything sent.
     -- The lines are the requests among what was looked at of each connection, and no connection took anything else
     pub record PrefetchedIteration {T K : Type 0} (may : T → Request → ShownReply → T → Type 0) (prefetches : K → T → List ℕ → K → T → Type 0) (persists : K → T → K → T → Type 0) (kind : WorldKind) (k : K) (w : T) (seats : List (Option C)) (lines : List ℕ) (k' : K) (u : T) (seats' : List (Option C)) : Type 0 where
       pub gathered_seats : List (Option C)

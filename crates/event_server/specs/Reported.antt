@@ -1,4 +1,4 @@
--- which lines of a connection are told to a persister before a turn takes them
+-- which lines of a connection go to a persister before a turn takes them
 use Rattle.std.specs.Prelude.{◌≡◌, ℕ, ◌<◌, ◌≤◌, if◌then◌else◌, Bool, true, false, List, [], ◌∷◌, ◌++◌, length, get_or, take, Option, Some, None, Result, Ok, Err}
 use Rattle.commands.specs.declared.bad.Bad.{Bad}
 use Rattle.commands.specs.declared.command.Command.{Command}
@@ -55,7 +55,7 @@ abbrev pub ends_of : Option Peek → Bool
 ends_of None = false
 ends_of (Some peek) = peek.ends
 
--- whether a line that is longer than any request was begun before; and whether lines of it are told
+-- whether a line that is longer than any request was begun before; and whether lines of it are reported
 abbrev pub long_of : Option Peek → Bool
 long_of None = false
 long_of (Some peek) = peek.long

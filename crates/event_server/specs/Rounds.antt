@@ -5,7 +5,7 @@ use Rattle.commands.specs.Requests.{Request}
 use Rattle.player.specs.Runs.{Runs}
 use Rattle.player.specs.Turns.{Turn}
 
--- one thing that is done: the persister goes on by itself; the answers to these lines are learnt; or these turns are taken, and what the service
+-- one thing that is done: the persister goes on by itself; the answers to these lines are prefetched; or these turns are taken, and what the service
 -- tells of them is kept
 pub data Deed : Type 0 where
   Waits : Deed

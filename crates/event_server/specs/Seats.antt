@@ -10,7 +10,7 @@ use Rattle.event_server.specs.BuffersState.{BuffersState}
 use Rattle.event_server.specs.ConnectionBuffers.{HasTakenAll, TakesOf, SendsTo}
 use Rattle.event_server.specs.declared.connection.Connection.{Connection}
 
--- what a contract sees of a connection: what its stream has left to give and has taken, and its wire
+-- what a contract sees of a connection: what its stream has left to give and has taken, and its buffers
 pub record Seating (C : Type 0) : Type 0 where
   pub left : C → Option (List ℕ)
   pub gone : C → Option (List ℕ)

@@ -52,7 +52,7 @@ fn answer_all<D, K: Persist<D>, S: Stream, A: Allocator, B: Allocator>(
 }
 
 /// After a turn of the loop: of each of these seats the line that waits first is answered, where it asks who holds numbers, and the answer is sent
-/// as far as its stream takes it now. What is told is what the persister holds to be so then: no other line was taken since the last was kept.
+/// as far as its stream takes it now. What is reported is what the persister holds to be so then: no other line was taken since the last was kept.
 pub fn answer_queries<D, K: Persist<D>, S: Stream, A: Allocator, B: Allocator>(
     service: &D,
     persister: &K,

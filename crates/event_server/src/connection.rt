@@ -52,11 +52,11 @@ pub struct Connection<S, A: Allocator> {
     pub readable: bool,
     /// Whether a write may take something.
     pub writable: bool,
-    /// Whether the end of what comes was told: then a read that gives little need not be the last that gives something.
+    /// Whether the end of what comes was reported: then a read that gives little need not be the last that gives something.
     pub hung: bool,
     /// The tick at which something last came or went.
     pub since: u64,
-    /// What its next turn takes, where the service learns the answers before; `None` where it takes what comes.
+    /// What its next turn takes, where the service prefetches the answers before; `None` where it takes what comes.
     pub peek: Option<Peek>,
 }
 
@@ -89,7 +89,7 @@ fn read_into<S: Stream, B: Allocator>(
     read_at_most(stream, &mut shared.chunk, most)
 }
 
-// A read or a write did nothing: it may do something once the stream is told able again, or at once, or else the wire is at fault.
+// A read or a write did nothing: it may do something once the stream is reported able again, or at once, or else the connection is at fault.
 fn note_fault<A: Allocator>(fault: &io::Error, able: &mut bool, buffers: &mut Buffers<A>)
     ensures buffers { buffers.new ≡ record buffers.old { broken = buffers.new.broken } }
     ensures whole { buffers.new.broken ≡ false → buffers.old.broken ≡ false }
@@ -177,7 +177,7 @@ impl<S: Stream, A: Allocator> Connection<S, A> {
         }
     }
 
-    /// Takes its turn over a service that learnt its answers before: what was looked at (`gather`), and nothing else.
+    /// Takes its turn over a service that prefetched its answers before: what was looked at (`gather`), and nothing else.
     pub fn take_peeked<R, D: Service<R>, B: Allocator>(
         &mut self,
         rt: &R,
@@ -332,7 +332,7 @@ impl<S: Stream, A: Allocator> Connection<S, A> {
         self.peek = Some(peek);
     }
 
-    /// Its lines were told, if any were, and what they are answered is not known: then it is at fault. It waits for its next turn.
+    /// Its lines went to the persister, if any were, and what they are answered is not known: then it is at fault. It waits for its next turn.
     pub fn give_up(&mut self)
         ensures buffers { self.new.buffers ≡ record self.old.buffers { broken = self.new.buffers.broken } }
         ensures whole { self.new.buffers.broken ≡ false → self.old.buffers.broken ≡ false }
@@ -444,7 +444,7 @@ impl<S: Stream, A: Allocator> Connection<S, A> {
         }
     }
 
-    /// Answers the line that waits first, where that asks who holds numbers and there is room: where the service learns its answers ahead, only
+    /// Answers the line that waits first, where that asks who holds numbers and there is room: where the service prefetches its answers, only
     /// if the line was looked at. The persister tells who holds them.
     pub fn answer<D, K: Persist<D>, B: Allocator>(
         &mut self,

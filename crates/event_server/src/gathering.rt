@@ -19,12 +19,12 @@ use commands::WorldKind;
 use player::Service;
 use std::alloc::Allocator;
 
-/// What is told to a persister before a turn takes it.
+/// What goes to a persister before a turn takes it.
 #[derive(Drop)]
 pub struct Batch<A: Allocator> {
     /// The world whose commands are spoken.
     pub kind: WorldKind,
-    /// How many bytes of lines are told at most.
+    /// How many bytes of lines go to the persister at most.
     pub most: usize,
     /// Lines of requests, in the order in which they will be taken, each with its LF.
     pub lines: Vec<u8, A>,
@@ -33,7 +33,7 @@ pub struct Batch<A: Allocator> {
 }
 
 impl<A: Allocator> Batch<A> {
-    /// Nothing is told yet, and so many bytes at most are at once.
+    /// Nothing is reported yet, and so many bytes at most are at once.
     pub fn new(alloc: A, kind: WorldKind, most: usize) -> Batch<A>
         ensures { result.lines.items ≡ [] }
     {
@@ -46,13 +46,13 @@ impl<A: Allocator> Batch<A> {
     }
 }
 
-/// How a turn ended before which its answers were to be learnt, and how many of the seats were called; the others are to be called in the
+/// How a turn ended before which its answers were to be prefetched, and how many of the seats were called; the others are to be called in the
 /// next turn.
 #[derive(Clone, Copy, Debug, Drop, PartialEq, Eq)]
 pub enum Called {
     /// They had their turn.
     Served(usize),
-    /// The answers were not learnt: nothing was taken of any and nothing sent, and those whose lines were told are at fault.
+    /// The answers were not prefetched: nothing was taken of any and nothing sent, and those whose lines are in the batch are at fault.
     Unserved(usize),
 }
 
@@ -116,7 +116,7 @@ pub fn gather<S: Stream, A: Allocator, B: Allocator>(
     peeked
 }
 
-// The connection of a seat is at fault, where there is one whose lines were told; each other waits for its next turn.
+// The connection of a seat is at fault, where there is one whose lines are in the batch; each other waits for its next turn.
 fn give_up_at<S: Stream, A: Allocator>(seats: &mut [Option<Connection<S, A>>], key: usize)
     ensures gathered { Gathered (seats_of S.left S.gone) seats.old seats.new }
     ensures reported { SeatAsks (λ c. c.peek) (get_or seats.old key None) → SeatBroken (seats_of S.left S.gone) (get_or seats.new key None) }
@@ -130,7 +130,7 @@ fn give_up_at<S: Stream, A: Allocator>(seats: &mut [Option<Connection<S, A>>], k
     }
 }
 
-// The connections of these seats whose lines were told are at fault; nothing is taken of any, and nothing sent.
+// The connections of these seats whose lines are in the batch are at fault; nothing is taken of any, and nothing sent.
 fn give_up<S: Stream, A: Allocator>(seats: &mut [Option<Connection<S, A>>], called: &[usize])
     ensures gathered { Gathered (seats_of S.left S.gone) seats.old seats.new }
     ensures reported { (i : ℕ) → IsAmong i called.now → SeatAsks (λ c. c.peek) (get_or seats.old i None) →
@@ -221,8 +221,8 @@ fn prefetch<D, K: Persist<D>, B: Allocator>(
 }
 
 /// One turn of the loop over a service that learns its answers before: the connections of these seats are read, the requests among their
-/// lines are told to the persister, which has the service learn the answers, and then they take their turns (as in `turn`). Where the answers are not
-/// learnt in time, those whose lines were told are at fault, and nothing is sent. No connection takes more than was looked at. One seat at
+/// lines go to the persister, which has the service prefetch the answers, and then they take their turns (as in `iterate`). Where the answers are not
+/// prefetched in time, those whose lines are in the batch are at fault, and nothing is sent. No connection takes more than was looked at. One seat at
 /// least is called, where any is given, and of each that is called the connection rests then.
 ///
 /// The fault of what keeps, with no byte sent.

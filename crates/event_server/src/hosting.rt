@@ -35,7 +35,7 @@ use std::time::{Duration, Instant};
 /// The token of standard input; no seat has it.
 const STOPPER: Token = Token((1 << 60) + 1);
 
-/// How many events are told at once.
+/// How many events are reported at once.
 const EVENTS: usize = 1024;
 
 /// The most connections that are accepted in one turn.
@@ -45,7 +45,7 @@ const MOST_ACCEPTS: u32 = 1024;
 const REPORT_TICKS: u64 = 60;
 
 /// How many rounds, each of which waits for a tenth of a second at most, are given at the end for replies to be taken, the one in which the
-/// end is told among them.
+/// end is reported among them.
 const LAST_ROUNDS: u64 = 11;
 
 /// What a host serves.
@@ -87,13 +87,13 @@ struct Hosting {
     full: bool,
     /// Whether it was said that one could not be accepted.
     said: bool,
-    /// Whether the answers that were wanted last were not learnt, and whether that was said.
+    /// Whether the answers that were wanted last were not prefetched, and whether that was said.
     lost: bool,
     said_lost: bool,
     stop: bool,
     /// For how many rounds more what waits is sent, once it is to stop.
     last: u64,
-    /// What is told to the persister before a turn, where the service learns its answers ahead.
+    /// What goes to the persister before a turn, where the service prefetches its answers.
     batch: Option<Batch<Global>>,
     /// Whether a second has passed since the persister was last told.
     ticked: bool,
@@ -139,8 +139,8 @@ impl Drop for Hosting {
 /// Serves clients of one service, each its own transcript, in one thread.
 ///
 /// Lines `listening ADDRESS:PORT`, `listening PATH` and `metrics ADDRESS:PORT` are written first, of what is listened on. Each turn takes what
-/// clients have sent, keeps what the service tells of it, and only then sends replies (`turn`); where the service learns its answers ahead, what
-/// was read is told to the persister before (`iterate_prefetched`), which is called once a second too. It ends at the end of standard input where
+/// clients have sent, keeps what the service tells of it, and only then sends replies (`iterate`); where the service prefetches its answers, what
+/// was read goes to the persister before (`iterate_prefetched`), which is called once a second too. It ends at the end of standard input where
 /// that is a pipe, or else never: then replies are sent, as far as clients take them within a second, and a line `served N` is written. Those who
 /// watch are served between the turns: what they ask changes neither the service nor the persister.
 pub fn host<R, D: Service<R>, K: Persist<D>, W: Write, E: Write>(
@@ -494,7 +494,7 @@ impl Hosting {
         }
     }
 
-    // Notes whether the answers that were wanted in a turn were learnt, where any were.
+    // Notes whether the answers that were wanted in a turn were prefetched, where any were.
     fn note_lost(&mut self, called: Called) {
         if let Some(batch) = &self.batch {
             if batch.holds || !batch.lines.is_empty() {
@@ -503,7 +503,7 @@ impl Hosting {
         }
     }
 
-    // Says that answers are not learnt, and that they are again, once each.
+    // Says that answers are not prefetched, and that they are again, once each.
     fn tell_lost<E: Write>(&mut self, errors: &mut E) {
         if self.lost == self.said_lost {
             return;
@@ -513,7 +513,7 @@ impl Hosting {
         self.teller.tell(text.as_bytes(), errors);
     }
 
-    // What is said of answers that are not learnt, or are again. Why they are not was said before, where the persister knows that.
+    // What is said of answers that are not prefetched, or are again. Why they are not was said before, where the persister knows that.
     fn text_of_lost(&self) -> &'static str {
         if !self.lost {
             "slotctl: the log answers again\n"
@@ -549,7 +549,7 @@ impl Hosting {
         let events = tally.events;
         let bytes = tally.journal_bytes.unwrap_or(0);
         let clients = self.connections.open;
-        // Who looks on is told nothing where the text is not taken, and served all the same.
+        // Who looks on gets nothing where the text is not taken, and served all the same.
         if let Ok(line) = format!(in self.alloc;
             "{clients} clients, {events} events, {bytes} bytes of journal\n"
         ) {

@@ -1,18 +1,18 @@
 //! Connections that share one service, in one thread.
 //!
-//! A `Buffers` is a connection without its stream: one side of a transcript (`Responder`), what came and is not taken yet, and what was said and is not
-//! sent yet, at most 64 KiB of each. A `Connection` is a wire with its `Stream`, which does not wait. `turn` is one turn of the loop:
+//! `Buffers` are a connection without its stream: one side of a transcript (`Responder`), what came and is not taken yet, and what was said and is not
+//! sent yet, at most 64 KiB of each. A `Connection` is such buffers with their `Stream`, which does not wait. `iterate` is one iteration of the loop:
 //! connections that are due take what came (`take_turns`), what the service tells of it is kept (`Persist`), and only then are replies sent
 //! (`send_replies`). Its theorem (`LoopIteration`): there is one order of all turns of all connections (`TurnLog`) in which they are a run of
 //! the service; the turns of each connection are those to the lines that it sent, in order, however the bytes were cut, and it waits for
 //! the replies to them and to no others; of each at most 64 KiB were read; and of what waits for it a prefix is sent. Where what was
-//! told cannot be kept, nothing is sent at all.
+//! reported cannot be kept, nothing is sent at all.
 //!
-//! Where a service cannot answer a line as it comes, but learns answers many at once (`Persist::most_prefetched`), `iterate_prefetched` first has connections
-//! read, and looks at the lines that they will take (`Peek`): their requests are told to the persister in one batch, and then the turn is as
-//! ever. Its theorem (`PrefetchedIteration`): before the turn nothing was taken, said or sent, and the answers to the batch were learnt; the batch is
+//! Where a service cannot answer a line as it comes, but prefetches answers many at once (`Persist::most_prefetched`), `iterate_prefetched` first has connections
+//! read, and looks at the lines that they will take (`Peek`): their requests go to the persister in one batch, and then the turn is as
+//! ever. Its theorem (`PrefetchedIteration`): before the turn nothing was taken, said or sent, and the answers to the batch were prefetched; the batch is
 //! just the requests among what was looked at, and each connection takes a prefix of what was looked at of it, and nothing else; where
-//! the answers were not learnt in time, nothing is sent to any, and whoever has a line in the batch is at fault (`NotPrefetched`). That nothing
+//! the answers were not prefetched in time, nothing is sent to any, and whoever has a line in the batch is at fault (`NotPrefetched`). That nothing
 //! of what was looked at is left over is not promised but shown by running it (`tests_log`).
 //!
 //! `law_of_sharing` in `player` makes such turns, one after another, one log.

@@ -20,17 +20,17 @@ const SHORT_REPLY: usize = 40;
 /// No line of a request has more bytes, its LF included.
 const REQUEST_ROOM: usize = 101;
 
-/// Where so many bytes wait and no line ends in them, they are taken as the beginning of one that is too long.
+/// Where so many bytes wait and no line ends in them, they are taken as the prefix of one that is too long.
 const MOST_WAITING: usize = 65_536;
 
-/// What the next turn of a connection takes, where the service learns the answers before.
+/// What the next turn of a connection takes, where the service prefetches the answers before.
 #[derive(Clone, Copy, Debug, Drop, PartialEq, Eq)]
 pub struct Peek {
     /// How many bytes of what waits it takes.
     pub bytes: usize,
     /// Whether it takes the end of what comes.
     pub ends: bool,
-    /// Whether lines of it were told to the persister.
+    /// Whether lines of it go to the persister.
     pub asks: bool,
     /// Whether more than it takes could be taken, if there were room.
     pub more: bool,
@@ -76,7 +76,7 @@ fn peek_at(long: bool, line: &[u8], kind: WorldKind) -> Sight
 pub struct Limits {
     /// The world whose commands are spoken.
     pub kind: WorldKind,
-    /// How many bytes of lines are told to the persister at most.
+    /// How many bytes of lines go to the persister at most.
     pub most: usize,
     /// How many bytes wait to be sent.
     pub said: usize,

@@ -54,12 +54,12 @@ impl Tally {
     }
 }
 
-/// Whether a persister has learnt the answers to the lines that it was told.
+/// Whether a persister has prefetched the answers to the lines that it got.
 #[derive(Clone, Copy, Debug, Drop, PartialEq, Eq)]
 pub enum Prefetch {
     /// The service answers them now.
     Known,
-    /// They were not learnt in time, and nothing is known of them.
+    /// They were not prefetched in time, and nothing is known of them.
     Lost,
 }
 
@@ -71,10 +71,10 @@ pub trait Persist<D> {
     /// The persister and the service were so, and are so once what the service tells is kept.
     ghost persists: { Self → D → Self → D → Type 0 };
 
-    /// The persister and the service were so, and are so once the answers to these lines are learnt.
+    /// The persister and the service were so, and are so once the answers to these lines are prefetched.
     ghost prefetches: { Self → D → List ℕ → Self → D → Type 0 };
 
-    /// The persister and the service were so, and are so once the persister went on by itself, or answers were not learnt in time.
+    /// The persister and the service were so, and are so once the persister went on by itself, or answers were not prefetched in time.
     ghost waits: { Self → D → Self → D → Type 0 };
 
     /// The pool and its slots, as they are where all is kept that the service told.
@@ -86,18 +86,18 @@ pub trait Persist<D> {
         ensures text { out.new ≡ out.old ++ held_text (holds self.now service.now) query }
         ensures short { length out.new ≤ length out.old + HELD_ROOM };
 
-    /// Whether so much is told that it is to be kept before any other connection has its turn. It is not asked where `most_prefetched` is some:
-    /// then each connection has its turn whose lines were told.
+    /// Whether so much is to be kept before any other connection has its turn. It is not asked where `most_prefetched` is some:
+    /// then each connection has its turn whose lines are in the batch.
     fn is_full(&self, service: &D) -> bool;
 
     /// Keeps what the service tells.
     fn persist(&mut self, service: &mut D) -> Result<(), Self::Fault>
         ensures { OnOk result (persists self.old service.old self.new service.new) };
 
-    /// How many bytes of lines of requests it is told, at most, before a turn takes them; `None` where the service answers each as it comes.
+    /// How many bytes of lines of requests it gets, at most, before a turn takes them; `None` where the service answers each as it comes.
     fn most_prefetched(&self) -> Option<usize>;
 
-    /// Has the service learn the answers to these lines of requests, in their order; each ends in LF. `Lost` where they were not learnt in
+    /// Has the service prefetch the answers to these lines of requests, in their order; each ends in LF. `Lost` where they were not prefetched in
     /// time: nothing is known of them then.
     fn prefetch(&mut self, service: &mut D, lines: &[u8]) -> Result<Prefetch, Self::Fault>
         ensures known { result ≡ Ok Prefetch.Known → prefetches self.old service.old lines.now self.new service.new }

@@ -40,7 +40,7 @@ fn take_at<R, D: Service<R>, S: Stream, A: Allocator, B: Allocator>(
     }
 }
 
-/// The connections of these seats have their turns, one after another, until so much is told that it is to be kept; the first has it in any
+/// The connections of these seats have their turns, one after another, until so much is to be kept; the first has it in any
 /// case. Says how many of the seats were called. Nothing is sent.
 pub fn take_turns<R, D: Service<R>, K: Persist<D>, S: Stream, A: Allocator, B: Allocator>(
     rt: &R,

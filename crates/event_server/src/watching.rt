@@ -27,7 +27,7 @@ impl Drop for Watch {
     }
 }
 
-/// What the loop itself knows of what is told.
+/// What the loop itself knows of what is reported.
 #[derive(Clone, Copy, Debug, Drop)]
 pub struct LoopNumbers {
     /// How many clients are there.
@@ -40,7 +40,7 @@ pub struct LoopNumbers {
     pub lines: u64,
     /// How many seconds were counted.
     pub ticks: u64,
-    /// Whether the answers that clients wanted last were learnt.
+    /// Whether the answers that clients wanted last were prefetched.
     pub learnt: bool,
 }
 
@@ -91,7 +91,7 @@ impl Watch {
         }
     }
 
-    /// What those who ask are told.
+    /// What those who ask get.
     pub fn numbers(&self, loops: &LoopNumbers, tally: &Tally) -> Numbers {
         Numbers {
             clients: loops.clients,

@@ -42,7 +42,7 @@ module _ (h : HallState) (lawful : SatisfiesSpec h) where
   pub history_run : IsDeskRunOf h.config h.history
   history_run = let k = all_calls in subst (λ (r : List Exchange). IsDeskRunOf h.config r) k.spelled (desk.law h.config (desk_of h) k.calls k.after)
 
-  -- whoever is told to have a name was given it there
+  -- whoever is reported to have a name was given it there
   pub history_owner : (n : ℕ) → IsOwnerReply h.config.m h.history n (owner_reply (desk_of h) n)
   history_owner n = let k = all_calls in subst (λ (r : List Exchange). IsOwnerReply h.config.m r n (owner_reply (desk_of h) n)) k.spelled (desk.owner (desk_of h) n h.config k.calls k.after)
 

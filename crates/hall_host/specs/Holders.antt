@@ -13,7 +13,7 @@ use Rattle.journal.specs.Openings.{IsRecovered}
 abbrev pub IsOfHall : HallState → List ℕ → Type 0
 IsOfHall hall bytes = (config : Config) × (whole : ℕ) × IsRecovered config bytes hall whole
 
--- of the hall whose record these bytes are it is told who holds numbers
+-- of the hall whose record these bytes are it is reported who holds numbers
 pub record TellsHolders (record_bytes before now : Option (List ℕ)) : Type 0 where
   pub hall : HallState
   pub recorded : IfSome record_bytes (IsOfHall hall)

@@ -44,7 +44,7 @@ pub record WasHosted {D : Type 0} (state : D → Option DiskState) (c : WriteAhe
 -- The history gains the accepted events of all turns, in the one order of this log, and nothing else: that is the hall `full`. Header and
 -- journal are its record and are synced, at `committed`, and a crash before that leaves all that was committed before. Then the hall may be
 -- compacted, with header and journal its record, before replies are sent; a crash meanwhile leaves the one record or the other, and one
--- after it the whole history. Each connection that stays is told the replies to its own turns
+-- after it the whole history. Each connection that stays gets the replies to its own turns
 pub record IsHosted {C D : Type 0} (on : Seating C) (state : D → Option DiskState) (log : TurnLog) (j : Journal D) (c : WriteAheadState) (seats : List (Option C)) (j' : Journal D) (u : WriteAheadState) (seats' : List (Option C)) : Type 0 where
   pub full : HallState
   pub committed : Journal D

@@ -25,9 +25,9 @@ pub fn law_of_hosted_journals<D: Disk>()
     law_of_serving();
 }
 
-/// A law, which runs nothing, of what a turn of the loop (`event_server::turn`) is over a write-ahead hall whose journal stands, kept by `Recorded`: the
+/// A law, which runs nothing, of what a turn of the loop (`event_server::iterate`) is over a write-ahead hall whose journal stands, kept by `Recorded`: the
 /// history has gained just the accepted events of the turn, and may have been compacted then; header and journal are its record, and synced,
-/// when replies are sent; each connection is told the replies to its own lines; and a crash leaves all that was answered (`law_of_crashes`).
+/// when replies are sent; each connection is sent the replies to its own lines; and a crash leaves all that was answered (`law_of_crashes`).
 pub fn law_of_hosting<C, D: Disk>()
     ensures { (on : Seating C) (k l : Recorded D) (c u : WriteAheadState) (seats after : List (Option C)) →
         SatisfiesSpec c.hall → c.reported ≤ length c.hall.history → Stands D.state k.journal c →

@@ -6,7 +6,7 @@
 //!
 //! The theorem (`law_of_hosting`): after a turn of the loop over a write-ahead hall and its journal the history has gained just the accepted
 //! events of the turn, in one order of all turns of all connections; header and journal are the record of the history and are synced; each
-//! connection was told the replies to its own lines, and what a crash leaves then has each event that was answered.
+//! connection was sent the replies to its own lines, and what a crash leaves then has each event that was answered.
 //!
 //! Not promised, and shown by running it: that a file of the system is such a disk, what sockets carry, how soon a client is served.
 //!

@@ -1,4 +1,4 @@
--- a turn of the loop over a queue of replies that was learnt of a log
+-- a turn of the loop over a queue of replies that was prefetched of a log
 use Rattle.std.specs.Prelude.{◌≡◌, ◌≤◌, ◌<◌, ◌⊎◌, ℕ, List, [], ◌∷◌, ◌++◌, length, false, Option}
 use Rattle.commands.specs.declared.config.Config.{Config}
 use Rattle.replicated_log.specs.Places.{Keeps}

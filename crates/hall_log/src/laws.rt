@@ -1,4 +1,4 @@
-//! What a turn of the loop is over a queue of replies that was learnt of a log.
+//! What a turn of the loop is over a queue of replies that was prefetched of a log.
 
 ghost use Rattle.std.specs.Prelude.{◌≡◌, ◌<◌, ◌^◌, ℕ, List, [], Option, false, length};
 ghost use Rattle.commands.specs.declared.config.Config.{Config};
@@ -29,7 +29,7 @@ pub fn law_of_halls()
     law_of_agreement::<HallMachine>();
 }
 
-/// A law, which runs nothing, of what a turn of the loop (`event_server::turn`) is over a queue of replies that was learnt of a log and was used up: it is a
+/// A law, which runs nothing, of what a turn of the loop (`event_server::iterate`) is over a queue of replies that was prefetched of a log and was used up: it is a
 /// turn over the hall of the log, at the place of an entry of just its lines.
 pub fn law_of_log_hosting<C, K, S: Store>()
     ensures { (on : Seating C) (s : S) (config : Config) (place : ℕ) (lines : List ℕ) (reply_queue u : ReplyQueueState) (r : ReplicaState HallState)

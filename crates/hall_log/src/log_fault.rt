@@ -23,7 +23,7 @@ pub enum LogFault {
     TooLong,
     /// The log has no place left.
     Full,
-    /// Connections took other lines than were learnt.
+    /// Connections took other lines than were prefetched.
     Astray,
     /// The log was put back to an older state than was applied.
     WentBack,

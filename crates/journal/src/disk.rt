@@ -11,7 +11,7 @@ use std::io::{self, ErrorKind};
 /// Why a call of a disk failed.
 #[derive(Clone, Copy, Debug, Drop, PartialEq, Eq)]
 pub enum DiskFault {
-    /// The device failed, or had no room; so it was told.
+    /// The device failed, or had no room; so it was reported.
     Failed(ErrorKind),
     /// An allocation failed.
     NoMemory,

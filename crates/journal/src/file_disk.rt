@@ -24,7 +24,7 @@ pub enum FileFault {
     NotRegular,
     /// It has more than one name: the others would keep the old bytes once new ones take their place.
     Linked,
-    /// The system failed, so it was told.
+    /// The system failed, so it was reported.
     Failed(ErrorKind),
 }
 
@@ -71,7 +71,7 @@ fn sync_folder<R: Files<File = File>>(rt: &R, path: &str) -> io::Result<()> {
     File::sync_all(&File::open(rt, folder_of(path))?)
 }
 
-/// Whether a path names a file that is open, of which this is told.
+/// Whether a path names a file that is open, of which this is reported.
 fn is_named<R: Files<File = File>>(rt: &R, path: &str, held: &Metadata) -> io::Result<bool> {
     let named = fs::metadata(rt, path)?;
     Ok(named.ino() == held.ino() && named.dev() == held.dev())

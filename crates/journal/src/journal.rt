@@ -247,7 +247,7 @@ impl<D: Disk> Journal<D> {
         // Where no line was torn, nothing was cut off, and what was durable was so all the time.
         ensures grows { IfOk result (λ o. Changes GrowsUnlessTorn (D.state disk) (D.state o.journal.disk)) }
 
-        // Each fault is told of bytes alone that have it, and of a disk that was spared.
+        // Each fault is reported of bytes alone that have it, and of a disk that was spared.
         ensures errors { IfErr result (λ n. (s : DiskState) → D.state disk ≡ Some s → IsOpenFault config s.contents n.fault) }
         ensures spared { IfErr result (λ n. Changes (IsSpared n.fault) (D.state disk) (D.state n.disk)) }
     {
@@ -271,7 +271,7 @@ impl<D: Disk> Journal<D> {
         ensures hall { IfOk result (λ o. (s : DiskState) → D.state disk ≡ Some s → IsHallOf o.write_ahead.hall s.contents) }
         ensures grows { IfOk result (λ o. Changes GrowsUnlessTorn (D.state disk) (D.state o.journal.disk)) }
 
-        // Each fault is told of bytes alone that have it.
+        // Each fault is reported of bytes alone that have it.
         ensures errors { IfErr result (λ why. (s : DiskState) → D.state disk ≡ Some s → IsOpenFault config s.contents why) }
     {
         match Journal::open_disk(alloc, disk, config) {

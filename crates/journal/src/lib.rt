@@ -16,7 +16,7 @@
 //! durable, and to how often bytes were cut off or replaced. A crash leaves a prefix of what was written, and all that was durable
 //! (`MayLeave`); one in the midst of a replacing leaves that of the old bytes, or all of the new ones (`MayLeaveEither`). `FileDisk` is a file of
 //! the system. Nothing is known of its bytes, since no contract can say what the system does: that it is such a disk is trusted. `MemoryDisk` is
-//! one in memory, for trials, with faults and crashes of its own: there each clause is proved.
+//! one in memory, for integration tests, with faults and crashes of its own: there each clause is proved.
 //!
 //! From `tests_hall/src/journals.rt`:
 //!

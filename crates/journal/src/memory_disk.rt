@@ -1,4 +1,4 @@
-//! A disk in memory, for trials.
+//! A disk in memory, for integration tests.
 
 ghost use Rattle.std.specs.Prelude.{◌≡◌, Some, take, vec_len};
 ghost use Rattle.journal.specs.Disks.{state_of, MayLeave};

@@ -34,7 +34,7 @@ any_among test k [] among passes = elim among [ ]
 any_among test k (x ∷ xs) (inl same) passes = ap (λ b. b || list_any test xs) (ap test (sym same) ∙ passes)
 any_among test k (x ∷ xs) (inr among) passes = ap (λ b. test x || b) (any_among test k xs among passes) ∙ or_true (test x)
 
--- an error of a kind that clap may give, or because an allocation failed, is told as a misuse of the words
+-- an error of a kind that clap may give, or an allocation failure, is reported as a misuse of the words
 pub reported : (words : List (List ℕ)) (kinds : Kinds) (k : ErrorKind) (u : Misuse) → (k ≡ OutOfMemory) ⊎ IsAmong k kinds → IsMisuseOf k u → IsMisuse words kinds u
 reported words kinds k Memory of is = tt
 reported words kinds k (Help text) (inl none) is =

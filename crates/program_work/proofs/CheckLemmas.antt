@@ -36,7 +36,7 @@ module _ {R W : Type 0} (Tells : List ℕ → Verdict → List ℕ → Type 0) (
     reads = reads;
   })
 
-  -- the verdict is told whole
+  -- the verdict is reported whole
   pub all_reported : (status : ℕ) (v : Verdict) → status ≡ verdict_status v → IsReportedOf Tells reading (Appends (writing.contents writing.old) (writing.contents writing.new)) v → writing.failed writing.new ≡ writing.failed writing.old
       → IsJudged Tells reading writing (Ok status)
   all_reported status v is reported unfailed = record {

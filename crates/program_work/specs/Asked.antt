@@ -186,7 +186,7 @@ abbrev pub is_refusal : ErrorKind → Bool
 is_refusal OutOfMemory = false
 is_refusal kind = not (is_help kind)
 
--- an error of this kind is told so
+-- an error of this kind is reported so
 abbrev pub IsMisuseOf : ErrorKind → Misuse → Type 0
 IsMisuseOf kind (Help text) = is_help kind ≡ true
 IsMisuseOf kind (Words text) = is_refusal kind ≡ true

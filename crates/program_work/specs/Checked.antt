@@ -1,4 +1,4 @@
--- what is told of a record that a reader gives
+-- what is reported of a record that a reader gives
 use Rattle.std.specs.Prelude.{◌≡◌, ◌≢◌, ◌⊎◌, ◌+◌, ◌<◌, ◌≤◌, ◌++◌, ◌∷◌, ℕ, List, [], Result, Err, IfOk, codes, decimal}
 use Rattle.std.specs.Io.KnownBytes.{Appends, Consumes}
 use Rattle.run_checker.specs.Migrated.{IsMigratedTo}
@@ -43,7 +43,7 @@ pub record IsJudgedWhole {R : Type 0} (reading : Reading R) (v : Verdict) : Type
 abbrev pub HasFailedRead : {R : Type 0} → Reading R → Type 0
 HasFailedRead reading = (reading.failed reading.new ≡ reading.failed reading.old + 1) ⊎ ((reading.calls reading.new ≡ reading.calls reading.old + MOST_READS) × (reading.failed reading.new ≡ reading.failed reading.old))
 
--- what is told of an input with this verdict: its line
+-- what is reported of an input with this verdict: its line
 abbrev pub IsVerdictText : List ℕ → Verdict → List ℕ → Type 0
 IsVerdictText input v text = text ≡ verdict_text v
 

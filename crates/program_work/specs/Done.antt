@@ -90,7 +90,7 @@ abbrev pub IsDone : {R W : Type 0} → Reading R → Writing W → Result Ask Mi
 IsDone reading writing (Err misuse) result = (result ≡ Err (failure.Misuse misuse)) × (reading.new ≡ reading.old) × (writing.new ≡ writing.old)
 IsDone reading writing (Ok ask) result = IsDoneFor ask reading writing result
 
--- what was done is answered as it is, with nothing written after it. A failure is told, and its status is answered, or 3 where it can't be told
+-- what was done is answered as it is, with nothing written after it. A failure is reported, and its status is answered, or 3 where it can't be reported
 abbrev pub IsAnswered : {W : Type 0} → Result Outcome Failure → W → W → Outcome → Type 0
 IsAnswered (Ok done) at now answer = (answer ≡ done) × (now ≡ at)
 IsAnswered (Err why) at now answer = (status : ℕ) × (answer ≡ outcome.Ended status) × ((status ≡ status_of why) ⊎ (status ≡ 3))

@@ -28,7 +28,7 @@ pub record IsShownFor (s : Stretch) {R W : Type 0} (reading : Reading R) (writin
   pub memory : result ≡ Err Memory → (writing.new ≡ writing.old) × (reading.failed reading.new ≡ reading.failed reading.old)
   pub reads : reading.calls reading.new ≤ reading.calls reading.old + MOST_READS
 
--- a page that is written is done, with status 0; another verdict is told, as is a fault
+-- a page that is written is done, with status 0; another verdict is reported, as is a fault
 abbrev pub outcome_shown : Result Verdict Fault → Result Outcome Failure
 outcome_shown (Ok Yes) = Ok (outcome.Ended 0)
 outcome_shown (Ok (No number why)) = Err (failure.No number (reason_number why))

@@ -14,7 +14,7 @@ status_of (failure.No number why) = 1
 status_of (failure.BadRecord number) = 1
 status_of (failure.Fault fault) = 3
 
--- a run that came to its end is done, with status 0; a fault of it is told
+-- a run that came to its end is done, with status 0; a fault of it is reported
 abbrev pub status_after : {T : Type 0} → Result T Fault → Result ℕ Fault
 status_after (Ok summary) = Ok 0
 status_after (Err fault) = Err fault

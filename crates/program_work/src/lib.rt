@@ -5,7 +5,7 @@
 //! own definition of what words match; help comes where clap shows help, and words are refused where clap refuses them, or where a world or a
 //! number is none that is allowed.
 //!
-//! `program` has the words read, does what they ask for, tells a failure and answers the status. `done` is the same up to what is told: it
+//! `program` has the words read, does what they ask for, tells a failure and answers the status. `done` is the same up to what is reported: it
 //! plays a run or records it, or calls `check_for`, `migrate_for`, `show_for` or `draw_for`. To race, to serve and to host is left to the
 //! caller (`Outcome`), with nothing read and nothing written.
 //!

@@ -30,7 +30,7 @@ pub fn tell_until<C: Clock, E: Write>(clock: &C, done: &AtomicBool, errors: &mut
         }
         thread::sleep(clock, Duration::from_millis(1_000 / LOOKS_A_SECOND));
         if look % LOOKS_A_SECOND == 0 {
-            // A standard error that takes no dot is told none.
+            // A standard error that takes no dot gets none.
             if errors.write_all(b".").is_ok() {
                 reported = true;
             }

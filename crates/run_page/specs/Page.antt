@@ -65,7 +65,7 @@ page_between = BETWEEN.now
 unfoldable pub page_tail : List ℕ
 page_tail = TAIL.now
 
--- the data end, the last state is told with the items, and the page ends
+-- the data end, the last state is reported with the items, and the page ends
 abbrev pub ending : List ℕ → DeskValue → List ℕ → List ℕ → ℕ → List ℕ → List ℕ
 ending before w ids places events items = closing_data before events ++ page_middle ++ state Item w ids places ++ page_between ++ items ++ page_tail
 

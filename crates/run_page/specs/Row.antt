@@ -73,7 +73,7 @@ abbrev pub words_of : Option Done → List ℕ
 words_of None = codes "\",\"\",\"\",\"\",\"\",\"\",\""
 words_of (Some d) = done_words d
 
--- a list of ten texts in JSON: the event, what is told of its reply, and what the desk did
+-- a list of ten texts in JSON: the event, what is reported of its reply, and what the desk did
 abbrev pub row_of : Line → Option Done → List ℕ
 row_of l done = codes "[\"" ++ event_words l.event ++ codes "\",\"" ++ reported_words l.reported ++ codes "\",\"" ++ words_of done ++ codes "\"],\n"
 

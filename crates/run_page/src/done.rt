@@ -43,7 +43,7 @@ pub(crate) fn identity_of(event: Event) -> u64
     }
 }
 
-/// Whether an event is told to be refused.
+/// Whether an event is reported to be refused.
 pub(crate) fn is_refused(reported: &Reported) -> bool
     ensures { result ≡ is_refused reported.now }
 {

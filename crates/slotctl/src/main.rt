@@ -35,7 +35,7 @@ use std::sync::Wait;
 use std::sync::ledger::Blank;
 use std::thread::Threads;
 
-// What is told where `--etcd` names no members.
+// What is reported where `--etcd` names no members.
 const MEMBERS_WANTED: &str =
     "error: '--etcd' wants addresses with ports, a comma between them, as 10.0.0.1:2379; no names are looked up\n";
 

@@ -139,7 +139,7 @@ impl Front {
     }
 }
 
-// How many of the answers that were told at a place are this one.
+// How many of the answers that were reported at a place are this one.
 fn count_at(reported: &[Reported], place: u64, due: &[u8]) -> usize {
     let mut count = 0usize;
     for one in reported {
@@ -150,7 +150,7 @@ fn count_at(reported: &[Reported], place: u64, due: &[u8]) -> usize {
     count
 }
 
-// How many of the answers that were told at places of a log are what one hall says there.
+// How many of the answers that were reported at places of a log are what one hall says there.
 fn count_due(
     alloc: Global,
     hall: &mut Hall,

@@ -1,5 +1,5 @@
-//! Trials of one log for several machines, of halls that follow it, and of turns whose answers are learnt before, through public calls:
-//! replicas and halls that a drawn schedule interleaves, stores that fail, etcd's answers cut at each byte; and that what is told to a persister
+//! Integration tests of one log for several machines, of halls that follow it, and of turns whose answers are prefetched before, through public calls:
+//! replicas and halls that a drawn schedule interleaves, stores that fail, etcd's answers cut at each byte; and that what goes to a persister
 //! is just what is taken then, however bytes are cut, and whatever lines are.
 #![tactic(auto)]
 

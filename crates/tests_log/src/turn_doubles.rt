@@ -67,7 +67,7 @@ impl Stream for Piped {
     }
 }
 
-/// A service that was told what it will be asked, and says `ok` to it. What else it is asked makes it astray.
+/// A service that has what it will be asked, and says `ok` to it. What else it is asked makes it astray.
 #[derive(Drop)]
 pub struct Reported {
     lines: Vec<u8>,
@@ -77,7 +77,7 @@ pub struct Reported {
 }
 
 impl Reported {
-    /// It was told nothing.
+    /// It has nothing.
     pub fn new(alloc: Global, kind: WorldKind) -> Reported {
         Reported {
             lines: Vec::new(alloc),
@@ -87,7 +87,7 @@ impl Reported {
         }
     }
 
-    // The next line that it was told, without its LF.
+    // The next line that it has, without its LF.
     fn next_line(&mut self) -> &[u8] {
         let rest = self.lines.get(self.at..).unwrap_or(&[]);
         let end = rest

@@ -1,4 +1,4 @@
-//! Connections over a service that is told before what it is asked.
+//! Connections over a service that knows before what it is asked.
 
 use crate::turn_doubles::{Piped, Reported, Teller};
 use commands::WorldKind;
@@ -6,7 +6,7 @@ use event_server::{Batch, Buffers, Called, Connection, SharedBuffers, Stage, ite
 use std::alloc::{AllocError, Global};
 use std::process::Abort;
 
-/// How many turns a trial has at most.
+/// How many turns an integration test has at most.
 const MOST_TURNS: usize = 20_000;
 
 /// Lines that connections send, good, bad, long and at their end.

@@ -53,7 +53,7 @@ module _ {P R V O : Type 0} (law : WordLaw P R V O) where
           (each_set (Shows law n s.words h.out h.w h.r h.seat_of) s.views seat (view_of m [] (b ∷ [])) (tells n seat m s.words h.out h.w h.r h.seat_of (b ∷ []) own.1) (λ j u _ at. h.shown j u at))
           (tells n (length (set s.views seat (view_of m [] (b ∷ [])))) m s.words h.out h.w h.r h.seat_of (a ∷ []) (own.0, tt)))
 
-  -- after one list of calls both were told what the claims say
+  -- after one list of calls both learnt what the claims say
   pub have_reported : ((size : Size) (w : law.State) (r : List (Call law.X)) → law.Holds size w r → Reaches law.machine (law.start_of size) w r) → (m : Size) (a b : ClaimId O) → a.words.size ≡ m → IsUnderRule law (view_of m [] (ending_at a.number a.outcome ∷ ending_at b.number b.outcome ∷ [])) → HaveReported law a b
   have_reported known m a b same u =
       let all = (u.kept.shown u.seat _ u.there).endings in

@@ -108,7 +108,7 @@ module _ {P R V O : Type 0} (law : WordLaw P R V O) (known : (size : Size) (w : 
       → RunSteps.accesses_in me ≡ accesses_in views
   count_made views m number program outcome me h single = ap RunSteps.accesses_in h.me_is ∙ sym (ap accesses_in (single ∙ ap (λ (x : Me ℕ (SeatView P O)). x.0 ∷ []) h.me_is))
 
-  -- what is told of one that has ended stays so where the badge has come back
+  -- what is reported of one that has ended stays so where the badge has come back
   pub still_run : (table now : TableId) (views back : List (SeatView P O)) (number : ℕ) (program : P) (outcome : O) → IsOfEnded number program outcome views × HasRun law (ended_run table number program outcome views) → back ≡ views
       → IsOfEnded number program outcome back × HasRun law (ended_run now number program outcome back)
   still_run table now views back number program outcome h same =

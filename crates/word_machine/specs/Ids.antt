@@ -1,4 +1,4 @@
--- words and their seats, as callers see them, and what is told of participants that have ended
+-- words and their seats, as callers see them, and what is reported of participants that have ended
 use Rattle.atomic_table.specs.Seated.{TableId}
 use Rattle.std.specs.Prelude.{ℕ, ◌≡◌, ◌≢◌, ◌≤◌, true, List, [], ◌∷◌, Some}
 use Rattle.step_memory.specs.Calls.{Call, steps_of, begun_in}
@@ -138,7 +138,7 @@ module _ {P R V O : Type 0} (law : WordLaw P R V O) where
     pub entered_are : begun_in r ≡ e.entered
     pub counted : e.entered ≤ e.words.size.most
 
-  -- there is one after which both stand so and were told what they ended with, and they are two
+  -- there is one after which both stand so and learnt what they ended with, and they are two
   pub record HaveRun (a b : EndedRun P O) : Type 0 where
     pub w : law.State
     pub r : List (Call law.X)
@@ -150,7 +150,7 @@ module _ {P R V O : Type 0} (law : WordLaw P R V O) where
     pub one : law.outcome_of (own a.number) r ≡ Some a.outcome
     pub other : law.outcome_of (own b.number) r ≡ Some b.outcome
 
-  -- there is one after which both that these claims name were told what they say
+  -- there is one after which both that these claims name learnt what they say
   pub record HaveReported (a b : ClaimId O) : Type 0 where
     pub w : law.State
     pub r : List (Call law.X)

@@ -11,10 +11,10 @@
 //! words of the slot say the rest.
 //!
 //! The law: for each participant that has ended, some list of calls of the machine leads to a state in which it stands at the
-//! program that `enter` returned, and was told the outcome, by just as many steps as it made accesses; as many had begun as
+//! program that `enter` returned, and got the outcome, by just as many steps as it made accesses; as many had begun as
 //! had entered. So each law that holds after every list of calls of the machine holds of threads. Two that meet have one list
 //! for both ends. The dealer shows that no more had entered than seats were dealt. A claim shows an outcome to each that was
-//! told of it. What is not promised: anything of seats that never meet, and that a thread gets on with its accesses.
+//! reported of it. What is not promised: anything of seats that never meet, and that a thread gets on with its accesses.
 //!
 //! From `tests_objects/src/word_machine_tests.rt`, where threads visit a splitter:
 //!

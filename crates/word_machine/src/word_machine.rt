@@ -223,7 +223,7 @@ impl<P: WordProgram, A: Allocator> WordMachine<P, A>
 where
     P::Output: Drop,
 {
-    /// Two claims meet, and show that after one list of calls both were told what they say. Both are of this machine, and stay as
+    /// Two claims meet, and show that after one list of calls both learnt what they say. Both are of this machine, and stay as
     /// they are.
     pub fn compare(&self, one: &mut Claim<P>, other: &mut Claim<P>)
         requires one { one.old.words ≡ self.now }

@@ -116,7 +116,7 @@ module _ (size : Size) where
     served_at n Settled goes at = absurd (cc)
     served_at n Over goes at = absurd (cc)
 
-  -- a record is written just where a proposal is told
+  -- a record is written just where a proposal is reported
   module _ (c : Walking) (r : Round) (p limit : ℕ) where
     abbrev Matches : Answer GridValue → Pending → Type 0
     Matches got z = is_proposal (followed r p (reported (note_for grid_places.walker grid_places.walks c z got)) limit).reply ≡ records_in naming_steps names_law (access_for grid_places.walker grid_places.place_of grid_places.walks c z)

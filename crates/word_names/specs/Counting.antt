@@ -99,7 +99,7 @@ module _ (size : Size) where
         let more = call.0 in
         omega arith
 
-    -- one that was told that it is spent has made as many as the limit
+    -- one that learnt that it is spent has made as many as the limit
     spent_own : (o : RenameObject) (q : ℕ) (reply : StepReply) → q ≡ p → outcome_in (note_of reply) ≡ Some None → AllowsStep terms o q reply → o.count p ≡ terms.limit
     spent_own o q Quiet same e may = absurd (cc)
     spent_own o q (Placed place) same e may = absurd (cc)
@@ -154,7 +154,7 @@ module _ (size : Size) where
     kept_run [] o end run has = ap (λ (x : RenameObject). x.name p) run ∙ has
     kept_run (h ∷ r) o end run has = kept_run r (after o h) end run.1 (kept_call o h run.0 has)
 
-    -- whoever was told a name has it
+    -- whoever got a name has it
     reported_own : (o : RenameObject) (q : ℕ) (reply : StepReply) → q ≡ p → outcome_in (note_of reply) ≡ Some (Some n) → (after_step o q reply).name p ≡ Some n
     reported_own o q Quiet same e = absurd (cc)
     reported_own o q (Placed place) same e = absurd (cc)
@@ -197,7 +197,7 @@ module _ (size : Size) where
   many_run [] o end run = (let same = ap (λ (x : RenameObject). x.many) run in omega arith)
   many_run (h ∷ r) o end run = (let one = many_call o h in let rest = many_run r (after o h) end run.1 in omega arith)
 
-  -- whoever was told that it is spent is
+  -- whoever learnt that it is spent is
   module _ (p : ℕ) where
     spent_step : (o : RenameObject) (q : ℕ) (reply : StepReply) → o.spent p ≡ true → (after_step o q reply).spent p ≡ true
     spent_step o q Quiet is = is

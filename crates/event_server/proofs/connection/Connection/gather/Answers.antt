@@ -6,7 +6,7 @@ use Rattle.event_server.proofs.GatherLemmas.{gathers_more, gathers_none, none_se
 use Rattle.event_server.proofs.connection.Connection.gather.Goals as goal
 use Rattle.event_server.proofs.connection.Connection.gather.Goals.{in-Some, in-None, After-self-1}
 
--- the look with which it begins: of nothing, and with what was told before
+-- the look with which it begins: of nothing, and with what was reported before
 record Begins (g : _) (c : After-self-1 g) : Type 0 where
   bytes : c.match-self.peek.bytes ≡ 0
   ends : c.match-self.peek.ends ≡ false

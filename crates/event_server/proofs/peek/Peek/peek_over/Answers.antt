@@ -1,4 +1,4 @@
--- What stands behind the whole lines: the end, the beginning of a long line, or nothing that is looked at.
+-- What stands behind the whole lines: the end, the prefix of a long line, or nothing that is looked at.
 use Rattle.std.proofs.Common.{◌≡◌, ◌∙◌, false, Ok, ap, subst}
 use Rattle.event_server.proofs.Common.{HasPeeked, Peek, Limits}
 use Rattle.event_server.proofs.PeekLemmas.{kept_more, peeked_to_end, peeked_long}
