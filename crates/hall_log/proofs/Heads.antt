@@ -1,10 +1,11 @@
 -- first lines of batches
-use Rattle.std.proofs.Common.{◌≡◌, ◌≢◌, ◌≤◌, ◌<◌, ◌+◌, ◌-◌, ◌*◌, ◌/◌, ◌%◌, ◌^◌, ℕ, zero, suc, cond, Bool, true, false, if◌then◌else◌, ltb, inl, inr, subst, length, List, [], ◌∷◌, ◌++◌, refl, ap, sym, ◌∙◌, arith, append_assoc, length-append}
+use Rattle.std.proofs.Common.{◌≡◌, ◌≢◌, ◌≤◌, ◌<◌, ◌+◌, ◌-◌, ◌*◌, ◌/◌, ◌%◌, ◌^◌, ℕ, zero, suc, cond, Bool, true, false, if◌then◌else◌, ltb, inl, inr, subst, length, List, [], ◌∷◌, ◌++◌, refl, ap, sym, ◌∙◌, arith, append_assoc, length-append, add-one}
 use Rattle.std.specs.List.{All}
 use Rattle.std.proofs.lemmas.Bool.Decides.{eqb_tells, leb_tells}
 use Rattle.std.proofs.lemmas.List.Elements.{All-append, All-cons, All-nil}
 use Rattle.hall_log.specs.Batches.{batch_of, head_of, hex_digit, hex_digits}
 use Rattle.hall_log.specs.Entries.{behind_first_line}
+use Rattle.hall_log.specs.Pauses.{HasWaited}
 
 -- no digit ends a line
 digit_plain : (d : ℕ) → hex_digit d ≢ 10
@@ -95,3 +96,8 @@ same_batch token other c d lines more long first second e =
 pub digits_more : (k n : ℕ) → 1 ≤ k → hex_digits k n ≡ hex_digit (n % 16) ∷ hex_digits (k - 1) (n / 16)
 digits_more zero n some = absurd (omega (arith, some))
 digits_more (suc k) n some = let e : suc k - 1 ≡ k = omega arith in ap (λ (j : ℕ). hex_digit (n % 16) ∷ hex_digits j (n / 16)) (sym e)
+
+-- ---- one wait more
+
+pub waited_more : {T : Type 0} (waited : T → T → Type 0) (times : ℕ) (before now : T) → HasWaited waited times before → waited before now → HasWaited waited (times + 1) now
+waited_more waited times before now so more = subst (λ (n : ℕ). HasWaited waited n now) (sym (add-one times)) (before, so, more)

@@ -312,9 +312,9 @@ impl<S: Store, T: Pause> Persist<ReplyQueue> for LogPersister<S, T> {
         ensures token { self.new.token ≡ self.old.token }
     {
         self.count = self.count.wrapping_add(1);
-        if put_batch(&mut self.batch, &self.token, self.count, lines).is_err() {
+        let Ok(()) = put_batch(&mut self.batch, &self.token, self.count, lines) else {
             return Err(LogFault::Memory);
-        }
+        };
         self.serve_batch(reply_queue)
     }
 

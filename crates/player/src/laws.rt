@@ -10,6 +10,9 @@ ghost use Rattle.player.specs.PlayerState.{PlayerState};
 ghost use Rattle.player.specs.Progress.{Progress, after_bytes, after_end, at_start, ends};
 ghost use Rattle.player.specs.Shared.{SharedGoesOn};
 ghost use Rattle.player.specs.Stands.{IsFresh, Stands};
+ghost use Rattle.player.specs.declared.as_record.TheConstants.{HEADER_ROOM};
+ghost use Rattle.player.specs.declared.form.TheConstants.{TURN_ROOM};
+ghost use Rattle.player.specs.declared.playing.TheConstants.{MOST_READS, READ_BYTES};
 
 use crate::form::Form;
 use crate::service::Service;
@@ -43,4 +46,12 @@ pub fn law_of_progress()
 pub fn law_of_fresh_players<R, D: Service<R>, F: Form>()
     ensures { (start : D) (kind : WorldKind) (s : PlayerState) (before : Option (List ℕ)) →
         IsFresh kind s → Stands D.may F.text start start s at_start before before }
+{}
+
+/// A law, which runs nothing: how often `play` reads at most, how many bytes a read gives, and how many a header and an answered line have.
+pub fn law_of_limits()
+    ensures reads { MOST_READS ≡ 1099511627776 }
+    ensures read { READ_BYTES ≡ 65536 }
+    ensures header { HEADER_ROOM ≡ 135 }
+    ensures turn { TURN_ROOM ≡ 5460 }
 {}

@@ -59,7 +59,7 @@ pub use command_lines::{
 };
 pub use commands::{Bad, Command, Config, Event, Exchange, Reply, WorldKind};
 pub use form::{Form, TURN_ROOM};
-pub use laws::{law_of_fresh_players, law_of_progress, law_of_sharing};
+pub use laws::{law_of_fresh_players, law_of_limits, law_of_progress, law_of_sharing};
 pub use playing::{MOST_READS, READ_BYTES, play_on};
 pub use recording::record_on;
 pub use responder::Responder;

@@ -1,24 +1,37 @@
 -- What was served stands later than all before.
-use Rattle.std.proofs.Common.{ap, ◌∙◌, arith}
+use Rattle.std.proofs.Common.{rules, ap, inl, inr, ◌∙◌, arith}
 use Rattle.hall_log.specs.Entries.{behind_first_line}
+use Rattle.hall_log.proofs.Heads.{waited_more}
 use Rattle.hall_log.proofs.log_persister.LogPersister.serve_batch.Goals as goal
 
 pub returns-in_default-clause-prefetched : goal.returns-in_default-clause-prefetched
 returns-in_default-clause-prefetched g c = λ known.
     let last = c.in_default.ensures.at_last in
-    let before = (c.loop.invariant.later last.0).1 in
+    let before = (c.loop-tries.invariant.later last.0).1 in
+    let batch = c.deref.ensures.value ∙ ap (λ b. b.items) c.loop-tries.invariant.batch in
     record {
-      batch = c.deref.result.now;
-      lines_are = ap behind_first_line (c.deref.ensures.value ∙ ap (λ b. b.items) c.loop.invariant.batch);
-      due = c.in_default.ensures.due;
-      later = (let p = last.1 in omega (arith, before, p));
+      prefetched = record {
+        batch = c.deref.result.now;
+        lines_are = ap behind_first_line batch;
+        due = c.in_default.ensures.due;
+        later = (let p = last.1 in omega (arith, before, p));
+      };
+      batch_is = batch;
     }
 
-pub loop-preserved : goal.loop-preserved
-loop-preserved g c = record {
-  batch = c.loop.invariant.batch;
-  later = λ well. let more = c.serve.ensures.later well in let before = c.loop.invariant.later more.0 in let p = more.1 in let q = before.1 in (before.0, omega (arith, q, p));
+pub loop-tries-preserved : goal.loop-tries-preserved
+loop-tries-preserved g c = record {
+  batch = c.loop-tries.invariant.batch;
+  head = c.loop-tries.invariant.head;
+  later = λ well. let more = c.serve.ensures.later well in let before = c.loop-tries.invariant.later more.0 in let p = more.1 in let q = before.1 in (before.0, omega (arith, q, p));
   silent = c.in-Err.ensures.unanswered;
-  keeps = λ place entry stood. c.serve.ensures.keeps place entry (c.loop.invariant.keeps place entry stood);
-  config = c.serve.ensures.config ∙ c.loop.invariant.config;
+  keeps = λ place entry stood. c.serve.ensures.keeps place entry (c.loop-tries.invariant.keeps place entry stood);
+  config = c.serve.ensures.config ∙ c.loop-tries.invariant.config;
+  waited = waited_more g.T.Pause.waited c.loop-tries._tries c.loop-tries.self.pause c.again.new.self c.loop-tries.invariant.waited (c.again.ensures.waited (search rules));
 }
+
+pub returns-then-not-again-clause-patient : goal.returns-then-not-again-clause-patient
+returns-then-not-again-clause-patient g c = λ lost. inl (c.again.ensures.over (search rules))
+
+pub returns-clause-patient : goal.returns-clause-patient
+returns-clause-patient g c = λ lost. inr (c.loop-tries._tries, search rules, c.loop-tries.invariant.waited)
