@@ -143,9 +143,10 @@ impl WriteAhead {
         if !compactor.is_due(&self.hall) {
             return;
         }
-        if let Some(hall) = compactor.compacted(alloc, &self.hall) {
-            self.replace_hall(hall);
-        }
+        let Some(hall) = compactor.compacted(alloc, &self.hall) else {
+            return;
+        };
+        self.replace_hall(hall);
     }
 }
 
