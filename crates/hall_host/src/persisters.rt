@@ -98,8 +98,6 @@ pub struct Recorded<D: Disk> {
     pub alloc: Global,
     /// When that is due.
     pub compactor: Compactor,
-    /// How often it was compacted.
-    pub compactions: u64,
 }
 
 impl<D: Disk> Recorded<D> {
@@ -109,14 +107,8 @@ impl<D: Disk> Recorded<D> {
         ensures stands { OnOk result (Stands D.state self.old.journal write_ahead.old → Stands D.state self.new.journal write_ahead.new) }
         ensures any_moment { Stands D.state self.old.journal write_ahead.old → KeepsWhenCompacted D.state self.old.journal self.new.journal write_ahead.old }
     {
-        let before = write_ahead.hall().len();
-        let compacted = self
-            .journal
-            .compact_when_due(self.alloc, &mut self.compactor, write_ahead);
-        if write_ahead.hall().len() < before {
-            self.compactions = self.compactions.saturating_add(1);
-        }
-        compacted
+        self.journal
+            .compact_when_due(self.alloc, &mut self.compactor, write_ahead)
     }
 }
 
@@ -181,7 +173,7 @@ impl<D: Disk> Persist<WriteAhead> for Recorded<D> {
 
     fn tally(&self, write_ahead: &WriteAhead) -> Tally {
         Tally {
-            compactions: Some(self.compactions),
+            compactions: self.journal.disk().replacings(),
             journal_bytes: Some(self.journal.disk().size()),
             syncs: self.journal.disk().sync_times(),
             ..tally_of(write_ahead.hall())

@@ -123,7 +123,6 @@ fn host_recorded<R: Net + Wait + Clock + Files, D: Disk, W: Write, E: Write>(
         journal,
         alloc,
         compactor: Compactor::new(),
-        compactions: 0,
     };
     if let Err(fault) = persister.compact_when_due(&mut write_ahead) {
         return Err(HostFailure::from(fault));

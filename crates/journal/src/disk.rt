@@ -73,6 +73,11 @@ pub trait Disk: Drop {
     /// How many bytes it has, for people; none where the system does not tell.
     fn size(&self) -> u64;
 
+    /// How often all bytes were replaced, for people; `None` where nobody counts that.
+    fn replacings(&self) -> Option<u64> {
+        None
+    }
+
     /// How long its syncs took, for people; `None` where nobody measures that.
     fn sync_times(&self) -> Option<DurationHistogram> {
         None

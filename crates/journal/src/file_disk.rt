@@ -43,6 +43,8 @@ pub struct FileDisk<R> {
     file: File,
     /// How many bytes it has by what was written.
     len: u64,
+    /// How often all bytes were replaced.
+    replacings: u64,
     /// How long its syncs took.
     times: DurationHistogram,
 }
@@ -146,6 +148,7 @@ impl<R: Files<File = File> + AllocGlobal + Copy> FileDisk<R> {
             path,
             file,
             len,
+            replacings: 0,
             times: DurationHistogram::new(),
         })
     }
@@ -216,6 +219,7 @@ impl<R: Files<File = File> + Clock + Drop> Disk for FileDisk<R> {
         fs::rename(&self.files, &path, &self.path)?;
         self.file = file;
         self.len = bytes.len() as u64;
+        self.replacings = self.replacings.saturating_add(1);
         sync_folder(&self.files, &self.path)?;
         Ok(())
     }
@@ -232,6 +236,10 @@ impl<R: Files<File = File> + Clock + Drop> Disk for FileDisk<R> {
 
     fn size(&self) -> u64 {
         self.len
+    }
+
+    fn replacings(&self) -> Option<u64> {
+        Some(self.replacings)
     }
 
     fn sync_times(&self) -> Option<DurationHistogram> {

@@ -1,12 +1,12 @@
 -- when no hosting has the matched options
-use Rattle.std.proofs.Common.{ap, arith, refl, sym, subst, ◌≡◌, ◌∙◌, ◌<◌, ◌≤◌, ◌^◌, ℕ, List, Option, Some, None, Result, Ok, Err, ◌↔◌, Bool, MatchOption, IfSome, IsSome, codes, true, false}
+use Rattle.std.proofs.Common.{ap, arith, sym, subst, ◌≡◌, ◌∙◌, ◌<◌, ◌≤◌, ◌^◌, ℕ, List, Option, Some, None, Result, Ok, Err, ◌↔◌, Bool, MatchOption, IfSome, IsSome, codes, true, false}
 use Rattle.program_work.proofs.Common.{result_ok, same_Some, Row, first_of, Config, Hosting}
 use Rattle.std.specs.Borrow.{Bor}
 use Rattle.std.specs.Net.Grammar.{IsIpText, Parses}
 use Rattle.std.specs.Str.Parse.{IsNumeral, ParsesUnsigned, digits_value, without_leading_plus}
 use Rattle.std.specs.declared.net.ip_addr.IpAddr.{IpAddr}
-use Rattle.program_work.specs.Asked.{AreEndpointsOf, HasAddress, HasMode, HasNumber, HasText, MayHaveNumber, IsConfigOf, IsHostingOf, IsKeepingOf, IsLogOf, asks_flag, asks_log}
-use Rattle.program_work.specs.Ranges.{AreEndpointRanges, IsHostingRange}
+use Rattle.program_work.specs.Asked.{AreEndpointsOf, HasAddress, HasMode, HasNumber, HasText, MayHavePort, IsConfigOf, IsHostingOf, IsKeepingOf, IsLogOf, asks_flag, asks_log}
+use Rattle.program_work.specs.Ranges.{IsHostingRange, IsModeRange}
 use Rattle.program_work.specs.declared.asked.Endpoints.{Endpoints}
 use Rattle.program_work.specs.declared.asked.Keeping.{Keeping}
 use Rattle.program_work.specs.declared.asked.Keeping.TheVariants.{Nothing, Journal, Log}
@@ -30,52 +30,47 @@ no_mode rows none m small h = let bad : None ≡ Some h.0 = none ∙ h.1 in cc
 -- what the matched digits say is the mode, if they say one
 pub mode_reported : {E : Type 0} (rows : List Row) (text : List ℕ) (r : Result ℕ E) → Some text ≡ first_of (codes "mode") rows → ParsesUnsigned 64 8 text r
     → MatchOption (result_ok r) ((m : ℕ) → m < 2 ^ 64 → HasMode rows m → ⊥) (HasMode rows)
-mode_reported rows text (Ok m) matched parses = (text, sym matched, parses.0.0, sym parses.1)
+mode_reported rows text (Ok m) matched parses = (text, sym matched, (parses.0.0, sym parses.1))
 mode_reported rows text (Err e) matched parses = λ m small h.
     let same : h.0 ≡ text = same_Some h.0 text (sym h.1 ∙ sym matched) in
-    let fits : digits_value 8 (without_leading_plus h.0) < 2 ^ 64 = rw h.2.2 small in
-    parses (subst (λ (t : List ℕ). IsNumeral 8 (without_leading_plus t) × (digits_value 8 (without_leading_plus t) < 2 ^ 64)) same (h.2.1, fits))
+    let fits : digits_value 8 (without_leading_plus h.0) < 2 ^ 64 = rw h.2.1 small in
+    parses (subst (λ (t : List ℕ). IsNumeral 8 (without_leading_plus t) × (digits_value 8 (without_leading_plus t) < 2 ^ 64)) same (h.2.0, fits))
 
 -- two modes that are matched are one
 same_mode : (rows : List Row) (m n : ℕ) → HasMode rows m → HasMode rows n → m ≡ n
 same_mode rows m n h g =
     let same : h.0 ≡ g.0 = same_Some h.0 g.0 (sym h.1 ∙ g.1) in
-    sym h.2.2 ∙ ap (λ t. digits_value 8 (without_leading_plus t)) same ∙ g.2.2
+    sym h.2.1 ∙ ap (λ t. digits_value 8 (without_leading_plus t)) same ∙ g.2.1
 
--- a number of 16 bits is one of 64
-fits_so : (o : Option ℕ) → IfSome o (λ p. p ≤ 65535) → IfSome o (λ p. p < 2 ^ 64)
-fits_so None small = tt
-fits_so (Some n) small = omega arith
-
--- two numbers that may be written there are one, or neither is
-same_if_any : (rows : List Row) (id : List ℕ) (o p : Option ℕ) → MayHaveNumber rows id o → MayHaveNumber rows id p → IfSome o (λ n. n < 2 ^ 64) → IfSome p (λ n. n < 2 ^ 64) → o ≡ p
-same_if_any rows id None None h g small fits = refl
-same_if_any rows id None (Some n) h g small fits = absurd (h n fits g)
-same_if_any rows id (Some m) None h g small fits = absurd (g m small h)
-same_if_any rows id (Some m) (Some n) h g small fits = ap Some (same_number rows id m n h g)
+-- a number that is matched is the port, if it is one
+pub port_reported : (rows : List Row) (id : List ℕ) (number : ℕ) (o : Option ℕ) → HasNumber rows id number → MatchOption o (65535 < number) (λ port. port ≡ number)
+    → MatchOption o ((n : ℕ) → n < 2 ^ 16 → HasNumber rows id n → ⊥) (HasNumber rows id)
+port_reported rows id number None has big = λ n small h.
+    let same : n ≡ number = same_number rows id n number h has in
+    let few : n ≤ 65535 = omega (arith, small) in
+    let fits : number ≤ 65535 = rw same at few in
+    absurd (omega (arith, big, fits))
+port_reported rows id number (Some port) has is = subst (λ x. HasNumber rows id x) (sym is) has
 
 -- what is made of the matched values are the endpoints, where there are any
 pub reached : (rows : List Row) (address metrics_address : IpAddr) (port metrics : Option ℕ) (path : Option (Bor (List ℕ))) (mode : ℕ) (o : Option Endpoints)
-    → HasAddress rows (codes "address") address → MayHaveNumber rows (codes "port") port → HasText rows (codes "unix") path → HasMode rows mode
-    → HasAddress rows (codes "metrics-address") metrics_address → MayHaveNumber rows (codes "metrics") metrics
-    → IfSome port (λ n. n < 2 ^ 64) → IfSome metrics (λ n. n < 2 ^ 64)
+    → HasAddress rows (codes "address") address → MayHavePort rows (codes "port") port → HasText rows (codes "unix") path → HasMode rows mode
+    → HasAddress rows (codes "metrics-address") metrics_address → MayHavePort rows (codes "metrics") metrics
     → IfSome o (λ e. (e.address ≡ address) × (e.port ≡ port) × (e.unix ≡ path) × (e.mode ≡ mode)) → IfSome o (λ e. (e.metrics_address ≡ metrics_address) × (e.metrics ≡ metrics))
-    → (IsSome o ↔ AreEndpointRanges port metrics mode)
+    → (IsSome o ↔ IsModeRange mode)
     → MatchOption o ((e : Endpoints) → AreEndpointsOf rows e → ⊥) (AreEndpointsOf rows)
-reached rows address metrics_address port metrics path mode (Some e) has_address has_port has_path has_mode has_other has_metrics small few clients watchers range = record {
+reached rows address metrics_address port metrics path mode (Some e) has_address has_port has_path has_mode has_other has_metrics clients watchers range = record {
   address = subst (λ (x : IpAddr). HasAddress rows (codes "address") x) (sym clients.0) has_address;
-  port = subst (λ (x : Option ℕ). MayHaveNumber rows (codes "port") x) (sym clients.1) has_port;
+  port = subst (λ (x : Option ℕ). MayHavePort rows (codes "port") x) (sym clients.1) has_port;
   unix = subst (λ (x : Option (Bor (List ℕ))). HasText rows (codes "unix") x) (sym clients.2) has_path;
   mode = subst (λ (x : ℕ). HasMode rows x) (sym clients.3) has_mode;
   metrics_address = subst (λ (x : IpAddr). HasAddress rows (codes "metrics-address") x) (sym watchers.0) has_other;
-  metrics = subst (λ (x : Option ℕ). MayHaveNumber rows (codes "metrics") x) (sym watchers.1) has_metrics;
+  metrics = subst (λ (x : Option ℕ). MayHavePort rows (codes "metrics") x) (sym watchers.1) has_metrics;
 }
-reached rows address metrics_address port metrics path mode None has_address has_port has_path has_mode has_other has_metrics small few clients watchers range = λ e is.
+reached rows address metrics_address port metrics path mode None has_address has_port has_path has_mode has_other has_metrics clients watchers range = λ e is.
     let fits = e.in_range in
-    let same_port : e.port ≡ port = same_if_any rows (codes "port") e.port port is.port has_port (fits_so e.port fits.0) small in
-    let same_metrics : e.metrics ≡ metrics = same_if_any rows (codes "metrics") e.metrics metrics is.metrics has_metrics (fits_so e.metrics fits.1) few in
     let alike : e.mode ≡ mode = same_mode rows e.mode mode is.mode has_mode in
-    let bad : false ≡ true = range.1 (rw (same_port, same_metrics, alike) at fits) in
+    let bad : false ≡ true = range.1 (rw alike at fits) in
     cc
 
 -- what is made of the matched values is the hosting, where there is one

@@ -94,13 +94,17 @@ pub record IsServingOf (rows : List Row) (s : Serving) : Type 0 where
 abbrev pub HasAddress : List Row → List ℕ → IpAddr → Type 0
 HasAddress rows id a = (text : List ℕ) × (first_of id rows ≡ Some text) × IsIpText text a
 
--- this option's number among what clap matched is this, or there is none
-abbrev pub MayHaveNumber : List Row → List ℕ → Option ℕ → Type 0
-MayHaveNumber rows id o = MatchOption o ((n : ℕ) → n < 2 ^ 64 → HasNumber rows id n → ⊥) (HasNumber rows id)
+-- this option's number among what clap matched is this, or there is none of 16 bits
+abbrev pub MayHavePort : List Row → List ℕ → Option ℕ → Type 0
+MayHavePort rows id o = MatchOption o ((n : ℕ) → n < 2 ^ 16 → HasNumber rows id n → ⊥) (HasNumber rows id)
 
--- the text of the mode among what clap matched is octal digits of these bits, at most 777, and a plus may stand first
+-- the text is octal digits of these bits, and a plus may stand first
+abbrev pub WritesMode : List ℕ → ℕ → Type 0
+WritesMode text mode = IsNumeral 8 (without_leading_plus text) × (digits_value 8 (without_leading_plus text) ≡ mode)
+
+-- the text of the mode among what clap matched is octal digits of these bits
 abbrev pub HasMode : List Row → ℕ → Type 0
-HasMode rows mode = (text : List ℕ) × (first_of (codes "mode") rows ≡ Some text) × IsNumeral 8 (without_leading_plus text) × (digits_value 8 (without_leading_plus text) ≡ mode)
+HasMode rows mode = (text : List ℕ) × (first_of (codes "mode") rows ≡ Some text) × WritesMode text mode
 
 -- this option's text is among what clap matched, or none is
 abbrev pub HasText : List Row → List ℕ → Option (Bor (List ℕ)) → Type 0
@@ -127,11 +131,11 @@ IsKeepingOf rows (Log l) = (first_of (codes "journal") rows ≡ None) × IsLogOf
 -- one is
 pub record AreEndpointsOf (rows : List Row) (e : Endpoints) : Type 0 where
   pub address : HasAddress rows (codes "address") e.address
-  pub port : MayHaveNumber rows (codes "port") e.port
+  pub port : MayHavePort rows (codes "port") e.port
   pub unix : HasText rows (codes "unix") e.unix
   pub mode : HasMode rows e.mode
   pub metrics_address : HasAddress rows (codes "metrics-address") e.metrics_address
-  pub metrics : MayHaveNumber rows (codes "metrics") e.metrics
+  pub metrics : MayHavePort rows (codes "metrics") e.metrics
 
 -- the hosting that the options of `host` give, as clap matched them, each number in its range
 pub record IsHostingOf (rows : List Row) (h : Hosting) : Type 0 where

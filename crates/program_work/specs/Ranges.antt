@@ -1,5 +1,5 @@
 -- the ranges of what is asked for (this project's profile)
-use Rattle.std.specs.Prelude.{◌≡◌, ℕ, ◌<◌, ◌≤◌, ◌^◌, Bool, true, Option, IfSome}
+use Rattle.std.specs.Prelude.{◌≡◌, ℕ, ◌<◌, ◌≤◌, ◌^◌, Bool, true}
 use Rattle.commands.specs.declared.kind.WorldKind.{WorldKind}
 use Rattle.commands.specs.Config.{gives_names}
 
@@ -16,9 +16,9 @@ IsRacingRange threads rounds seed = (1 ≤ threads) × (threads ≤ 16) × (1 �
 abbrev pub IsServingRange : WorldKind → ℕ → ℕ → ℕ → Type 0
 IsServingRange world port workers count = (port ≤ 65535) × (1 ≤ workers) × (workers ≤ 16) × (1 ≤ count) × (count ≤ 1000000) × (gives_names world ≡ true)
 
--- a port that is named has 16 bits, and the mode of a file 9
-abbrev pub AreEndpointRanges : Option ℕ → Option ℕ → ℕ → Type 0
-AreEndpointRanges port metrics mode = IfSome port (λ p. p ≤ 65535) × IfSome metrics (λ p. p ≤ 65535) × (mode ≤ 511)
+-- the mode of a file has 9 bits
+abbrev pub IsModeRange : ℕ → Type 0
+IsModeRange mode = mode ≤ 511
 
 -- there are 1 to 1,000,000 clients, one is idle for at most a year, and names are given in the world
 abbrev pub IsHostingRange : WorldKind → ℕ → ℕ → Type 0

@@ -1,7 +1,7 @@
 //! What the program can be asked for.
 
-ghost use Rattle.std.specs.Prelude.{◌≡◌, ◌≤◌, false, IfSome, IsSome, ◌↔◌};
-ghost use Rattle.program_work.specs.Ranges.{AreEndpointRanges, IsDrawingRange, IsHostingRange, IsRacingRange, IsServingRange, IsShowingRange, IsPatience, CanBeWritten};
+ghost use Rattle.std.specs.Prelude.{◌≡◌, IfSome, IsSome, ◌↔◌};
+ghost use Rattle.program_work.specs.Ranges.{IsDrawingRange, IsHostingRange, IsModeRange, IsRacingRange, IsServingRange, IsShowingRange, IsPatience, CanBeWritten};
 
 use commands::Config;
 use std::net::IpAddr;
@@ -241,44 +241,34 @@ pub enum Keeping<'a> {
 pub struct Endpoints<'a> {
     /// The address of the port.
     pub address: IpAddr,
-    /// The port for clients, at most 65,535, where one is named; with 0 any that is free.
-    pub port: Option<u64>,
+    /// The port for clients, where one is named; with 0 any that is free.
+    pub port: Option<u16>,
     /// The path of the socket for clients of this machine, where one is named.
     pub unix: Option<&'a str>,
     /// The bits of the mode of that socket, at most 0o777.
     pub mode: u64,
     /// The address of the port for those who watch.
     pub metrics_address: IpAddr,
-    /// The port for those who watch, at most 65,535, where one is named; with 0 any that is free.
-    pub metrics: Option<u64>,
-    ghost in_range: { AreEndpointRanges port metrics mode },
-}
-
-// Whether a port that is named is none.
-fn is_no_port(port: Option<u64>) -> bool
-    ensures { result ≡ false ↔ IfSome port (λ p. p ≤ 65535) }
-{
-    match port {
-        Some(port) => 65_535 < port,
-        None => false,
-    }
+    /// The port for those who watch, where one is named; with 0 any that is free.
+    pub metrics: Option<u16>,
+    ghost in_range: { IsModeRange mode },
 }
 
 impl<'a> Endpoints<'a> {
-    /// Endpoints of these values; none where a port or the mode is outside its range.
+    /// Endpoints of these values; none where the mode is outside its range.
     pub fn new(
         address: IpAddr,
-        port: Option<u64>,
+        port: Option<u16>,
         unix: Option<&'a str>,
         mode: u64,
         metrics_address: IpAddr,
-        metrics: Option<u64>,
+        metrics: Option<u16>,
     ) -> Option<Endpoints<'a>>
         ensures clients { IfSome result (λ e. (e.address ≡ address) × (e.port ≡ port) × (e.unix ≡ unix.entry) × (e.mode ≡ mode)) }
         ensures watchers { IfSome result (λ e. (e.metrics_address ≡ metrics_address) × (e.metrics ≡ metrics)) }
-        ensures range { IsSome result ↔ AreEndpointRanges port metrics mode }
+        ensures range { IsSome result ↔ IsModeRange mode }
     {
-        if is_no_port(port) || is_no_port(metrics) || 0o777 < mode {
+        if 0o777 < mode {
             return None;
         }
         Some(Endpoints {

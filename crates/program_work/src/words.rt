@@ -1,8 +1,8 @@
 //! What the words of a command line ask for.
 
-ghost use Rattle.std.specs.Prelude.{◌≡◌, ℕ, ◌<◌, ◌^◌, IfSome, MatchOption, Some, map};
+ghost use Rattle.std.specs.Prelude.{◌≡◌, ℕ, ◌<◌, ◌^◌, MatchOption, Some, map};
 ghost use Rattle.clap.specs.Words.{found_of, kind_of, rows_of, subcommand_rows_of};
-ghost use Rattle.program_work.specs.Asked.{AreEndpointsOf, HasMode, HasNumber, HasWorld, IsAsked, IsConfigOf, HasAddress, HasText, MayHaveNumber, IsDrawingOf, IsHostingOf, IsKeepingOf, IsLogOf, IsMisuseOf, IsPlayingOf, IsRacingOf, IsRead, IsRefusal, IsServingOf, IsShowingOf, asks_flag, asks_log};
+ghost use Rattle.program_work.specs.Asked.{AreEndpointsOf, HasMode, HasNumber, HasWorld, IsAsked, IsConfigOf, HasAddress, HasText, MayHavePort, IsDrawingOf, IsHostingOf, IsKeepingOf, IsLogOf, IsMisuseOf, IsPlayingOf, IsRacingOf, IsRead, IsRefusal, IsServingOf, IsShowingOf, asks_flag, asks_log};
 ghost use Rattle.commands.specs.declared.config.Config.{Config};
 ghost use Rattle.commands.specs.declared.kind.WorldKind.{WorldKind};
 ghost use Rattle.program_work.specs.declared.asked.Drawing.{Drawing};
@@ -126,12 +126,21 @@ fn address_given(matches: &ArgMatches<'_>, name: &str) -> Option<IpAddr>
     matches.get_str(name)?.parse::<IpAddr>().ok()
 }
 
-// The port that is matched for an option, where there is one.
-fn port_given(matches: &ArgMatches<'_>, name: &str) -> Option<u64>
-    ensures value { MayHaveNumber (rows_of (found_of matches.now)) name.now result }
-    ensures small { IfSome result (λ n. n < 2 ^ 64) }
+// A number as a port, where it is one.
+fn as_port(number: u64) -> Option<u16>
+    ensures { MatchOption result (65535 < number) (λ port. port ≡ number) }
 {
-    number_given(matches, name)
+    if 65_535 < number {
+        return None;
+    }
+    Some(number as u16)
+}
+
+// The port that is matched for an option, where there is one.
+fn port_given(matches: &ArgMatches<'_>, name: &str) -> Option<u16>
+    ensures { MayHavePort (rows_of (found_of matches.now)) name.now result }
+{
+    as_port(number_given(matches, name)?)
 }
 
 // The mode that is matched, where it is octal digits.

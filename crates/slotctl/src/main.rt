@@ -8,7 +8,7 @@
 //! an allocation failure; at 2 and 3, and where a page was asked for at 1, a text on the standard error says why.
 #![tactic(auto)]
 
-ghost use Rattle.std.specs.Prelude.{◌≡◌, ◌≤◌, IfSome};
+ghost use Rattle.std.specs.Prelude.{◌≡◌};
 
 mod race;
 
@@ -97,11 +97,9 @@ fn keeping_of<'a>(words: KeepingWords<'a>) -> Keeping<'a> {
 }
 
 // A port of an address, where one is named.
-fn port_at(address: IpAddr, port: Option<u64>) -> Option<SocketAddr>
-    requires { IfSome port (λ p. p ≤ 65535) }
-{
+fn port_at(address: IpAddr, port: Option<u16>) -> Option<SocketAddr> {
     match port {
-        Some(port) => Some(SocketAddr::new(address, port as u16)),
+        Some(port) => Some(SocketAddr::new(address, port)),
         None => None,
     }
 }
