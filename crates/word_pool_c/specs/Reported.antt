@@ -1,13 +1,15 @@
 -- what the numbers say that cross to C
-use Rattle.std.specs.Prelude.{◌≡◌, ◌≤◌, ◌+◌, ℕ, IsSomeAnd}
+use Rattle.std.specs.Prelude.{◌≡◌, ◌≤◌, ◌+◌, ℕ, IsSomeAnd, IfSome}
 use Rattle.std.specs.Arc.{arc_value}
 use Rattle.word_pool_c.specs.Refused.{IsReceiptOf, MetAllInTime, WasSought}
 use Rattle.word_pool.specs.Pools.{CallId}
 use Rattle.word_pool_c.specs.Lines.{IsHeldInLine, IsTicketOf}
 use Rattle.word_pool_c.specs.Grids.{IsNextOf}
+use Rattle.word_pool_c.specs.Named.{IsNextTo, IsDueOrLost}
 use Rattle.word_pool_c.specs.declared.member.Member.{Member}
 use Rattle.word_pool_c.specs.declared.grid_member.GridMember.{GridMember}
 use Rattle.word_pool_c.specs.declared.line_member.LineMember.{LineMember}
+use Rattle.word_pool_c.specs.declared.names_member.NamesMember.{NamesMember}
 
 -- a member holds this number of its pool, which it got by at most so many accesses, as it was sought
 abbrev pub HoldsNumber : ℕ → ℕ → Member → Type 0
@@ -34,3 +36,11 @@ HasTicketOf h m = IsSomeAnd m.ticket (IsTicketOf h)
 -- a member of a grid that deals its seats has dealt one more, the next, to this other
 abbrev pub DealtNext : GridMember → GridMember → GridMember → Type 0
 DealtNext before after other = IsSomeAnd before.dealer (λ d. IsSomeAnd after.dealer (λ e. IsSomeAnd other.seat (IsNextOf d e)))
+
+-- a member of names that deals their seats has dealt one more, the next, to this identity and this other
+abbrev pub DealtTo : ℕ → NamesMember → NamesMember → NamesMember → Type 0
+DealtTo identity before after other = IsSomeAnd before.dealer (λ d. IsSomeAnd after.dealer (λ e. IsSomeAnd other.seat (IsNextTo (arc_value before.names) identity d e)))
+
+-- where a member deals the seats, none was due to this identity, or one was dealt, and is lost
+abbrev pub DealtNone : ℕ → NamesMember → NamesMember → Type 0
+DealtNone identity before after = IfSome before.dealer (λ d. IsSomeAnd after.dealer (λ e. IsDueOrLost (arc_value before.names) identity d e))

@@ -1,8 +1,9 @@
 //! The functions of names. One handle deals the seats, and each thread has a handle of its own, with one seat.
 
-ghost use Rattle.std.specs.Prelude.{◌≡◌, ◌≢◌, ◌≤◌, IfSome, IsSome, IsSomeAnd, None, Some, true, false};
+ghost use Rattle.std.specs.Prelude.{◌≡◌, ◌≢◌, ◌≤◌, IfNone, IfSome, IsSome, IsSomeAnd, None, Some, true, false};
 ghost use Rattle.std.specs.Arc.{arc_value};
 ghost use Rattle.word_pool_c.specs.Named.{IsReportedName};
+ghost use Rattle.word_pool_c.specs.Reported.{DealtNone, DealtTo};
 ghost use Rattle.word_pool_c.specs.declared.names_member.NamesMember.{NamesMember};
 ghost use Rattle.word_names.specs.Seats.{IsSize};
 
@@ -66,9 +67,11 @@ fn second(alloc: Global, first: &mut NamesMember, identity: u64) -> Option<Box<N
     ensures same { (first.new.seat ≡ first.old.seat) × (first.new.renamed ≡ first.old.renamed) }
     ensures kept { IsSome first.old.dealer → IsSome first.new.dealer }
     ensures ours { IfSome result (λ b. (arc_value b.value.names ≡ arc_value first.old.names) × IsSomeAnd b.value.seat (λ s. s.identity ≡ identity)) }
+    ensures dealt { IfSome result (λ b. DealtTo identity first.old first.new b.value) }
+    ensures due { IfNone result (DealtNone identity first.old first.new) }
 {
-    let names = Arc::try_clone(&first.names).ok()?;
     let seat = Some(first.deal(identity)?);
+    let names = Arc::try_clone(&first.names).ok()?;
     let dealer = None;
     let renamed = None;
     Box::new(
@@ -98,6 +101,8 @@ pub extern "C" fn word_names_join(
     requires empty { other.old.names ≡ None }
     ensures held { IsSomeAnd handle.new.names (λ m. (arc_value m.names ≡ arc_value names.names) × (m.seat ≡ names.seat) × (m.renamed ≡ names.renamed) × (IsSome names.dealer → IsSome m.dealer)) }
     ensures joined { result ≡ true → IsSomeAnd other.new.names (λ m. (arc_value m.names ≡ arc_value names.names) × IsSomeAnd m.seat (λ s. s.identity ≡ identity)) }
+    ensures dealt { result ≡ true → IsSomeAnd handle.new.names (λ m. IsSomeAnd other.new.names (DealtTo identity names m)) }
+    ensures due { result ≡ false → IsSomeAnd handle.new.names (DealtNone identity names) }
     ensures none { result ≡ false → other.new.names ≡ None }
 {
     let mut whole = mem::replace(handle, NamesHandle::blank(alloc)).into_box();
