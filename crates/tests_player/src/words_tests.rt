@@ -2,7 +2,7 @@
 //! program, by `tests/program`.
 
 use commands::WorldKind;
-use program_work::{Ask, Keeping, Misuse, ask};
+use program_work::{Ask, Endpoints, Keeping, Misuse, ask};
 use std::alloc::Global;
 use std::net::{IpAddr, Ipv4Addr, Ipv6Addr};
 
@@ -97,10 +97,32 @@ fn is_kept(keeping: &Keeping<'_>, text: &str) -> bool {
 
 // The address, the port, the clients, the idle seconds and whether it is verbose, of what the words of a line ask to host; none where it
 // is kept elsewhere.
-fn hosting(alloc: Global, line: &str, kept: &str) -> Option<(IpAddr, u64, u64, u64, bool)> {
+fn hosting(alloc: Global, line: &str, kept: &str) -> Option<(IpAddr, Option<u16>, u64, u64, bool)> {
     match ask(alloc, words_of(alloc, line).as_slice()) {
         Ok(Ask::Host(h)) if is_kept(&h.keeping, kept) => {
-            Some((h.address, h.port, h.clients, h.idle, h.verbose))
+            let Endpoints { address, port, .. } = h.endpoints;
+            Some((address, port, h.clients, h.idle, h.verbose))
+        }
+        _ => None,
+    }
+}
+
+// The port, the socket's mode where its path is `a/s`, and the port for those who watch, of what the words of a line ask to host.
+fn reached(alloc: Global, line: &str) -> Option<(Option<u16>, Option<u64>, Option<u16>)> {
+    match ask(alloc, words_of(alloc, line).as_slice()) {
+        Ok(Ask::Host(h)) => {
+            let Endpoints {
+                port,
+                unix,
+                mode,
+                metrics,
+                ..
+            } = h.endpoints;
+            let mode = match unix {
+                Some("a/s") => Some(mode),
+                _ => None,
+            };
+            Some((port, mode, metrics))
         }
         _ => None,
     }
@@ -161,7 +183,32 @@ fn hostings_are_read(rt: HostRuntime) {
     ];
     let here = IpAddr::V4(Ipv4Addr::new(127, 0, 0, 1));
     let loopback = IpAddr::V6(Ipv6Addr::new(0, 0, 0, 0, 0, 0, 0, 1));
-    let plain = Some((here, 0, 10_000, 600, false));
-    let verbose = Some((loopback, 65_535, 1_000_000, 31_536_000, true));
+    let plain = Some((here, Some(0), 10_000, 600, false));
+    let verbose = Some((loopback, Some(65_535), 1_000_000, 31_536_000, true));
     assert!(rt; reported == [plain, verbose, plain, plain]);
+}
+
+// What a hall is reached by: with a socket alone there is no port.
+#[test]
+fn endpoints_are_read(rt: HostRuntime) {
+    let reported = [
+        reached(rt.alloc(), "slotctl host"),
+        reached(rt.alloc(), "slotctl host --unix a/s"),
+        reached(
+            rt.alloc(),
+            "slotctl host --unix a/s --mode 600 --port 7 --metrics 9",
+        ),
+        reached(rt.alloc(), "slotctl host --metrics 0"),
+        reached(rt.alloc(), "slotctl host --unix a/s --mode 800"),
+        reached(rt.alloc(), "slotctl host --metrics 65536"),
+    ];
+    let due = [
+        Some((Some(0), None, None)),
+        Some((None, Some(0o660), None)),
+        Some((Some(7), Some(0o600), Some(9))),
+        Some((Some(0), None, Some(0))),
+        None,
+        None,
+    ];
+    assert!(rt; reported == due);
 }
