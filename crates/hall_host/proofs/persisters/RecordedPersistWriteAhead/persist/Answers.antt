@@ -1,6 +1,6 @@
 -- What waits is committed, and may be compacted behind that.
 use Rattle.hall_host.proofs.KeptLemmas.{none_waits, on_ok_two, then_compacted}
-use Rattle.hall_host.proofs.persisters.RecordedKeepWriteAhead.persist.Goals as goal
+use Rattle.hall_host.proofs.persisters.RecordedPersistWriteAhead.persist.Goals as goal
 
 pub returns-then-not-has_waiting : goal.returns-then-not-has_waiting
 returns-then-not-has_waiting g c =
