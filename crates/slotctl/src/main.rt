@@ -49,6 +49,25 @@ fn command_words(rt: &HostRuntime) -> Result<Vec<String>, Misuse> {
     }
 }
 
+// What the words ask for, beside a sign that it goes on: over streams of its own.
+fn by_words<'a, T: Threads + Sync>(
+    threads: &T,
+    rt: &HostRuntime,
+    alloc: Global,
+    words: &'a [String],
+) -> Outcome<'a> {
+    let mut input = Tried::new(rt.stdin());
+    let mut output = Tried::new(rt.stdout());
+    program(
+        threads,
+        alloc,
+        words,
+        &mut input,
+        &mut output,
+        &mut rt.stderr(),
+    )
+}
+
 // What is to be served.
 fn plan_of(serving: Serving) -> Plan {
     Plan {
@@ -204,19 +223,10 @@ fn main(rt: HostRuntime) -> ExitCode {
             return ExitCode::from(report(Failure::Misuse(misuse), &mut output, &mut errors));
         }
     };
-    let mut input = Tried::new(rt.stdin());
     let outcome = if errors.is_terminal() && may_take_long(&words) {
-        in_sight(&rt, rt.stderr(), || {
-            program(
-                &rt,
-                alloc,
-                &words,
-                &mut input,
-                &mut output,
-                &mut rt.stderr(),
-            )
-        })
+        in_sight(&rt, rt.stderr(), || by_words(&rt, &rt, alloc, &words))
     } else {
+        let mut input = Tried::new(rt.stdin());
         program(&rt, alloc, &words, &mut input, &mut output, &mut errors)
     };
     let status = match outcome {
