@@ -183,12 +183,12 @@ fn hostings_are_read(rt: HostRuntime) {
     ];
     let here = IpAddr::V4(Ipv4Addr::new(127, 0, 0, 1));
     let loopback = IpAddr::V6(Ipv6Addr::new(0, 0, 0, 0, 0, 0, 0, 1));
-    let plain = Some((here, Some(0), 10_000, 600, false));
+    let plain = Some((here, None, 10_000, 600, false));
     let verbose = Some((loopback, Some(65_535), 1_000_000, 31_536_000, true));
     assert!(rt; reported == [plain, verbose, plain, plain]);
 }
 
-// What a hall is reached by: with a socket alone there is no port.
+// What a hall is reached by, so far as the words name it.
 #[test]
 fn endpoints_are_read(rt: HostRuntime) {
     let reported = [
@@ -203,10 +203,10 @@ fn endpoints_are_read(rt: HostRuntime) {
         reached(rt.alloc(), "slotctl host --metrics 65536"),
     ];
     let due = [
-        Some((Some(0), None, None)),
+        Some((None, None, None)),
         Some((None, Some(0o660), None)),
         Some((Some(7), Some(0o600), Some(9))),
-        Some((Some(0), None, Some(0))),
+        Some((None, None, Some(0))),
         None,
         None,
     ];
