@@ -13,7 +13,7 @@
 //! are then above what `p` chooses. So a stretch of `k` writers is cut into five of `k - 1`, with four proposals
 //! between them.
 //!
-//! Fouren (1999) shows that the proposals can grow exponentially. This bound and its proof are not in the papers.
+//! Fouren (1999) shows that the proposals can grow exponentially. This bound and its proof are this project's own.
 #![tactic(auto)]
 
 ghost use Rattle.std.specs.Prelude.{◌≡◌, ℕ, ◌+◌, ◌*◌, ◌^◌};
@@ -22,7 +22,7 @@ ghost use Rattle.proposal_rounds.specs.Rounds.{RoundsEnd, most_proposals};
 /// A law, which runs nothing: `b` identities that propose by the rule make at most `3(5^b - 1)/4` proposals, all
 /// together.
 ///
-/// The algorithm is from Attiya et al. (1990), its exponential cost from Fouren (1999). The bound is not in the papers.
+/// The algorithm is from Attiya et al. (1990), its exponential cost from Fouren (1999). The bound is this project's own.
 pub fn law_of_rounds()
     ensures end { RoundsEnd }
     ensures closed { (b : ℕ) → 4 * most_proposals b + 3 ≡ 3 * 5 ^ b }

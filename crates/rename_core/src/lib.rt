@@ -7,7 +7,7 @@
 //! that view, where r is its rank there. If it has made as many proposals as the round limit allows, and sees another
 //! identity with the last of them, it is *spent*. Two participants never get one name. Every view is one moment of the
 //! memory, and a proposal stays until the next. So the later of the two would have seen the other. (The round limit is
-//! not in the papers.)
+//! this project's own.)
 //!
 //! What is proved, over every list of calls in any order, with participants that crash anywhere:
 //!

@@ -25,7 +25,7 @@
 //!   allocation failed.
 //! - A step makes one access, which the participant's own state names.
 //!
-//! (The count of steps, the first sequence number 1 and the limit of updates are not in the paper.)
+//! (The count of steps, the first sequence number 1 and the limit of updates are this project's own.)
 //!
 //! `Client` is a participant, as a program that makes one access a step. `SnapWorld` is the object: a world
 //! (`step_memory`) of such participants over any places. Each call of it extends its history, and a read of a scan

@@ -4,8 +4,8 @@
 //! walk over the segments meets each segment that was written before the walk began. Over a *grid* (Moir and Anderson
 //! 1995) a participant walks from door to door until it stops. A collect there reads the segments of all doors, by
 //! rising place. Over a *tree* of the same doors it walks down from the root. A collect there reads the marks and the
-//! segments of marked nodes, so that its length depends on the crowd. (The mark, the order and the counts are not in
-//! the papers.)
+//! segments of marked nodes, so that its length depends on the crowd. (The mark, the order and the counts are
+//! this project's own.)
 //!
 //! The law is that of the snapshot object, over every list of calls. Where `b` have begun:
 //!

@@ -23,8 +23,8 @@ impl Door {
         }
     }
 
-    /// Returns the number of the door. Numbers go from 0, diagonal by diagonal, and along each by rising column. (Not
-    /// in the papers.)
+    /// Returns the number of the door. Numbers go from 0, diagonal by diagonal, and along each by rising column. (This
+    /// order is this project's own.)
     pub fn number(self) -> u16
         ensures { result ≡ number_of self }
     {

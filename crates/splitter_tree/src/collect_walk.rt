@@ -10,7 +10,7 @@ use step_memory::{Place, Record};
 /// A walk over the marked nodes: each node first, then its left subtree, then its right one.
 ///
 /// At each node it reads the mark. If the mark is 1, it reads the node's segment, and goes on below the node. It needs
-/// no list of nodes: the next node follows from the number of the present one. (Not in the papers.)
+/// no list of nodes: the next node follows from the number of the present one. (This project's own.)
 #[derive(Clone, Copy, Debug, Drop, PartialEq, Eq)]
 pub struct CollectWalk {
     /// The node at which the walk reads next, or 0, which is no node's number, if it is over.

@@ -14,7 +14,7 @@
 //!
 //! A *collect walk* (`CollectWalk`) reads the mark of a node. If the mark is set, it reads the node's segment and then
 //! what lies below, left before right. It makes at most `6b - 2` reads. Walks, places and collect walks are laws here,
-//! over any memory that is a tree. (The mark, the order and the counts are not in the papers.)
+//! over any memory that is a tree. (The mark, the order and the counts are this project's own.)
 //!
 //! A `TreeWorld` is a world (`step_memory`) over one tree. Its participants get places, store values there, and collect
 //! what all have stored. For each identity a collect shows a value that was its last stored one at some time of the

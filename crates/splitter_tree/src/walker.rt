@@ -52,7 +52,7 @@ fn reported(got: Answer<TreeValue>) -> Answer<u64>
 ///
 /// At each node it first writes the mark, which makes the node if it does not exist, and then visits the node's
 /// splitter. A visit that ends down leads to the left child, and one that ends right to the right child. If the visit
-/// stops, the walk ends, and the node is the place of the identity. (The mark is not in the papers.)
+/// stops, the walk ends, and the node is the place of the identity. (The mark is this project's own.)
 #[derive(Clone, Copy, Debug, Drop, PartialEq, Eq)]
 pub struct Walker {
     /// Its visit to that node.

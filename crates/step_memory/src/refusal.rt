@@ -12,7 +12,7 @@ use std::fmt;
 #[derive(Clone, Copy, Debug, Drop, PartialEq, Eq)]
 pub struct NoMemory;
 
-/// Why a call failed. A call that fails changes nothing. (The numbers are not in the papers.)
+/// Why a call failed. A call that fails changes nothing. (The numbers are this project's own.)
 #[derive(Clone, Copy, Debug, Drop, PartialEq, Eq)]
 pub enum Refusal {
     /// The identity is 0.
