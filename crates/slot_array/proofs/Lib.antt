@@ -1,3 +1,4 @@
 mod Common
 mod SlotLemmas
 pub mod SlotsKeep
+mod TokenLemmas

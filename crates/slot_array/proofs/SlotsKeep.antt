@@ -1,5 +1,5 @@
 -- each call of slots keeps the law
-use Rattle.std.proofs.Common.{◌≡◌, ℕ, zero, suc, ◌-◌, ◌<◌, true, false, not, cond, List, [], ◌∷◌, ◌++◌, Some, None, Ok, Err, Result, length, replicate, refl, sym, ap, subst, ◌∙◌, arith, slice_get, ok_or}
+use Rattle.std.proofs.Common.{◌≡◌, ℕ, zero, suc, ◌-◌, ◌≤◌, ◌<◌, true, false, not, cond, List, [], ◌∷◌, ◌++◌, Some, None, Ok, Err, Result, length, replicate, refl, sym, ap, subst, ◌∙◌, arith, slice_get, ok_or}
 use Rattle.slot_array.proofs.Common.{Refusal, done_unless, widen_refusal, SlotsState, Pooled, Stored, Fetched, Extended, slot, stored_reply, stored_in, IsFetched, after_put, extended_in, after_extend}
 use Rattle.step_memory.specs.declared.refusal.Refusal.TheVariants.{NotCompeting, NotHolding}
 use Rattle.std.proofs.lemmas.List.{append-nil, length-set, length-append, length-replicate}
@@ -193,9 +193,9 @@ held_of o p n h = elim (competes o p) as (λ b. cond (not b) (Err NotCompeting) 
   | false ↦ λ k. absurd (cc)
 ] h
 
--- a number that is held has a slot
-pub slot_there : {T : Type 0} (s : SlotsState T) (id n : ℕ) → number_answer s.pool id ≡ Ok n → OnEveryHistory slots (λ first r. (v : T) × (slot n s.values ≡ Some v)) s
-slot_there s id n holds first r a =
+-- a number that is held is one of the slots
+pub held_within : {T : Type 0} (s : SlotsState T) (id n : ℕ) → number_answer s.pool id ≡ Ok n → OnEveryHistory slots (λ first r. (1 ≤ n) × (n ≤ length s.values)) s
+held_within {T} s id n holds first r a =
     let size = first.0 in
     let t = stands s first r a in
     let law = pool_proved.law s.pool size (pool_calls r) t.pool in
@@ -204,4 +204,9 @@ slot_there s id n holds first r a =
     let same : law.object ≡ t.object.pool = run_one after Answers (fresh_object size) (pool_calls r) law.object t.object.pool law.run t.pool_run in
     let sized : law.object.size ≡ t.object.pool.size = ap (λ (o : PoolObject). o.size) same in
     let many : length s.values ≡ t.object.pool.size = sym (ap length t.values) ∙ t.many in
+    (range.0, omega arith)
+
+pub slot_there : {T : Type 0} (s : SlotsState T) (id n : ℕ) → number_answer s.pool id ≡ Ok n → OnEveryHistory slots (λ first r. (v : T) × (slot n s.values ≡ Some v)) s
+slot_there s id n holds first r a =
+    let within = held_within s id n holds first r a in
     something_at s.values (n - 1) (omega arith)

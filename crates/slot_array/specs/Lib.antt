@@ -5,3 +5,4 @@ pub mod SlotsObject
 pub mod Law
 pub mod Machine
 pub mod Laws
+pub mod Tokens

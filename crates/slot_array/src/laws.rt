@@ -3,6 +3,7 @@
 ghost use Rattle.step_memory.specs.Machine.{IsProved};
 ghost use Rattle.slot_array.specs.Laws.{HasSlot};
 ghost use Rattle.slot_array.specs.Machine.{slots};
+ghost use Rattle.slot_array.specs.Tokens.{TokensRise};
 
 /// A law: slots are a machine whose calls extend its history.
 ///
@@ -11,4 +12,12 @@ ghost use Rattle.slot_array.specs.Machine.{slots};
 pub fn law_of_slot_calls<T>()
     ensures machine { IsProved (slots {T = T}) }
     ensures there { HasSlot T }
+{}
+
+/// A law of fencing tokens: the slot of a number keeps its value when the number changes hands.
+///
+/// Let each holder of a number get the value of its slot, and put one more: its token. Then each token is above all
+/// tokens before it. So whoever compares tokens refuses a holder that was followed by another.
+pub fn law_of_tokens()
+    ensures { TokensRise }
 {}

@@ -11,6 +11,7 @@
 //! - `get` returns the value in the slot of the number held.
 //! - `widen` fills the new slots, and changes no other.
 //! - Each error is returned if and only if it is due, and changes nothing.
+//! - If each holder of a number puts one more than its slot has, these tokens rise (`law_of_tokens`).
 //! - After `new` no call allocates.
 //!
 //! From `desk/src/over.rt`:
@@ -32,5 +33,5 @@
 pub mod laws;
 pub mod slots;
 
-pub use laws::law_of_slot_calls;
+pub use laws::{law_of_slot_calls, law_of_tokens};
 pub use slots::Slots;
