@@ -90,14 +90,14 @@ impl EnteredSeat {
         // The law that each entered seat keeps.
         ensures law { WalkSpec self.now }
     {
-        Place::from(self.seat.program().door.number())
+        Place::from(self.seat.end().door.number())
     }
 
     /// Returns the door at which the walk stopped.
     pub fn door(&self) -> Door
         ensures { result ≡ self.now.door }
     {
-        self.seat.program().door
+        self.seat.end().door
     }
 }
 

@@ -5,7 +5,7 @@ use Rattle.std.proofs.lemmas.Bool.Decides.{leb_tells}
 use Rattle.atomic_table.specs.Seated.{TableId}
 use Rattle.raw_parts.proofs.Numbered.{of_numbered}
 use Rattle.step_memory.proofs.CountLemmas.{count_to-le}
-use Rattle.word_machine.specs.Ids.{DealerId, dealer_of, words_of, EndedRun, ended_run, IsOfEnded, HasRun, HaveRun, size_in, entered_in, accesses_in, written_in, slot_in, read_in}
+use Rattle.word_machine.specs.Ids.{DealerId, dealer_of, words_of, EndedRun, ended_run, program_in, IsOfEnded, HasRun, HaveRun, size_in, entered_in, accesses_in, written_in, slot_in, read_in}
 use Rattle.word_machine.specs.RunSteps as RunSteps
 use Rattle.word_machine.proofs.Counting.{count_low}
 
@@ -108,11 +108,20 @@ module _ {P R V O : Type 0} (law : WordLaw P R V O) (known : (size : Size) (w : 
       → RunSteps.accesses_in me ≡ accesses_in views
   count_made views m number program outcome me h single = ap RunSteps.accesses_in h.me_is ∙ sym (ap accesses_in (single ∙ ap (λ (x : Me ℕ (SeatView P O)). x.0 ∷ []) h.me_is))
 
+  -- the same, at the program that its views tell
+  pub told_run : (table : TableId) (views : List (SeatView P O)) (m : Size) (number : ℕ) (program : P) (outcome : O) (me : Me ℕ (SeatView P O)) → HasEnded law {S = ℕ} m number program outcome me → views ≡ me.0 ∷ []
+      → (program_in law number views ≡ program) × IsOfEnded number (program_in law number views) outcome views × HasRun law (ended_run table number (program_in law number views) outcome views)
+  told_run table views m number program outcome me h single =
+      let made = has_run table views m number program outcome me h single in
+      let same : program_in law number views ≡ program = ap (program_in law number) made.0 in
+      let both = subst (λ (u : P). IsOfEnded number u outcome views × HasRun law (ended_run table number u outcome views)) (sym same) made in
+      (same, both.0, both.1)
+
   -- what is reported of one that has ended stays so where the badge has come back
-  pub still_run : (table now : TableId) (views back : List (SeatView P O)) (number : ℕ) (program : P) (outcome : O) → IsOfEnded number program outcome views × HasRun law (ended_run table number program outcome views) → back ≡ views
-      → IsOfEnded number program outcome back × HasRun law (ended_run now number program outcome back)
-  still_run table now views back number program outcome h same =
-      subst (λ (vs : List (SeatView P O)). IsOfEnded number program outcome vs × HasRun law (ended_run now number program outcome vs)) (sym same) (
+  pub still_run : (table now : TableId) (views back : List (SeatView P O)) (number : ℕ) (outcome : O) → IsOfEnded number (program_in law number views) outcome views × HasRun law (ended_run table number (program_in law number views) outcome views) → back ≡ views
+      → IsOfEnded number (program_in law number back) outcome back × HasRun law (ended_run now number (program_in law number back) outcome back)
+  still_run table now views back number outcome h same =
+      subst (λ (vs : List (SeatView P O)). IsOfEnded number (program_in law number vs) outcome vs × HasRun law (ended_run now number (program_in law number vs) outcome vs)) (sym same) (
         h.0,
         record {
           w = h.1.w;

@@ -1,8 +1,9 @@
 -- words and their seats, as callers see them, and what is reported of participants that have ended
 use Rattle.atomic_table.specs.Seated.{TableId}
-use Rattle.std.specs.Prelude.{ℕ, ◌≡◌, ◌≢◌, ◌≤◌, true, List, [], ◌∷◌, Some}
+use Rattle.std.specs.Prelude.{ℕ, ◌≡◌, ◌≢◌, ◌≤◌, true, List, [], ◌∷◌, Option, Some, None}
 use Rattle.step_memory.specs.Calls.{Call, steps_of, begun_in}
 use Rattle.step_memory.specs.Machine.{Reaches}
+use Rattle.step_memory.specs.declared.participant.Participant.{Participant}
 use Rattle.word_machine.specs.declared.seat_view.Stand.{Stand}
 use Rattle.word_machine.specs.declared.seat_view.SeatView.{SeatView}
 use Rattle.word_machine.specs.SeatViews.{own, no_size, lone_view}
@@ -123,7 +124,24 @@ module _ {P O : Type 0} where
   abbrev pub IsOfEnded : ℕ → P → O → List (SeatView P O) → Type 0
   IsOfEnded number u outcome views = views ≡ lone_view (size_in views) (ended_at number u outcome (accesses_in views) (entered_in views) (written_in views) (slot_in views) (read_in views)) ∷ []
 
+-- the participant of which the first view tells first
+abbrev pub participant_by : {P O : Type 0} → List (Stand P O) → Option (Participant P)
+participant_by [] = None
+participant_by (s ∷ ss) = s.participant
+
+abbrev pub participant_in : {P O : Type 0} → List (SeatView P O) → Option (Participant P)
+participant_in [] = None
+participant_in (v ∷ vs) = participant_by v.stands
+
+abbrev pub program_or : {P : Type 0} → P → Option (Participant P) → P
+program_or first None = first
+program_or first (Some v) = v.program
+
 module _ {P R V O : Type 0} (law : WordLaw P R V O) where
+  -- the program at which the participant of this number stands, as the views of its seat tell
+  abbrev pub program_in : ℕ → List (SeatView P O) → P
+  program_in number views = program_or (law.start (size_in views) (own number)) (participant_in views)
+
   -- There is a list of calls, of which the machine's own facts hold, after which the participant stands at that program and got that outcome. It made as
   -- many steps as accesses, and wrote as many records as it published. As many have begun as had entered
   pub record HasRun (e : EndedRun P O) : Type 0 where

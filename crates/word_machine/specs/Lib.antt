@@ -1,5 +1,6 @@
 pub mod WordLaw
 pub mod SeatViews
+pub mod NextAccess
 pub mod RunRule
 pub mod RunSteps
 pub mod Ids

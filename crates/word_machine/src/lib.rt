@@ -43,10 +43,12 @@ pub mod seats;
 pub mod size;
 pub mod visits;
 pub mod walks;
+pub mod word_access;
 pub mod word_machine;
 mod words;
 
 pub use program::WordProgram;
 pub use seats::{Claim, Dealer, EnteredSeat, FreshSeat, RunningSeat};
 pub use size::Size;
+pub use word_access::WordAccess;
 pub use word_machine::WordMachine;

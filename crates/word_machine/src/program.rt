@@ -1,15 +1,24 @@
 //! Programs whose registers are words and records.
 
-ghost use Rattle.std.specs.Prelude.{◌≡◌, ◌<◌, ◌≤◌, ℕ, slice_index, length, true, false};
+ghost use Rattle.std.specs.Prelude.{◌≡◌, ◌<◌, ◌≤◌, length, true, false};
+ghost use Rattle.step_memory.specs.declared.access.Answer.TheVariants.{Value, Done};
+ghost use Rattle.word_machine.specs.NextAccess.{IsNext, IsLong, IsWordAt};
 ghost use Rattle.word_machine.specs.WordLaw.{WordLaw, IsSound, IsAfterHead, skipped};
 
 use crate::size::Size;
-use step_memory::StepProgram;
+use crate::word_access::WordAccess;
+use step_memory::{Note, StepProgram};
 
 /// A program each of whose registers is a word or holds a record, with the machine on which it is proved. Each step of the
 /// machine is one access of one participant's program. So a law that holds after every list of its calls holds of threads that
 /// take the program access by access.
 pub trait WordProgram: StepProgram {
+    /// What is kept of a program that has ended.
+    type End: Copy;
+
+    /// What that is.
+    ghost end_of: { Self → Self.End };
+
     /// Its machine, and how words spell what stands in its registers.
     ghost law: { WordLaw Self Self.Reg Self.Value Self.Output };
 
@@ -24,17 +33,36 @@ pub trait WordProgram: StepProgram {
         requires there { law.IsRegister size register }
         ensures { result ≡ law.place size register };
 
-    /// Whether a register is one word. Elsewhere it holds a record.
-    fn is_word(register: Self::Reg) -> bool
-        ensures { result ≡ law.is_word register };
+    /// The access that it makes next.
+    fn access(&self) -> WordAccess<Self::Reg>
+        ensures { IsNext Self.steps law self.now result };
 
-    /// What the word of such a register says.
-    fn of_word(word: u64) -> Self::Value
-        ensures { result ≡ law.of_word word };
+    /// How many words spell the record that it writes next, if it writes one.
+    fn record_words(&self) -> usize
+        ensures { IsLong Self.steps law self.now result };
 
-    /// The word that says a value.
-    fn to_word(value: &Self::Value) -> u64
-        ensures { result ≡ law.to_word value.now };
+    /// One of these words.
+    fn record_word(&self, at: usize) -> u64
+        ensures { IsWordAt Self.steps law self.now at result };
+
+    /// Takes the word that it loaded from a register that is one word.
+    fn take_word(&mut self, word: u64) -> Note<Self::Output>
+        ensures after { self.new ≡ Self.steps.resumed self.old (Value (law.of_word word)) }
+        ensures note { result ≡ Self.steps.note self.old (Value (law.of_word word)) };
+
+    /// Takes the record that it read.
+    fn take(&mut self, got: &Self::Value) -> Note<Self::Output>
+        ensures after { self.new ≡ Self.steps.resumed self.old (Value got.now) }
+        ensures note { result ≡ Self.steps.note self.old (Value got.now) };
+
+    /// Takes that its write is done.
+    fn take_done(&mut self) -> Note<Self::Output>
+        ensures after { self.new ≡ Self.steps.resumed self.old Done }
+        ensures note { result ≡ Self.steps.note self.old Done };
+
+    /// What is kept of a program that has ended.
+    fn end(&self) -> Self::End
+        ensures { result ≡ end_of self.now };
 
     /// The program of an identity that begins.
     fn start(size: Size, identity: u64) -> Self
@@ -48,16 +76,6 @@ pub trait WordProgram: StepProgram {
     /// How many words spell a record.
     fn length() -> usize
         ensures { result ≡ law.length };
-
-    /// How many words spell this record, from the first on. Every value of the type is one that words can spell.
-    fn spelled_by(value: &Self::Value) -> usize
-        ensures count { result ≡ length (law.encode value.now) }
-        ensures fits { law.Fits value.now };
-
-    /// One of the words that spell a record.
-    fn spell(value: &Self::Value, at: usize) -> u64
-        requires { at < length (law.encode value.now) }
-        ensures { result ≡ slice_index (law.encode value.now) at };
 
     /// The record that words spell.
     fn read(words: &[u64]) -> Self::Value

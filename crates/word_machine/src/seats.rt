@@ -83,7 +83,8 @@ impl<P: WordProgram + Drop> Model for RunningSeat<P> {
 
     ghost view = { λ s. running_of (words_of s.seat.table_id s.seat.me.0.size) s.number s.program s.accesses };
 
-    ghost invariant = { λ s. (s.number < s.seat.me.0.size.most) × (s.accesses ≡ accesses_in s.seat.me) × Stands P.steps P.law s.seat.me.0.size s.number s.written s.program [] s.seat.me };
+    ghost invariant = { λ s. (s.number < s.seat.me.0.size.most) × (s.accesses ≡ accesses_in s.seat.me)
+        × Stands P.steps P.law s.seat.me.0.size s.number s.written s.program [] s.seat.me };
 }
 
 impl<P: WordProgram + Drop> RunningSeat<P> {
@@ -109,14 +110,14 @@ impl<P: WordProgram + Drop> RunningSeat<P> {
     }
 }
 
-/// A seat whose participant has ended, at which program and with what.
+/// A seat whose participant has ended: what is kept of its program, and what it has ended with.
 #[derive(Drop)]
 pub struct EnteredSeat<P: WordProgram + Drop>
 where
     P::Output: Drop,
 {
     pub(crate) number: u64,
-    pub(crate) program: P,
+    pub(crate) end: P::End,
     pub(crate) outcome: P::Output,
     pub(crate) accesses: u64,
     pub(crate) badge: Badge<SeatView<P, P::Output>>,
@@ -127,13 +128,16 @@ where
     P::Output: Drop,
 {
     ghost use Rattle.std.specs.Prelude.{◌≡◌};
-    ghost use Rattle.word_machine.specs.Ids.{EndedRun, IsOfEnded, accesses_in, ended_run, HasRun};
+    ghost use Rattle.word_machine.specs.Ids.{EndedRun, IsOfEnded, accesses_in, ended_run, program_in, HasRun};
 
     ghost Value = { EndedRun P P.Output };
 
-    ghost view = { λ e. ended_run e.badge.table_id e.number e.program e.outcome e.badge.views };
+    ghost view = { λ e. ended_run e.badge.table_id e.number (program_in P.law e.number e.badge.views) e.outcome e.badge.views };
 
-    ghost invariant = { λ e. IsOfEnded e.number e.program e.outcome e.badge.views × HasRun P.law (ended_run e.badge.table_id e.number e.program e.outcome e.badge.views) × (e.accesses ≡ accesses_in e.badge.views) };
+    ghost invariant = { λ e. IsOfEnded e.number (program_in P.law e.number e.badge.views) e.outcome e.badge.views
+        × HasRun P.law (ended_run e.badge.table_id e.number (program_in P.law e.number e.badge.views) e.outcome e.badge.views)
+        × (e.accesses ≡ accesses_in e.badge.views)
+        × (e.end ≡ P.end_of (program_in P.law e.number e.badge.views)) };
 }
 
 impl<P: WordProgram + Drop> EnteredSeat<P>
@@ -147,14 +151,14 @@ where
         self.number
     }
 
-    /// The program at which it has ended.
-    pub fn program(&self) -> &P
-        ensures value { result.now ≡ self.now.program }
+    /// What is kept of the program at which it has ended.
+    pub fn end(&self) -> P::End
+        ensures value { result ≡ P.end_of self.now.program }
 
         // There is a list of calls after which it has ended so.
         ensures law { HasRun P.law self.now }
     {
-        &self.program
+        self.end
     }
 
     /// What its program has ended with.

@@ -6,9 +6,15 @@ ghost use Rattle.word_machine.specs.Visits.{visit_law, visit_words_sound};
 
 use crate::program::WordProgram;
 use crate::size::Size;
-use splitter::Visitor;
+use crate::word_access::WordAccess;
+use splitter::{Visitor, Way};
+use step_memory::{Access, Answer, Note, StepProgram};
 
 impl WordProgram for Visitor<usize> {
+    type End = Visitor<usize>;
+
+    ghost end_of = { λ u. u };
+
     ghost law = { visit_law };
 
     fn registers(_size: Size) -> usize
@@ -23,22 +29,38 @@ impl WordProgram for Visitor<usize> {
         register
     }
 
-    fn is_word(_register: usize) -> bool
-        ensures { result ≡ true }
-    {
-        true
+    fn access(&self) -> WordAccess<usize> {
+        match self.next() {
+            Access::Read(r) => WordAccess::Load(r),
+            Access::Write(r, word) => WordAccess::Store(r, word),
+            Access::TestAndSet(_) => WordAccess::Nothing,
+            Access::Clear(_) => WordAccess::Nothing,
+            Access::Nothing => WordAccess::Nothing,
+        }
     }
 
-    fn of_word(word: u64) -> u64
-        ensures { result ≡ word }
-    {
-        word
+    fn record_words(&self) -> usize {
+        0
     }
 
-    fn to_word(value: &u64) -> u64
-        ensures { result ≡ value.now }
-    {
-        *value
+    fn record_word(&self, _at: usize) -> u64 {
+        0
+    }
+
+    fn take_word(&mut self, word: u64) -> Note<Way> {
+        self.resume(Answer::Value(word))
+    }
+
+    fn take(&mut self, got: &u64) -> Note<Way> {
+        self.resume(Answer::Value(*got))
+    }
+
+    fn take_done(&mut self) -> Note<Way> {
+        self.resume(Answer::Done)
+    }
+
+    fn end(&self) -> Visitor<usize> {
+        *self
     }
 
     fn start(_size: Size, identity: u64) -> Self
@@ -57,14 +79,6 @@ impl WordProgram for Visitor<usize> {
         ensures { result ≡ 1 }
     {
         1
-    }
-
-    fn spelled_by(_value: &u64) -> usize {
-        1
-    }
-
-    fn spell(value: &u64, _at: usize) -> u64 {
-        *value
     }
 
     fn read(words: &[u64]) -> u64 {

@@ -6,9 +6,15 @@ ghost use Rattle.word_machine.specs.Walks.{walk_law, walk_words_sound};
 
 use crate::program::WordProgram;
 use crate::size::Size;
+use crate::word_access::WordAccess;
 use splitter_grid::{Door, Walker};
+use step_memory::{Access, Answer, Note, Place, StepProgram};
 
 impl WordProgram for Walker {
+    type End = Walker;
+
+    ghost end_of = { λ u. u };
+
     ghost law = { walk_law };
 
     fn registers(size: Size) -> usize
@@ -24,22 +30,38 @@ impl WordProgram for Walker {
         register
     }
 
-    fn is_word(_register: usize) -> bool
-        ensures { result ≡ true }
-    {
-        true
+    fn access(&self) -> WordAccess<usize> {
+        match self.next() {
+            Access::Read(r) => WordAccess::Load(r),
+            Access::Write(r, word) => WordAccess::Store(r, word),
+            Access::TestAndSet(_) => WordAccess::Nothing,
+            Access::Clear(_) => WordAccess::Nothing,
+            Access::Nothing => WordAccess::Nothing,
+        }
     }
 
-    fn of_word(word: u64) -> u64
-        ensures { result ≡ word }
-    {
-        word
+    fn record_words(&self) -> usize {
+        0
     }
 
-    fn to_word(value: &u64) -> u64
-        ensures { result ≡ value.now }
-    {
-        *value
+    fn record_word(&self, _at: usize) -> u64 {
+        0
+    }
+
+    fn take_word(&mut self, word: u64) -> Note<Place> {
+        self.resume(Answer::Value(word))
+    }
+
+    fn take(&mut self, got: &u64) -> Note<Place> {
+        self.resume(Answer::Value(*got))
+    }
+
+    fn take_done(&mut self) -> Note<Place> {
+        self.resume(Answer::Done)
+    }
+
+    fn end(&self) -> Walker {
+        *self
     }
 
     fn start(_size: Size, identity: u64) -> Self
@@ -58,14 +80,6 @@ impl WordProgram for Walker {
         ensures { result ≡ 1 }
     {
         1
-    }
-
-    fn spelled_by(_value: &u64) -> usize {
-        1
-    }
-
-    fn spell(value: &u64, _at: usize) -> u64 {
-        *value
     }
 
     fn read(words: &[u64]) -> u64 {

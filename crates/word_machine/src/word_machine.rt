@@ -93,9 +93,10 @@ where
         let FreshSeat { number, mut seat } = fresh;
         let mut program = P::start(self.words.size(), number + 1);
         let (outcome, accesses) = self.words.run(&mut seat, number, &mut program);
+        let end = program.end();
         EnteredSeat {
             number,
-            program,
+            end,
             outcome,
             accesses,
             badge: seat.into_badge(),
@@ -152,7 +153,7 @@ where
         match note.outcome() {
             Some(outcome) => Ok(EnteredSeat {
                 number,
-                program,
+                end: program.end(),
                 outcome,
                 accesses,
                 badge: seat.into_badge(),

@@ -4,7 +4,6 @@ ghost use Rattle.std.specs.Prelude.{◌≡◌, ◌<◌, ◌≤◌, ◌+◌, ◌+
 ghost use Rattle.step_memory.specs.declared.access.Access.TheVariants.{Read, Write};
 ghost use Rattle.step_memory.specs.declared.access.Answer.TheVariants as answer;
 ghost use Rattle.word_machine.specs.SeatViews.{own, lone_view, undealt_from, unbegun, view_of, endings_of};
-ghost use Rattle.word_machine.specs.WordLaw.{records_in};
 ghost use Rattle.word_machine.specs.RunSteps.{Stands, StandsAfter, HasGot, HasStepped, HasComeOn, HasEnded, HasRead, HasFound, IsUnderRule, accesses_in, read_in};
 ghost use Rattle.word_machine.specs.declared.seat_view.Stand.{Stand};
 ghost use Rattle.word_machine.specs.declared.seat_view.Ending.{Ending};
@@ -16,10 +15,11 @@ use crate::run_steps::{
 };
 use crate::seat_view::SeatView;
 use crate::size::Size;
+use crate::word_access::WordAccess;
 use atomic_table::{Seat, Table};
 use std::alloc::{AllocError, Allocator};
 use std::marker::Model;
-use step_memory::{Access, Answer, Note, StepProgram};
+use step_memory::{Note, StepProgram};
 
 /// The most words of a record.
 const MOST_WORDS: usize = 132;
@@ -46,7 +46,9 @@ impl<P: WordProgram, A: Allocator> Model for Words<P, A> {
 
     ghost view = { λ d. words_of d.table.shared.table_id d.size };
 
-    ghost invariant = { λ d. (1 ≤ d.size.most) × P.law.MayStart d.size × (d.table.shared.key ≡ d.size) × (d.registers ≡ P.law.registers d.size) × (d.length ≡ P.law.length) × (d.table.shared.table_id.words ≡ all_words P.law d.size) };
+    ghost invariant = { λ d. (1 ≤ d.size.most) × P.law.MayStart d.size × (d.table.shared.key ≡ d.size)
+        × (d.registers ≡ P.law.registers d.size) × (d.length ≡ P.law.length)
+        × (d.table.shared.table_id.words ≡ all_words P.law d.size) };
 }
 
 impl<P: WordProgram, A: Allocator + Clone> Words<P, A> {
@@ -138,33 +140,6 @@ impl<P: WordProgram, A: Allocator> Words<P, A> {
         }
     }
 
-    /// The participant's read of a register.
-    fn look(
-        &self,
-        seat: &mut Seat<u8, SeatView<P, P::Output>>,
-        number: u64,
-        written: usize,
-        program: &P,
-        register: P::Reg,
-    ) -> P::Value
-        requires ours { seat.old.table_id ≡ self.now.table }
-        requires before { Stands P.steps P.law self.now.size number written program.now [] seat.old.me }
-        requires reads { P.steps.next program.now ≡ Read register }
-        ensures ours { seat.new.table_id ≡ self.now.table }
-        ensures got { HasGot P.steps P.law (answer.Value result) 0 seat.old.me seat.new.me }
-    {
-        let at = P::place(self.size, register);
-        if P::is_word(register) {
-            let word = self.table.shared.load::<ReadWord<P>>(seat, at);
-            return P::of_word(word);
-        }
-        let found = self.table.shared.load::<ReadRecord<P>>(seat, at);
-        if found == 0 {
-            return P::first();
-        }
-        self.recall(seat, (found - 1) as usize)
-    }
-
     /// The participant's write of a record: its words first, which nobody else reads yet, and then the store that publishes
     /// them.
     fn publish(
@@ -174,12 +149,11 @@ impl<P: WordProgram, A: Allocator> Words<P, A> {
         written: usize,
         program: &P,
         register: P::Reg,
-        value: &P::Value,
     )
         requires ours { seat.old.table_id ≡ self.now.table }
         requires before { Stands P.steps P.law self.now.size number written program.now [] seat.old.me }
         requires range { number < self.now.size.most }
-        requires writes { P.steps.next program.now ≡ Write register value.now }
+        requires writes { (v : P.Value) × (P.steps.next program.now ≡ Write register v) }
         requires record { P.law.is_word register ≡ false }
         ensures ours { seat.new.table_id ≡ self.now.table }
         ensures wrote { HasGot P.steps P.law answer.Done 1 seat.old.me seat.new.me }
@@ -187,46 +161,17 @@ impl<P: WordProgram, A: Allocator> Words<P, A> {
         let at = P::place(self.size, register);
         let slot = number as usize * self.size.limit as usize + written;
         let start = self.registers + slot * self.length;
-        let long = P::spelled_by(value);
+        let long = program.record_words();
         let mut i = 0;
         while i < long {
             self.table
                 .shared
-                .store::<Prepare<P>>(seat, start + i, P::spell(value, i));
+                .store::<Prepare<P>>(seat, start + i, program.record_word(i));
             i += 1;
         }
         self.table
             .shared
             .store::<Publish<P>>(seat, at, slot as u64 + 1);
-    }
-
-    /// The participant's write of a register: how many records it has published then.
-    fn write(
-        &self,
-        seat: &mut Seat<u8, SeatView<P, P::Output>>,
-        number: u64,
-        written: usize,
-        program: &P,
-        register: P::Reg,
-        value: &P::Value,
-    ) -> usize
-        requires ours { seat.old.table_id ≡ self.now.table }
-        requires before { Stands P.steps P.law self.now.size number written program.now [] seat.old.me }
-        requires range { number < self.now.size.most }
-        requires writes { P.steps.next program.now ≡ Write register value.now }
-        ensures ours { seat.new.table_id ≡ self.now.table }
-        ensures count { result ≡ written + records_in P.steps P.law (P.steps.next program.now) }
-        ensures wrote { HasGot P.steps P.law answer.Done (records_in P.steps P.law (P.steps.next program.now)) seat.old.me seat.new.me }
-    {
-        if P::is_word(register) {
-            let at = P::place(self.size, register);
-            self.table
-                .shared
-                .store::<Put<P>>(seat, at, P::to_word(value));
-            return written;
-        }
-        self.publish(seat, number, written, program, register, value);
-        written + 1
     }
 
     /// A seat whose participant has ended and another become one, look, and part again: what the rule says of all their
@@ -339,16 +284,7 @@ where
         ensures note { result ≡ P.steps.note program.old (answer.Value (P.law.decode (read_in seat.old.me))) }
     {
         let got = self.recall(seat, slot);
-        program.resume(Answer::Value(got))
-    }
-
-    /// What the program makes of a register that was not written, where it does not just go on.
-    #[inline(never)]
-    fn take_first(program: &mut P) -> Note<P::Output>
-        ensures after { program.new ≡ P.steps.resumed program.old (answer.Value P.law.first) }
-        ensures note { result ≡ P.steps.note program.old (answer.Value P.law.first) }
-    {
-        program.resume(Answer::Value(P::first()))
+        program.take(&got)
     }
 
     /// A read of a register that holds a record, and what the program makes of it: nothing is moved where the register was not
@@ -379,7 +315,73 @@ where
         if program.read_on(first) {
             return Note::Quiet;
         }
-        Self::take_first(program)
+        program.take(first)
+    }
+
+    /// A load of a register that is one word, and what the program makes of it.
+    fn step_load(
+        &self,
+        seat: &mut Seat<u8, SeatView<P, P::Output>>,
+        number: u64,
+        written: usize,
+        program: &mut P,
+        register: P::Reg,
+    ) -> Note<P::Output>
+        requires ours { seat.old.table_id ≡ self.now.table }
+        requires before { Stands P.steps P.law self.now.size number written program.old [] seat.old.me }
+        requires reads { P.steps.next program.old ≡ Read register }
+        requires word { P.law.is_word register ≡ true }
+        ensures ours { seat.new.table_id ≡ self.now.table }
+        ensures after { HasStepped P.steps P.law self.now.size number written program.new result seat.old.me seat.new.me }
+    {
+        let at = P::place(self.size, register);
+        let word = self.table.shared.load::<ReadWord<P>>(seat, at);
+        program.take_word(word)
+    }
+
+    /// A store into a register that is one word, and what the program makes of it.
+    fn step_store(
+        &self,
+        seat: &mut Seat<u8, SeatView<P, P::Output>>,
+        number: u64,
+        written: usize,
+        program: &mut P,
+        register: P::Reg,
+        word: u64,
+    ) -> Note<P::Output>
+        requires ours { seat.old.table_id ≡ self.now.table }
+        requires before { Stands P.steps P.law self.now.size number written program.old [] seat.old.me }
+        requires writes { (v : P.Value) × (P.steps.next program.old ≡ Write register v) × (P.law.is_word register ≡ true) × (word ≡ P.law.to_word v) }
+        ensures ours { seat.new.table_id ≡ self.now.table }
+        ensures after { HasStepped P.steps P.law self.now.size number written program.new result seat.old.me seat.new.me }
+    {
+        let at = P::place(self.size, register);
+        self.table.shared.store::<Put<P>>(seat, at, word);
+        program.take_done()
+    }
+
+    /// A write of a record, and what the program makes of it.
+    fn step_publish(
+        &self,
+        seat: &mut Seat<u8, SeatView<P, P::Output>>,
+        number: u64,
+        written: &mut usize,
+        program: &mut P,
+        register: P::Reg,
+    ) -> Note<P::Output>
+        requires ours { seat.old.table_id ≡ self.now.table }
+        requires before { Stands P.steps P.law self.now.size number written.old program.old [] seat.old.me }
+        requires range { number < self.now.size.most }
+        requires writes { (v : P.Value) × (P.steps.next program.old ≡ Write register v) }
+        requires record { P.law.is_word register ≡ false }
+        ensures ours { seat.new.table_id ≡ self.now.table }
+        ensures after { HasStepped P.steps P.law self.now.size number written.new program.new result seat.old.me seat.new.me }
+    {
+        // Opens the words, so that the limit of records is known to be small.
+        let _size = self.size;
+        self.publish(seat, number, *written, program, register);
+        *written += 1;
+        program.take_done()
     }
 
     /// One access of a program, and what the program makes of the answer. `first` is what stands in a register that was not
@@ -400,13 +402,17 @@ where
         ensures ours { seat.new.table_id ≡ self.now.table }
         ensures after { HasStepped P.steps P.law self.now.size number written.new program.new result seat.old.me seat.new.me }
     {
-        let Some(register) = program.reads() else {
-            return self.step_whole(seat, number, written, program);
-        };
-        if P::is_word(register) {
-            return self.step_whole(seat, number, written, program);
+        match program.access() {
+            WordAccess::Load(r) => self.step_load(seat, number, *written, program, r),
+            WordAccess::Store(r, word) => {
+                self.step_store(seat, number, *written, program, r, word)
+            }
+            WordAccess::Look(r) => {
+                self.step_read(seat, number, *written, program, r, first, scratch)
+            }
+            WordAccess::Publish(r) => self.step_publish(seat, number, written, program, r),
+            WordAccess::Nothing => Note::Quiet,
         }
-        self.step_read(seat, number, *written, program, register, first, scratch)
     }
 
     /// Reads of registers that nobody wrote, one after another, up to one that names a slot: the number of that one plus one;
@@ -483,34 +489,6 @@ where
         let note = self.step(seat, number, written, program, first, scratch);
         *accesses += 1;
         note
-    }
-
-    /// One access of a program, and what the program makes of the answer, which is moved to it.
-    #[inline(never)]
-    fn step_whole(
-        &self,
-        seat: &mut Seat<u8, SeatView<P, P::Output>>,
-        number: u64,
-        written: &mut usize,
-        program: &mut P,
-    ) -> Note<P::Output>
-        requires ours { seat.old.table_id ≡ self.now.table }
-        requires before { Stands P.steps P.law self.now.size number written.old program.old [] seat.old.me }
-        requires range { number < self.now.size.most }
-        ensures ours { seat.new.table_id ≡ self.now.table }
-        ensures after { HasStepped P.steps P.law self.now.size number written.new program.new result seat.old.me seat.new.me }
-    {
-        let got = match program.next() {
-            Access::Read(r) => Answer::Value(self.look(seat, number, *written, program, r)),
-            Access::Write(r, v) => {
-                *written = self.write(seat, number, *written, program, r, &v);
-                Answer::Done
-            }
-            Access::TestAndSet(_) => Answer::Done,
-            Access::Clear(_) => Answer::Done,
-            Access::Nothing => Answer::Done,
-        };
-        program.resume(got)
     }
 }
 

@@ -12,4 +12,5 @@ pub mod Beginning
 pub mod Ahead
 pub mod Sound
 pub mod Seats
+pub mod Direct
 pub mod NameLaw

@@ -3,20 +3,27 @@
 ghost use Rattle.std.specs.Prelude.{◌≡◌, ◌≤◌, ◌<◌, ◌+◌, ◌*◌, length, slice_index, if◌then◌else◌, true, false, None};
 ghost use Rattle.std.proofs.Common.{get_or};
 ghost use Rattle.word_machine.specs.declared.size.Size.{Size};
-ghost use Rattle.snapshot_places.specs.declared.grid_register.GridValue.TheVariants.{Contents};
+ghost use Rattle.snapshot_places.specs.declared.grid_register.GridValue.TheVariants.{Contents, Word};
 ghost use Rattle.word_machine.specs.WordLaw.{IsAfterHead, skipped};
+ghost use Rattle.step_memory.specs.View.{IsRising};
+ghost use Rattle.step_memory.specs.declared.access.Answer.TheVariants.{Value, Done};
+ghost use Rattle.snapshot_places.specs.Grid.{grid_place, word_answer};
+ghost use Rattle.word_machine.specs.NextAccess.{IsNext, IsLong, IsWordAt};
+ghost use Rattle.word_names.specs.Seats.{place_or_first};
+ghost use Rattle.word_names.specs.Direct.{access_told, word_access_of, proposing, walked, looking, decided_on, decided_note};
 ghost use Rattle.word_names.specs.Ahead.{HasHead};
-ghost use Rattle.word_names.specs.NameMachine.{names_law, naming_steps, place_for, is_door, naming_from, reads_in, reads_ahead, MayStart};
-ghost use Rattle.word_names.specs.Spelling.{record_word, contents_word, pairs_in, pairs_of, value_in, word_in, words_of, FitsRecord, FitsContents, Fits};
+ghost use Rattle.word_names.specs.NameMachine.{names_law, naming_steps, place_for, naming_from, reads_in, reads_ahead, MayStart};
+ghost use Rattle.word_names.specs.Spelling.{record_word, pairs_in, pairs_of, value_in};
 ghost use Rattle.word_names.specs.Sound.{names_sound};
 
 use crate::renamer::Renamer;
-use rename_core::Round;
-use snapshot_core::{Client, Pending};
+use rename_core::proposal::is_taken;
+use rename_core::{Round, Stage, next_proposal};
+use snapshot_core::{Client, MOST_UPDATES, Pending, PlaceWalker, ToScan, ToUpdate};
 use snapshot_places::{GridRegister, GridValue, GridWalk, GridWalker};
 use splitter_grid::{Door, Walker};
-use step_memory::{Place, Record, Segment, View};
-use word_machine::{Size, WordProgram};
+use step_memory::{Access, Answer, Note, Place, Record, Request, StepProgram, View};
+use word_machine::{Size, WordAccess, WordProgram};
 
 /// How many words spell a record at most: what kind of value it is and how long its view, identity, value and number, and the view's
 /// pairs of an identity and a value.
@@ -32,54 +39,33 @@ fn of_pairs(pairs: &[(u64, u64)], at: usize) -> (u64, u64)
     if at < pairs.len() { pairs[at] } else { (0, 0) }
 }
 
-/// How many words spell a record.
-fn words_of_record(written: &Record) -> usize
-    ensures count { result ≡ 4 + 2 * length written.now.view }
-    ensures fits { FitsRecord written.now }
+/// How many words spell a record of this number with this view.
+fn words_with(view: &View, _number: u32) -> usize
+    ensures count { result ≡ 4 + 2 * length view.now }
+    ensures small { _number < 4294967296 }
+    ensures rising { IsRising view.now }
+    ensures few { length view.now ≤ 64 }
 {
-    let _number = written.number;
-    4 + 2 * written.view.pairs().len()
+    4 + 2 * view.pairs().len()
 }
 
-/// How many words spell what stands in a segment.
-fn words_of_segment(segment: &Segment) -> usize
-    ensures count { result ≡ words_of (Contents segment.now) }
-    ensures fits { FitsContents segment.now }
+/// One of the words that spell the record of an identity, a value, a number and a view.
+fn spell_record(identity: u64, value: u64, number: u32, view: &View, at: usize) -> u64
+    ensures { result ≡ record_word (record { identity = identity; value = value; number = number; view = view.now }) at }
 {
-    match segment {
-        None => 1,
-        Some(record) => words_of_record(record),
-    }
-}
-
-/// One of the words that spell a record.
-fn spell_record(written: &Record, at: usize) -> u64
-    ensures { result ≡ record_word written.now at }
-{
-    let number = written.number;
-    let pairs = written.view.pairs();
+    let pairs = view.pairs();
     if at == 0 {
         pairs.len() as u64 + 1
     } else if at == 1 {
-        written.identity
+        identity
     } else if at == 2 {
-        written.value
+        value
     } else if at == 3 {
         number as u64
     } else if at % 2 == 0 {
         of_pairs(pairs, (at - 4) / 2).0
     } else {
         of_pairs(pairs, (at - 4) / 2).1
-    }
-}
-
-/// One of the words that spell what stands in a segment.
-fn spell_segment(segment: &Segment, at: usize) -> u64
-    ensures { result ≡ contents_word segment.now at }
-{
-    match segment {
-        None => 0,
-        Some(record) => spell_record(record, at),
     }
 }
 
@@ -138,7 +124,115 @@ fn put_head(head: &[u64], scratch: &mut GridValue) -> bool
     }
 }
 
+/// The access of a walk through doors, as one of words.
+fn door_access(access: Access<usize, u64>) -> WordAccess<GridRegister>
+    ensures { result ≡ word_access_of access }
+{
+    match access {
+        Access::Read(r) => WordAccess::Load(GridRegister::Door(r)),
+        Access::Write(r, word) => WordAccess::Store(GridRegister::Door(r), word),
+        Access::TestAndSet(_) => WordAccess::Nothing,
+        Access::Clear(_) => WordAccess::Nothing,
+        Access::Nothing => WordAccess::Nothing,
+    }
+}
+
+/// What a client accesses next.
+fn next_of(client: &Client<GridWalker, GridWalk>) -> WordAccess<GridRegister>
+    ensures { result ≡ access_told client.now client.now.pending }
+{
+    match client.pending {
+        Pending::Nothing => WordAccess::Nothing,
+        Pending::Placing => door_access(client.walker.walker.next()),
+        Pending::Scan | Pending::Update(_) => {
+            WordAccess::Look(GridRegister::Segment(client.scan.walk.at))
+        }
+        Pending::Write(_, _) => match client.walker.place() {
+            Some(place) => WordAccess::Publish(GridRegister::Segment(place)),
+            None => WordAccess::Nothing,
+        },
+    }
+}
+
+/// What a walk through doors gets of this value.
+fn word_answer(value: &GridValue) -> Answer<u64>
+    ensures { result ≡ word_answer (Value value.now) }
+{
+    match value {
+        GridValue::Word(word) => Answer::Value(*word),
+        GridValue::Contents(_) => Answer::Done,
+    }
+}
+
+impl Renamer<GridWalker, GridWalk> {
+    /// Proposes a number.
+    fn propose(&mut self, number: u64)
+        ensures { self.new ≡ proposing self.old number }
+    {
+        self.round.stage = Stage::Proposing(number);
+        if self.client.updates < MOST_UPDATES {
+            ToUpdate { value: number }.ask(&mut self.client);
+        } else {
+            self.client.pending = Pending::Nothing;
+        }
+    }
+
+    /// Goes on to its place, and proposes 1 there.
+    fn walk_on(&mut self, got: Answer<u64>)
+        ensures { self.new ≡ walked self.old got }
+    {
+        match self.client.walker.walker.resume(got) {
+            Note::Ended(_) => self.propose(1),
+            Note::Said(_) => {}
+            Note::Quiet => {}
+        }
+    }
+
+    /// Looks at what the others propose, once its proposal is written.
+    fn look(&mut self)
+        ensures { self.new ≡ looking self.old }
+    {
+        let number = match self.round.stage {
+            Stage::Proposing(number) => number,
+            Stage::Placing => 0,
+            Stage::Looking => 0,
+            Stage::Settled => 0,
+            Stage::Over => 0,
+        };
+        if self.round.count < self.limit {
+            self.round.count += 1;
+        }
+        self.round.proposal = number;
+        self.round.stage = Stage::Looking;
+        ToScan.ask(&mut self.client);
+    }
+
+    /// Takes its proposal as its name, or proposes another, by what the others propose.
+    fn decide(&mut self, view: &View) -> Note<Option<u64>>
+        ensures after { self.new ≡ decided_on self.old view.now }
+        ensures note { result ≡ decided_note self.old view.now }
+    {
+        if !is_taken(view, self.identity, self.round.proposal) {
+            self.round.stage = Stage::Settled;
+            self.client.pending = Pending::Nothing;
+            return Note::Ended(Some(self.round.proposal));
+        }
+        if self.limit <= self.round.count {
+            self.round.stage = Stage::Over;
+            self.client.pending = Pending::Nothing;
+            return Note::Ended(None);
+        }
+        let number = next_proposal(view, self.identity);
+        self.propose(number);
+        Note::Quiet
+    }
+}
+
 impl WordProgram for Renamer<GridWalker, GridWalk> {
+    type End = Place;
+
+    ghost end_of = { λ x. place_or_first (grid_place x.client.walker) };
+
     ghost law = { names_law };
 
     fn registers(size: Size) -> usize
@@ -162,25 +256,97 @@ impl WordProgram for Renamer<GridWalker, GridWalk> {
         }
     }
 
-    fn is_word(register: GridRegister) -> bool
-        ensures { result ≡ is_door register }
+    fn access(&self) -> WordAccess<GridRegister>
+        ensures { IsNext naming_steps names_law self.now result }
     {
-        match register {
-            GridRegister::Door(_) => true,
-            GridRegister::Segment(_) => false,
+        next_of(&self.client)
+    }
+
+    fn record_words(&self) -> usize
+        ensures { IsLong naming_steps names_law self.now result }
+    {
+        match &self.client.pending {
+            Pending::Write(_, view) => words_with(view, self.client.updates),
+            Pending::Nothing => 0,
+            Pending::Placing => 0,
+            Pending::Scan => 0,
+            Pending::Update(_) => 0,
         }
     }
 
-    fn of_word(word: u64) -> GridValue {
-        GridValue::Word(word)
+    fn record_word(&self, at: usize) -> u64
+        ensures { IsWordAt naming_steps names_law self.now at result }
+    {
+        let number = self.client.updates;
+        match &self.client.pending {
+            Pending::Write(value, view) => {
+                spell_record(self.client.identity, *value, number, view, at)
+            }
+            Pending::Nothing => 0,
+            Pending::Placing => 0,
+            Pending::Scan => 0,
+            Pending::Update(_) => 0,
+        }
     }
 
-    fn to_word(value: &GridValue) -> u64
-        ensures { result ≡ word_in value.now }
+    fn take_word(&mut self, word: u64) -> Note<Option<u64>>
+        ensures after { self.new ≡ naming_steps.resumed self.old (Value (Word word)) }
+        ensures note { result ≡ naming_steps.note self.old (Value (Word word)) }
     {
-        match value {
-            GridValue::Word(word) => *word,
-            GridValue::Contents(_) => 0,
+        if let Pending::Placing = self.client.pending {
+            self.walk_on(Answer::Value(word));
+            return Note::Quiet;
+        }
+        self.take(&GridValue::Word(word))
+    }
+
+    fn take(&mut self, got: &GridValue) -> Note<Option<u64>>
+        ensures after { self.new ≡ naming_steps.resumed self.old (Value got.now) }
+        ensures note { result ≡ naming_steps.note self.old (Value got.now) }
+    {
+        match self.client.pending {
+            Pending::Scan => match self.client.scan.resume(got, self.client.walk) {
+                Some(view) => self.decide(&view),
+                None => Note::Quiet,
+            },
+            Pending::Update(value) => {
+                if let Some(view) = self.client.scan.resume(got, self.client.walk) {
+                    self.client.pending = Pending::Write(value, view);
+                }
+                Note::Quiet
+            }
+            Pending::Placing => {
+                self.walk_on(word_answer(got));
+                Note::Quiet
+            }
+            Pending::Write(_, _) => {
+                self.look();
+                Note::Quiet
+            }
+            Pending::Nothing => Note::Quiet,
+        }
+    }
+
+    fn take_done(&mut self) -> Note<Option<u64>>
+        ensures after { self.new ≡ naming_steps.resumed self.old Done }
+        ensures note { result ≡ naming_steps.note self.old Done }
+    {
+        match self.client.pending {
+            Pending::Placing => self.walk_on(Answer::Done),
+            Pending::Write(_, _) => self.look(),
+            Pending::Nothing => {}
+            Pending::Scan => {}
+            Pending::Update(_) => {}
+        }
+        Note::Quiet
+    }
+
+    fn end(&self) -> Place
+        ensures { result ≡ place_or_first (grid_place self.now.client.walker) }
+    {
+        match self.client.walker.place() {
+            Some(place) => place,
+            None => 0,
         }
     }
 
@@ -209,34 +375,6 @@ impl WordProgram for Renamer<GridWalker, GridWalk> {
 
     fn length() -> usize {
         RECORD_WORDS
-    }
-
-    fn spelled_by(value: &GridValue) -> usize
-        ensures count { result ≡ length (names_law.encode value.now) }
-        ensures fits { Fits value.now }
-    {
-        match value {
-            GridValue::Word(_) => 3,
-            GridValue::Contents(segment) => words_of_segment(segment),
-        }
-    }
-
-    fn spell(value: &GridValue, at: usize) -> u64
-        requires { at < length (names_law.encode value.now) }
-        ensures { result ≡ slice_index (names_law.encode value.now) at }
-    {
-        match value {
-            GridValue::Word(word) => {
-                if at == 0 {
-                    DOOR_WORD
-                } else if at == 2 {
-                    *word
-                } else {
-                    0
-                }
-            }
-            GridValue::Contents(segment) => spell_segment(segment, at),
-        }
     }
 
     fn read(words: &[u64]) -> GridValue

@@ -121,9 +121,11 @@ impl<A: Allocator> Names<A> {
     /// that goes on. The seat is of these names.
     pub fn step(&self, renaming: Renaming) -> Result<Renamed, Renaming>
         requires ours { renaming.names ≡ self.now }
-        ensures renamed { IfOk result (λ e. (e.names ≡ renaming.names) × (e.number ≡ renaming.number) × (e.identity ≡ renaming.identity) × (e.accesses ≡ renaming.accesses + 1)) }
+        ensures renamed { IfOk result (λ e. (e.names ≡ renaming.names) × (e.number ≡ renaming.number)
+            × (e.identity ≡ renaming.identity) × (e.accesses ≡ renaming.accesses + 1)) }
         ensures law { IfOk result NameSpec }
-        ensures goes_on { IfErr result (λ s. (s.names ≡ renaming.names) × (s.number ≡ renaming.number) × (s.identity ≡ renaming.identity) × (s.accesses ≡ renaming.accesses + 1)) }
+        ensures goes_on { IfErr result (λ s. (s.names ≡ renaming.names) × (s.number ≡ renaming.number)
+            × (s.identity ≡ renaming.identity) × (s.accesses ≡ renaming.accesses + 1)) }
     {
         let Renaming { identity, seat } = renaming;
         match self.machine.step(seat) {

@@ -5,7 +5,6 @@ ghost use Rattle.word_names.specs.NameLaw.{NameSpec};
 
 use crate::renamer::Renamer;
 use rename_core::Round;
-use snapshot_core::PlaceWalker;
 use snapshot_places::{GridWalk, GridWalker};
 use std::marker::Model;
 use step_memory::Place;
@@ -175,10 +174,7 @@ impl Renamed {
         // The law, which each seat that was renamed keeps.
         ensures law { NameSpec self.now }
     {
-        match self.seat.program().client.walker.place() {
-            Some(place) => place,
-            None => 0,
-        }
+        self.seat.end()
     }
 }
 

@@ -1,10 +1,15 @@
-//! The renaming program over words of Rust's own: the accesses to doors and segments that the proved program makes, in its order.
+//! The renaming program over words of Rust's own: the accesses to doors, segments and words of records that the proved program makes,
+//! in its order.
 
 use crate::accesses::Accesses;
+use std::array::from_fn;
 use std::sync::atomic::AtomicU64;
 
 /// The most seats.
 const MOST: usize = 16;
+
+/// How many words of a record come before its view.
+const HEAD: usize = 4;
 
 #[derive(Default)]
 struct Door {
@@ -12,13 +17,14 @@ struct Door {
     is_taken: AtomicU64,
 }
 
-/// What a seat proposes, and the numbers that it saw proposed before, a byte for each seat.
-#[derive(Default)]
-struct Record {
-    number: AtomicU64,
-    /// How many records the seat has written, with this one.
-    written: AtomicU64,
-    view: [AtomicU64; 2],
+/// What a seat proposes: how many pairs its view has plus one, its identity, its number, how many records it has written, with this
+/// one, and the pairs of the view.
+struct Record([AtomicU64; HEAD + 2 * MOST]);
+
+impl Default for Record {
+    fn default() -> Record {
+        Record(from_fn(|_| AtomicU64::new(0)))
+    }
 }
 
 /// The words that all seats share.
@@ -40,32 +46,87 @@ impl Words {
     }
 }
 
-/// The number that each seat proposes. 0 is no number.
+/// The number that each identity proposes, by rising identity.
 #[derive(Default)]
 struct View {
-    numbers: [u8; MOST],
+    pairs: [(u64, u64); MOST],
+    len: usize,
 }
 
 impl View {
-    fn is_taken(&self, seat: usize, number: u8) -> bool {
-        let mut all = self.numbers.iter().enumerate();
-        all.any(|(other, proposed)| other != seat && *proposed == number)
+    fn pairs(&self) -> &[(u64, u64)] {
+        &self.pairs[..self.len]
     }
 
-    /// The number at the seat's rank among those that no other seat proposes.
-    fn next(&self, seat: usize) -> u8 {
-        let rank = self.numbers[..=seat].iter().filter(|number| **number != 0).count();
-        let mut free = (1..=u8::MAX).filter(|number| !self.is_taken(seat, *number));
+    /// Puts in the number of an identity that is not there.
+    fn insert(&mut self, identity: u64, number: u64) {
+        let mut at = self.len;
+        while at > 0 && self.pairs[at - 1].0 > identity {
+            self.pairs[at] = self.pairs[at - 1];
+            at -= 1;
+        }
+        self.pairs[at] = (identity, number);
+        self.len += 1;
+    }
+
+    fn is_taken(&self, identity: u64, number: u64) -> bool {
+        self.pairs().iter().any(|pair| pair.0 != identity && pair.1 == number)
+    }
+
+    /// The number at the identity's rank among those that no other proposes.
+    fn next(&self, identity: u64) -> u64 {
+        let mut taken = 0u64;
+        for (_, number) in self.pairs().iter().filter(|pair| pair.0 != identity) {
+            taken |= 1 << number;
+        }
+        let rank = self.pairs().iter().filter(|pair| pair.0 <= identity).count();
+        let mut free = (1..).filter(|number| taken >> number & 1 == 0);
         free.nth(rank - 1).expect("few are taken")
     }
 }
 
-/// What a scan has met.
+/// What a scan has met of a segment.
+#[derive(Clone, Copy, Default)]
+struct Met {
+    segment: usize,
+    identity: u64,
+    number: u64,
+    written: u64,
+    has_changed: bool,
+}
+
+/// What a scan has met, in the order in which it met it.
 #[derive(Default)]
 struct Sightings {
-    view: View,
-    written: [u64; MOST],
-    has_changed: [bool; MOST],
+    met: [Met; MOST],
+    len: usize,
+    /// Where the present collect looks first.
+    next: usize,
+}
+
+impl Sightings {
+    /// What is known of a segment, and whether there was anything.
+    fn of(&mut self, segment: usize) -> (&mut Met, bool) {
+        let mut at = self.next;
+        if at >= self.len || self.met[at].segment != segment {
+            at = self.met[..self.len].iter().position(|met| met.segment == segment).unwrap_or(self.len);
+        }
+        let is_known = at < self.len;
+        if !is_known {
+            self.met[at].segment = segment;
+            self.len += 1;
+        }
+        self.next = at + 1;
+        (&mut self.met[at], is_known)
+    }
+
+    fn view(&self) -> View {
+        let mut view = View::default();
+        for met in &self.met[..self.len] {
+            view.insert(met.identity, met.number);
+        }
+        view
+    }
 }
 
 /// One seat's program.
@@ -79,21 +140,21 @@ impl<A: Accesses> Renaming<'_, A> {
     /// The name that rounds give; 0 if the proposals are spent.
     #[inline(never)]
     pub fn name(&self) -> u64 {
-        let door = self.walk();
+        let identity = self.seat as u64 + 1;
+        let door = self.walk(identity);
         let mut number = 1;
         for round in 0..self.words.limit {
-            self.propose(door, number, round);
+            self.propose(door, identity, number, round);
             let view = self.scan();
-            if !view.is_taken(self.seat, number) {
-                return u64::from(number);
+            if !view.is_taken(identity, number) {
+                return number;
             }
-            number = view.next(self.seat);
+            number = view.next(identity);
         }
         0
     }
 
-    fn walk(&self) -> usize {
-        let identity = self.seat as u64 + 1;
+    fn walk(&self, identity: u64) -> usize {
         let (mut down, mut right) = (0, 0);
         loop {
             let diagonal = down + right;
@@ -112,15 +173,13 @@ impl<A: Accesses> Renaming<'_, A> {
         }
     }
 
-    fn propose(&self, door: usize, number: u8, round: usize) {
+    fn propose(&self, door: usize, identity: u64, number: u64, round: usize) {
         let view = self.scan();
         let index = self.seat * self.words.limit + round;
-        let record = &self.words.records[index];
-        self.by.store(&record.number, u64::from(number));
-        self.by.store(&record.written, round as u64 + 1);
-        for (word, seats) in record.view.iter().zip(view.numbers.chunks(8)) {
-            let bytes = seats.try_into().expect("a chunk of eight");
-            self.by.store(word, u64::from_le_bytes(bytes));
+        let record = &self.words.records[index].0;
+        let head = [view.len as u64 + 1, identity, number, round as u64 + 1];
+        for (word, value) in record.iter().zip(head.into_iter().chain(view.pairs().iter().flat_map(|pair| [pair.0, pair.1]))) {
+            self.by.store(word, value);
         }
         self.by.store(&self.words.segments[door], index as u64 + 1);
     }
@@ -138,31 +197,30 @@ impl<A: Accesses> Renaming<'_, A> {
 
     fn collect(&self, known: &mut Sightings, is_first: bool) -> Option<View> {
         let mut differs = is_first;
-        for segment in &self.words.segments {
+        known.next = 0;
+        for (place, segment) in self.words.segments.iter().enumerate() {
             let Some(index) = self.by.load(segment).checked_sub(1) else {
                 continue;
             };
-            let seat = index as usize / self.words.limit;
-            let record = &self.words.records[index as usize];
-            known.view.numbers[seat] = self.by.load(&record.number) as u8;
-            let written = self.by.load(&record.written);
-            let before = std::mem::replace(&mut known.written[seat], written);
-            if is_first || before == written {
-                continue;
+            let record = &self.words.records[index as usize].0;
+            let [len, identity, number, written] = from_fn(|at| self.by.load(&record[at]));
+            let (met, is_known) = known.of(place);
+            let changes = !is_first && met.written != written;
+            if changes && met.has_changed {
+                return Some(self.borrowed(record, len as usize - 1));
             }
-            if std::mem::replace(&mut known.has_changed[seat], true) {
-                return Some(self.borrowed(record));
-            }
-            differs = true;
+            let has_changed = is_known && met.has_changed || changes;
+            *met = Met { segment: place, identity, number, written, has_changed };
+            differs |= changes;
         }
-        (!differs).then(|| std::mem::take(&mut known.view))
+        (!differs).then(|| known.view())
     }
 
     /// The view that stands in a record.
-    fn borrowed(&self, record: &Record) -> View {
-        let mut view = View::default();
-        for (seats, word) in view.numbers.chunks_mut(8).zip(&record.view) {
-            seats.copy_from_slice(&self.by.load(word).to_le_bytes());
+    fn borrowed(&self, record: &[AtomicU64; HEAD + 2 * MOST], len: usize) -> View {
+        let mut view = View { len, ..View::default() };
+        for (at, pair) in view.pairs[..len].iter_mut().enumerate() {
+            *pair = (self.by.load(&record[HEAD + 2 * at]), self.by.load(&record[HEAD + 2 * at + 1]));
         }
         view
     }

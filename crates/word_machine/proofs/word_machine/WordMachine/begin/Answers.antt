@@ -1,4 +1,4 @@
-use Rattle.std.proofs.Common.{ap, sym, subst, ◌≡◌, ◌≤◌, ◌∙◌, ℕ}
+use Rattle.std.proofs.Common.{ap, sym, subst, ◌≡◌, ◌≤◌, ◌∙◌}
 use Rattle.word_machine.specs.Ids.{SeatId}
 use Rattle.word_machine.proofs.Common.{WordsId, Size, own, accesses_in}
 use Rattle.word_machine.proofs.Running.{begins}

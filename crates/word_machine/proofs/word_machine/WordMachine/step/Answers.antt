@@ -1,7 +1,7 @@
 use Rattle.std.proofs.Common.{ap, sym, subst, ◌≡◌, ◌<◌, ◌≤◌, ◌+◌, ◌∙◌, [], ℕ, arith}
 use Rattle.word_machine.specs.Ids.{RunningId}
-use Rattle.word_machine.proofs.Common.{WordsId, Size, Me, SeatView, Stands, HasEnded, accesses_in}
-use Rattle.word_machine.proofs.Meeting.{has_run, count_made}
+use Rattle.word_machine.proofs.Common.{WordsId, Size, Me, SeatView, Stands, accesses_in}
+use Rattle.word_machine.proofs.Meeting.{told_run, count_made}
 use Rattle.word_machine.proofs.Running.{few, goes_on, has_ended, still_on, ended_with}
 use Rattle.word_machine.proofs.word_machine.WordMachine.step.Goals as goal
 
@@ -10,15 +10,15 @@ invariant_of-result g c =
     let law = g.P.WordProgram.law in
     let after = c.step-note.ensures.after in
     let ended = has_ended g.P.StepProgram.steps law g.met.P.WordProgram.sound _ _ _ _ _ _ _ after c.in-Some.outcome (ended_with _ _ (sym c.outcome.ensures ∙ c.in-Some.is)) in
-    let made = has_run law g.met.P.WordProgram.sound.after _ _ _ _ _ _ _ ended c.into_badge.ensures.2 in
+    let made = told_run law g.met.P.WordProgram.sound.after _ _ _ _ _ _ _ ended c.into_badge.ensures.2 in
     let counted : c.running.inside.accesses + 1 ≡ accesses_in c.step-note.new.seat.me = (let before = c.running.invariant.1 in let one = after.one_more in omega arith) in
-    (made.0, made.1, counted ∙ count_made law g.met.P.WordProgram.sound.after _ _ _ _ _ _ ended c.into_badge.ensures.2)
+    (made.1, made.2, counted ∙ count_made law g.met.P.WordProgram.sound.after _ _ _ _ _ _ ended c.into_badge.ensures.2, c.end.ensures ∙ ap g.P.WordProgram.end_of (sym made.0))
 
 pub returns-in-Some-clause-law : goal.returns-in-Some-clause-law
 returns-in-Some-clause-law g c =
     let law = g.P.WordProgram.law in
     let ended = has_ended g.P.StepProgram.steps law g.met.P.WordProgram.sound _ _ _ _ _ _ _ c.step-note.ensures.after c.in-Some.outcome (ended_with _ _ (sym c.outcome.ensures ∙ c.in-Some.is)) in
-    (has_run law g.met.P.WordProgram.sound.after _ _ _ _ _ _ _ ended c.into_badge.ensures.2).1
+    (told_run law g.met.P.WordProgram.sound.after _ _ _ _ _ _ _ ended c.into_badge.ensures.2).2
 
 pub invariant_of-result-in-None : goal.invariant_of-result-in-None
 invariant_of-result-in-None g c =
@@ -34,8 +34,8 @@ invariant_of-result-in-None g c =
           (goes_on g.P.StepProgram.steps law g.met.P.WordProgram.sound _ _ _ _ _ _ _ after (still_on _ none) none),
     )
 
-pub returns-clause-few : goal.returns-clause-few
-returns-clause-few g c =
+pub returns-in-None-clause-few : goal.returns-in-None-clause-few
+returns-in-None-clause-few g c =
     let after = c.step-note.ensures.after in
     let made = few g.P.StepProgram.steps g.P.WordProgram.law g.met.P.WordProgram.sound _ _ _ _ _ _ _ after in
     let before = c.running.invariant.1 in

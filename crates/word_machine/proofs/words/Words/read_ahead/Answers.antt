@@ -1,6 +1,6 @@
-use Rattle.std.proofs.Common.{◌≡◌, ◌≢◌, ◌+◌, ◌-◌, ◌<◌, ◌≤◌, ◌^◌, ℕ, suc, [], ap, sym, arith, refl, subst, ◌∙◌}
+use Rattle.std.proofs.Common.{◌≡◌, ◌+◌, ◌-◌, ℕ, suc, [], ap, sym, arith, subst, ◌∙◌}
 use mathlib.Core.Option.{none}
-use Rattle.word_machine.proofs.Common.{step, Size, WordsId, Stands, HasFound, accesses_in, skipped}
+use Rattle.word_machine.proofs.Common.{step, Size, WordsId, Stands, HasFound, skipped}
 use Rattle.word_machine.proofs.GoingAhead.{low_word, may_go, one_further, finds}
 use Rattle.word_machine.proofs.words.Words.read_ahead.Goals as goal
 

@@ -1,6 +1,6 @@
-use Rattle.std.proofs.Common.{ap, sym, refl, subst, ◌≡◌, ◌≤◌, ◌+◌, ◌∙◌, arith}
-use Rattle.word_machine.proofs.Common.{WordsId, own, Me, accesses_in}
-use Rattle.word_machine.proofs.Running.{begins, few, goes_on, has_ended, still_on, ended_with}
+use Rattle.std.proofs.Common.{ap, sym, subst, ◌≤◌, ◌∙◌, arith}
+use Rattle.word_machine.proofs.Common.{WordsId, accesses_in}
+use Rattle.word_machine.proofs.Running.{begins, few, goes_on, still_on}
 use Rattle.word_machine.proofs.words.Words.run.Goals as goal
 
 pub loop-outcome-init : goal.loop-outcome-init

@@ -1,5 +1,5 @@
-use Rattle.std.proofs.Common.{◌≡◌, ◌+◌, ◌-◌, ◌≤◌, ℕ, ap, sym, arith, refl, subst, ◌∙◌}
-use Rattle.word_machine.proofs.Common.{Size, WordsId, accesses_in}
+use Rattle.std.proofs.Common.{◌≡◌, ap, sym, arith, subst}
+use Rattle.word_machine.proofs.Common.{WordsId}
 use Rattle.word_machine.proofs.GoingAhead.{takes_found}
 use Rattle.word_machine.proofs.Running.{few}
 use Rattle.word_machine.proofs.words.Words.step_ahead.Goals as goal

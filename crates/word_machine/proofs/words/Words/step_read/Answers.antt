@@ -1,4 +1,4 @@
-use Rattle.std.proofs.Common.{◌≡◌, ◌+◌, ◌-◌, ◌≢◌, ℕ, suc, true, false, ap, sym, arith, refl, subst, ◌∙◌}
+use Rattle.std.proofs.Common.{◌≡◌, ◌-◌, ℕ, suc, false, ap, sym, arith, refl, subst, ◌∙◌}
 use mathlib.Core.Option.{none}
 use Rattle.word_machine.proofs.Common.{step, Size, WordsId, Reads, Value, read_in}
 use Rattle.word_machine.proofs.Reaching.{may_read, heard_record, heard_first, has_stepped, read_within}
@@ -41,5 +41,5 @@ returns-clause-after g c =
     let zero : c.load-found.result ≡ 0 = (let none_there = c.if-found-ne0.false in omega arith) in
     let kept = c.read_on.ensures.kept c.if-read_on.false in
     let got = heard_first g.P.StepProgram.steps law g.met.P.WordProgram.sound _ c.args.self.now.size refl c.args.number c.args.written _ _ c.requires.before (step c.self.inside.table.shared.table_id.slots c.place-at.result 0 0 none) c.load-found.result law.first c.load-found.new.seat.me c.load-found.ensures.2 zero refl in
-    has_stepped g.P.StepProgram.steps law g.met.P.WordProgram.sound _ c.args.self.now.size refl c.args.number _ _ _ c.requires.before (Value law.first) (Value law.first) 0 c.args.written c.take_first.new.program c.take_first.result c.load-found.new.seat.me
-    got refl (omega arith) (c.take_first.ensures.after ∙ ap (λ u. g.P.StepProgram.steps.resumed u (Value law.first)) kept) (c.take_first.ensures.note ∙ ap (λ u. g.P.StepProgram.steps.note u (Value law.first)) kept)
+    has_stepped g.P.StepProgram.steps law g.met.P.WordProgram.sound _ c.args.self.now.size refl c.args.number _ _ _ c.requires.before (Value law.first) (Value law.first) 0 c.args.written c.take.new.self c.take.result c.load-found.new.seat.me
+    got refl (omega arith) (c.take.ensures.after ∙ (λ i. g.P.StepProgram.steps.resumed (kept i) (Value (c.requires.first i)))) (c.take.ensures.note ∙ (λ i. g.P.StepProgram.steps.note (kept i) (Value (c.requires.first i))))

@@ -1,4 +1,4 @@
-use Rattle.std.proofs.Common.{◌≡◌, ◌≤◌, ap, arith, length, [], ◌∷◌, ◌∙◌}
+use Rattle.std.proofs.Common.{◌≡◌, ap, arith, length, [], ◌∷◌, ◌∙◌}
 use Rattle.word_machine.proofs.Common.{read_in}
 use Rattle.word_machine.proofs.GoingAhead.{after_head, head_is}
 use Rattle.word_machine.proofs.words.Words.take_written.Goals as goal

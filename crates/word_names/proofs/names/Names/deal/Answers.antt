@@ -1,4 +1,4 @@
-use Rattle.std.proofs.Common.{ap, sym, refl, ◌≡◌, ◌<◌, ◌≤◌, ◌+◌, ◌++◌, ◌∷◌, ◌∙◌, [], ℕ, List, length, take, slice_set, arith, rules}
+use Rattle.std.proofs.Common.{ap, sym, refl, ◌≡◌, ◌<◌, ◌+◌, ◌++◌, ◌∷◌, ◌∙◌, [], ℕ, List, length, take, slice_set, arith}
 use Rattle.std.proofs.lemmas.Grind.{take-set_at}
 use Rattle.word_machine.specs.declared.size.Size.{Size}
 use Rattle.word_names.specs.Seats.{DealerId, dealer_of}
