@@ -2,9 +2,10 @@
 
 use event_server::HostFault;
 use hall_log::LogFault;
-use journal::{DiskFault, FileFault, JournalFault, OpenFault};
+use journal::{Disk, DiskFault, FileFault, JournalFault, NotOpened, OpenFault};
 use listeners::ListenFault;
 use run_checker::Verdict;
+use std::alloc::AllocError;
 use std::io::ErrorKind;
 use step_memory::{NoMemory, Refusal};
 use thiserror::Error;
@@ -117,12 +118,24 @@ impl From<OpenFault> for HostFailure {
     }
 }
 
+impl<D: Disk> From<NotOpened<D>> for HostFailure {
+    fn from(refused: NotOpened<D>) -> HostFailure {
+        HostFailure::from(refused.fault)
+    }
+}
+
 impl From<Refusal> for HostFailure {
     fn from(why: Refusal) -> HostFailure {
         match why {
             Refusal::NoMemory => HostFailure::Memory,
             _ => HostFailure::NoNames,
         }
+    }
+}
+
+impl From<AllocError> for HostFailure {
+    fn from(_refused: AllocError) -> HostFailure {
+        HostFailure::Memory
     }
 }
 

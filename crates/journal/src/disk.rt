@@ -11,7 +11,7 @@ use std::io::{self, ErrorKind};
 /// Why a call of a disk failed.
 #[derive(Clone, Copy, Debug, Drop, PartialEq, Eq)]
 pub enum DiskFault {
-    /// The device failed, or had no room; so it was reported.
+    /// The device failed, or had no room, as it reported.
     Failed(ErrorKind),
     /// An allocation failed.
     NoMemory,
@@ -34,19 +34,19 @@ impl From<io::Error> for DiskFault {
     }
 }
 
-/// Bytes that outlast a crash: written behind one another, and durable once they are synced.
+/// Bytes that outlast a crash. They are appended to one another, and are durable once they are synced.
 ///
-/// After a call that failed it is known only what a crash may leave, and whoever writes on may be told that all is well where it is not.
+/// After a call that failed it is known only what a crash may leave. A caller that writes on may then get `Ok` wrongly.
 pub trait Disk: Drop {
     /// What was written, how much of that is durable, and how often bytes were cut off or replaced; `None` where nothing is known,
     /// as of a file of the system.
     ghost state: { Self → Option DiskState };
 
-    /// Reads all bytes.
+    /// Returns all bytes.
     fn read(&mut self, alloc: Global) -> Result<Vec<u8>, DiskFault>
         ensures { Changes (Reads result) (state self.old) (state self.new) };
 
-    /// Writes bytes behind the others.
+    /// Appends bytes to the others.
     fn append(&mut self, bytes: &[u8]) -> Result<(), DiskFault>
         ensures { Changes (IsAppended bytes.now result) (state self.old) (state self.new) };
 
@@ -54,31 +54,32 @@ pub trait Disk: Drop {
     fn sync(&mut self) -> Result<(), DiskFault>
         ensures { Changes (IsSynced result) (state self.old) (state self.new) };
 
-    /// Cuts off all bytes behind the first so many.
+    /// Cuts off all bytes behind the first `len`.
     fn cut(&mut self, len: usize) -> Result<(), DiskFault>
         ensures { Changes (IsCut len result) (state self.old) (state self.new) };
 
-    /// Whether these bytes could be written beside the others now, as `replace` does first: there is room, and what that opens can be
-    /// opened. Where not, nothing is left beside.
+    /// Returns whether these bytes could be written beside the others now, as `replace` does first. If not, nothing is left beside.
     fn can_replace(&self, alloc: Global, bytes: &[u8]) -> bool;
 
-    /// Puts bytes in place of all others, in one step, and waits until they are durable. A crash at any moment of the call leaves
-    /// what it may leave of those before, or all of these (`MayLeaveEither`); and so it does after a call that failed.
+    /// Replaces all bytes by these in one step, and waits until they are durable.
+    ///
+    /// A crash at any moment of the call leaves what it may leave of the old bytes, or all of the new ones (`MayLeaveEither`). So does
+    /// one after a call that failed.
     fn replace(&mut self, alloc: Global, bytes: &[u8]) -> Result<(), DiskFault>
         ensures { Changes (IsReplaced bytes.now result) (state self.old) (state self.new) };
 
-    /// Whether the bytes are still where they were written: a file that was deleted, moved or cut short is not.
+    /// Fails if the bytes are no more where they were written, as those of a file that was deleted, moved or cut short.
     fn look(&self) -> Result<(), DiskFault>;
 
-    /// How many bytes it has, for people; none where the system does not tell.
+    /// Returns how many bytes the disk has, for the reports of a server.
     fn size(&self) -> u64;
 
-    /// How often all bytes were replaced, for people; `None` where nobody counts that.
+    /// Returns how often all bytes were replaced, for such reports, or `None` if this is not counted.
     fn replacings(&self) -> Option<u64> {
         None
     }
 
-    /// How long its syncs took, for people; `None` where nobody measures that.
+    /// Returns how long the syncs took, for such reports, or `None` if this is not measured.
     fn sync_times(&self) -> Option<DurationHistogram> {
         None
     }

@@ -15,16 +15,16 @@ use std::{fs, io};
 /// Who may read and write a file that is made: its owner both, its group read.
 const MODE: u32 = 0o640;
 
-/// Why a file is not opened.
+/// Why `FileDisk::open` failed.
 #[derive(Clone, Copy, Debug, Drop, PartialEq, Eq)]
 pub enum FileFault {
     /// Another program has it open as its journal.
     InUse,
-    /// It is a device, a pipe or a socket: what is read of it is not what was written, and may have no end.
+    /// It is a device, a pipe or a socket. What is read of it is not what was written, and may have no end.
     NotRegular,
-    /// It has more than one name: the others would keep the old bytes once new ones take their place.
+    /// It has more than one name. The others would keep the old bytes after a `replace`.
     Linked,
-    /// The system failed, so it was reported.
+    /// The system failed, as it reported.
     Failed(ErrorKind),
 }
 
@@ -34,7 +34,7 @@ impl From<io::Error> for FileFault {
     }
 }
 
-/// A file that is written at its end alone, and locked as long as it is open.
+/// A file of the system as a disk. It is written at its end alone, and locked as long as it is open.
 #[derive(Drop)]
 pub struct FileDisk<R> {
     files: R,
@@ -135,8 +135,18 @@ fn write_beside<R: Files<File = File>>(rt: &R, path: &str, bytes: &[u8]) -> io::
 }
 
 impl<R: Files<File = File> + AllocGlobal + Copy> FileDisk<R> {
-    /// Opens a file and locks it; one that is missing is made, with mode 0640. A link is followed once, now: what takes the place of the
-    /// bytes later takes that of the file that it names.
+    /// Opens a file and locks it. A file that is missing is made, with mode 0640.
+    ///
+    /// A link is followed once, now: a later `replace` puts a new file in place of the one that the link names.
+    ///
+    /// # Errors
+    ///
+    /// The first that applies is returned:
+    ///
+    /// - `Failed`: the system failed. It may do so at any point.
+    /// - `NotRegular`: the path names a device, a pipe or a socket.
+    /// - `Linked`: the file has more than one name.
+    /// - `InUse`: another program has locked the file, or has put another in its place.
     pub fn open(rt: &R, path: &str) -> Result<FileDisk<R>, FileFault> {
         // A link that leads nowhere has its file made by this.
         let _ = opened(rt, path)?;
@@ -188,7 +198,7 @@ impl<R: Files<File = File> + Clock + Drop> Disk for FileDisk<R> {
         Ok(())
     }
 
-    /// A file that was deleted, moved or cut short in the meantime fails. What is measured is the sync and that look.
+    /// Fails if the file was deleted, moved or cut short in the meantime. It measures the sync and that look.
     fn sync(&mut self) -> Result<(), DiskFault> {
         let begun = Instant::now(&self.files);
         File::sync_data(&self.file)?;
@@ -203,7 +213,7 @@ impl<R: Files<File = File> + Clock + Drop> Disk for FileDisk<R> {
         Ok(())
     }
 
-    /// They are written into a file beside, `PATH.new`, and synced, and the folder is opened. So `replace` goes on from there.
+    /// Writes them into a file beside, `PATH.new`, syncs it, and opens the folder, as `replace` does.
     fn can_replace(&self, alloc: Global, bytes: &[u8]) -> bool {
         match self.path_beside(alloc) {
             Ok(path) => write_beside(&self.files, &path, bytes).is_ok(),
@@ -211,7 +221,8 @@ impl<R: Files<File = File> + Clock + Drop> Disk for FileDisk<R> {
         }
     }
 
-    /// The bytes are written into a file beside, `PATH.new`, which is locked, synced and then renamed; the folder is synced last.
+    /// Writes the bytes into a file beside, `PATH.new`, locks it, syncs it and renames it. Then it syncs the folder.
+    ///
     /// A file of that name that a crash left is written over.
     fn replace(&mut self, alloc: Global, bytes: &[u8]) -> Result<(), DiskFault> {
         let path = self.path_beside(alloc)?;

@@ -19,23 +19,25 @@ use hall::{Compactor, Hall};
 use player::{Replies, law_of_lines, print_header};
 use std::alloc::Global;
 
-/// Why nothing more is written.
+/// Why a call of a journal failed. The journal has ended: it never writes again.
 #[derive(Clone, Copy, Debug, Drop, PartialEq, Eq)]
 pub enum JournalFault {
-    /// The disk failed: what waited may be written in part. Now the journal has ended.
+    /// The disk failed in this call. A prefix of what it was to write may stand there.
     Disk(DiskFault),
-    /// It has ended before.
+    /// The journal had ended before this call.
     Ended,
 }
 
 /// A disk with the record of what a write-ahead hall has committed.
+///
+/// After a call of the disk that failed the journal has ended, and never writes again.
 #[derive(Drop)]
 pub struct Journal<D: Disk> {
     pub(crate) disk: D,
     pub(crate) ended: bool,
 }
 
-/// After this fault of the disk nothing more is written.
+/// Ends a journal by a fault of its disk.
 fn end(ended: &mut bool, fault: DiskFault) -> JournalFault
     ensures fault { result ≡ JournalFault.Disk fault }
     ensures ended { ended.new ≡ true }
@@ -45,7 +47,7 @@ fn end(ended: &mut bool, fault: DiskFault) -> JournalFault
 }
 
 impl<D: Disk> Journal<D> {
-    /// Writes bytes behind the others, and waits until they are durable.
+    /// Appends bytes to the disk and syncs them.
     fn write(&mut self, bytes: &[u8]) -> Result<(), DiskFault>
         ensures written { Changes (IsWritten bytes.now result) (D.state self.old.disk) (D.state self.new.disk) }
         ensures same { self.new.ended ≡ self.old.ended }
@@ -55,8 +57,16 @@ impl<D: Disk> Journal<D> {
         Ok(())
     }
 
-    /// Writes the lines that wait and waits until they are durable; then they are committed. After a fault nothing is ever written
-    /// again, and the write-ahead hall's lines wait for ever: no reply to an event of theirs may be let out.
+    /// Appends the pending lines to the disk and syncs them. Then all events of the write-ahead hall are committed.
+    ///
+    /// The caller sends no reply to an event before this has returned `Ok`.
+    ///
+    /// # Errors
+    ///
+    /// An error leaves the write-ahead hall as it was, and the journal has ended. The first that applies is returned:
+    ///
+    /// - `Ended`: the journal had ended before. Nothing changes.
+    /// - `Disk`: the disk failed. A prefix of the pending lines may stand there.
     pub fn commit(&mut self, write_ahead: &mut WriteAhead) -> Result<(), JournalFault>
         ensures reported { OnOk result (write_ahead.new ≡ write_ahead_of write_ahead.old.hall (length write_ahead.old.hall.history)) }
         ensures stands { OnOk result (Stands D.state self.old write_ahead.old → Stands D.state self.new write_ahead.new) }
@@ -82,7 +92,7 @@ impl<D: Disk> Journal<D> {
     }
 }
 
-/// Puts a compaction off that could not be kept.
+/// Puts a compaction off, unless it was kept.
 fn put_off_unless(kept: bool, compactor: &mut Compactor, hall: &Hall)
     ensures kept { kept ≡ true → compactor.new ≡ compactor.old }
     ensures due { kept ≡ false → compactor.new.due ≡ due_again (length hall.now.history) }
@@ -94,9 +104,16 @@ fn put_off_unless(kept: bool, compactor: &mut Compactor, hall: &Hall)
 }
 
 impl<D: Disk> Journal<D> {
-    /// A hall that was compacted of the write-ahead hall's takes its place, and its record that of all that was written, in one step; so also what
-    /// waited is committed. `false` where an allocation failed or the record could not be written beside what there is, with nothing
-    /// changed. After any other fault of the disk nothing is ever written again, and the write-ahead hall is as it was.
+    /// Replaces the hall by one that was compacted of it, and the bytes of the disk by its record, in one step. Then all events are committed.
+    ///
+    /// Returns `false`, and changes nothing, if an allocation failed or the disk has no room for the new record beside the old one.
+    ///
+    /// # Errors
+    ///
+    /// An error leaves the write-ahead hall as it was, and the journal has ended. The first that applies is returned:
+    ///
+    /// - `Ended`: the journal had ended before. Nothing changes.
+    /// - `Disk`: the disk failed while it replaced its bytes. It has the old record or the new one.
     pub fn compact(
         &mut self,
         alloc: Global,
@@ -108,7 +125,8 @@ impl<D: Disk> Journal<D> {
         ensures stands { OnOk result (Stands D.state self.old write_ahead.old → Stands D.state self.new write_ahead.new) }
 
         // A crash at any moment of the call leaves all that was committed before it, or the record of the new hall.
-        ensures any_moment { Stands D.state self.old write_ahead.old → Changes (KeepsEither write_ahead.old hall) (D.state self.old.disk) (D.state self.new.disk) }
+        ensures any_moment { Stands D.state self.old write_ahead.old →
+            Changes (KeepsEither write_ahead.old hall) (D.state self.old.disk) (D.state self.new.disk) }
         ensures same { OnErr result (write_ahead.new ≡ write_ahead.old) }
         ensures ends { OnErr result (self.new.ended ≡ true) }
         ensures over { self.old.ended ≡ true → (result ≡ Err JournalFault.Ended) × (self.new ≡ self.old) }
@@ -134,8 +152,13 @@ impl<D: Disk> Journal<D> {
         }
     }
 
-    /// Compacts the write-ahead hall's hall where that is due and gives a shorter history. Where the new record could not be written beside the
-    /// old one, the history goes on as it is, and the compaction is put off.
+    /// Compacts the write-ahead hall by `compact`, if that is due and makes the history shorter.
+    ///
+    /// If the new record could not be written beside the old one, the hall stays as it is, and the compaction is put off.
+    ///
+    /// # Errors
+    ///
+    /// Those of `compact`, if a compaction is due. An error leaves the write-ahead hall as it was.
     pub fn compact_when_due(
         &mut self,
         alloc: Global,
@@ -165,12 +188,12 @@ impl<D: Disk> Journal<D> {
     }
 }
 
-/// A journal that was opened, with the hall of its record.
+/// A journal that was opened, with the write-ahead hall of its record.
 #[derive(Drop)]
 pub struct Opened<D: Disk> {
     /// The journal.
     pub journal: Journal<D>,
-    /// The hall.
+    /// The write-ahead hall.
     pub write_ahead: WriteAhead,
 }
 
@@ -183,7 +206,7 @@ pub struct NotOpened<D: Disk> {
     pub disk: D,
 }
 
-/// What is missing of a record of which so many bytes are whole: its header, where not even that is.
+/// Returns what a record with so many whole bytes lacks: its header if there are none, and else nothing.
 fn missing(header: &[u8], whole: usize) -> &[u8]
     ensures { result.now ≡ missing_in whole header.now }
 {
@@ -193,8 +216,9 @@ fn missing(header: &[u8], whole: usize) -> &[u8]
     &header[..0]
 }
 
-/// Cuts a disk of so many bytes behind the first ones, puts what is missing behind those, and waits until that is durable. Where a call of
-/// the disk fails, the first ones stand there still.
+/// Cuts a disk of `total` bytes behind the first `whole` ones, appends what is missing, and syncs.
+///
+/// If a call of the disk fails, the first `whole` bytes stand there still.
 fn mend<D: Disk>(disk: &mut D, total: usize, whole: usize, missing: &[u8]) -> Result<(), DiskFault>
     ensures mended { OnOk result (Changes (IsMended total whole missing.now) (D.state disk.old) (D.state disk.new)) }
     ensures front { OnErr result (Changes (KeepsFront whole) (D.state disk.old) (D.state disk.new)) }
@@ -208,7 +232,7 @@ fn mend<D: Disk>(disk: &mut D, total: usize, whole: usize, missing: &[u8]) -> Re
     Ok(())
 }
 
-/// The write-ahead hall of the record on a disk, once that is put right (`Journal::open_disk`).
+/// Mends the record on a disk, and returns the write-ahead hall of it (`Journal::open`).
 fn restored<D: Disk>(alloc: Global, disk: &mut D, config: Config) -> Result<WriteAhead, OpenFault>
     ensures config { IfOk result (λ c. c.hall.config ≡ config) }
     ensures reported { IfOk result (λ c. c.reported ≡ length c.hall.history) }
@@ -229,14 +253,22 @@ fn restored<D: Disk>(alloc: Global, disk: &mut D, config: Config) -> Result<Writ
 }
 
 impl<D: Disk> Journal<D> {
-    /// Opens a journal, and gives the hall whose record it is. A disk where not even the header is whole gets it, and the hall has no
-    /// event. A last line with no LF, which a crash has torn, is cut off. The rest has to be one that `check` says `Yes` of, of this
-    /// config, with the lines that a hall writes.
+    /// Opens the journal on a disk, and returns it with the write-ahead hall of its record.
+    ///
+    /// A disk with a part of the header, or with no byte, gets the header, and its hall has no event. Else a last line without LF, which
+    /// a crash has torn, is cut off.
     ///
     /// # Errors
     ///
-    /// The disk is handed back. It is as it was, unless a call of it failed while it was put right: then all whole lines stand there still.
-    pub fn open_disk(alloc: Global, disk: D, config: Config) -> Result<Opened<D>, NotOpened<D>>
+    /// The disk is handed back. It is as it was, unless a call of it failed while it was mended: then all whole lines stand there still.
+    ///
+    /// - `Disk`: a call of the disk failed, when it was read or mended.
+    /// - `NoMemory`: an allocation failed.
+    /// - `Judged`: `check` returns something else than `Yes` of the whole lines.
+    /// - `OtherConfig`: they are a record of a run, of another config or of another version.
+    /// - `NoNames`: the config's world gives no names.
+    /// - `OtherLine`: they are a record of this config, with a line that no hall writes.
+    pub fn open(alloc: Global, disk: D, config: Config) -> Result<Opened<D>, NotOpened<D>>
         ensures config { IfOk result (λ o. o.write_ahead.hall.config ≡ config) }
         ensures reported { IfOk result (λ o. o.write_ahead.reported ≡ length o.write_ahead.hall.history) }
         ensures stands { IfOk result (λ o. Stands D.state o.journal o.write_ahead) }
@@ -261,26 +293,14 @@ impl<D: Disk> Journal<D> {
         }
     }
 
-    /// Opens a journal as `open_disk` does, and lets a disk go whose journal is refused.
-    pub fn open(alloc: Global, disk: D, config: Config) -> Result<Opened<D>, OpenFault>
-        ensures config { IfOk result (λ o. o.write_ahead.hall.config ≡ config) }
-        ensures reported { IfOk result (λ o. o.write_ahead.reported ≡ length o.write_ahead.hall.history) }
-        ensures stands { IfOk result (λ o. Stands D.state o.journal o.write_ahead) }
-
-        // The hall is that of the record that was there, once its torn line is cut.
-        ensures hall { IfOk result (λ o. (s : DiskState) → D.state disk ≡ Some s → IsHallOf o.write_ahead.hall s.contents) }
-        ensures grows { IfOk result (λ o. Changes GrowsUnlessTorn (D.state disk) (D.state o.journal.disk)) }
-
-        // Each fault is reported of bytes alone that have it.
-        ensures errors { IfErr result (λ why. (s : DiskState) → D.state disk ≡ Some s → IsOpenFault config s.contents why) }
-    {
-        match Journal::open_disk(alloc, disk, config) {
-            Ok(opened) => Ok(opened),
-            Err(NotOpened { fault, disk: _ }) => Err(fault),
-        }
-    }
-
-    /// Whether the bytes are still where they were written; after a fault nothing is ever written again.
+    /// Has the disk look whether its bytes are still where they were written.
+    ///
+    /// # Errors
+    ///
+    /// After an error the journal has ended. The first that applies is returned:
+    ///
+    /// - `Ended`: the journal had ended before. Nothing changes.
+    /// - `Disk`: the bytes are no more there, or the disk failed.
     pub fn look(&mut self) -> Result<(), JournalFault>
         ensures same { OnOk result (self.new ≡ self.old) }
         ensures ends { OnErr result (self.new.ended ≡ true) }
@@ -296,13 +316,17 @@ impl<D: Disk> Journal<D> {
         }
     }
 
-    /// The disk.
-    pub fn disk(&self) -> &D {
+    /// Returns the disk.
+    pub fn disk(&self) -> &D
+        ensures { result.now ≡ self.now.disk }
+    {
         &self.disk
     }
 
-    /// The disk, where no more is to be written.
-    pub fn into_disk(self) -> D {
+    /// Returns the disk, to which the journal writes no more.
+    pub fn into_disk(self) -> D
+        ensures { result ≡ self.disk }
+    {
         let Journal { disk, ended: _ } = self;
         disk
     }

@@ -12,9 +12,11 @@ ghost use Rattle.journal.specs.declared.write_ahead.TheConstants.{MOST_WAITING};
 
 use player::law_of_lines;
 
-/// A law, which runs nothing. Where all that was committed is on the disk, a crash leaves the record of the write-ahead hall's hall as it was
-/// after some of its events, none skipped, with all that were committed. Where a record of another hall is taking the place of all, as
-/// that of one compacted of it does, the crash leaves this or that record, whole. And the hall that is opened of what is left has that record.
+/// A law: what a crash leaves of a journal, if all that was committed is on its disk.
+///
+/// It leaves the record of a prefix of the history, which has all events that were committed. If the record of another hall replaces all
+/// bytes, as that of a compacted hall does, the crash leaves such a prefix or that record, whole. The hall that is opened of what is left
+/// has that record.
 pub fn law_of_crashes()
     ensures between { (c : WriteAheadState) (s : DiskState) → HasSynced c s → c.reported ≤ length c.hall.history → KeepsHandedOn c s s }
     ensures replaced { (c : WriteAheadState) (new : HallState) (s : DiskState) → HasSynced c s → c.reported ≤ length c.hall.history →
@@ -25,7 +27,7 @@ pub fn law_of_crashes()
     law_of_lines();
 }
 
-/// A law, which runs nothing: how many bytes of lines wait at most.
+/// A law: the most bytes that the pending lines may have.
 pub fn law_of_limits()
     ensures { MOST_WAITING ≡ 1048576 }
 {}

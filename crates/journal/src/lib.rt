@@ -21,7 +21,7 @@
 //! From `tests_hall/src/journals.rt`:
 //!
 //! ```text
-//! Ok(config) => Journal::open(alloc, disk, config),
+//! Ok(config) => Journal::open(alloc, disk, config).map_err(|refused| refused.fault),
 //! ..
 //! let mut view = View::new();
 //! write_ahead.apply(&(), event, &mut view)

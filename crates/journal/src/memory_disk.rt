@@ -9,16 +9,17 @@ use std::alloc::Global;
 use std::io::ErrorKind;
 use std::mem;
 
-/// Bytes that stood there before others took their place, and how many of them were durable.
+/// The bytes before a replacing, and how many of them were durable.
 #[derive(Drop)]
 struct Before {
     bytes: Vec<u8>,
     synced: usize,
 }
 
-/// Bytes, how many of them a crash leaves for sure, how often some were cut off, and how many calls there are until one fails: that one
-/// and all after it do, and a write that fails writes half of its bytes. A replacing is three calls: the new bytes are written beside, they take the place of
-/// the old ones, and that is made sure; where the last of these fails, a crash may bring the old bytes back.
+/// A disk in memory, for integration tests. After a number of calls each call fails.
+///
+/// A write that fails writes half of its bytes. A replacing is three calls: it writes the new bytes beside, puts them in place of the
+/// old ones, and makes that durable. If the last of these fails, a crash may bring the old bytes back.
 #[derive(Drop)]
 pub struct MemoryDisk {
     bytes: Vec<u8>,
@@ -29,7 +30,7 @@ pub struct MemoryDisk {
 }
 
 impl MemoryDisk {
-    /// A disk with these bytes, all of them durable, of which the call after so many fails.
+    /// Makes a disk with these bytes, all durable. After `calls_left` calls each call fails.
     pub fn new(bytes: Vec<u8>, calls_left: usize) -> MemoryDisk
         ensures { memory_state result ≡ state_of bytes.items (vec_len bytes) 0 }
     {
@@ -43,21 +44,21 @@ impl MemoryDisk {
         }
     }
 
-    /// What was written.
+    /// Returns the bytes that were written.
     pub fn as_slice(&self) -> &[u8]
         ensures { result.now ≡ self.now.bytes.items }
     {
         &self.bytes
     }
 
-    /// How many bytes a crash leaves for sure.
+    /// Returns how many of the first bytes are durable: each crash leaves them.
     pub fn synced(&self) -> usize
         ensures { result ≡ self.now.synced }
     {
         self.synced
     }
 
-    /// The disk after a crash that keeps so many of its bytes, and all that were durable; of which the call after so many fails.
+    /// Returns the disk after a crash that leaves the first `keep` bytes, and all durable ones. After `calls_left` calls each call fails.
     pub fn crashed(self, keep: usize, calls_left: usize) -> MemoryDisk
         ensures left { MayLeave (memory_state self) (memory_state self) result.bytes.items }
         ensures whole { keep ≡ vec_len self.bytes → result.bytes.items ≡ self.bytes.items }
@@ -73,7 +74,7 @@ impl MemoryDisk {
         MemoryDisk::new(bytes, calls_left)
     }
 
-    /// As `crashed`, of a crash that takes back a replacing that failed, where there was one.
+    /// Returns what `crashed` does, after a crash that takes back a replacing that failed, if there was one.
     pub fn reverted(self, keep: usize, calls_left: usize) -> MemoryDisk
         ensures { MayLeave (memory_before self) (memory_before self) result.bytes.items }
     {
@@ -98,7 +99,7 @@ impl MemoryDisk {
         old.crashed(keep, calls_left)
     }
 
-    /// Whether a call may go on; one fewer is left then.
+    /// Counts a call, and returns whether it may go on.
     fn goes_on(&mut self) -> bool
         ensures { memory_state self.new ≡ memory_state self.old }
     {

@@ -23,21 +23,21 @@ use run_checker::{Verdict, check};
 use std::alloc::{AllocError, Global};
 use step_memory::{NoMemory, Refusal, View};
 
-/// Why a journal is not opened. Lines are numbered from 1, the header's.
+/// Why `Journal::open` failed. The header is line 1.
 #[derive(Clone, Copy, Debug, Drop, PartialEq, Eq)]
 pub enum OpenFault {
     /// The disk failed.
     Disk(DiskFault),
-    /// A growth was refused.
+    /// An allocation failed.
     NoMemory,
-    /// What is there is no record of a run, as `check` says.
+    /// The whole lines are no record of a run: `check` returns this verdict.
     Judged(Verdict),
-    /// It is one of another config, or of another version.
+    /// They are a record of another config, or of another version.
     OtherConfig,
-    /// Its line of this number is none that a hall writes: a refusal, another spelling, what another object answers, or no part of
-    /// a line at all.
+    /// No hall writes the line of this number: it is a refusal, has another spelling or the reply of another object, or is no part of a
+    /// line at all.
     OtherLine(u64),
-    /// Names are not given in the config's world.
+    /// The config's world gives no names.
     NoNames,
 }
 
@@ -168,8 +168,13 @@ fn replayed(alloc: Global, config: Config, header: &[u8], whole: &[u8]) -> Resul
     Ok(hall)
 }
 
-/// The hall whose record these bytes are, once their torn line is cut, and how many are left then. Where not even the header is
-/// whole it has no event.
+/// Returns the hall whose record these bytes are without their torn last line, and how many bytes are left without it.
+///
+/// If they are a part of the header, the hall has no event and no byte is left.
+///
+/// # Errors
+///
+/// As of `Journal::open`, but for `Disk`.
 pub fn recovered(
     alloc: Global,
     config: Config,

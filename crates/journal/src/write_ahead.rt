@@ -17,11 +17,12 @@ use std::alloc::Global;
 use std::marker::Model;
 use step_memory::{NoMemory, Refusal, View};
 
-/// No more bytes of lines wait.
+/// The most bytes that the pending lines may have.
 pub const MOST_WAITING: usize = 1_048_576;
 
-/// A hall that tells each event that it accepts, with its reply, as a line of a record: the lines wait until they are committed. With
-/// the header, those that were committed and those that wait are the record of the hall's history.
+/// A hall that writes each event which it accepts, with its reply, as a line of a record. Its lines are pending until they are committed.
+///
+/// The header, the committed lines and the pending lines are together the record of the hall's history.
 #[derive(Drop)]
 pub struct WriteAhead {
     hall: Hall,
@@ -43,7 +44,7 @@ impl Model for WriteAhead {
     ghost invariant = { λ c. (c.lines.items ≡ waiting_of (write_ahead_of c.hall c.reported)) × (c.reported ≤ length c.hall.history) };
 }
 
-/// Applies an event to a hall, which takes it into its history where it accepts it, and nothing else.
+/// Applies an event to a hall. The hall adds it to its history if it accepts it, and adds nothing else.
 pub(crate) fn applied(hall: &mut Hall, event: Event, view: &mut View) -> Reply<()>
     ensures may { HallMay hall.old event (with_view result view.new) hall.new }
     ensures config { hall.new.config ≡ hall.old.config }
@@ -55,7 +56,7 @@ pub(crate) fn applied(hall: &mut Hall, event: Event, view: &mut View) -> Reply<(
     hall.apply_short(event, view)
 }
 
-/// Puts the line of an event with its reply, and the view beside that, behind others, where there is room.
+/// Appends the line of an event with its reply, and the view beside that, to others, which have room for it.
 pub(crate) fn put_line(
     event: Event,
     reply: Reply<()>,
@@ -72,7 +73,11 @@ pub(crate) fn put_line(
 }
 
 impl WriteAhead {
-    /// Round a hall all of whose events were committed; `NoMemory` where room was refused.
+    /// Makes a write-ahead hall of a hall whose events are all committed. No line is pending.
+    ///
+    /// # Errors
+    ///
+    /// - `NoMemory`: an allocation failed.
     pub fn new(alloc: Global, hall: Hall) -> Result<WriteAhead, NoMemory>
         ensures { IfOk result (λ c. c ≡ write_ahead_of hall (length hall.history)) }
     {
@@ -85,14 +90,14 @@ impl WriteAhead {
         })
     }
 
-    /// The hall.
+    /// Returns the hall.
     pub fn hall(&self) -> &Hall
         ensures { result.now ≡ self.now.hall }
     {
         &self.hall
     }
 
-    /// The lines that wait: those of the events that were not committed.
+    /// Returns the pending lines: those of the events that are not committed.
     pub fn waiting(&self) -> &[u8]
         ensures lines { result.now ≡ waiting_of self.now }
         ensures few { self.now.reported ≤ length self.now.hall.history }
@@ -100,7 +105,7 @@ impl WriteAhead {
         &self.lines
     }
 
-    /// Whether lines wait.
+    /// Returns whether a line is pending.
     pub fn has_waiting(&self) -> bool
         ensures some { result ≡ true ↔ (self.now.reported < length self.now.hall.history) }
         ensures none { result ≡ false → self.now.reported ≡ length self.now.hall.history }
@@ -109,14 +114,14 @@ impl WriteAhead {
         self.reported < self.hall.len()
     }
 
-    /// Whether so many bytes wait that an event would be refused for want of room: those that wait are to be committed first.
+    /// Returns whether so many bytes are pending that an event is refused for want of room. A commit makes room.
     pub fn is_full(&self) -> bool
         ensures { result ≡ true ↔ (MOST_WAITING - TURN_ROOM < length (waiting_of self.now)) }
     {
         MOST_WAITING - TURN_ROOM < self.lines.len()
     }
 
-    /// What waited was committed.
+    /// Notes that all events are committed: no line is pending any more. The caller has persisted the pending lines.
     pub fn mark_committed(&mut self)
         ensures { self.new ≡ write_ahead_of self.old.hall (length self.old.hall.history) }
     {
@@ -124,7 +129,7 @@ impl WriteAhead {
         self.reported = self.hall.len();
     }
 
-    /// A hall that was compacted of this one takes its place; all of it was committed, or there is no journal.
+    /// Replaces the hall by one that was compacted of it. All events of that are committed, or there is no journal.
     pub fn replace_hall(&mut self, hall: Hall)
         requires { IsCompacted self.old.hall hall }
         ensures { self.new ≡ write_ahead_of hall (length hall.history) }
@@ -134,8 +139,9 @@ impl WriteAhead {
         self.hall = hall;
     }
 
-    /// Compacts the hall where that is due and gives a shorter history; what waited is gone then. For a write-ahead hall without a journal:
-    /// with one, `Journal::compact_when_due`.
+    /// Compacts the hall, if that is due and makes the history shorter. Then no line is pending.
+    ///
+    /// This is for a write-ahead hall without a journal. With one, `Journal::compact_when_due` compacts both.
     pub fn compact_when_due(&mut self, alloc: Global, compactor: &mut Compactor)
         ensures compacted { MayCompact self.old self.new }
         ensures paced { IsPacedAlone compactor.old self.old compactor.new self.new }

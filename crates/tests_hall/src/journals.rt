@@ -59,7 +59,7 @@ pub(crate) enum Act {
 /// Opens the journal of a disk, whose hall has at most 2 participants and 4 numbers.
 pub(crate) fn opened(alloc: Global, disk: MemoryDisk) -> Result<Opened<MemoryDisk>, OpenFault> {
     match Config::new(WorldKind::Rename, 2, 4, 1000) {
-        Ok(config) => Journal::open(alloc, disk, config),
+        Ok(config) => Journal::open(alloc, disk, config).map_err(|refused| refused.fault),
         Err(_) => Err(OpenFault::NoNames),
     }
 }
