@@ -45,7 +45,8 @@ fn play_shares<R: Threads + Sync>(
     requires names { gives_names config.world ≡ true }
     requires steps { plan.steps + 64 < 2 ^ 64 }
     requires long { length tallies.old < 2 ^ 64 }
-    ensures reported { (i : ℕ) (d : Option Tally) → i < length tallies.old → IsReportedOf config plan.seed plan.ids plan.steps i (slice_index_or tallies.new i d) }
+    ensures reported { (i : ℕ) (d : Option Tally) → i < length tallies.old →
+        IsReportedOf config plan.seed plan.ids plan.steps i (slice_index_or tallies.new i d) }
     ensures len { length tallies.new ≡ length tallies.old }
 {
     thread::for_each_chunk_mut(

@@ -215,7 +215,8 @@ pub(crate) fn play_share<A: Allocator + Clone>(
     requires names { gives_names config.world ≡ true }
     requires steps { plan.steps + 64 < 2 ^ 64 }
     requires last { first + length tallies.old < 2 ^ 64 }
-    ensures { (i : ℕ) (d : Option Tally) → i < length tallies.old → IsReportedOf config plan.seed plan.ids plan.steps (first + i) (slice_index_or tallies.new i d) }
+    ensures { (i : ℕ) (d : Option Tally) → i < length tallies.old →
+        IsReportedOf config plan.seed plan.ids plan.steps (first + i) (slice_index_or tallies.new i d) }
 {
     let mut arena = Bump::new(alloc);
     for i in 0..tallies.len() {

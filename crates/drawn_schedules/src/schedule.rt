@@ -99,8 +99,10 @@ fn draw_steps<A: Allocator, W: Sink>(
     writer: &mut W,
 ) -> Result<(), Fault>
     requires calls { W.calls writer.old + length held.old + LINE_ROOM * plan.steps ≤ 2 ^ 100 }
-    ensures on { OnOk result (GoesPast (event_lines (steps_drawn plan.ids plan.steps (opened plan.seed))) (W.contents writer.old) held.old (W.contents writer.new) held.new) }
-    ensures within { OnErr result (StopsWithin (event_lines (steps_drawn plan.ids plan.steps (opened plan.seed))) (W.contents writer.old) held.old (W.contents writer.new)) }
+    ensures on { OnOk result (GoesPast (event_lines (steps_drawn plan.ids plan.steps (opened plan.seed)))
+        (W.contents writer.old) held.old (W.contents writer.new) held.new) }
+    ensures within { OnErr result (StopsWithin (event_lines (steps_drawn plan.ids plan.steps (opened plan.seed)))
+        (W.contents writer.old) held.old (W.contents writer.new)) }
     ensures only { IfErr result (λ fault. fault ≡ Fault.Write) }
     ensures failed { OnErr result (W.failed writer.old < W.failed writer.new) }
     ensures unfailed { OnOk result (W.failed writer.new ≡ W.failed writer.old) }

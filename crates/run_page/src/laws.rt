@@ -17,8 +17,9 @@ ghost use Rattle.run_page.specs.Access.{access_words, register_words};
 ghost use Rattle.run_page.specs.Page.{page_data, has_tag};
 ghost use Rattle.run_page.specs.Standing.{standing_words};
 
-/// A law, which runs nothing: what a page has of its record has no `<`, so that it can neither end the element that holds it nor
-/// begin another. That is all the data, and of an item each text that stands between its tags.
+/// A law: what a page has of its record contains no `<`, so it can neither end the element that holds it nor begin another.
+///
+/// This is all the data, and of an item each text that stands between its tags.
 pub fn law_of_data()
     ensures all { (c : Config) (s : Stretch) (lines : List Line) → has_tag (page_data c s lines) ≡ false }
     ensures events { (e : Event) → has_tag (event_words e) ≡ false }
@@ -29,7 +30,7 @@ pub fn law_of_data()
     ensures numbers { (n : ℕ) → has_tag (decimal n) ≡ false }
 {}
 
-/// A law, which runs nothing: how many names a page looks for.
+/// A law: how many names a page looks for.
 pub fn law_of_limits()
     ensures { MOST_NAMES ≡ 127 }
 {}

@@ -16,7 +16,7 @@ use run_checker::Verdict;
 use run_checker::record::{judge_rows, opened};
 use std::alloc::{AllocError, Global};
 
-/// The page of a record, or what else than Yes is said of it. An error where a growth was refused.
+/// Returns the page of a record, or another verdict than `Yes`. It fails if an allocation failed.
 fn shown(alloc: Global, bytes: &[u8], stretch: Stretch) -> Result<Result<Text, Verdict>, AllocError>
     ensures { IfOk result (λ r. MatchResult r (IsPage bytes.now stretch) (IsOther (IsSaid (record_lines bytes.now)))) }
 {
@@ -33,10 +33,13 @@ fn shown(alloc: Global, bytes: &[u8], stretch: Stretch) -> Result<Result<Text, V
     }
 }
 
-/// Writes the page of a stretch of a record where that is one of a run, and answers the verdict on it: `Yes` with the page written,
-/// another with nothing written.
+/// Writes the page of a stretch of a record, if it is the record of a run, and returns the verdict on it.
 ///
-/// `Fault::Write` where the writer failed, with a prefix of the page written.
+/// It returns `Yes` if the page is written. With another verdict nothing is written. `NoMemory` says that an allocation failed.
+///
+/// # Errors
+///
+/// - `Write`: the writer failed. A prefix of the page is written.
 pub fn show<W: Sink>(
     alloc: Global,
     bytes: &[u8],
