@@ -7,3 +7,5 @@ mod PeekLemmas
 mod ReportedLemmas
 mod CallLemmas
 mod RoundLemmas
+mod AttendedLemmas
+mod ReleaseLemmas

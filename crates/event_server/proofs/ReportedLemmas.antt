@@ -223,7 +223,7 @@ module _ {C : Type 0} (on : Seating C) (peek : C → Option Peek) (Due : C → T
   }
 
   -- one connection has its turn where it sits, over what was looked at
-  pub seat_turn_peeked : {T : Type 0} (may : T → Request → ShownReply → T → Type 0) (key : ℕ) (w : T) (seats : List (Option C)) (u : T) (was is : C) → key < length seats → get_or seats key None ≡ Some was → Due was → (Due is → ⊥) →
+  abbrev pub seat_turn_peeked : {T : Type 0} (may : T → Request → ShownReply → T → Type 0) (key : ℕ) (w : T) (seats : List (Option C)) (u : T) (was is : C) → key < length seats → get_or seats key None ≡ Some was → Due was → (Due is → ⊥) →
       (turns : List Turn) × Runs may w turns u × TakesPeeked turns (peek was) (on.left was) (on.buffers was) (on.left is) (on.buffers is) → on.gone is ≡ on.gone was → SeatTurnPeeked on peek Due may key w seats u (set seats key (Some is))
   seat_turn_peeked may key w seats u was is below there due done took unsent =
       record { turn = seat_took on may Due key w seats u was is below there due done (took.0, took.1, took.2.takes) unsent; peeked = took.2 }

@@ -14,10 +14,20 @@ pub always : {T E : Type 0} (result : Result T E) (P : Type 0) → P → OnOk re
 always (Ok done) P is = is
 always (Err fault) P is = tt
 
+-- what follows from what is so where a call went well
+pub ok_then : {T E : Type 0} (result : Result T E) (P Q : Type 0) → (P → Q) → OnOk result P → OnOk result Q
+ok_then (Ok done) P Q f is = f is
+ok_then (Err fault) P Q f is = tt
+
 -- and where it went wrong
 pub always_wrong : {T E : Type 0} (result : Result T E) (P : Type 0) → P → OnErr result P
 always_wrong (Ok done) P is = tt
 always_wrong (Err fault) P is = is
+
+-- of what a call gave where it went well, the first part
+pub turned_alone : {E : Type 0} (result : Result ℕ E) (S : ℕ → Type 0) (H : (n : ℕ) → S n → Type 0) → IfOk result (λ n. (turned : S n) × H n turned) → IfOk result S
+turned_alone (Ok n) S H is = is.0
+turned_alone (Err fault) S H is = tt
 
 module _ {T K : Type 0} (may : T → Request → ShownReply → T → Type 0) (prefetches : K → T → List ℕ → K → T → Type 0) (persists waits : K → T → K → T → Type 0) where
   -- nothing was done

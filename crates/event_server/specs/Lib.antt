@@ -7,3 +7,6 @@ pub mod Reported
 pub mod Rounds
 pub mod Asking
 pub mod Answering
+pub mod Attending
+pub mod AttendingProofs
+pub mod Releasing

@@ -2,12 +2,14 @@
 
 ghost use Rattle.std.specs.Prelude.{◌≤◌, length};
 
+use crate::attended::Ending;
 use crate::buffers::Buffers;
 use crate::connection::{Connection, Stage};
 use crate::socket::Socket;
 use commands::WorldKind;
 use mio::event::Event;
 use mio::{Poll, Token};
+use stays::Stays;
 use std::alloc::{AllocError, Global};
 use std::mem;
 
@@ -23,6 +25,8 @@ const FLUSH_TICKS: u64 = 10;
 pub struct ConnectionTable {
     /// The seats, some of them empty.
     pub seats: Vec<Option<Connection<Socket, Global>>>,
+    /// The number of the connection at each seat. No other connection ever has it.
+    pub numbers: Vec<u64>,
     /// The seats whose connections are due, in the order in which they became so.
     pub ready: Vec<usize>,
     /// How many seats are taken.
@@ -31,6 +35,10 @@ pub struct ConnectionTable {
     pub served: u64,
     /// How many of them left by a fault.
     pub faults: u64,
+    /// The connections that have ended since this list was last emptied. One that said `quit` may stand in it twice.
+    pub ended: Vec<Ending>,
+    /// The number of the next connection.
+    next: u64,
     /// How many lines were taken of those that have left.
     lines: u64,
     later: Vec<usize>,
@@ -51,10 +59,13 @@ impl ConnectionTable {
         let few = clients.min(MOST_RESERVED);
         Ok(ConnectionTable {
             seats: Vec::with_capacity(alloc, few)?,
+            numbers: Vec::with_capacity(alloc, few)?,
             ready: Vec::with_capacity(alloc, few)?,
             open: 0,
             served: 0,
             faults: 0,
+            ended: Vec::new(alloc),
+            next: 1,
             lines: 0,
             later: Vec::with_capacity(alloc, few)?,
             empty: Vec::with_capacity(alloc, few)?,
@@ -67,10 +78,28 @@ impl ConnectionTable {
             return Ok(key);
         }
         let key = self.seats.len();
+        self.numbers.push(0)?;
         if self.seats.push(None).is_err() {
             return Err(AllocError);
         }
         Ok(key)
+    }
+
+    // The connection that is given this seat has the next number.
+    fn number_seat(&mut self, key: usize) {
+        if let Some(number) = self.numbers.get_mut(key) {
+            *number = self.next;
+            self.next = self.next.saturating_add(1);
+        }
+    }
+
+    // Notes that the connection of a seat has ended.
+    fn note_end(&mut self, key: usize, by_quit: bool) -> Result<(), AllocError> {
+        if key < self.numbers.len() {
+            let number = self.numbers[key];
+            self.ended.push(Ending { number, by_quit })?;
+        }
+        Ok(())
     }
 
     // Whoever sat there leaves, and this connection has the seat, or none. Says whether there is such a seat.
@@ -112,6 +141,7 @@ impl ConnectionTable {
         };
         let connection = Connection::new(stream, buffers, tick);
         if self.fill(key, Some(connection)) {
+            self.number_seat(key);
             self.open = self.open.saturating_add(1);
         }
         Ok(())
@@ -139,11 +169,11 @@ impl ConnectionTable {
         let Some(connection) = self.seated(key) else {
             return Ok(());
         };
+        let is_over = connection.buffers.is_over();
         if connection.is_done() {
-            self.leave(key);
-            return Ok(());
+            return self.leave(key);
         }
-        if !connection.buffers.is_over() {
+        if !is_over {
             connection.since = tick;
         } else if connection.buffers.unsent().is_empty() {
             connection.stream.end();
@@ -152,26 +182,56 @@ impl ConnectionTable {
             connection.stage = Stage::Queued;
             self.later.push(key)?;
         }
+        if is_over {
+            self.note_end(key, true)?;
+        }
         Ok(())
     }
 
-    // Notes of whoever sits there and leaves how many lines it sent, and whether it leaves by a fault.
-    fn note_leaving(&mut self, key: usize) {
-        let (lines, broken) = match self.seated(key) {
-            Some(connection) => (connection.buffers.lines(), connection.buffers.is_broken()),
-            None => (0, false),
+    // Notes of whoever sits there and leaves how many lines it sent, whether it leaves by a fault, and whether it said `quit`.
+    fn note_leaving(&mut self, key: usize) -> Result<(), AllocError> {
+        let (lines, broken, is_over) = match self.seated(key) {
+            Some(Connection { buffers, .. }) => {
+                (buffers.lines(), buffers.is_broken(), buffers.is_over())
+            }
+            None => (0, false, false),
         };
         self.lines = self.lines.saturating_add(lines);
         self.faults = self.faults.saturating_add(u64::from(broken));
+        self.note_end(key, is_over)
     }
 
     // Whoever sits there leaves, and the seat is empty then.
-    fn leave(&mut self, key: usize) {
-        self.note_leaving(key);
+    fn leave(&mut self, key: usize) -> Result<(), AllocError> {
+        self.note_leaving(key)?;
         self.fill(key, None);
         let _ = self.empty.push(key);
         self.open = self.open.saturating_sub(1);
         self.served = self.served.saturating_add(1);
+        Ok(())
+    }
+
+    // The connection of a seat is at fault and due.
+    fn fail_one(&mut self, key: usize) -> Result<(), AllocError> {
+        let Some(connection) = self.seated(key) else {
+            return Ok(());
+        };
+        connection.buffers.fail();
+        if connection.stage == Stage::Idle {
+            connection.stage = Stage::Queued;
+            self.ready.push(key)?;
+        }
+        Ok(())
+    }
+
+    /// Each connection that keeps a stay is at fault and due: nothing more is sent to it.
+    pub fn fail_keepers(&mut self, stays: &Stays) -> Result<(), AllocError> {
+        for key in 0..self.seats.len() {
+            if key < self.numbers.len() && stays.keeps_any(self.numbers[key]) {
+                self.fail_one(key)?;
+            }
+        }
+        Ok(())
     }
 
     /// After a turn in which so many of the ready seats were called: those that have more to do are due again, behind the others.
@@ -199,16 +259,17 @@ impl ConnectionTable {
     }
 
     /// Closes each connection of which nothing came or went for so many ticks, or for ten where it is at its end.
-    pub fn sweep(&mut self, tick: u64, idle: Option<u64>) {
+    pub fn sweep(&mut self, tick: u64, idle: Option<u64>) -> Result<(), AllocError> {
         for key in 0..self.seats.len() {
-            self.sweep_one(key, tick, idle);
+            self.sweep_one(key, tick, idle)?;
         }
+        Ok(())
     }
 
     // The same, of one seat.
-    fn sweep_one(&mut self, key: usize, tick: u64, idle: Option<u64>) {
+    fn sweep_one(&mut self, key: usize, tick: u64, idle: Option<u64>) -> Result<(), AllocError> {
         let Some(connection) = self.seated(key) else {
-            return;
+            return Ok(());
         };
         let quiet = tick.saturating_sub(connection.since);
         let leaving = connection.buffers.is_over() || connection.buffers.is_ended();
@@ -216,7 +277,7 @@ impl ConnectionTable {
         let rests = connection.stage == Stage::Idle;
         match most {
             Some(most) if rests && most <= quiet => self.leave(key),
-            _ => {}
+            _ => Ok(()),
         }
     }
 

@@ -4,17 +4,19 @@ ghost use Rattle.std.specs.Prelude.{◌≡◌, ◌⊎◌, ℕ, List, ◌++◌, �
 ghost use Rattle.commands.specs.Requests.{Request};
 ghost use Rattle.command_lines.specs.Lines.{with_ends};
 ghost use Rattle.player.specs.Shared.{TurnLog};
+ghost use Rattle.event_server.specs.Attending.{Hears, acts_in, acts_of, number_at};
 ghost use Rattle.event_server.specs.SharedBuffers.{AreShared};
 ghost use Rattle.event_server.specs.Seats.{seats_of, CallsSome, EachIs, NoneSent, SeatIdle, SeatIs, TurnsTaken};
 ghost use Rattle.event_server.specs.Gathering.{Gathered, SeatPeeked, SeatAsks, SeatBroken, SeatTurnPeeked, TakenPeeked, Reported, PrefetchedIteration, NotPrefetched, count_of};
 ghost use Rattle.event_server.specs.Reported.{SeatLines, all_lines, IsAmong};
 
+use crate::attended::Attended;
 use crate::connection::{Connection, Stage};
 use crate::peek::has_room;
 use crate::persist::{Persist, Prefetch};
 use crate::shared::SharedBuffers;
 use crate::stream::Stream;
-use crate::turns::send_replies;
+use crate::turns::{number_at, send_replies};
 use commands::WorldKind;
 use player::Service;
 use std::alloc::Allocator;
@@ -142,18 +144,20 @@ fn give_up<S: Stream, A: Allocator>(seats: &mut [Option<Connection<S, A>>], call
     }
 }
 
-// The connection of a seat has its turn over what was looked at, where there is one and its turn is due.
+// The connection of a seat has its turn over what was looked at, where there is one and its turn is due. It is the one of this number.
 fn take_peeked_at<R, D: Service<R>, S: Stream, A: Allocator, B: Allocator>(
     rt: &R,
-    service: &mut D,
+    service: &mut Attended<D>,
     shared: &mut SharedBuffers<B>,
     seats: &mut [Option<Connection<S, A>>],
+    number: u64,
     key: usize,
 )
     requires knows { (q : Request) → D.knows q ≡ true }
     requires room { AreShared shared.old }
     ensures took { ((service.new ≡ service.old) × (seats.new ≡ seats.old)) ⊎
-        SeatTurnPeeked (seats_of S.left S.gone) (λ c. c.peek) (λ c. c.stage ≡ Stage.Queued) D.may key service.old seats.old service.new seats.new }
+        ((peeked : SeatTurnPeeked (seats_of S.left S.gone) (λ c. c.peek) (λ c. c.stage ≡ Stage.Queued) D.may key service.old.service seats.old service.new.service seats.new) ×
+        Hears (acts_of number peeked.turn.turns) service.old service.new) }
     ensures done { SeatIs (λ c. c.stage ≡ Stage.Queued → ⊥) (get_or seats.new key None) }
     ensures others { (i : ℕ) → (i ≡ key → ⊥) → get_or seats.new i None ≡ get_or seats.old i None }
     ensures room { AreShared shared.new }
@@ -161,6 +165,7 @@ fn take_peeked_at<R, D: Service<R>, S: Stream, A: Allocator, B: Allocator>(
     if key < seats.len() {
         if let Some(connection) = &mut seats[key] {
             if let Stage::Queued = connection.stage {
+                service.listen_to(number);
                 connection.take_peeked(rt, service, shared);
             }
         }
@@ -170,20 +175,22 @@ fn take_peeked_at<R, D: Service<R>, S: Stream, A: Allocator, B: Allocator>(
 // The connections of these seats have their turns over what was looked at, one after another. Nothing is sent.
 fn take_peeked<R, D: Service<R>, S: Stream, A: Allocator, B: Allocator>(
     rt: &R,
-    service: &mut D,
+    service: &mut Attended<D>,
     shared: &mut SharedBuffers<B>,
     seats: &mut [Option<Connection<S, A>>],
+    numbers: &[u64],
     called: &[usize],
 )
     requires knows { (q : Request) → D.knows q ≡ true }
     requires room { AreShared shared.old }
-    ensures taken { (log : TurnLog) × TurnsTaken (seats_of S.left S.gone) D.may service.old seats.old log service.new seats.new ×
-        TakenPeeked (seats_of S.left S.gone) (λ c. c.peek) (λ c. c.stage ≡ Stage.Queued) called.now log seats.old seats.new }
+    ensures taken { (log : TurnLog) × TurnsTaken (seats_of S.left S.gone) D.may service.old.service seats.old log service.new.service seats.new ×
+        TakenPeeked (seats_of S.left S.gone) (λ c. c.peek) (λ c. c.stage ≡ Stage.Queued) called.now log seats.old seats.new ×
+        Hears (acts_in (number_at numbers.now) log) service.old service.new }
     ensures done { EachIs (λ c. c.stage ≡ Stage.Queued → ⊥) called.now seats.new }
     ensures room { AreShared shared.new }
 {
     for key in called {
-        take_peeked_at(rt, service, shared, seats, *key);
+        take_peeked_at(rt, service, shared, seats, number_at(numbers, *key), *key);
     }
 }
 
@@ -223,25 +230,27 @@ fn prefetch<D, K: Persist<D>, B: Allocator>(
 /// One turn of the loop over a service that learns its answers before: the connections of these seats are read, the requests among their
 /// lines go to the persister, which has the service prefetch the answers, and then they take their turns (as in `iterate`). Where the answers are not
 /// prefetched in time, those whose lines are in the batch are at fault, and nothing is sent. No connection takes more than was looked at. One seat at
-/// least is called, where any is given, and of each that is called the connection rests then.
+/// least is called, where any is given, and of each that is called the connection rests then. Who keeps a stay is noted as in `iterate`.
 ///
 /// The fault of what keeps, with no byte sent.
 pub fn iterate_prefetched<R, D: Service<R>, K: Persist<D>, S: Stream, A: Allocator, B: Allocator>(
     rt: &R,
-    service: &mut D,
+    service: &mut Attended<D>,
     persister: &mut K,
     batch: &mut Batch<B>,
     shared: &mut SharedBuffers<B>,
     seats: &mut [Option<Connection<S, A>>],
+    numbers: &[u64],
     ready: &[usize],
 ) -> Result<Called, K::Fault>
     requires knows { (q : Request) → D.knows q ≡ true }
     requires room { AreShared shared.old }
     ensures served { (called : ℕ) → result ≡ Ok (Called.Served called) →
-        PrefetchedIteration (seats_of S.left S.gone) (λ c. c.peek) (λ c. c.stage ≡ Stage.Queued) D.may K.prefetches K.persists batch.old.kind
-        persister.old service.old seats.old batch.new.lines.items persister.new service.new seats.new }
+        (turned : PrefetchedIteration (seats_of S.left S.gone) (λ c. c.peek) (λ c. c.stage ≡ Stage.Queued) D.may K.prefetches K.persists batch.old.kind
+        persister.old service.old.service seats.old batch.new.lines.items persister.new service.new.service seats.new) ×
+        Hears (acts_in (number_at numbers.now) turned.turn.log) service.old service.new }
     ensures unserved { (called : ℕ) → result ≡ Ok (Called.Unserved called) → NotPrefetched (seats_of S.left S.gone) seats.old batch.new.lines.items seats.new }
-    ensures lost { (called : ℕ) → result ≡ Ok (Called.Unserved called) → K.waits persister.old service.old persister.new service.new }
+    ensures lost { (called : ℕ) → result ≡ Ok (Called.Unserved called) → K.waits persister.old service.old.service persister.new service.new.service × Hears [] service.old service.new }
     ensures unsent { OnErr result (NoneSent (seats_of S.left S.gone) seats.old seats.new) }
     ensures called { IfOk result (λ called. CallsSome ready.now (count_of called)) }
     ensures rest { IfOk result (λ called. EachIs (λ c. c.stage ≡ Stage.Idle) (take (count_of called) ready.now) seats.new) }
@@ -250,10 +259,10 @@ pub fn iterate_prefetched<R, D: Service<R>, K: Persist<D>, S: Stream, A: Allocat
     let peeked = gather(batch, shared, seats, ready);
     let called = &ready[..peeked];
     batch.holds = any_asks_holders(seats, called);
-    match prefetch(service, persister, batch)? {
+    match prefetch(&mut service.service, persister, batch)? {
         Prefetch::Known => {
-            take_peeked(rt, service, shared, seats, called);
-            persister.persist(service)?;
+            take_peeked(rt, service, shared, seats, numbers, called);
+            persister.persist(&mut service.service)?;
             send_replies(seats, called);
             Ok(Called::Served(peeked))
         }

@@ -6,12 +6,14 @@ ghost use Rattle.event_server.specs.SharedBuffers.{AreShared};
 ghost use Rattle.event_server.specs.Rounds.{WasServed};
 
 use crate::answering::answer_queries;
+use crate::attended::Attended;
 use crate::connection::Connection;
 use crate::connections::ConnectionTable;
 use crate::doors::{Accepted, Doors};
 use crate::gathering::{Batch, Called, iterate_prefetched};
 use crate::host_fault::HostFault;
 use crate::persist::{Persist, Tally};
+use crate::releasing::end_due;
 use crate::shared::SharedBuffers;
 use crate::socket::Socket;
 use crate::teller::Teller;
@@ -57,6 +59,8 @@ pub struct HostOptions {
     pub clients: usize,
     /// After how many seconds a client that says nothing is closed; never, where it is not given.
     pub idle: Option<u64>,
+    /// How many seconds after its connection has ended a stay ends; never, where it is not given.
+    pub grace: Option<u64>,
     /// Whether a line at first and then one a minute tells how much there is.
     pub reports: bool,
 }
@@ -99,6 +103,8 @@ struct Hosting {
     ticked: bool,
     /// Whether a second has passed since who says nothing was last closed.
     sweeps: bool,
+    /// Whether a second has passed since it was last looked for stays that are to end.
+    looks: bool,
     teller: Teller,
     /// Whether it was said that something is amiss with the persister.
     said_trouble: bool,
@@ -129,6 +135,7 @@ impl Drop for Hosting {
             batch: _,
             ticked: _,
             sweeps: _,
+            looks: _,
             teller: _,
             said_trouble: _,
             watch: _,
@@ -142,13 +149,14 @@ impl Drop for Hosting {
 /// clients have sent, keeps what the service tells of it, and only then sends replies (`iterate`); where the service prefetches its answers, what
 /// was read goes to the persister before (`iterate_prefetched`), which is called once a second too. It ends at the end of standard input where
 /// that is a pipe, or else never: then replies are sent, as far as clients take them within a second, and a line `served N` is written. Those who
-/// watch are served between the turns: what they ask changes neither the service nor the persister.
+/// watch are served between the turns: what they ask changes neither the service nor the persister. Where the options give a grace time, stays
+/// whose connections have ended are ended between the turns (`end_due`).
 pub fn host<R, D: Service<R>, K: Persist<D>, W: Write, E: Write>(
     rt: &R,
     alloc: Global,
     options: HostOptions,
     listeners: Listeners,
-    service: &mut D,
+    service: &mut Attended<D>,
     persister: &mut K,
     output: &mut W,
     errors: &mut E,
@@ -156,7 +164,7 @@ pub fn host<R, D: Service<R>, K: Persist<D>, W: Write, E: Write>(
 where
     R: Net + Wait + Clock,
     requires { (q : Request) → D.knows q ≡ true }
-    ensures { OnOk result (WasServed D.may K.prefetches K.persists K.waits persister.old service.old persister.new service.new) }
+    ensures { OnOk result (WasServed D.may K.prefetches K.persists K.waits persister.old service.old.service persister.new service.new.service) }
 {
     let mut shared = SharedBuffers::new(alloc)?;
     let mut hosting = Hosting::new(rt, alloc, options, listeners, persister.most_prefetched())?;
@@ -259,6 +267,7 @@ impl Hosting {
             batch,
             ticked: false,
             sweeps: false,
+            looks: false,
             teller: Teller::new(rt, alloc)?,
             said_trouble: false,
             watch,
@@ -269,7 +278,7 @@ impl Hosting {
     fn go_round<R: Clock, D: Service<R>, K: Persist<D>, E: Write>(
         &mut self,
         rt: &R,
-        service: &mut D,
+        service: &mut Attended<D>,
         persister: &mut K,
         shared: &mut SharedBuffers<Global>,
         errors: &mut E,
@@ -277,20 +286,31 @@ impl Hosting {
         requires knows { (q : Request) → D.knows q ≡ true }
         requires room { AreShared shared.old }
         ensures room { AreShared shared.new }
-        ensures served { OnOk result (WasServed D.may K.prefetches K.persists K.waits persister.old service.old persister.new service.new) }
+        ensures served { OnOk result (WasServed D.may K.prefetches K.persists K.waits persister.old service.old.service persister.new service.new.service) }
     {
         self.wait(rt)?;
         self.accept_all()?;
         self.tell_full(errors);
-        self.tell_tick(service, persister)?;
+        self.tell_tick(&mut service.service, persister)?;
+        self.end_stays(rt, service, persister, shared)?;
         self.serve(rt, service, persister, shared)?;
         self.tell_trouble(persister.trouble(), errors);
         self.tell_lost(errors);
+        self.tell_numbers(&service.service, persister, errors);
+        Ok(())
+    }
+
+    // Tells how much there is where that is due, and those who watch.
+    fn tell_numbers<D, K: Persist<D>, E: Write>(
+        &mut self,
+        service: &D,
+        persister: &K,
+        errors: &mut E,
+    ) {
         if self.is_report_due() {
             self.tell_tally(persister.tally(service), errors);
         }
         self.serve_watchers(service, persister);
-        Ok(())
     }
 
     // Whether it is to end, and nothing waits to be sent or what waits had its time. Is asked once a round.
@@ -316,13 +336,19 @@ impl Hosting {
             Some(watch) => watch.is_due(),
             None => false,
         };
-        watched || self.can_accept() || !self.connections.ready.is_empty()
+        watched || self.can_accept() || !self.connections.ready.is_empty() || self.has_ended()
+    }
+
+    // Whether connections have ended whose stays are to be looked at.
+    fn has_ended(&self) -> bool {
+        self.options.grace.is_some() && !self.connections.ended.is_empty()
     }
 
     // Whether seconds are to be counted: clients are there or may be let in again, or somebody looks on.
     fn counts_seconds(&self) -> bool {
         0 < self.connections.open
             || self.full
+            || self.options.grace.is_some()
             || self.options.reports
             || self.batch.is_some()
             || self.watch.is_some()
@@ -349,7 +375,7 @@ impl Hosting {
         self.note_tick(rt)?;
         if self.sweeps && !self.note_events(Duration::from_millis(0))? {
             self.sweeps = false;
-            self.connections.sweep(self.tick, self.options.idle);
+            self.connections.sweep(self.tick, self.options.idle)?;
         }
         Ok(())
     }
@@ -379,6 +405,7 @@ impl Hosting {
             self.full = false;
             self.ticked = true;
             self.sweeps = true;
+            self.looks = true;
         }
         Ok(())
     }
@@ -398,25 +425,34 @@ impl Hosting {
     fn serve<R, D: Service<R>, K: Persist<D>>(
         &mut self,
         rt: &R,
-        service: &mut D,
+        service: &mut Attended<D>,
         persister: &mut K,
         shared: &mut SharedBuffers<Global>,
     ) -> Result<(), HostFault<K::Fault>>
         requires knows { (q : Request) → D.knows q ≡ true }
         requires room { AreShared shared.old }
         ensures room { AreShared shared.new }
-        ensures served { OnOk result (WasServed D.may K.prefetches K.persists K.waits persister.old service.old persister.new service.new) }
+        ensures served { OnOk result (WasServed D.may K.prefetches K.persists K.waits persister.old service.old.service persister.new service.new.service) }
     {
-        let ConnectionTable { seats, ready, .. } = &mut self.connections;
+        let ConnectionTable {
+            seats,
+            numbers,
+            ready,
+            ..
+        } = &mut self.connections;
         shared.share_among(ready.len());
         let called = match &mut self.batch {
-            None => iterate(rt, service, persister, shared, seats, ready).map(Called::Served),
-            Some(batch) => iterate_prefetched(rt, service, persister, batch, shared, seats, ready),
+            None => iterate(rt, service, persister, shared, seats, numbers, ready).map(
+                Called::Served,
+            ),
+            Some(batch) => {
+                iterate_prefetched(rt, service, persister, batch, shared, seats, numbers, ready)
+            }
         };
         match called {
             Ok(called) => {
                 self.note_lost(called);
-                self.answer(service, persister, shared, called);
+                self.answer(&service.service, persister, shared, called);
                 self.settle(called.count())
             }
             Err(fault) => Err(HostFault::Persist(fault)),
@@ -449,6 +485,55 @@ impl Hosting {
         self.connections.settle(called, self.tick)?;
         self.full = self.full && before <= self.connections.open;
         Ok(())
+    }
+
+    // The connections that have ended keep no stay from now on.
+    fn note_ended<D>(&mut self, service: &mut Attended<D>)
+        ensures { service.new.service ≡ service.old.service }
+    {
+        for ending in &self.connections.ended {
+            service.end(*ending, self.tick);
+        }
+        self.connections.ended.clear();
+    }
+
+    // Ends the stays that are due, where a second has passed or connections have ended, and any are to end.
+    fn end_stays<R, D: Service<R>, K: Persist<D>>(
+        &mut self,
+        rt: &R,
+        service: &mut Attended<D>,
+        persister: &mut K,
+        shared: &mut SharedBuffers<Global>,
+    ) -> Result<(), HostFault<K::Fault>>
+        requires knows { (q : Request) → D.knows q ≡ true }
+        requires room { AreShared shared.old }
+        ensures room { AreShared shared.new }
+        ensures served { OnOk result (WasServed D.may K.prefetches K.persists K.waits persister.old service.old.service persister.new service.new.service) }
+    {
+        let looks = self.looks || self.has_ended();
+        self.note_ended(service);
+        let Some(grace) = self.options.grace else {
+            return Ok(());
+        };
+        if service.lacks {
+            return Err(HostFault::Memory);
+        }
+        if !persister.may_answer_stays() {
+            self.connections.fail_keepers(&service.stays)?;
+        }
+        if !looks || (persister.shares_stays() && !self.looks) {
+            return Ok(());
+        }
+        self.looks = false;
+        end_due(
+            rt,
+            self.alloc,
+            service,
+            persister,
+            &mut shared.view,
+            grace,
+            self.tick,
+        )
     }
 
     // Has the persister go on, where a second has passed.

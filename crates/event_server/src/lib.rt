@@ -17,6 +17,9 @@
 //!
 //! `law_of_sharing` in `player` makes such turns, one after another, one log.
 //!
+//! A service is `Attended`: it notes which connection keeps each stay in the pool, by the numbers that connections have (`Hears`). `end_due` ends the stays
+//! that are due, and no others.
+//!
 //! `host` is a whole server over sockets: it waits until some are ready (`mio`), gives those their turn, and closes who is at an end or idle.
 //!
 //! Not promised, and shown by running it: that a connection that is due has its turn soon, and what sockets carry.
@@ -26,11 +29,12 @@
 //! ```text
 //! match iterate_prefetched(
 //!     &(),
-//!     &mut reported,
+//!     &mut attended,
 //!     teller,
 //!     &mut batch,
 //!     &mut room,
 //!     seats,
+//!     &[],
 //!     &ready,
 //! )? {
 //!     Called::Served(called) | Called::Unserved(called) => {
@@ -39,6 +43,7 @@
 
 pub mod answering;
 mod asking;
+pub mod attended;
 pub mod buffers;
 pub mod connection;
 pub mod connections;
@@ -48,6 +53,7 @@ pub mod host_fault;
 pub mod hosting;
 pub mod peek;
 pub mod persist;
+pub mod releasing;
 pub mod shared;
 pub mod socket;
 pub mod stream;
@@ -56,6 +62,7 @@ pub mod turns;
 pub mod watching;
 
 pub use answering::answer_queries;
+pub use attended::{Attended, Ending};
 pub use buffers::{Buffers, MOST_LINES, UNSENT_ROOM};
 pub use connection::{Connection, Stage};
 pub use gathering::{Batch, Called, gather, iterate_prefetched};
@@ -63,6 +70,7 @@ pub use host_fault::HostFault;
 pub use hosting::{HostOptions, Hosted, host};
 pub use peek::Peek;
 pub use persist::{Persist, Prefetch, Tally};
+pub use releasing::{end_due, release, release_all};
 pub use shared::{READ_ROOM, SharedBuffers};
 pub use stream::Stream;
 pub use teller::Teller;

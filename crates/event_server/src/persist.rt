@@ -1,6 +1,7 @@
 //! What is kept of a turn before its replies go out.
 
-ghost use Rattle.std.specs.Prelude.{◌≡◌, ◌≤◌, ◌+◌, ◌++◌, ℕ, List, length, OnOk};
+ghost use Rattle.std.specs.Prelude.{◌≡◌, ◌≤◌, ◌+◌, ◌++◌, ℕ, List, is_some, length, OnOk};
+ghost use Rattle.bit_allocator.specs.Competitors.{stay_of};
 ghost use Rattle.command_lines.specs.declared.replies.TheConstants.{HELD_REPLIES};
 ghost use Rattle.slot_array.specs.SlotsState.{SlotsState};
 ghost use Rattle.held_lines.specs.Held.{held_text};
@@ -106,6 +107,21 @@ pub trait Persist<D> {
     /// Is called about once a second while clients are there or watchers may be, and three times a minute else.
     fn tick(&mut self, service: &mut D) -> Result<(), Self::Fault>
         ensures { OnOk result (waits self.old service.old self.new service.new) };
+
+    /// Whether other servers share the service's stays, so that this persister ends them itself (`end_stays`).
+    fn shares_stays(&self) -> bool;
+
+    /// Ends stays that are shared: those of these identities, which nobody keeps here any more, and those of servers that are gone. Is called
+    /// about once a second where the server ends stays, and only where `shares_stays` says so.
+    fn end_stays(&mut self, service: &mut D, due: &[u64]) -> Result<(), Self::Fault>
+        ensures { OnOk result (waits self.old service.old self.new service.new) };
+
+    /// Returns true if and only if an identity competes, where all is kept that the service told.
+    fn has_stay(&self, service: &D, identity: u64) -> bool
+        ensures { result ≡ is_some (stay_of identity (holds self.now service.now).pool.competitors) };
+
+    /// Whether this server may still answer those who keep stays. Where it may not they are closed, and nothing is sent to them.
+    fn may_answer_stays(&self) -> bool;
 
     /// What is amiss and does not end the server, for people; `None` where nothing is.
     fn trouble(&self) -> Option<&'static str>;

@@ -3,10 +3,12 @@
 ghost use Rattle.std.specs.Prelude.{◌≡◌, ◌⊎◌, ℕ, true, get_or, take, None, IfOk, OnErr};
 ghost use Rattle.commands.specs.Requests.{Request};
 ghost use Rattle.player.specs.Shared.{TurnLog};
+ghost use Rattle.event_server.specs.Attending.{Hears, acts_in, acts_of, number_at};
 ghost use Rattle.event_server.specs.SharedBuffers.{AreShared};
 ghost use Rattle.event_server.specs.ConnectionBuffers.{HasTakenAll};
 ghost use Rattle.event_server.specs.Seats.{seats_of, CallsSome, EachIs, SeatIs, Served, TurnsTaken, RepliesSent, NoneSent, SeatTurn, SeatSent, ServedIteration};
 
+use crate::attended::Attended;
 use crate::connection::{Connection, Stage};
 use crate::persist::Persist;
 use crate::shared::SharedBuffers;
@@ -14,18 +16,27 @@ use crate::stream::Stream;
 use player::Service;
 use std::alloc::Allocator;
 
-// The connection of a seat has its turn, where there is one and its turn is due.
+// The number of the connection of a seat.
+pub(crate) fn number_at(numbers: &[u64], key: usize) -> u64
+    ensures { result ≡ number_at numbers.now key }
+{
+    if key < numbers.len() { numbers[key] } else { 0 }
+}
+
+// The connection of a seat has its turn, where there is one and its turn is due. It is the one of this number.
 fn take_at<R, D: Service<R>, S: Stream, A: Allocator, B: Allocator>(
     rt: &R,
-    service: &mut D,
+    service: &mut Attended<D>,
     shared: &mut SharedBuffers<B>,
     seats: &mut [Option<Connection<S, A>>],
+    number: u64,
     key: usize,
 )
     requires knows { (q : Request) → D.knows q ≡ true }
     requires room { AreShared shared.old }
     ensures took { ((service.new ≡ service.old) × (seats.new ≡ seats.old)) ⊎
-        SeatTurn (seats_of S.left S.gone) D.may (λ c. c.stage ≡ Stage.Queued) key service.old seats.old service.new seats.new }
+        ((turn : SeatTurn (seats_of S.left S.gone) D.may (λ c. c.stage ≡ Stage.Queued) key service.old.service seats.old service.new.service seats.new) ×
+        Hears (acts_of number turn.turns) service.old service.new) }
     ensures done { SeatIs (λ c. c.stage ≡ Stage.Queued → ⊥) (get_or seats.new key None) }
     ensures all { (seats.new ≡ seats.old) ⊎ SeatIs (λ c. HasTakenAll c.buffers) (get_or seats.new key None) }
     ensures others { (i : ℕ) → (i ≡ key → ⊥) → get_or seats.new i None ≡ get_or seats.old i None }
@@ -34,6 +45,7 @@ fn take_at<R, D: Service<R>, S: Stream, A: Allocator, B: Allocator>(
     if key < seats.len() {
         if let Some(connection) = &mut seats[key] {
             if let Stage::Queued = connection.stage {
+                service.listen_to(number);
                 connection.take(rt, service, shared);
             }
         }
@@ -41,26 +53,29 @@ fn take_at<R, D: Service<R>, S: Stream, A: Allocator, B: Allocator>(
 }
 
 /// The connections of these seats have their turns, one after another, until so much is to be kept; the first has it in any
-/// case. Says how many of the seats were called. Nothing is sent.
+/// case. Says how many of the seats were called. Nothing is sent. Who keeps a stay is noted by the numbers of the connections.
 pub fn take_turns<R, D: Service<R>, K: Persist<D>, S: Stream, A: Allocator, B: Allocator>(
     rt: &R,
-    service: &mut D,
+    service: &mut Attended<D>,
     persister: &K,
     shared: &mut SharedBuffers<B>,
     seats: &mut [Option<Connection<S, A>>],
+    numbers: &[u64],
     ready: &[usize],
 ) -> usize
     requires knows { (q : Request) → D.knows q ≡ true }
     requires room { AreShared shared.old }
-    ensures taken { (log : TurnLog) × TurnsTaken (seats_of S.left S.gone) D.may service.old seats.old log service.new seats.new }
+    ensures taken { (log : TurnLog) × TurnsTaken (seats_of S.left S.gone) D.may service.old.service seats.old log service.new.service seats.new ×
+        Hears (acts_in (number_at numbers.now) log) service.old service.new }
     ensures called { CallsSome ready.now result }
     ensures done { EachIs (λ c. c.stage ≡ Stage.Queued → ⊥) (take result ready.now) seats.new }
     ensures served { Served (seats_of S.left S.gone) (λ c. c.stage ≡ Stage.Queued) (take result ready.now) seats.old seats.new }
     ensures room { AreShared shared.new }
 {
     let mut called = 0;
-    while called < ready.len() && (called == 0 || !persister.is_full(service)) {
-        take_at(rt, service, shared, seats, ready[called]);
+    while called < ready.len() && (called == 0 || !persister.is_full(&service.service)) {
+        let key = ready[called];
+        take_at(rt, service, shared, seats, number_at(numbers, key), key);
         called += 1;
     }
     called
@@ -97,28 +112,29 @@ pub fn send_replies<S: Stream, A: Allocator>(
 
 /// One turn of the loop: the connections of these seats take what came, what the service tells of it is kept, and only then are
 /// replies sent. Says how many of the seats were called, one at least where any is given: of each of them the connection rests then, and the
-/// others are to be called in the next turn.
+/// others are to be called in the next turn. Who keeps a stay is noted by the numbers of the connections, in the order of all turns.
 ///
 /// The fault of what keeps, with no byte sent.
 pub fn iterate<R, D: Service<R>, K: Persist<D>, S: Stream, A: Allocator, B: Allocator>(
     rt: &R,
-    service: &mut D,
+    service: &mut Attended<D>,
     persister: &mut K,
     shared: &mut SharedBuffers<B>,
     seats: &mut [Option<Connection<S, A>>],
+    numbers: &[u64],
     ready: &[usize],
 ) -> Result<usize, K::Fault>
     requires knows { (q : Request) → D.knows q ≡ true }
     requires room { AreShared shared.old }
-    ensures turned { IfOk result (λ called. ServedIteration (seats_of S.left S.gone) D.may K.persists (λ c. c.stage ≡ Stage.Queued) (take called ready.now)
-        persister.old service.old seats.old persister.new service.new seats.new) }
+    ensures turned { IfOk result (λ called. (turned : ServedIteration (seats_of S.left S.gone) D.may K.persists (λ c. c.stage ≡ Stage.Queued) (take called ready.now)
+        persister.old service.old.service seats.old persister.new service.new.service seats.new) × Hears (acts_in (number_at numbers.now) turned.turn.log) service.old service.new) }
     ensures unsent { OnErr result (NoneSent (seats_of S.left S.gone) seats.old seats.new) }
     ensures called { IfOk result (λ called. CallsSome ready.now called) }
     ensures rest { IfOk result (λ called. EachIs (λ c. c.stage ≡ Stage.Idle) (take called ready.now) seats.new) }
     ensures room { AreShared shared.new }
 {
-    let called = take_turns(rt, service, persister, shared, seats, ready);
-    persister.persist(service)?;
+    let called = take_turns(rt, service, persister, shared, seats, numbers, ready);
+    persister.persist(&mut service.service)?;
     send_replies(seats, &ready[..called]);
     Ok(called)
 }

@@ -24,6 +24,7 @@
 pub mod export;
 pub mod failure;
 pub mod holders;
+pub mod keepers;
 pub mod laws;
 pub mod log_plan;
 pub mod persisters;

@@ -33,6 +33,7 @@ pub struct Patience<'r, R: Clock> {
     rt: &'r R,
     most: Duration,
     begun: Option<Instant>,
+    made: Option<Instant>,
 }
 
 impl<'r, R: Clock> Patience<'r, R> {
@@ -42,6 +43,7 @@ impl<'r, R: Clock> Patience<'r, R> {
             rt,
             most: Duration::from_secs(seconds),
             begun: None,
+            made: Instant::now(rt).ok(),
         }
     }
 }
@@ -63,6 +65,16 @@ impl<'r, R: Clock> Pause for Patience<'r, R> {
         }
         thread::sleep(self.rt, Duration::from_millis(REST));
         true
+    }
+
+    fn seconds(&self) -> u64 {
+        let Some(made) = self.made else {
+            return u64::MAX;
+        };
+        match made.elapsed(self.rt) {
+            Ok(passed) => passed.as_secs(),
+            Err(_) => u64::MAX,
+        }
     }
 }
 

@@ -77,6 +77,23 @@ impl Persist<Hall> for Unrecorded {
         Ok(())
     }
 
+    // No other server has the hall: its stays end by its own events.
+    fn shares_stays(&self) -> bool {
+        false
+    }
+
+    fn end_stays(&mut self, _hall: &mut Hall, _due: &[u64]) -> Result<(), JournalFault> {
+        Ok(())
+    }
+
+    fn has_stay(&self, hall: &Hall, identity: u64) -> bool {
+        hall.slots().pool().stay_of(identity).is_some()
+    }
+
+    fn may_answer_stays(&self) -> bool {
+        true
+    }
+
     fn trouble(&self) -> Option<&'static str> {
         None
     }
@@ -161,6 +178,32 @@ impl<D: Disk> Persist<WriteAhead> for Recorded<D> {
     // A file that was deleted, moved or cut short is noticed though nothing is written.
     fn tick(&mut self, _write_ahead: &mut WriteAhead) -> Result<(), JournalFault> {
         self.journal.look()
+    }
+
+    // No other server has the journal: its stays end by its own events.
+    fn shares_stays(&self) -> bool {
+        false
+    }
+
+    fn end_stays(
+        &mut self,
+        _write_ahead: &mut WriteAhead,
+        _due: &[u64],
+    ) -> Result<(), JournalFault> {
+        Ok(())
+    }
+
+    fn has_stay(&self, write_ahead: &WriteAhead, identity: u64) -> bool {
+        write_ahead
+            .hall()
+            .slots()
+            .pool()
+            .stay_of(identity)
+            .is_some()
+    }
+
+    fn may_answer_stays(&self) -> bool {
+        true
     }
 
     fn trouble(&self) -> Option<&'static str> {

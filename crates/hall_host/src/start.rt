@@ -2,16 +2,18 @@
 
 use crate::export::write_events;
 use crate::failure::HostFailure;
+use crate::keepers::stays_at_start;
 use crate::log_plan::{LogPlan, MEMBER_SECONDS, Patience, fresh_token, members_of};
 use crate::persisters::{Recorded, Unrecorded};
 use commands::Config;
 use etcd_log::{EtcdStore, TcpDial};
-use event_server::{HostOptions, Hosted, host};
+use event_server::{Attended, HostOptions, Hosted, host};
 use hall::{Compactor, Hall};
 use hall_log::{LogPersister, Pause, ReplyQueue};
 use journal::{Disk, FileDisk, Journal, Opened};
 use listeners::{ListenPlan, Listening, SocketFile, listen};
 use replicated_log::Store;
+use stays::Stays;
 use std::alloc::{AllocGlobal, Global};
 use std::fs::File;
 use std::io::Write;
@@ -19,6 +21,9 @@ use std::net::Net;
 use std::rt::{Clock, Files};
 use std::sync::Wait;
 use std::time::Duration;
+
+/// The most seconds of grace: a day.
+const MOST_GRACE: u64 = 86_400;
 
 /// Where the history of a hall is kept.
 #[derive(Clone, Copy, Debug, Drop)]
@@ -42,6 +47,8 @@ pub struct HostPlan<'a> {
     pub clients: usize,
     /// After how many seconds a client that says nothing is closed; never, where it is not given.
     pub idle: Option<u64>,
+    /// How many seconds after its connection has ended a stay ends; never, where it is not given.
+    pub grace: Option<u64>,
     /// Where the history is kept.
     pub keeping: Keeping<'a>,
     /// Whether a line at first and then one a minute tells how much there is.
@@ -55,6 +62,7 @@ impl HostPlan<'_> {
             kind: self.config.world,
             clients: self.clients,
             idle: self.idle,
+            grace: self.grace,
             reports: self.reports,
         }
     }
@@ -127,6 +135,11 @@ fn host_recorded<R: Net + Wait + Clock + Files, D: Disk, W: Write, E: Write>(
     if let Err(fault) = persister.compact_when_due(&mut write_ahead) {
         return Err(HostFailure::from(fault));
     }
+    let stays = match stays_at_start(alloc, write_ahead.hall(), plan.grace) {
+        Ok(stays) => stays,
+        Err(failure) => return Err(failure),
+    };
+    let mut attended = Attended::new(write_ahead, stays, plan.grace.is_some());
     let Listening { listeners, file } = match listen(rt, alloc, plan.listen) {
         Ok(listening) => listening,
         Err(fault) => return Err(HostFailure::from(fault)),
@@ -136,7 +149,7 @@ fn host_recorded<R: Net + Wait + Clock + Files, D: Disk, W: Write, E: Write>(
         alloc,
         plan.options(),
         listeners,
-        &mut write_ahead,
+        &mut attended,
         &mut persister,
         output,
         errors,
@@ -152,7 +165,8 @@ fn host_unrecorded<R: Net + Wait + Clock + Files, W: Write, E: Write>(
     output: &mut W,
     errors: &mut E,
 ) -> Result<(), HostFailure> {
-    let mut hall = Hall::new(alloc, plan.config)?;
+    let hall = Hall::new(alloc, plan.config)?;
+    let mut attended = Attended::new(hall, Stays::new(alloc), plan.grace.is_some());
     let mut persister = Unrecorded {
         alloc,
         compactor: Compactor::new(),
@@ -164,7 +178,7 @@ fn host_unrecorded<R: Net + Wait + Clock + Files, W: Write, E: Write>(
         alloc,
         plan.options(),
         listeners,
-        &mut hall,
+        &mut attended,
         &mut persister,
         output,
         errors,
@@ -240,13 +254,18 @@ where
         Ok(listening) => listening,
         Err(fault) => return Err(HostFailure::from(fault)),
     };
-    let mut reply_queue = ReplyQueue::new(alloc);
+    if let Some(grace) = plan.grace {
+        persister.grant_grace(grace.min(MOST_GRACE) as u32);
+    }
+    // Who kept the stays that are there at the start follows from the log.
+    let reply_queue = ReplyQueue::new(alloc);
+    let mut attended = Attended::new(reply_queue, Stays::new(alloc), plan.grace.is_some());
     let hosted = host(
         rt,
         alloc,
         plan.options(),
         listeners,
-        &mut reply_queue,
+        &mut attended,
         &mut persister,
         output,
         errors,

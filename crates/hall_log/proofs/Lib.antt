@@ -4,3 +4,6 @@ mod Heads
 mod ReplyQueues
 mod Agrees
 mod Notes
+mod Keepers
+mod Silences
+mod Releasing

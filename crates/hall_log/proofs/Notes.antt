@@ -31,7 +31,7 @@ pub all_said : (poisoned : Bool) (notes : List Note) (next : ℕ) → record { l
 all_said poisoned notes next is = (ap (λ (t : ReplyQueueState). t.poisoned) is, none_left notes next (ap (λ (t : ReplyQueueState). t.left) is))
 
 -- and one that has said all its notes has nothing left
-none_behind : (notes : List Note) (next : ℕ) → length notes ≤ next → drop next (map said_by notes) ≡ []
+pub none_behind : (notes : List Note) (next : ℕ) → length notes ≤ next → drop next (map said_by notes) ≡ []
 none_behind [] zero h = refl
 none_behind [] (suc next) h = refl
 none_behind (x ∷ notes) zero h = absurd (omega (arith, h))

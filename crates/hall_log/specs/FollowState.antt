@@ -2,9 +2,11 @@
 use Rattle.commands.specs.declared.config.Config.{Config}
 use Rattle.replicated_log.specs.ReplicaState.{ReplicaState}
 use Rattle.hall.specs.HallState.{HallState}
+use Rattle.hall_log.specs.StayState.{StayState}
 
--- the replica, the store of the log, and what the hall was opened for
+-- the replica of the hall, the same with who keeps its stays, the store of the log, and what the hall was opened for
 pub record FollowState (S : Type 0) : Type 0 where
   pub replica : ReplicaState HallState
+  pub stays : ReplicaState StayState
   pub store : S
   pub config : Config

@@ -7,4 +7,11 @@ pub mod Faults
 pub mod Hosted
 pub mod FollowState
 pub mod Batches
+pub mod Kept
+pub mod StayState
+pub mod Stays
+pub mod Watched
+pub mod Releases
+pub mod Decided
+pub mod Silence
 pub mod Pauses

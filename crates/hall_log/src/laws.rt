@@ -14,8 +14,13 @@ ghost use Rattle.hall_log.specs.Entries.{HallApplies};
 ghost use Rattle.hall_log.specs.Hosted.{IsHostedOverLog, IsPrefetched, IsUsedUp};
 ghost use Rattle.hall_log.specs.Said.{ReplyQueueReplies};
 ghost use Rattle.hall_log.specs.ReplyQueueState.{ReplyQueueState};
+ghost use Rattle.hall_log.specs.Stays.{StayApplies, stays_of};
+ghost use Rattle.hall_log.specs.StayState.{StayState};
+ghost use Rattle.hall_log.specs.Silence.{IsAmong, Look, WasSo, after_looks};
+ghost use Rattle.hall_log.specs.declared.watches.Watch.{Watch};
 
 use crate::machine::HallMachine;
+use crate::stay_machine::StayMachine;
 use replicated_log::{Store, law_of_agreement};
 
 /// A law, which runs nothing: what a hall says to an entry, and the hall after it, are determined by the entry and the hall before it; so
@@ -28,6 +33,22 @@ pub fn law_of_halls()
 {
     law_of_agreement::<HallMachine>();
 }
+
+/// A law, which runs nothing: who keeps the stays in the pool of a hall is determined by the entries of the log up to a place, with the hall; so all front ends
+/// that have applied the log up to one place know of the same keepers, each with the same last entry.
+pub fn law_of_keepers()
+    ensures determined { IsDetermined StayApplies }
+    ensures states { (config : Config) (log : List (List ℕ)) (a b : ReplicaState StayState) →
+        IsReplica StayApplies (stands_in log) (stays_of config) a → IsReplica StayApplies (stands_in log) (stays_of config) b →
+        a.poisoned ≡ false → b.poisoned ≡ false → a.place ≡ b.place → a.machine ≡ b.machine }
+{
+    law_of_agreement::<StayMachine>();
+}
+
+/// A law, which runs nothing: where a watch is what looks at the log came to, one after another, the log told the same of its stay at each look from its tick on.
+pub fn law_of_silence()
+    ensures { (looks : List Look) (w : Watch) → IsAmong w (after_looks looks) → WasSo w looks }
+{}
 
 /// A law, which runs nothing, of what a turn of the loop (`event_server::iterate`) is over a queue of replies that was prefetched of a log and was used up: it is a
 /// turn over the hall of the log, at the place of an entry of just its lines.

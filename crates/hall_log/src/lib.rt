@@ -12,6 +12,10 @@
 //! turns of all connections, in one order, are a run of the hall to which just the entries before this turn's were applied. Halls of one
 //! config that have applied one log up to one place are the same (`law_of_halls`).
 //!
+//! `StayMachine` has with the hall who keeps each stay in its pool, as the log tells: the front end whose entry said `enter` of it last and was
+//! answered `ok` or `refused 9` (`law_of_keepers`). `LogPersister::end_stays` ends the stays of this front end that nobody keeps any more, and those of
+//! front ends of which nothing was heard for long. A release is offered for one place, that up to which the log was read, and for no other.
+//!
 //! Where memory is refused while an entry is applied nothing is known of the hall any more, and nothing is answered (`LogFault::Memory`).
 //!
 //! Not promised, and shown by running it: that a store over a network is one log, how soon it answers, and that the token is no other's.
@@ -29,6 +33,8 @@
 //! ```
 #![tactic(auto)]
 
+mod keeping;
+pub mod kept_stay;
 pub mod laws;
 pub mod log_fault;
 pub mod log_hall;
@@ -37,10 +43,15 @@ pub mod machine;
 pub mod note;
 mod noting;
 pub mod pause;
+mod release_lines;
 pub mod reply_queue;
+mod sessions;
+pub mod stay_machine;
 pub mod tallying;
+pub mod watches;
 
-pub use laws::{law_of_batches, law_of_halls, law_of_log_hosting};
+pub use kept_stay::KeptStay;
+pub use laws::{law_of_batches, law_of_halls, law_of_keepers, law_of_log_hosting, law_of_silence};
 pub use log_fault::LogFault;
 pub use log_hall::LogHall;
 pub use log_persister::LogPersister;
@@ -48,4 +59,6 @@ pub use machine::HallMachine;
 pub use note::{Asked, Note};
 pub use pause::Pause;
 pub use reply_queue::ReplyQueue;
+pub use stay_machine::StayMachine;
 pub use tallying::tally_of;
+pub use watches::Watch;

@@ -1,20 +1,23 @@
 //! A hall that follows a log.
 
 ghost use Rattle.std.specs.Prelude.{◌≡◌, ◌<◌, ◌≤◌, ◌+◌, ◌⊎◌, true, false, Ok, Err, OnOk, OnErr, IfOk, []};
-ghost use Rattle.replicated_log.specs.Places.{Contradicts, Keeps};
+ghost use Rattle.replicated_log.specs.Places.{Adds, Contradicts, Keeps, Same};
 ghost use Rattle.replicated_log.specs.Replicas.{IsDueAt};
+ghost use Rattle.replicated_log.specs.declared.replica.Step.TheVariants.{Answered};
 ghost use Rattle.replicated_log.specs.declared.serve_fault.Cause.TheVariants.{Busy};
 ghost use Rattle.replicated_log.specs.declared.serve_fault.ServeFault.TheVariants.{Unknown};
 ghost use Rattle.hall.specs.Halls.{hall_of};
+ghost use Rattle.hall_log.specs.Decided.{HasRead};
 ghost use Rattle.hall_log.specs.Entries.{HallApplies};
 ghost use Rattle.hall_log.specs.Hosted.{IsAtEnd};
 ghost use Rattle.hall_log.specs.Said.{reply_queue_of};
 
-use crate::machine::HallMachine;
+use crate::kept_stay::KeptStay;
 use crate::reply_queue::ReplyQueue;
+use crate::stay_machine::StayMachine;
 use commands::Config;
 use hall::Hall;
-use replicated_log::{Cause, Replica, ServeFault, Store, StoreFault, law_of_following};
+use replicated_log::{Cause, Replica, ServeFault, Step, Store, StoreFault, law_of_following};
 use std::alloc::Global;
 use std::marker::Model;
 use step_memory::Refusal;
@@ -23,24 +26,22 @@ use step_memory::Refusal;
 /// order, up to its place.
 #[derive(Drop)]
 pub struct LogHall<S: Store> {
-    replica: Replica<HallMachine>,
+    replica: Replica<StayMachine>,
     store: S,
     config: Config,
 }
 
 impl<S: Store> Model for LogHall<S> {
-    ghost use Rattle.std.specs.Prelude.{[]};
     ghost use Rattle.hall_log.specs.FollowState.{FollowState};
 
     ghost Value = { FollowState S };
 
     ghost use Rattle.replicated_log.specs.Replicas.{IsReplica};
-    ghost use Rattle.hall.specs.Halls.{hall_of};
-    ghost use Rattle.hall_log.specs.Entries.{HallApplies};
+    ghost use Rattle.hall_log.specs.Stays.{StayApplies, hall_part, stays_of};
 
-    ghost view = { λ l. record { replica = l.replica; store = l.store; config = l.config } };
+    ghost view = { λ l. record { replica = hall_part l.replica; stays = l.replica; store = l.store; config = l.config } };
 
-    ghost invariant = { λ l. IsReplica HallApplies (S.stands l.store) (hall_of l.config []) l.replica };
+    ghost invariant = { λ l. IsReplica StayApplies (S.stands l.store) (stays_of l.config) l.replica };
 }
 
 // Has a store begin with this line, where nothing stands in it; tells whether it does, once what stands there was read.
@@ -64,7 +65,7 @@ impl<S: Store + Drop> LogHall<S> {
     pub fn new(alloc: Global, store: S, config: Config) -> Result<LogHall<S>, Refusal>
         ensures { IfOk result (λ l. l.config ≡ config) }
     {
-        let machine = HallMachine::new(alloc, config)?;
+        let machine = StayMachine::new(alloc, config)?;
         Ok(LogHall {
             replica: Replica::new(alloc, machine),
             store,
@@ -76,9 +77,17 @@ impl<S: Store + Drop> LogHall<S> {
 impl<S: Store> LogHall<S> {
     /// The hall.
     pub fn hall(&self) -> &Hall
-        ensures { result.now ≡ self.now.replica.machine }
+        ensures hall { result.now ≡ self.now.replica.machine }
+        ensures part { result.now ≡ self.now.stays.machine.hall }
     {
         self.replica.machine().hall()
+    }
+
+    /// The stays in its pool, each with the front end that keeps it.
+    pub fn kept(&self) -> &[KeptStay]
+        ensures { result.now ≡ self.now.stays.machine.kept }
+    {
+        self.replica.machine().kept()
     }
 
     /// How many entries were applied.
@@ -93,7 +102,7 @@ impl<S: Store> LogHall<S> {
         ensures begins { result ≡ Ok true → S.stands self.new.store 0 line.now }
         ensures same { (self.new.replica ≡ self.old.replica) × (self.new.config ≡ self.old.config) }
     {
-        law_of_following::<HallMachine, S>();
+        law_of_following::<StayMachine, S>();
         begins_with(&mut self.store, line, entry)
     }
 
@@ -108,7 +117,7 @@ impl<S: Store> LogHall<S> {
         ensures keeps { Keeps (S.stands self.old.store) (S.stands self.new.store) }
         ensures config { self.new.config ≡ self.old.config }
     {
-        law_of_following::<HallMachine, S>();
+        law_of_following::<StayMachine, S>();
         self.replica.serve(&mut self.store, batch, reply_queue)
     }
 
@@ -121,7 +130,35 @@ impl<S: Store> LogHall<S> {
         ensures count { IfOk result (λ n. self.new.replica.place ≡ self.old.replica.place + n) }
         ensures stopped { IfOk result (λ n. n < most → IsAtEnd (S.lacks self.new.store) self.new.replica.place) }
     {
-        law_of_following::<HallMachine, S>();
+        law_of_following::<StayMachine, S>();
         self.replica.catch_up(&mut self.store, most, reply_queue)
+    }
+
+    /// Applies what stands in the log, up to so many entries; tells whether all was read that stands.
+    pub(crate) fn read(&mut self, most: u64, reply_queue: &mut ReplyQueue) -> Result<bool, Cause>
+        ensures read { result ≡ Ok true → HasRead S.lacks (S.stands self.old.store) self.new.config self.new.stays }
+        ensures unanswered { reply_queue.new ≡ reply_queue_of [] }
+        ensures same { Same (S.stands self.old.store) (S.stands self.new.store) }
+        ensures config { self.new.config ≡ self.old.config }
+        ensures later { self.new.replica.poisoned ≡ false → (self.old.replica.poisoned ≡ false) × (self.old.replica.place ≤ self.new.replica.place) }
+    {
+        law_of_following::<StayMachine, S>();
+        let passed = self.replica.catch_up(&mut self.store, most, reply_queue)?;
+        Ok(passed < most)
+    }
+
+    /// Offers a batch for the next place, and for no other (`Replica::step`).
+    pub(crate) fn offer(
+        &mut self,
+        batch: &[u8],
+        reply_queue: &mut ReplyQueue,
+    ) -> Result<Step, Cause>
+        ensures adds { Adds (S.stands self.old.store) self.old.stays.place batch.now (S.stands self.new.store) }
+        ensures config { self.new.config ≡ self.old.config }
+        ensures later { self.new.replica.poisoned ≡ false → (self.old.replica.poisoned ≡ false) × (self.old.replica.place ≤ self.new.replica.place) }
+        ensures stood { result ≡ Ok Answered → S.stands self.new.store self.old.stays.place batch.now }
+    {
+        law_of_following::<StayMachine, S>();
+        self.replica.step(&mut self.store, batch, reply_queue)
     }
 }

@@ -1,25 +1,30 @@
 //! Serves the clients of one front end over a log.
 
-ghost use Rattle.std.specs.Prelude.{◌≡◌, ◌≢◌, ◌+◌, ◌++◌, ◌≤◌, ◌<◌, [], true, false, Ok, OnOk, IfOk, All};
+ghost use Rattle.std.specs.Prelude.{◌≡◌, ◌≢◌, ◌+◌, ◌-◌, ◌++◌, ◌≤◌, ◌<◌, ◌⊎◌, ℕ, [], true, false, leb, map, Ok, OnOk, IfOk, All};
 ghost use Rattle.std.specs.String.{string_bytes};
-ghost use Rattle.replicated_log.specs.Places.{Keeps};
+ghost use Rattle.replicated_log.specs.Places.{Adds, Keeps, Same};
 ghost use Rattle.hall_log.specs.Batches.{batch_of, head_of, hex_digit, hex_digits, next_count};
+ghost use Rattle.hall_log.specs.Decided.{HasLooked, IsDecided, ended_of, next_read};
 ghost use Rattle.hall_log.specs.Entries.{first_line_of};
 ghost use Rattle.hall_log.specs.Hosted.{HasGoneOn, IsAtEnd, IsPrefetchedBy, IsServed};
 ghost use Rattle.hall_log.specs.Pauses.{IsSpent};
+ghost use Rattle.hall_log.specs.Releases.{lines_of};
 ghost use Rattle.hall_log.specs.Said.{reply_queue_of};
+ghost use Rattle.hall_log.specs.Watched.{watched};
 
 use crate::log_fault::LogFault;
 use crate::log_hall::LogHall;
 use crate::pause::Pause;
+use crate::release_lines::lines_of;
 use crate::reply_queue::ReplyQueue;
+use crate::sessions::Sessions;
 use crate::tallying::tally_of;
 use commands::Config;
 use event_server::{Persist, Prefetch, Tally};
 use hall::Hall;
 use held_lines::{HeldQuery, put_held};
 use player::Replies;
-use replicated_log::{Cause, MOST_BATCH, MOST_PLACES, ServeFault, Store, StoreFault};
+use replicated_log::{Cause, MOST_BATCH, MOST_PLACES, ServeFault, Step, Store, StoreFault};
 use std::alloc::{AllocError, Allocator, Global};
 
 /// What ends a line.
@@ -49,6 +54,8 @@ pub struct LogPersister<S: Store, T: Pause> {
     no_space: bool,
     /// Whether the store answered when it was last asked.
     answers: bool,
+    /// Who keeps stays.
+    sessions: Sessions,
     ghost one_line: { All (λ b. b ≢ 10) token },
 }
 
@@ -64,6 +71,7 @@ impl<S: Store + Drop, T: Pause + Drop> Drop for LogPersister<S, T> {
             pause: _,
             no_space: _,
             answers: _,
+            sessions: _,
         } = self;
     }
 }
@@ -152,6 +160,7 @@ impl<S: Store + Drop, T: Pause + Drop> LogPersister<S, T> {
             pause,
             no_space: false,
             answers: true,
+            sessions: Sessions::new(alloc),
         };
         match persister.start(line.as_bytes()) {
             Ok(()) => Ok(persister),
@@ -238,14 +247,17 @@ impl<S: Store, T: Pause> LogPersister<S, T> {
         ensures keeps { Keeps (S.stands self.old.log.store) (S.stands self.new.log.store) }
         ensures config { self.new.log.config ≡ self.old.log.config }
         ensures head { (self.new.count ≡ self.old.count) × (self.new.token ≡ self.old.token) }
+        ensures sent { result ≡ Ok Prefetch.Known → T.tells self.old.pause self.new.sessions.sent }
         ensures later { self.new.log.replica.poisoned ≡ false → (self.old.log.replica.poisoned ≡ false) × (self.old.log.replica.place ≤ self.new.log.replica.place) }
     {
+        let now = self.pause.seconds();
         reply_queue.clear();
         self.pause.begin();
         for _tries in 0..MOST_TRIES {
             let Err(fault) = self.log.serve(&self.batch, reply_queue) else {
                 self.no_space = false;
                 self.answers = true;
+                self.sessions.sent = now;
                 return Ok(Prefetch::Known);
             };
             self.no_space = fault == ServeFault::Unknown(Cause::Store(StoreFault::NoSpace));
@@ -257,6 +269,127 @@ impl<S: Store, T: Pause> LogPersister<S, T> {
             }
         }
         Ok(Prefetch::Lost)
+    }
+
+    /// For how many seconds a stay goes on that nobody keeps. It is 0 until this is called.
+    pub fn grant_grace(&mut self, seconds: u32)
+        ensures { self.new.sessions.grace ≡ seconds }
+    {
+        self.sessions.grace = seconds;
+    }
+
+    /// Returns true: other front ends share the stays in the pool, so that this persister ends them itself.
+    pub fn shares_stays(&self) -> bool
+        ensures { result ≡ true }
+    {
+        true
+    }
+
+    /// Returns true if and only if this front end may answer those who keep stays: it sent the last of its entries that stood no more than 20
+    /// seconds ago. Others end its stays only later than that and the grace time.
+    pub fn may_answer_stays(&self) -> bool
+        ensures { (now : ℕ) × T.tells self.now.pause now × (result ≡ leb (now - self.now.sessions.sent) 20) }
+    {
+        self.sessions.may_answer(self.pause.seconds())
+    }
+
+    // The lines by which the stays end that are to end now, where all of the log was read.
+    fn decide(&mut self, left: &[u64]) -> Result<Vec<u8>, AllocError>
+        ensures lines { IfOk result (λ lines. lines.items ≡ lines_of self.new.log.stays.machine.hall (ended_of self.old.token left.now self.old.sessions.grace
+            self.new.sessions.reads self.old.sessions.watches.watches.items self.new.log.stays.machine.kept)) }
+        ensures looked { OnOk result (self.new.sessions.watches.watches.items ≡
+            map (watched self.new.sessions.reads self.old.sessions.watches.watches.items) self.new.log.stays.machine.kept) }
+        ensures counted { OnOk result (self.new.sessions.reads ≡ next_read self.old.sessions.reads) }
+        ensures same { (self.new.log ≡ self.old.log) × (self.new.count ≡ self.old.count) × (self.new.token ≡ self.old.token) }
+    {
+        let ended = self.sessions.ended(&self.token, self.log.kept(), left)?;
+        lines_of(self.alloc, self.log.hall(), &ended)
+    }
+
+    // Offers an entry of these lines for the next place, once.
+    fn offer(&mut self, lines: &[u8], reply_queue: &mut ReplyQueue) -> Result<(), LogFault>
+        ensures adds { Adds (S.stands self.old.log.store) self.old.log.stays.place (batch_of self.old.token self.new.count lines.now) (S.stands self.new.log.store) }
+        ensures counted { (self.new.count ≡ self.old.count) ⊎ (self.new.count ≡ next_count self.old.count) }
+        ensures config { self.new.log.config ≡ self.old.log.config }
+        ensures later { self.new.log.replica.poisoned ≡ false → (self.old.log.replica.poisoned ≡ false) × (self.old.log.replica.place ≤ self.new.log.replica.place) }
+        ensures looked { (self.new.sessions.watches ≡ self.old.sessions.watches) × (self.new.sessions.reads ≡ self.old.sessions.reads) }
+        ensures sent { (self.new.sessions.sent ≡ self.old.sessions.sent) ⊎ (T.tells self.old.pause self.new.sessions.sent × S.stands self.new.log.store
+            self.old.log.stays.place (batch_of self.old.token self.new.count lines.now)) }
+        ensures token { self.new.token ≡ self.old.token }
+    {
+        let now = self.pause.seconds();
+        let count = self.count.wrapping_add(1);
+        let Ok(()) = put_batch(&mut self.batch, &self.token, count, lines) else {
+            return Err(LogFault::Memory);
+        };
+        self.count = count;
+        match self.log.offer(&self.batch, reply_queue) {
+            Ok(Step::Answered) => {
+                self.sessions.sent = now;
+                Ok(())
+            }
+            Ok(Step::Passed | Step::Nothing) => Ok(()),
+            Err(cause) => match LogFault::of_cause(cause) {
+                Some(fault) => Err(fault),
+                None => Ok(()),
+            },
+        }
+    }
+
+    // Ends the stays that are to end now, where all of the log was read.
+    fn end_due(&mut self, reply_queue: &mut ReplyQueue, left: &[u64]) -> Result<(), LogFault>
+        ensures released { Same (S.stands self.old.log.store) (S.stands self.new.log.store) ⊎ Adds (S.stands self.old.log.store) self.old.log.stays.place
+            (batch_of self.old.token self.new.count (lines_of self.old.log.stays.machine.hall (ended_of self.old.token left.now self.old.sessions.grace
+            self.new.sessions.reads self.old.sessions.watches.watches.items self.old.log.stays.machine.kept))) (S.stands self.new.log.store) }
+        ensures looked { OnOk result ((self.new.sessions.reads ≡ next_read self.old.sessions.reads) × (self.new.sessions.watches.watches.items ≡
+            map (watched self.new.sessions.reads self.old.sessions.watches.watches.items) self.old.log.stays.machine.kept)) }
+        ensures counted { (self.new.count ≡ self.old.count) ⊎ (self.new.count ≡ next_count self.old.count) }
+        ensures config { self.new.log.config ≡ self.old.log.config }
+        ensures later { self.new.log.replica.poisoned ≡ false → (self.old.log.replica.poisoned ≡ false) × (self.old.log.replica.place ≤ self.new.log.replica.place) }
+        ensures unreported { OnOk result (reply_queue.new ≡ reply_queue_of []) }
+    {
+        reply_queue.clear();
+        let Ok(lines) = self.decide(left) else {
+            return Err(LogFault::Memory);
+        };
+        let now = self.pause.seconds();
+        if lines.is_empty() && !self.sessions.wants_heartbeat(&self.token, now) {
+            return Ok(());
+        }
+        let offered = self.offer(&lines, reply_queue);
+        reply_queue.clear();
+        offered
+    }
+
+    /// Ends stays in the pool by one entry at most: those of these identities, which nobody keeps at this front end any more, if it keeps them as
+    /// the log tells, and those of front ends of which nothing was heard for longer than they may answer, and the grace time. It is to be called
+    /// about once a second. Where this front end keeps a stay and had no entry for 5 seconds, it has an empty one.
+    ///
+    /// The entry is offered once, for the place up to which the log was read. Where another came first, it is not offered again.
+    ///
+    /// # Errors
+    ///
+    /// Those behind which nothing more is served (`LogFault::of_cause`), and `Memory` if an allocation failed.
+    pub fn end_stays(&mut self, reply_queue: &mut ReplyQueue, left: &[u64]) -> Result<(), LogFault>
+        ensures gone_on { OnOk result (HasGoneOn (S.stands self.old.log.store) (S.stands self.new.log.store) self.old.log.config self.new.log.config
+            self.old.count self.new.count self.old.log.replica self.new.log.replica reply_queue.new) }
+        ensures released { Same (S.stands self.old.log.store) (S.stands self.new.log.store) ⊎ IsDecided S.lacks (S.stands self.old.log.store)
+            (S.stands self.new.log.store) self.new.log.config self.old.token self.new.count left.now self.old.sessions.grace self.new.sessions.reads
+            self.old.sessions.watches.watches.items }
+        ensures looked { OnOk result (((self.new.sessions.reads ≡ self.old.sessions.reads) × (self.new.sessions.watches ≡ self.old.sessions.watches)) ⊎
+            HasLooked S.lacks (S.stands self.old.log.store) self.new.log.config self.old.sessions.reads self.new.sessions.reads
+            self.old.sessions.watches.watches.items self.new.sessions.watches.watches.items) }
+    {
+        let read = self.log.read(TICK_ENTRIES, reply_queue);
+        self.answers = read.is_ok();
+        match read {
+            Ok(true) => self.end_due(reply_queue, left),
+            Ok(false) => Ok(()),
+            Err(cause) => match LogFault::of_cause(cause) {
+                Some(fault) => Err(fault),
+                None => Ok(()),
+            },
+        }
     }
 }
 
@@ -328,6 +461,22 @@ impl<S: Store, T: Pause> Persist<ReplyQueue> for LogPersister<S, T> {
             Some(fault) => Err(fault),
             None => Ok(()),
         }
+    }
+
+    fn shares_stays(&self) -> bool {
+        LogPersister::shares_stays(self)
+    }
+
+    fn end_stays(&mut self, reply_queue: &mut ReplyQueue, due: &[u64]) -> Result<(), LogFault> {
+        LogPersister::end_stays(self, reply_queue, due)
+    }
+
+    fn has_stay(&self, _reply_queue: &ReplyQueue, identity: u64) -> bool {
+        self.log.hall().slots().pool().stay_of(identity).is_some()
+    }
+
+    fn may_answer_stays(&self) -> bool {
+        LogPersister::may_answer_stays(self)
     }
 
     fn trouble(&self) -> Option<&'static str> {

@@ -76,6 +76,20 @@ impl Note {
         }
     }
 
+    /// What was asked.
+    pub(crate) fn asked(&self) -> Asked
+        ensures { request_of result ≡ (said_by self.now).0 }
+    {
+        self.asked
+    }
+
+    /// What was said, without the view that stands beside it.
+    pub(crate) fn reply(&self) -> Reply<()>
+        ensures { with_view result (seen self.now.view) ≡ (said_by self.now).1 }
+    {
+        self.reply
+    }
+
     /// What was said, with the view beside it.
     pub fn tell(&self, view: &mut View) -> Reply<()>
         ensures { with_view result view.new ≡ (said_by self.now).1 }

@@ -52,6 +52,16 @@ impl ReplyQueue {
         !self.poisoned && self.next >= self.notes.len()
     }
 
+    /// Returns what it says from now on.
+    pub(crate) fn notes(&self) -> &[Note]
+        ensures { map said_by result.now ≡ self.now.left }
+    {
+        if self.notes.len() < self.next {
+            return &[];
+        }
+        &self.notes[self.next..]
+    }
+
     /// Says nothing.
     pub fn clear(&mut self)
         ensures { self.new ≡ reply_queue_of [] }

@@ -1,14 +1,16 @@
 -- when no hosting has the matched options
-use Rattle.std.proofs.Common.{ap, arith, sym, subst, ◌≡◌, ◌∙◌, ◌<◌, ◌≤◌, ◌^◌, ℕ, List, Option, Some, None, Result, Ok, Err, ◌↔◌, Bool, MatchOption, IfSome, IsSome, codes, true, false}
+use Rattle.std.proofs.Common.{ap, arith, inl, inr, sym, subst, ◌≡◌, ◌∙◌, ◌<◌, ◌≤◌, ◌^◌, ℕ, List, Option, Some, None, Result, Ok, Err, ◌↔◌, Bool, MatchOption, IfSome, IsSome, codes, true, false}
 use Rattle.program_work.proofs.Common.{result_ok, same_Some, Row, first_of, Config, Hosting}
 use Rattle.std.specs.Borrow.{Bor}
 use Rattle.std.specs.Net.Grammar.{IsIpText, Parses}
 use Rattle.std.specs.Str.Parse.{IsNumeral, ParsesUnsigned, digits_value, without_leading_plus}
 use Rattle.std.specs.declared.net.ip_addr.IpAddr.{IpAddr}
-use Rattle.program_work.specs.Asked.{AreEndpointsOf, HasAddress, HasMode, HasNumber, HasText, MayHavePort, IsConfigOf, IsHostingOf, IsKeepingOf, IsLogOf, asks_flag, asks_log}
+use Rattle.program_work.specs.Asked.{AreEndpointsOf, HasAddress, HasMode, HasNumber, HasText, MayHavePort, IsConfigOf, IsGraceOf, IsHoldingOf, IsHostingOf, IsKeepingOf, IsLogOf, asks_flag, asks_log}
 use Rattle.program_work.specs.Ranges.{IsHostingRange, IsModeRange}
 use Rattle.program_work.specs.declared.asked.Endpoints.{Endpoints}
 use Rattle.program_work.specs.declared.asked.Keeping.{Keeping}
+use Rattle.program_work.specs.declared.asked.Holding.{Holding}
+use Rattle.program_work.specs.declared.asked.Holding.TheVariants.{Forever, Connection}
 use Rattle.program_work.specs.declared.asked.Keeping.TheVariants.{Nothing, Journal, Log}
 use Rattle.program_work.specs.declared.asked.LogWords.{LogWords}
 use Rattle.program_work.proofs.ConfigLemmas.{same_number, same_world}
@@ -74,21 +76,22 @@ reached rows address metrics_address port metrics path mode None has_address has
     cc
 
 -- what is made of the matched values is the hosting, where there is one
-pub hosted : (rows : List Row) (c : Config) (endpoints : Endpoints) (clients idle : ℕ) (keeping : Keeping) (verbose : Bool) (o : Option Hosting)
+pub hosted : (rows : List Row) (c : Config) (endpoints : Endpoints) (clients idle : ℕ) (holding : Holding) (keeping : Keeping) (verbose : Bool) (o : Option Hosting)
     → IsConfigOf rows c → AreEndpointsOf rows endpoints → HasNumber rows (codes "clients") clients → HasNumber rows (codes "idle") idle
-    → IsKeepingOf rows keeping → verbose ≡ asks_flag (codes "verbose") rows
-    → IfSome o (λ h. (h.config ≡ c) × (h.clients ≡ clients) × (h.idle ≡ idle)) → IfSome o (λ h. (h.endpoints ≡ endpoints) × (h.keeping ≡ keeping) × (h.verbose ≡ verbose))
+    → IsHoldingOf rows holding → IsKeepingOf rows keeping → verbose ≡ asks_flag (codes "verbose") rows
+    → IfSome o (λ h. (h.config ≡ c) × (h.clients ≡ clients) × (h.idle ≡ idle)) → IfSome o (λ h. (h.endpoints ≡ endpoints) × (h.keeping ≡ keeping) × (h.verbose ≡ verbose) × (h.holding ≡ holding))
     → (IsSome o ↔ IsHostingRange c.world clients idle)
     → MatchOption o ((h : Hosting) → IsHostingOf rows h → ⊥) (IsHostingOf rows)
-hosted rows c endpoints clients idle keeping verbose (Some h) config has_endpoints has_clients has_idle has_keeping asks sizes others range = record {
+hosted rows c endpoints clients idle holding keeping verbose (Some h) config has_endpoints has_clients has_idle has_holding has_keeping asks sizes others range = record {
   config = subst (λ (x : Config). IsConfigOf rows x) (sym sizes.0) config;
   endpoints = subst (λ (x : Endpoints). AreEndpointsOf rows x) (sym others.0) has_endpoints;
   clients = subst (λ x. HasNumber rows (codes "clients") x) (sym sizes.1) has_clients;
   idle = subst (λ x. HasNumber rows (codes "idle") x) (sym sizes.2) has_idle;
   keeping = subst (λ (x : Keeping). IsKeepingOf rows x) (sym others.1) has_keeping;
   verbose = others.2 ∙ asks;
+  holding = subst (λ (x : Holding). IsHoldingOf rows x) (sym others.3) has_holding;
 }
-hosted rows c endpoints clients idle keeping verbose None config has_endpoints has_clients has_idle has_keeping asks sizes others range = λ h is.
+hosted rows c endpoints clients idle holding keeping verbose None config has_endpoints has_clients has_idle has_holding has_keeping asks sizes others range = λ h is.
     let same_clients : h.clients ≡ clients = same_number rows (codes "clients") h.clients clients is.clients has_clients in
     let same_idle : h.idle ≡ idle = same_number rows (codes "idle") h.idle idle is.idle has_idle in
     let same_kind : h.config.world ≡ c.world = same_world rows h.config.world c.world is.config.world config.world in
@@ -105,3 +108,18 @@ pub not_both : (rows : List Row) (path : List ℕ) → Some path ≡ first_of (c
 not_both rows path has asks Nothing h = let bad : Some path ≡ None = has ∙ h.0 in cc
 not_both rows path has asks (Journal other) h = let bad : true ≡ false = sym asks ∙ h.1 in cc
 not_both rows path has asks (Log l) h = let bad : Some path ≡ None = has ∙ h.0 in cc
+
+-- a number outside its range is no grace time
+pub no_grace : (rows : List Row) (n : ℕ) → n < 2 ^ 64 → HasNumber rows (codes "grace") n → 86400 < n → (g : ℕ) → IsGraceOf rows g → ⊥
+no_grace rows n small has over g (inl h) = let same : g ≡ n = same_number rows (codes "grace") g n h.0 has in omega (arith, over, same, h.2)
+no_grace rows n small has over g (inr h) = h.0 n small has
+
+-- a grace time, where stays are held for ever, is none
+pub no_forever : (rows : List Row) (text : List ℕ) → Some text ≡ first_of (codes "hold") rows → text ≡ codes "forever" → (n : ℕ) → n < 2 ^ 64 → HasNumber rows (codes "grace") n → (h : Holding) → IsHoldingOf rows h → ⊥
+no_forever rows text matched word n small has Forever h = h.1 n small has
+no_forever rows text matched word n small has (Connection g) h = let bad : codes "forever" ≡ codes "connection" = sym word ∙ same_Some text (codes "connection") (matched ∙ h.0) in cc
+
+-- stays are held by connections with no other grace time than the one that is given
+pub no_connection : (rows : List Row) (text : List ℕ) → Some text ≡ first_of (codes "hold") rows → text ≡ codes "connection" → ((g : ℕ) → IsGraceOf rows g → ⊥) → (h : Holding) → IsHoldingOf rows h → ⊥
+no_connection rows text matched word none Forever h = let bad : codes "connection" ≡ codes "forever" = sym word ∙ same_Some text (codes "forever") (matched ∙ h.0) in cc
+no_connection rows text matched word none (Connection g) h = none g h.1

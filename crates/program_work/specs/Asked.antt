@@ -1,5 +1,5 @@
 -- what words ask for
-use Rattle.std.specs.Prelude.{◌≡◌, ◌⊎◌, ◌||◌, ◌<◌, ◌^◌, MatchOption, ℕ, Bool, true, false, not, ⊤, List, [], Option, Some, None, is_some, codes, Result, Ok, Err}
+use Rattle.std.specs.Prelude.{◌≡◌, ◌⊎◌, ◌||◌, ◌<◌, ◌≤◌, ◌^◌, MatchOption, ℕ, Bool, true, false, not, ⊤, List, [], Option, Some, None, is_some, codes, Result, Ok, Err}
 use Rattle.std.specs.Str.{bytes_eq}
 use Rattle.std.specs.Str.Parse.{IsNumeral, digits_value, without_leading_plus}
 use Rattle.std.specs.List.{list_any}
@@ -22,6 +22,8 @@ use Rattle.program_work.specs.declared.asked.Endpoints.{Endpoints}
 use Rattle.program_work.specs.declared.asked.Hosting.{Hosting}
 use Rattle.program_work.specs.declared.asked.Keeping.{Keeping}
 use Rattle.program_work.specs.declared.asked.Keeping.TheVariants.{Nothing, Journal, Log}
+use Rattle.program_work.specs.declared.asked.Holding.{Holding}
+use Rattle.program_work.specs.declared.asked.Holding.TheVariants.{Forever, Connection}
 use Rattle.program_work.specs.declared.asked.LogWords.{LogWords}
 use Rattle.program_work.specs.declared.asked.Racing.{Racing}
 use Rattle.program_work.specs.declared.asked.Serving.{Serving}
@@ -137,12 +139,26 @@ pub record AreEndpointsOf (rows : List Row) (e : Endpoints) : Type 0 where
   pub metrics_address : HasAddress rows (codes "metrics-address") e.metrics_address
   pub metrics : MayHavePort rows (codes "metrics") e.metrics
 
+-- no number is among what clap matched for this option
+abbrev pub HasNoNumber : List Row → List ℕ → Type 0
+HasNoNumber rows id = (n : ℕ) → n < 2 ^ 64 → HasNumber rows id n → ⊥
+
+-- the seconds of grace that the options of `host` give: at most a day, or 10 where none are matched
+abbrev pub IsGraceOf : List Row → ℕ → Type 0
+IsGraceOf rows g = (HasNumber rows (codes "grace") g × (1 ≤ g) × (g ≤ 86400)) ⊎ (HasNoNumber rows (codes "grace") × (g ≡ 10))
+
+-- stays are held so by the options of `host`: for ever, without a grace time; or by connections, with one
+abbrev pub IsHoldingOf : List Row → Holding → Type 0
+IsHoldingOf rows Forever = (first_of (codes "hold") rows ≡ Some (codes "forever")) × HasNoNumber rows (codes "grace")
+IsHoldingOf rows (Connection g) = (first_of (codes "hold") rows ≡ Some (codes "connection")) × IsGraceOf rows g
+
 -- the hosting that the options of `host` give, as clap matched them, each number in its range
 pub record IsHostingOf (rows : List Row) (h : Hosting) : Type 0 where
   pub config : IsConfigOf rows h.config
   pub endpoints : AreEndpointsOf rows h.endpoints
   pub clients : HasNumber rows (codes "clients") h.clients
   pub idle : HasNumber rows (codes "idle") h.idle
+  pub holding : IsHoldingOf rows h.holding
   pub keeping : IsKeepingOf rows h.keeping
   pub verbose : h.verbose ≡ asks_flag (codes "verbose") rows
 

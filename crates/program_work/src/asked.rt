@@ -40,7 +40,7 @@ pub struct Playing {
 }
 
 impl Playing {
-    /// A run of this config; none where a record is to be written in a world without names.
+    /// Returns a run of this config, or `None` if a record is to be written in a world without names.
     pub fn new(config: Config, recorded: bool) -> Option<Playing>
         ensures values { IfSome result (λ p. (p.config ≡ config) × (p.recorded ≡ recorded)) }
         ensures written { IsSome result ↔ CanBeWritten recorded config.world }
@@ -63,7 +63,7 @@ pub struct Showing {
 }
 
 impl Showing {
-    /// A showing of these values; none where one of them is outside its range.
+    /// Returns a showing of these values, or `None` if one of them is outside its range.
     pub fn new(from: u64, count: u64) -> Option<Showing>
         ensures values { IfSome result (λ s. (s.from ≡ from) × (s.count ≡ count)) }
         ensures range { IsSome result ↔ IsShowingRange from count }
@@ -94,7 +94,7 @@ pub struct Drawing {
 }
 
 impl Drawing {
-    /// A drawing of these values; none where one of them is outside its range.
+    /// Returns a drawing of these values, or `None` if one of them is outside its range.
     pub fn new(
         seed: u64,
         ids: u64,
@@ -136,7 +136,7 @@ pub struct Racing {
 }
 
 impl Racing {
-    /// A race of these values; none where one of them is outside its range.
+    /// Returns a race of these values, or `None` if one of them is outside its range.
     pub fn new(threads: u64, rounds: u64, seed: u64) -> Option<Racing>
         ensures values { IfSome result (λ r. (r.threads ≡ threads) × (r.rounds ≡ rounds) × (r.seed ≡ seed)) }
         ensures range { IsSome result ↔ IsRacingRange threads rounds seed }
@@ -167,7 +167,7 @@ pub struct Serving {
 }
 
 impl Serving {
-    /// A serving of these values; none where one of them is outside its range.
+    /// Returns a serving of these values, or `None` if one of them is outside its range.
     pub fn new(config: Config, port: u64, workers: u64, count: u64) -> Option<Serving>
         ensures values { IfSome result (λ s. (s.config ≡ config) × (s.port ≡ port) × (s.workers ≡ workers) × (s.count ≡ count)) }
         ensures range { IsSome result ↔ IsServingRange config.world port workers count }
@@ -202,7 +202,7 @@ pub struct LogWords<'a> {
 }
 
 impl<'a> LogWords<'a> {
-    /// A log of these words; none where the patience is outside its range.
+    /// Returns a log of these words, or `None` if the patience is outside its range.
     pub fn new(
         members: &'a str,
         prefix: &'a str,
@@ -236,6 +236,15 @@ pub enum Keeping<'a> {
     Log(LogWords<'a>),
 }
 
+/// How long a stay in the pool goes on without the client that entered it.
+#[derive(Clone, Copy, Drop)]
+pub enum Holding {
+    /// Until somebody gives the number back.
+    Forever,
+    /// Until so many seconds after the connection has ended, from 1 to 86,400.
+    Connection(u64),
+}
+
 /// What a hall is reached by.
 #[derive(Clone, Copy, Drop)]
 pub struct Endpoints<'a> {
@@ -255,7 +264,7 @@ pub struct Endpoints<'a> {
 }
 
 impl<'a> Endpoints<'a> {
-    /// Endpoints of these values; none where the mode is outside its range.
+    /// Returns endpoints of these values, or `None` if the mode is outside its range.
     pub fn new(
         address: IpAddr,
         port: Option<u16>,
@@ -293,6 +302,8 @@ pub struct Hosting<'a> {
     pub clients: u64,
     /// After how many seconds a client that says nothing is closed, at most 31,536,000; with 0 never.
     pub idle: u64,
+    /// How long a stay in the pool goes on.
+    pub holding: Holding,
     /// Where its history is kept.
     pub keeping: Keeping<'a>,
     /// Whether it tells once a minute how much there is.
@@ -301,17 +312,18 @@ pub struct Hosting<'a> {
 }
 
 impl<'a> Hosting<'a> {
-    /// A hosting of these values; none where one of them is outside its range.
+    /// Returns a hosting of these values, or `None` if one of them is outside its range.
     pub fn new(
         config: Config,
         endpoints: Endpoints<'a>,
         clients: u64,
         idle: u64,
+        holding: Holding,
         keeping: Keeping<'a>,
         verbose: bool,
     ) -> Option<Hosting<'a>>
         ensures sizes { IfSome result (λ h. (h.config ≡ config) × (h.clients ≡ clients) × (h.idle ≡ idle)) }
-        ensures others { IfSome result (λ h. (h.endpoints ≡ endpoints.entry) × (h.keeping ≡ keeping.entry) × (h.verbose ≡ verbose)) }
+        ensures others { IfSome result (λ h. (h.endpoints ≡ endpoints.entry) × (h.keeping ≡ keeping.entry) × (h.verbose ≡ verbose) × (h.holding ≡ holding)) }
         ensures range { IsSome result ↔ IsHostingRange config.world clients idle }
     {
         if clients < 1 || 1_000_000 < clients || 31_536_000 < idle {
@@ -325,6 +337,7 @@ impl<'a> Hosting<'a> {
             endpoints,
             clients,
             idle,
+            holding,
             keeping,
             verbose,
         })

@@ -10,7 +10,12 @@ use player::{Fault, MOST_READS, READ_BYTES, Replies, Sink, Source, put_word};
 use run_checker::{Judge, Verdict};
 use std::alloc::{Allocator, Global};
 
-/// All that the reader gives, read by way of a chunk.
+/// Returns all that the reader gives. It reads by way of `chunk`.
+///
+/// # Errors
+///
+/// - `Read`: the reader failed, or was read 2^40 times.
+/// - `Memory`: an allocation failed.
 pub fn read_whole<R: Source>(
     alloc: Global,
     reader: &mut R,
@@ -41,8 +46,12 @@ pub fn read_whole<R: Source>(
     Err(Fault::Read)
 }
 
-/// The verdict on all that the reader gives, read by way of a chunk. Each line is judged once it was read, and not kept; the verdict
-/// comes with the end.
+/// Returns the verdict on all that the reader gives. It judges each line once it was read, and keeps no line.
+///
+/// # Errors
+///
+/// - `Read`: the reader failed, or was read 2^40 times.
+/// - `Memory`: an allocation failed.
 pub fn judge_whole<R: Source>(
     alloc: Global,
     reader: &mut R,
@@ -96,7 +105,7 @@ pub fn put_verdict<A: Allocator>(verdict: Verdict, out: &mut Replies<A>)
     }
 }
 
-// The status that tells a verdict.
+// Returns the status for a verdict.
 fn status_of(verdict: Verdict) -> u8
     ensures { result ≡ verdict_status verdict }
 {
@@ -106,11 +115,13 @@ fn status_of(verdict: Verdict) -> u8
     }
 }
 
-/// Reads a record to its end, checks its lines as they come, and writes its verdict: `yes`, `no LINE REASON` or `bad record LINE`. Answers 0 for
-/// yes, else 1.
+/// Reads a record to its end, and writes its verdict: `yes`, `no LINE REASON` or `bad record LINE`. Returns 0 for `yes`, else 1.
 ///
-/// `Fault::Read` where the reader failed or was read 2^40 times, and `Fault::Memory` where memory was refused, with nothing
-/// written; `Fault::Write` where the writer failed or took nothing, with a prefix of the line written.
+/// # Errors
+///
+/// - `Read`: the reader failed, or was read 2^40 times. Nothing is written.
+/// - `Memory`: an allocation failed. Nothing is written.
+/// - `Write`: the writer failed or took no byte. A prefix of the line is written.
 pub fn check_for<R: Source, W: Sink>(
     alloc: Global,
     reader: &mut R,

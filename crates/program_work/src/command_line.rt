@@ -247,6 +247,7 @@ const HOST: Manual = Manual {
     examples: "Examples:
   slotctl host --port 7070 --journal slots.record
   slotctl host --unix /run/slotctl/socket --mode 660 --metrics 9470 --journal slots.record
+  slotctl host --port 7070 --hold connection --grace 30
   slotctl host --port 7070 --etcd 10.0.0.1:2379,10.0.0.2:2379 --prefix slots/
   slotctl host --etcd 10.0.0.1:2379 --prefix slots/ --export | slotctl play",
     choices: &[
@@ -293,6 +294,16 @@ const HOST: Manual = Manual {
             name: "idle",
             takes: Takes::Number(0, 31_536_000, "600"),
             help: "after how many seconds a client that says nothing is closed, or 0 for never; an empty line, answered bad 3, keeps it and adds nothing",
+        },
+        Choice {
+            name: "hold",
+            takes: Takes::TextOr("HOW", "forever"),
+            help: "forever: a number is held until it is given back; connection: until the grace time after the connection that entered has ended",
+        },
+        Choice {
+            name: "grace",
+            takes: Takes::SomeNumber(1, 86_400),
+            help: "how many seconds the grace time has, with --hold connection alone, which has 10 without this; after quit there is none",
         },
         Choice {
             name: "journal",
@@ -507,7 +518,11 @@ fn with_subcommands<'a>(
     Ok(program)
 }
 
-/// The program with its subcommands, one of which has to be given.
+/// Returns the program with its subcommands, one of which has to be given.
+///
+/// # Errors
+///
+/// - `AllocError`: an allocation failed.
 pub fn slotctl_command<'a>(alloc: Global) -> Result<Command<'a>, AllocError>
     ensures { IfOk result (λ c. app_of c ≡ slotctl_app) }
 {

@@ -10,12 +10,14 @@ use player::{Fault, Sink};
 use std::alloc::Global;
 use std::thread::Threads;
 
-/// Writes what is drawn: a schedule, or the lines of runs, which threads share. It answers 0.
+/// Writes what is drawn, and returns 0. It is a schedule, or the lines of runs, which threads share.
 ///
 /// # Errors
 ///
-/// `Fault::Write` where the writer failed or took nothing, and `Fault::Memory` where an allocation failed. What was written is a prefix
-/// of the drawing.
+/// An error leaves a prefix of the drawing written.
+///
+/// - `Write`: the writer failed or took no byte.
+/// - `Memory`: an allocation failed.
 pub fn draw_for<T: Threads + Sync, W: Sink>(
     rt: &T,
     alloc: Global,

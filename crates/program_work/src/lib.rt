@@ -48,7 +48,7 @@ pub mod showing;
 pub mod words;
 
 pub use asked::{
-    Ask, Drawing, Endpoints, Hosting, Keeping, LogWords, Playing, Racing, Serving, Showing,
+    Ask, Drawing, Endpoints, Holding, Hosting, Keeping, LogWords, Playing, Racing, Serving, Showing,
 };
 pub use checking::check_for;
 pub use drawing::draw_for;

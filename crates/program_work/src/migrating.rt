@@ -10,11 +10,15 @@ use player::{Fault, READ_BYTES, Replies, Sink, Source};
 use run_checker::{Verdict, migrate};
 use std::alloc::Global;
 
-/// Reads a record to its end, and writes it again in version 2 where its verdict is yes, else the line of its verdict. Answers
-/// 0 for yes, else 1.
+/// Reads a record to its end, and writes it again in version 2 if its verdict is `Yes`, or else the line of its verdict.
 ///
-/// `Fault::Read` where the reader failed or was read 2^40 times, and `Fault::Memory` where memory was refused, with nothing
-/// written; `Fault::Write` where the writer failed or took nothing, with a prefix of the text written.
+/// Returns 0 for `Yes`, else 1.
+///
+/// # Errors
+///
+/// - `Read`: the reader failed, or was read 2^40 times. Nothing is written.
+/// - `Memory`: an allocation failed. Nothing is written.
+/// - `Write`: the writer failed or took no byte. A prefix of the text is written.
 pub fn migrate_for<R: Source, W: Sink>(
     alloc: Global,
     reader: &mut R,

@@ -9,13 +9,13 @@ use thiserror::Error;
 /// Why words of a command line ask for nothing. Its `Display` is the text for the user.
 #[derive(Debug, Drop, Error)]
 pub enum Misuse {
-    /// They ask for help or for the version, which this is.
+    /// They ask for help or for the version. This is its text.
     #[error("{0}")]
     Help(String),
-    /// They are refused, and this says why.
+    /// They are refused. This text says why.
     #[error("{0}")]
     Words(String),
-    /// Memory was refused.
+    /// An allocation failed.
     #[error("slotctl: no memory\n")]
     Memory,
 }

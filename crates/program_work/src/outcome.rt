@@ -2,10 +2,10 @@
 
 use crate::{Hosting, Racing, Serving};
 
-/// What is left to do, once the words were read.
+/// What the caller has still to do.
 #[derive(Clone, Copy, Drop)]
 pub enum Outcome<'a> {
-    /// Nothing: this is the status.
+    /// Nothing. This is the status of the program.
     Ended(u8),
     /// To let threads race.
     Race(Racing),

@@ -24,10 +24,15 @@ use std::convert::AsStr;
 use std::io::Write;
 use std::thread::Threads;
 
-/// Does what the words of a command line ask for, the first of which is the program's name, and answers the status of the
-/// program: 0 where it was done and for help, 1 where a verdict is other than yes, 2 where the words are refused, 3 at a fault or where an
-/// allocation failed. Help goes to `output` beside what is done, every other text to `errors`. To race, to serve, to host and to tell who holds numbers
-/// is left to the caller.
+/// Does what the words of a command line ask for, and returns the status of the program. The first word is the program's name.
+///
+/// - 0: it was done, or help was asked for.
+/// - 1: a verdict is other than `Yes`.
+/// - 2: the words are refused.
+/// - 3: a read, a write or an allocation failed.
+///
+/// Help and what is done go to `output`, each other text to `errors`. Four commands are left to the caller, and returned: to race, to
+/// serve, to host and to tell who holds numbers.
 pub fn program<'a, T: Threads + Sync, S: AsStr, R: Source, W: Sink, E: Write>(
     rt: &T,
     alloc: Global,
@@ -47,15 +52,21 @@ pub fn program<'a, T: Threads + Sync, S: AsStr, R: Source, W: Sink, E: Write>(
     }
 }
 
-/// Does what the words ask for, but to race, to serve, to host and to tell who holds numbers. `play` writes the replies to the commands that
-/// it reads, or with `--record` the record of the run. `check` reads to the end, and writes a verdict. `migrate` reads to the end too, and
-/// writes the record again in version 2. `show` writes the page of a record. `draw` reads nothing.
+/// Does what the words ask for, but to race, to serve, to host and to tell who holds numbers: these are returned.
+///
+/// - `play` writes the replies to the commands that it reads, or with `--record` the record of the run.
+/// - `check` reads to the end and writes a verdict.
+/// - `migrate` reads to the end and writes the record again in version 2.
+/// - `show` reads to the end and writes the page of a record.
+/// - `draw` reads nothing and writes a schedule or runs.
 ///
 /// # Errors
 ///
-/// `Failure::Misuse` where the words ask for nothing, with nothing read and nothing written. `Fault::Read` where the reader failed or was
-/// read 2^40 times. `Fault::Write` where the writer failed or took no byte. `Fault::Memory` where an allocation failed: of `play` with
-/// nothing read and nothing written, of `check` and `migrate` with nothing written. A verdict of `show` other than yes.
+/// - `Failure::Misuse`: the words ask for nothing. Nothing is read or written.
+/// - `Fault::Read`: the reader failed, or was read 2^40 times.
+/// - `Fault::Memory`: an allocation failed. `check`, `migrate` and `play` have written nothing then, and `play` has read nothing.
+/// - `Fault::Write`: the writer failed or took no byte. A prefix is written.
+/// - `Failure::No` and `Failure::BadRecord`: the verdict of `show` is other than `Yes`. Nothing is written.
 pub fn done<'a, T: Threads + Sync, S: AsStr, R: Source, W: Sink>(
     rt: &T,
     alloc: Global,
@@ -91,7 +102,7 @@ pub fn done<'a, T: Threads + Sync, S: AsStr, R: Source, W: Sink>(
     }
 }
 
-// How the program ends once this was done: with a status, or by a fault.
+// Returns how the program ends once this was done: with a status, or by a fault.
 fn after<'a>(status: Result<u8, Fault>) -> Result<Outcome<'a>, Failure>
     ensures { result ≡ outcome_of status }
 {
@@ -101,7 +112,7 @@ fn after<'a>(status: Result<u8, Fault>) -> Result<Outcome<'a>, Failure>
     }
 }
 
-// How the program ends once a run was played: with status 0, or by a fault.
+// Returns how the program ends once a run was played: with status 0, or by a fault.
 fn after_run<'a, T: Drop>(run: Result<T, Fault>) -> Result<Outcome<'a>, Failure>
     ensures { result ≡ outcome_of (status_after run) }
 {
@@ -111,8 +122,9 @@ fn after_run<'a, T: Drop>(run: Result<T, Fault>) -> Result<Outcome<'a>, Failure>
     }
 }
 
-/// Writes the text of a failure, help to `output` and every other to `errors`, and answers the status. Help that is not
-/// taken is a fault.
+/// Writes the text of a failure, and returns the status. Help goes to `output`, each other text to `errors`.
+///
+/// If `output` does not take the help, the status is 3.
 pub fn report<W: Write, E: Write>(failure: Failure, output: &mut W, errors: &mut E) -> u8
     ensures { (result ≡ status_of failure) ⊎ (result ≡ 3) }
 {

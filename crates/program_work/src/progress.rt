@@ -7,10 +7,10 @@ use std::thread;
 use std::thread::Threads;
 use std::time::{Clock, Duration};
 
-/// How many looks at whether the work is done make a second.
+/// How often a second it is looked whether the work is done.
 const LOOKS_A_SECOND: u64 = 20;
 
-/// Whether the words ask for work that may take long: a check, a migration, a page, or a drawing.
+/// Returns whether the words ask for work that may take long: a check, a migration, a page, a drawing, or who holds numbers.
 pub fn may_take_long<S: AsStr>(words: &[S]) -> bool {
     match words.get(1) {
         Some(word) => matches!(
@@ -21,7 +21,7 @@ pub fn may_take_long<S: AsStr>(words: &[S]) -> bool {
     }
 }
 
-/// Writes a dot for each second until the work is done, and then an end of line where there are dots.
+/// Writes a dot for each second until the work is done, and then an end of line if there are dots.
 pub fn tell_until<C: Clock, E: Write>(clock: &C, done: &AtomicBool, errors: &mut E) {
     let mut reported = false;
     for look in 1..u64::MAX {
@@ -41,7 +41,7 @@ pub fn tell_until<C: Clock, E: Write>(clock: &C, done: &AtomicBool, errors: &mut
     }
 }
 
-/// Does the work, and beside it, in a thread of its own, tells until it is done.
+/// Does the work and returns what it gives. A thread of its own writes dots meanwhile (`tell_until`).
 pub fn in_sight<R: Threads + Clock + Sync, E: Write + Drop + Send, T, F: FnOnce() -> T>(
     rt: &R,
     errors: E,

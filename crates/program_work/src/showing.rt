@@ -13,7 +13,7 @@ use run_checker::Verdict;
 use run_page::{Stretch, show};
 use std::alloc::Global;
 
-// The stretch that is asked for.
+// Returns the stretch that is asked for.
 fn stretch_asked(showing: Showing) -> Stretch
     ensures { result ≡ stretch_asked showing }
 {
@@ -23,10 +23,13 @@ fn stretch_asked(showing: Showing) -> Stretch
     }
 }
 
-/// Reads a record to its end, and writes its page where its verdict is `Yes`, which is answered; with another nothing is written.
+/// Reads a record to its end, writes its page if its verdict is `Yes`, and returns the verdict. With another verdict it writes nothing.
 ///
-/// `Fault::Read` where the reader failed or was read 2^40 times, and `Fault::Memory` where memory was refused, with nothing
-/// written; `Fault::Write` where the writer failed or took nothing, with a prefix of the page written.
+/// # Errors
+///
+/// - `Read`: the reader failed, or was read 2^40 times. Nothing is written.
+/// - `Memory`: an allocation failed. Nothing is written.
+/// - `Write`: the writer failed or took no byte. A prefix of the page is written.
 pub fn show_for<R: Source, W: Sink>(
     alloc: Global,
     showing: Showing,
@@ -46,7 +49,7 @@ pub fn show_for<R: Source, W: Sink>(
     Ok(verdict)
 }
 
-/// How the program ends once a record was shown: a verdict other than yes is a failure.
+/// Returns how the program ends once a record was shown. A verdict other than `Yes` is a failure.
 pub fn after_showing<'a>(shown: Result<Verdict, Fault>) -> Result<Outcome<'a>, Failure>
     ensures { result ≡ outcome_shown shown }
 {

@@ -2,11 +2,12 @@
 
 ghost use Rattle.std.specs.Prelude.{◌≡◌, ℕ, ◌<◌, ◌^◌, MatchOption, Some, map};
 ghost use Rattle.clap.specs.Words.{found_of, kind_of, rows_of, subcommand_rows_of};
-ghost use Rattle.program_work.specs.Asked.{AreEndpointsOf, HasMode, HasNumber, HasWorld, IsAsked, IsConfigOf, HasAddress, HasText, MayHavePort, IsDrawingOf, IsHostingOf, IsKeepingOf, IsLogOf, IsMisuseOf, IsPlayingOf, IsRacingOf, IsRead, IsRefusal, IsServingOf, IsShowingOf, asks_flag, asks_log};
+ghost use Rattle.program_work.specs.Asked.{AreEndpointsOf, HasMode, HasNumber, HasWorld, IsAsked, IsConfigOf, HasAddress, HasText, MayHavePort, IsDrawingOf, IsGraceOf, IsHoldingOf, IsHostingOf, IsKeepingOf, IsLogOf, IsMisuseOf, IsPlayingOf, IsRacingOf, IsRead, IsRefusal, IsServingOf, IsShowingOf, asks_flag, asks_log};
 ghost use Rattle.commands.specs.declared.config.Config.{Config};
 ghost use Rattle.commands.specs.declared.kind.WorldKind.{WorldKind};
 ghost use Rattle.program_work.specs.declared.asked.Drawing.{Drawing};
 ghost use Rattle.program_work.specs.declared.asked.Endpoints.{Endpoints};
+ghost use Rattle.program_work.specs.declared.asked.Holding.{Holding};
 ghost use Rattle.program_work.specs.declared.asked.Hosting.{Hosting};
 ghost use Rattle.program_work.specs.declared.asked.Keeping.{Keeping};
 ghost use Rattle.program_work.specs.declared.asked.LogWords.{LogWords};
@@ -17,7 +18,7 @@ ghost use Rattle.program_work.specs.declared.asked.Showing.{Showing};
 ghost use Rattle.program_work.specs.declared.asked.Ask.{Ask};
 
 use crate::asked::{
-    Ask, Drawing, Endpoints, Hosting, Keeping, LogWords, Playing, Racing, Serving, Showing,
+    Ask, Drawing, Endpoints, Holding, Hosting, Keeping, LogWords, Playing, Racing, Serving, Showing,
 };
 use crate::command_line::slotctl_command;
 use crate::misuse::Misuse;
@@ -189,6 +190,37 @@ fn keeping_given<'a>(matches: &ArgMatches<'a>) -> Option<Keeping<'a>>
     }
 }
 
+/// How many seconds of grace a connection has, where they are not given.
+const GRACE: u64 = 10;
+
+/// The most seconds of grace: a day.
+const MOST_GRACE: u64 = 86_400;
+
+// The seconds of grace that the options of `host` give, where they give some.
+fn grace_given(matches: &ArgMatches<'_>) -> Option<u64>
+    ensures { MatchOption result ((g : ℕ) → IsGraceOf (rows_of (found_of matches.now)) g → ⊥) (IsGraceOf (rows_of (found_of matches.now))) }
+{
+    match number_given(matches, "grace") {
+        None => Some(GRACE),
+        Some(grace) if 1 <= grace && grace <= MOST_GRACE => Some(grace),
+        Some(_) => None,
+    }
+}
+
+// How the options of `host` have stays held, where they say so in one way.
+fn holding_given(matches: &ArgMatches<'_>) -> Option<Holding>
+    ensures { MatchOption result ((h : Holding) → IsHoldingOf (rows_of (found_of matches.now)) h → ⊥) (IsHoldingOf (rows_of (found_of matches.now))) }
+{
+    match text_given(matches, "hold")? {
+        "forever" => match number_given(matches, "grace") {
+            None => Some(Holding::Forever),
+            Some(_grace) => None,
+        },
+        "connection" => Some(Holding::Connection(grace_given(matches)?)),
+        _ => None,
+    }
+}
+
 // What the options of `host` have the hall reached by, where they say so.
 fn endpoints_given<'a>(matches: &ArgMatches<'a>) -> Option<Endpoints<'a>>
     ensures { MatchOption result ((e : Endpoints) → AreEndpointsOf (rows_of (found_of matches.now)) e → ⊥) (AreEndpointsOf (rows_of (found_of matches.now))) }
@@ -210,9 +242,10 @@ fn host_given<'a>(matches: &ArgMatches<'a>) -> Option<Hosting<'a>>
     let endpoints = endpoints_given(matches)?;
     let clients = number_given(matches, "clients")?;
     let idle = number_given(matches, "idle")?;
+    let holding = holding_given(matches)?;
     let keeping = keeping_given(matches)?;
     let verbose = flag_given(matches, "verbose");
-    Hosting::new(config, endpoints, clients, idle, keeping, verbose)
+    Hosting::new(config, endpoints, clients, idle, holding, keeping, verbose)
 }
 
 // What a subcommand with these options asks for, where it asks for something.
@@ -275,7 +308,7 @@ fn why_nothing(matches: &ArgMatches<'_>) -> &'static str {
     "error: no such world: there are splitter, grid, rename and tree, and the last two give names\n"
 }
 
-/// That the words are refused, for this reason.
+/// Returns that the words are refused for this reason, or `Memory` if an allocation failed.
 pub fn refused(alloc: Global, why: &str) -> Misuse
     ensures { IsRefusal result }
 {
@@ -304,10 +337,13 @@ fn misuse_of(alloc: Global, error: &Error) -> Misuse
     }
 }
 
-/// What the words of a command line ask for, the first of which is the program's name.
+/// Returns what the words of a command line ask for. The first word is the program's name.
 ///
-/// Answers `Misuse::Help` where they ask for help or for the version, `Misuse::Words` where they are refused, and `Misuse::Memory` where
-/// memory was refused.
+/// # Errors
+///
+/// - `Help`: they ask for help or for the version.
+/// - `Words`: they are refused.
+/// - `Memory`: an allocation failed.
 pub fn ask<'a, S: AsStr>(alloc: Global, words: &'a [S]) -> Result<Ask<'a>, Misuse>
     ensures { IsRead (map S.text words.now) result }
 {

@@ -18,8 +18,8 @@ use locked_world::Opened;
 use player::{Fault, Tried};
 use program_work::program::{program, report};
 use program_work::{
-    Endpoints, Failure, Hosting, Keeping as KeepingWords, LogWords, Misuse, Outcome, Serving,
-    in_sight, may_take_long, refused,
+    Endpoints, Failure, Holding, Hosting, Keeping as KeepingWords, LogWords, Misuse, Outcome,
+    Serving, in_sight, may_take_long, refused,
 };
 use slot_server::{Plan, ServeFault, serve};
 use std::alloc::{AllocGlobal, Global};
@@ -152,6 +152,10 @@ fn host_plan_of<'a>(hosting: Hosting<'a>, seen: bool) -> HostPlan<'a> {
             None
         } else {
             Some(hosting.idle)
+        },
+        grace: match hosting.holding {
+            Holding::Forever => None,
+            Holding::Connection(grace) => Some(grace),
         },
         keeping: keeping_of(hosting.keeping),
         reports: hosting.verbose || seen,

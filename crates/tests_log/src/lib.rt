@@ -14,6 +14,10 @@ mod persister_tests;
 #[cfg(test)]
 mod replica_tests;
 #[cfg(test)]
+mod stay_doubles;
+#[cfg(test)]
+mod stay_tests;
+#[cfg(test)]
 mod turn_doubles;
 #[cfg(test)]
 mod turn_tests;

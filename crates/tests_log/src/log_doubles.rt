@@ -6,6 +6,7 @@ use etcd_log::Dial;
 use hall_log::Pause;
 use replicated_log::{Machine, MemoryStore, Put, Store, StoreFault};
 use std::alloc::{AllocError, Global};
+use std::cell::{Cell, RefCell};
 use std::io;
 use std::io::{Read, Write};
 
@@ -115,6 +116,80 @@ impl Pause for Tries {
         }
         self.left -= 1;
         true
+    }
+
+    fn seconds(&self) -> u64 {
+        0
+    }
+}
+
+/// No patience, and a clock that is set by hand.
+#[derive(Drop)]
+pub(crate) struct HandClock<'a> {
+    pub(crate) seconds: &'a Cell<u64>,
+}
+
+impl Pause for HandClock<'_> {
+    fn begin(&mut self) {}
+
+    fn again(&mut self) -> bool {
+        false
+    }
+
+    fn seconds(&self) -> u64 {
+        self.seconds.get()
+    }
+}
+
+/// A log that several front ends share. Where an entry of a rival waits, it is written before the next one.
+#[derive(Drop)]
+pub(crate) struct SharedLog<'a> {
+    pub(crate) log: &'a RefCell<MemoryStore>,
+    pub(crate) rival: &'a RefCell<Vec<u8>>,
+}
+
+impl SharedLog<'_> {
+    // Writes the entry of the rival that waits, if any does. Tells whether the log took it.
+    fn let_rival_in(&self, log: &mut MemoryStore, place: u64) -> bool {
+        let Ok(mut rival) = self.rival.try_borrow_mut() else {
+            return false;
+        };
+        if rival.is_empty() {
+            return true;
+        }
+        let put = log.put(place, &rival);
+        rival.clear();
+        put.is_ok()
+    }
+}
+
+impl Store for SharedLog<'_> {
+    ghost use Rattle.std.specs.Prelude.{⊤};
+
+    ghost stands = { λ s place entry. ⊤ };
+
+    ghost lacks = { λ s place. ⊤ };
+
+    ghost fails = { λ fault. ⊤ };
+
+    fn put(&mut self, place: u64, entry: &[u8]) -> Result<Put, StoreFault> {
+        let Ok(mut log) = self.log.try_borrow_mut() else {
+            return Err(StoreFault::Lost);
+        };
+        if !self.let_rival_in(&mut log, place) {
+            return Err(StoreFault::Lost);
+        }
+        match log.put(place, entry) {
+            Ok(put) => Ok(put),
+            Err(_) => Err(StoreFault::Lost),
+        }
+    }
+
+    fn get(&mut self, place: u64, entry: &mut Vec<u8>) -> Result<bool, StoreFault> {
+        match self.log.try_borrow_mut() {
+            Ok(mut log) => log.get(place, entry),
+            Err(_) => Err(StoreFault::Lost),
+        }
     }
 }
 

@@ -3,7 +3,7 @@
 use crate::front_tests::{answers, config};
 use crate::log_doubles::{Lossy, Tries};
 use event_server::{Persist, Prefetch};
-use hall_log::{LogFault, LogPersister, ReplyQueue};
+use hall_log::{LogFault, LogPersister, Pause, ReplyQueue};
 use replicated_log::{MemoryStore, Store, StoreFault};
 use std::alloc::Global;
 
@@ -44,9 +44,9 @@ fn opened(
 }
 
 // What a front end answers to lines, as a turn of its loop does; none where they are lost.
-fn reported(
+pub(crate) fn reported<S: Store, T: Pause>(
     alloc: Global,
-    persister: &mut LogPersister<Lossy, Tries>,
+    persister: &mut LogPersister<S, T>,
     lines: &[u8],
 ) -> Result<Option<Vec<u8>>, LogFault> {
     let mut reply_queue = ReplyQueue::new(alloc);

@@ -185,6 +185,22 @@ impl Persist<Reported> for Teller {
         Ok(())
     }
 
+    fn shares_stays(&self) -> bool {
+        true
+    }
+
+    fn end_stays(&mut self, _service: &mut Reported, _due: &[u64]) -> Result<(), &'static str> {
+        Ok(())
+    }
+
+    fn has_stay(&self, _service: &Reported, _identity: u64) -> bool {
+        false
+    }
+
+    fn may_answer_stays(&self) -> bool {
+        true
+    }
+
     fn trouble(&self) -> Option<&'static str> {
         None
     }

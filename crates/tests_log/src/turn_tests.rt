@@ -2,7 +2,10 @@
 
 use crate::turn_doubles::{Piped, Reported, Teller};
 use commands::WorldKind;
-use event_server::{Batch, Buffers, Called, Connection, SharedBuffers, Stage, iterate_prefetched};
+use event_server::{
+    Attended, Batch, Buffers, Called, Connection, SharedBuffers, Stage, iterate_prefetched,
+};
+use stays::Stays;
 use std::alloc::{AllocError, Global};
 use std::process::Abort;
 
@@ -98,7 +101,8 @@ fn make_due(seats: &mut Seats, ready: &mut Vec<usize>) -> Result<(), &'static st
 
 // Turns until all connections are at their end: how many there were.
 fn run(alloc: Global, teller: &mut Teller, seats: &mut Seats) -> Result<usize, &'static str> {
-    let mut reported = Reported::new(alloc, WorldKind::Rename);
+    let reported = Reported::new(alloc, WorldKind::Rename);
+    let mut attended = Attended::new(reported, Stays::new(alloc), false);
     let mut batch = Batch::new(alloc, WorldKind::Rename, teller.most);
     let Ok(mut room) = SharedBuffers::new(alloc) else {
         return Err("no memory");
@@ -111,11 +115,12 @@ fn run(alloc: Global, teller: &mut Teller, seats: &mut Seats) -> Result<usize, &
         }
         match iterate_prefetched(
             &(),
-            &mut reported,
+            &mut attended,
             teller,
             &mut batch,
             &mut room,
             seats,
+            &[],
             &ready,
         )? {
             Called::Served(called) | Called::Unserved(called) => {

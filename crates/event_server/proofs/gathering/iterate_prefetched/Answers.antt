@@ -5,6 +5,7 @@ use Rattle.event_server.specs.Seats.{NoneSent, seats_of}
 use Rattle.event_server.proofs.RoundLemmas.{always_wrong}
 use Rattle.event_server.proofs.GatherLemmas.{gathered_more, none_sent_peeked}
 use Rattle.event_server.proofs.ReportedLemmas.{reported_broken, taken_reported}
+use Rattle.event_server.proofs.AttendedLemmas.{hears_about, hears_inside, hears_none}
 use Rattle.event_server.proofs.gathering.iterate_prefetched.Goals as goal
 
 pub returns-in_ok-persist-in-Known-clause-served : goal.returns-in_ok-persist-in-Known-clause-served
@@ -12,17 +13,20 @@ returns-in_ok-persist-in-Known-clause-served g c =
     let on = seats_of g.S.Stream.left g.S.Stream.gone in
     let t = c.gather-peeked.ensures.reported in
     let k = c.take_peeked.ensures.taken in
-    λ called same. record {
-      gathered_seats = c.gather-peeked.new.seats;
-      prefetched_by = c.prefetch.new.persister;
-      ready = c.prefetch.new.service;
-      gathered = c.gather-peeked.ensures.gathered;
-      prefetched = c.in_ok-prefetch.ensures.known (ap Ok c.in-Known.is);
-      turn = record { log = k.0; reported = c.take_peeked.new.service; between = c.take_peeked.new.seats; taken = k.1; kept = c.in_ok-persist-in-Known.ensures; sent = c.send_replies.ensures.sent };
-      reported = t.0;
-      reported_is = t.1;
-      each = taken_reported on (λ x. x.peek) (λ x. x.stage ≡ stage.Queued) c.args.batch.now.kind (take c.gather-peeked.result c.args.ready.now) t.0 k.0 c.gather-peeked.new.seats c.take_peeked.new.seats t.2 k.2;
-    }
+    λ called same. (
+      record {
+        gathered_seats = c.gather-peeked.new.seats;
+        prefetched_by = c.prefetch.new.persister;
+        ready = c.prefetch.new.service;
+        gathered = c.gather-peeked.ensures.gathered;
+        prefetched = c.in_ok-prefetch.ensures.known (ap Ok c.in-Known.is);
+        turn = record { log = k.0; reported = c.take_peeked.new.service.service; between = c.take_peeked.new.seats; taken = k.1; kept = c.in_ok-persist-in-Known.ensures; sent = c.send_replies.ensures.sent };
+        reported = t.0;
+        reported_is = t.1;
+        each = taken_reported on (λ x. x.peek) (λ x. x.stage ≡ stage.Queued) c.args.batch.now.kind (take c.gather-peeked.result c.args.ready.now) t.0 k.0 c.gather-peeked.new.seats c.take_peeked.new.seats t.2 k.2;
+      },
+      hears_about c.args.service.now c.prefetch.new.service c.take_peeked.new.service _ k.3,
+    )
 
 pub returns-in-Lost-clause-unserved : goal.returns-in-Lost-clause-unserved
 returns-in-Lost-clause-unserved g c =
@@ -42,7 +46,7 @@ pub returns-in_ok-persist-in-Known-clause-rest : goal.returns-in_ok-persist-in-K
 returns-in_ok-persist-in-Known-clause-rest g c = c.send_replies.ensures.rest c.take_peeked.ensures.done
 
 pub returns-in-Lost-clause-lost : goal.returns-in-Lost-clause-lost
-returns-in-Lost-clause-lost g c = λ called same. c.in_ok-prefetch.ensures.lost (ap Ok c.in-Lost.is)
+returns-in-Lost-clause-lost g c = λ called same. (c.in_ok-prefetch.ensures.lost (ap Ok c.in-Lost.is), hears_inside c.args.service.now c.args.service.now c.prefetch.new.service (hears_none c.args.service.now))
 
 pub returns-in_err-persist-in-Known-clause-unsent : goal.returns-in_err-persist-in-Known-clause-unsent
 returns-in_err-persist-in-Known-clause-unsent g c =

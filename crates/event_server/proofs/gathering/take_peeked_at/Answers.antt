@@ -4,14 +4,21 @@ use Rattle.std.proofs.Common.{◌≡◌, ◌∙◌, inr, Some, None, sym, inl, r
 use Rattle.event_server.proofs.Common.{get_or_default, get_or-set_same, get_or-set_other, SeatIs, seats_of}
 use Rattle.event_server.specs.declared.connection.Stage.TheVariants as stage
 use Rattle.event_server.proofs.ReportedLemmas.{seat_turn_peeked}
+use Rattle.event_server.proofs.AttendedLemmas.{runs_listened}
 use Rattle.event_server.proofs.gathering.take_peeked_at.Goals as goal
 
 pub returns-in-Queued-clause-took : goal.returns-in-Queued-clause-took
 returns-in-Queued-clause-took g c =
     let below = c.if-key-seats.true in
-    inr (seat_turn_peeked (seats_of g.S.Stream.left g.S.Stream.gone) (λ x. x.peek) (λ x. x.stage ≡ stage.Queued) g.D.Service.may
-    c.args.key c.args.service.now c.args.seats.now c.take_peeked.new.service c.in-Some.connection c.take_peeked.new.self below (get_or_default c.args.seats.now c.args.key None c.index-seats-key.result below ∙ c.in-Some.is) c.in-Queued.is
-    (λ again. (let e : stage.Taken ≡ stage.Queued = sym c.take_peeked.ensures.stage ∙ again in absurd cc)) c.take_peeked.ensures.takes c.take_peeked.ensures.unsent)
+    let took = c.take_peeked.ensures.takes in
+    let r = runs_listened g.D.Service.may c.args.number took.0 c.args.service.now c.listen_to.new.self c.take_peeked.new.service c.listen_to.ensures took.1 in
+    inr (
+      seat_turn_peeked (seats_of g.S.Stream.left g.S.Stream.gone) (λ x. x.peek) (λ x. x.stage ≡ stage.Queued) g.D.Service.may
+          c.args.key c.args.service.now.service c.args.seats.now c.take_peeked.new.service.service c.in-Some.connection c.take_peeked.new.self below
+          (get_or_default c.args.seats.now c.args.key None c.index-seats-key.result below ∙ c.in-Some.is) c.in-Queued.is
+          (λ again. (let e : stage.Taken ≡ stage.Queued = sym c.take_peeked.ensures.stage ∙ again in absurd cc)) (took.0, r.0, took.2) c.take_peeked.ensures.unsent,
+      r.1,
+    )
 
 pub returns-in-Queued-clause-done : goal.returns-in-Queued-clause-done
 returns-in-Queued-clause-done g c =

@@ -16,7 +16,7 @@ into_iter-iterator-requires g c κs = λ within.
 pub loop-init : goal.loop-init
 loop-init g c = record {
   room = c.in_ok-shared.ensures;
-  served = served_none g.D.Service.may g.K.Persist.prefetches g.K.Persist.persists g.K.Persist.waits c.args.persister.now c.args.service.now;
+  served = served_none g.D.Service.may g.K.Persist.prefetches g.K.Persist.persists g.K.Persist.waits c.args.persister.now c.args.service.now.service;
 }
 
 pub loop-preserved : goal.loop-preserved
@@ -31,8 +31,8 @@ returns g c =
     let prefetches = g.K.Persist.prefetches in
     let persists = g.K.Persist.persists in
     let waits = g.K.Persist.waits in
-    always c.tell_end.result (WasServed may prefetches persists waits c.args.persister.now c.args.service.now c.match-next.persister c.match-next.service)
-    (elim c.match-next.branch as (λ _. WasServed may prefetches persists waits c.args.persister.now c.args.service.now c.match-next.persister c.match-next.service) [
+    always c.tell_end.result (WasServed may prefetches persists waits c.args.persister.now c.args.service.now.service c.match-next.persister c.match-next.service.service)
+    (elim c.match-next.branch as (λ _. WasServed may prefetches persists waits c.args.persister.now c.args.service.now.service c.match-next.persister c.match-next.service.service) [
       | in-None w ↦ rw (w.persister-is, w.service-is) c.loop.invariant.served
       | in-Some+in_ok-go_round+then-is_over w ↦ rw (w.persister-is, w.service-is) (served_then may prefetches persists waits _ _ _ _ _ _ c.loop.invariant.served w.in_ok-go_round.ensures.served)
     ])

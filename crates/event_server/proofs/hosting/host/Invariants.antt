@@ -6,5 +6,5 @@ use Rattle.event_server.proofs.hosting.host.Given as goal
 abbrev pub invariant-loop : goal.invariant-loop
 invariant-loop g l = record {
   room : AreShared l.shared;
-  served : WasServed g.D.Service.may g.K.Persist.prefetches g.K.Persist.persists g.K.Persist.waits l.fn.persister l.fn.service l.persister l.service;
+  served : WasServed g.D.Service.may g.K.Persist.prefetches g.K.Persist.persists g.K.Persist.waits l.fn.persister l.fn.service.service l.persister l.service.service;
 }

@@ -5,14 +5,20 @@ use Rattle.event_server.proofs.Common.{get_or_default, get_or-set_same, get_or-s
 use Rattle.event_server.specs.declared.connection.Stage.TheVariants as stage
 use Rattle.event_server.proofs.SeatLemmas.{seat_took}
 use Rattle.event_server.specs.ConnectionBuffers.{HasTakenAll}
+use Rattle.event_server.proofs.AttendedLemmas.{runs_listened}
 use Rattle.event_server.proofs.turns.take_at.Goals as goal
 
 pub returns-in-Queued-clause-took : goal.returns-in-Queued-clause-took
 returns-in-Queued-clause-took g c =
     let below = c.if-key-seats.true in
-    inr (seat_took (seats_of g.S.Stream.left g.S.Stream.gone) g.D.Service.may (λ x. x.stage ≡ stage.Queued)
-    c.args.key c.args.service.now c.args.seats.now c.take.new.service c.in-Some.connection c.take.new.self below (get_or_default c.args.seats.now c.args.key None c.index-seats-key.result below ∙ c.in-Some.is) c.in-Queued.is
-    (λ again. (let e : stage.Taken ≡ stage.Queued = sym c.take.ensures.stage ∙ again in absurd cc)) c.take.ensures.takes c.take.ensures.unsent)
+    let took = c.take.ensures.takes in
+    let r = runs_listened g.D.Service.may c.args.number took.0 c.args.service.now c.listen_to.new.self c.take.new.service c.listen_to.ensures took.1 in
+    inr (
+      seat_took (seats_of g.S.Stream.left g.S.Stream.gone) g.D.Service.may (λ x. x.stage ≡ stage.Queued)
+          c.args.key c.args.service.now.service c.args.seats.now c.take.new.service.service c.in-Some.connection c.take.new.self below (get_or_default c.args.seats.now c.args.key None c.index-seats-key.result below ∙ c.in-Some.is) c.in-Queued.is
+          (λ again. (let e : stage.Taken ≡ stage.Queued = sym c.take.ensures.stage ∙ again in absurd cc)) (took.0, r.0, took.2) c.take.ensures.unsent,
+      r.1,
+    )
 
 pub returns-in-Queued-clause-done : goal.returns-in-Queued-clause-done
 returns-in-Queued-clause-done g c =

@@ -1,15 +1,17 @@
 use borrow.Author.Rules.{scaled_Fits}
-use Rattle.std.proofs.Common.{◌≡◌, inl, inr, ◌++◌, [], refl, get_or, take, arith}
+use Rattle.std.proofs.Common.{◌≡◌, inl, inr, ℕ, ◌++◌, [], refl, subst, get_or, take, arith}
 use Rattle.event_server.proofs.Common.{TurnLog, tagged, seats_of}
 use Rattle.event_server.specs.declared.connection.Stage.TheVariants as stage
 use Rattle.event_server.proofs.SeatLemmas.{Going, going_none, going_on}
 use Rattle.event_server.proofs.CallLemmas.{first_none, first_on, first_called, same_on, same_served}
 use Rattle.event_server.specs.ConnectionBuffers.{HasTakenAll}
+use Rattle.event_server.specs.Attending.{Hears, acts_in, acts_of, number_at}
+use Rattle.event_server.proofs.AttendedLemmas.{hears_none, hears_on}
 use Rattle.event_server.proofs.turns.take_turns.Goals as goal
 
 pub loop-called-init : goal.loop-called-init
 loop-called-init g c = record {
-  so = ([], going_none (seats_of g.S.Stream.left g.S.Stream.gone) g.D.Service.may (λ x. x.stage ≡ stage.Queued) c.args.service.now c.args.seats.now);
+  so = ([], going_none (seats_of g.S.Stream.left g.S.Stream.gone) g.D.Service.may (λ x. x.stage ≡ stage.Queued) c.args.service.now.service c.args.seats.now, hears_none c.args.service.now);
   done = first_none (λ x. x.stage ≡ stage.Queued → ⊥) c.args.ready.now c.args.seats.now;
   all = λ i. inl refl;
   room = c.requires.room;
@@ -20,11 +22,22 @@ pub loop-called-preserved : goal.loop-called-preserved
 loop-called-preserved g c =
     let i = c.loop-called.invariant in
     let log = i.so.0 in
+    let on = seats_of g.S.Stream.left g.S.Stream.gone in
+    let may = g.D.Service.may in
+    let number = number_at c.args.numbers.now in
+    let w = c.args.service.now in
+    let seats = c.args.seats.now in
+    let key = get_or c.args.ready.now c.loop-called.called 0 in
     record {
-      so = elim c.take_at.ensures.took as (λ _. (l : TurnLog) × Going (seats_of g.S.Stream.left g.S.Stream.gone) g.D.Service.may (λ x. x.stage ≡ stage.Queued) c.args.service.now c.args.seats.now l c.take_at.new.service c.take_at.new.seats) [
-        | inl same ↦ (log, rw (same.0, same.1) i.so.1)
-        | inr turn ↦ (log ++ tagged _ turn.turns, going_on (seats_of g.S.Stream.left g.S.Stream.gone) g.D.Service.may (λ x. x.stage ≡ stage.Queued) c.args.service.now c.args.seats.now log c.loop-called.service c.take_at.new.service c.loop-called.seats c.take_at.new.seats _ i.so.1 turn)
-      ];
+      so = elim c.take_at.ensures.took as (λ _. (l : TurnLog) × Going on may (λ x. x.stage ≡ stage.Queued) w.service seats l c.take_at.new.service.service c.take_at.new.seats ×
+          Hears (acts_in number l) w c.take_at.new.service) [
+            | inl same ↦ (log, rw (same.0, same.1) i.so.1, rw same.0 i.so.2)
+            | inr one ↦ (
+              log ++ tagged key one.0.turns,
+              going_on on may (λ x. x.stage ≡ stage.Queued) w.service seats log c.loop-called.service.service c.take_at.new.service.service c.loop-called.seats c.take_at.new.seats key i.so.1 one.0,
+              hears_on number log key one.0.turns w c.loop-called.service c.take_at.new.service i.so.2 (subst (λ (n : ℕ). Hears (acts_of n one.0.turns) c.loop-called.service c.take_at.new.service) c.number_at.ensures one.1),
+            )
+          ];
       done = first_on (λ x. x.stage ≡ stage.Queued → ⊥) c.loop-called.called c.args.ready.now c.loop-called.seats c.take_at.new.seats i.done c.take_at.ensures.done c.take_at.ensures.others;
       all = same_on (λ x. HasTakenAll x.buffers) (get_or c.args.ready.now c.loop-called.called 0) c.args.seats.now c.loop-called.seats c.take_at.new.seats i.all c.take_at.ensures.all c.take_at.ensures.others;
       room = c.take_at.ensures.room;
@@ -38,10 +51,10 @@ pub bounds-ready-called : goal.bounds-ready-called
 bounds-ready-called g c = c.loop-called-test.true
 
 pub offset_bounds-ready-called : goal.offset_bounds-ready-called
-offset_bounds-ready-called g c = scaled_Fits _ _ _ c.loop-called-test.true c.well_formed.1.1.1.1.1.0.1
+offset_bounds-ready-called g c = scaled_Fits _ _ _ c.loop-called-test.true c.well_formed.1.1.1.1.1.1.0.1
 
 pub overflow_add-called : goal.overflow_add-called
-overflow_add-called g c = omega (arith, c.loop-called-test.true, c.well_formed.1.1.1.1.1.0.1)
+overflow_add-called g c = omega (arith, c.loop-called-test.true, c.well_formed.1.1.1.1.1.1.0.1)
 
 pub loop-called-smaller : goal.loop-called-smaller
 loop-called-smaller g c = omega (arith, c.loop-called-test.true)

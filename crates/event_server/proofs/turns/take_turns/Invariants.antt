@@ -4,11 +4,13 @@ use Rattle.event_server.specs.declared.connection.Stage.TheVariants as stage
 use Rattle.event_server.proofs.SeatLemmas.{Going}
 use Rattle.event_server.proofs.CallLemmas.{FirstAre, SameOrIs}
 use Rattle.event_server.specs.ConnectionBuffers.{HasTakenAll}
+use Rattle.event_server.specs.Attending.{Hears, acts_in, number_at}
 use Rattle.event_server.proofs.turns.take_turns.Given as goal
 
 abbrev pub invariant-loop-called : goal.invariant-loop-called
 invariant-loop-called g l = record {
-  so : (log : TurnLog) × Going (seats_of g.S.Stream.left g.S.Stream.gone) g.D.Service.may (λ c. c.stage ≡ stage.Queued) l.fn.service l.fn.seats log l.service l.seats;
+  so : (log : TurnLog) × Going (seats_of g.S.Stream.left g.S.Stream.gone) g.D.Service.may (λ c. c.stage ≡ stage.Queued) l.fn.service.service l.fn.seats log l.service.service l.seats ×
+      Hears (acts_in (number_at l.numbers) log) l.fn.service l.service;
   done : FirstAre (λ c. c.stage ≡ stage.Queued → ⊥) l.called l.ready l.seats;
   all : SameOrIs (λ c. HasTakenAll c.buffers) l.fn.seats l.seats;
   room : AreShared l.shared;

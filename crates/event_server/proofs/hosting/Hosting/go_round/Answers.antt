@@ -1,4 +1,4 @@
--- The persister may go on, and then a turn is taken.
+-- The persister may go on, then stays are ended, and then a turn is taken.
 use Rattle.event_server.proofs.RoundLemmas.{served_maybe, served_then}
 use Rattle.event_server.proofs.hosting.Hosting.go_round.Goals as goal
 
@@ -8,4 +8,5 @@ returns-clause-served g c =
     let prefetches = g.K.Persist.prefetches in
     let persists = g.K.Persist.persists in
     let waits = g.K.Persist.waits in
-    served_then may prefetches persists waits _ _ _ _ _ _ (served_maybe may prefetches persists waits _ _ _ _ c.in_ok-tell_tick.ensures) c.in_ok-serve.ensures.served
+    served_then may prefetches persists waits _ _ _ _ _ _ (served_maybe may prefetches persists waits _ _ _ _ c.in_ok-tell_tick.ensures)
+    (served_then may prefetches persists waits _ _ _ _ _ _ c.in_ok-end_stays.ensures.served c.in_ok-serve.ensures.served)

@@ -2,7 +2,7 @@
 use Rattle.std.proofs.Common.{◌≡◌, ◌∙◌, ap, sym, is_ok}
 use Rattle.event_server.specs.declared.connection.Stage.TheVariants as stage
 use Rattle.event_server.specs.Rounds.{WasServed}
-use Rattle.event_server.proofs.RoundLemmas.{always, served_called, served_turned}
+use Rattle.event_server.proofs.RoundLemmas.{always, served_called, served_turned, turned_alone}
 use Rattle.event_server.proofs.hosting.Hosting.serve.Goals.{in-None, in-Some}
 use Rattle.event_server.proofs.hosting.Hosting.serve.Goals as goal
 
@@ -12,11 +12,11 @@ returns-in-Ok-clause-served g c =
     let prefetches = g.K.Persist.prefetches in
     let persists = g.K.Persist.persists in
     let waits = g.K.Persist.waits in
-    always c.settle.result (WasServed may prefetches persists waits c.args.persister.now c.args.service.now c.match-self.persister c.match-self.service)
-    (elim c.match-self.branch as (λ _. WasServed may prefetches persists waits c.args.persister.now c.args.service.now c.match-self.persister c.match-self.service) [
+    always c.settle.result (WasServed may prefetches persists waits c.args.persister.now c.args.service.now.service c.match-self.persister c.match-self.service.service)
+    (elim c.match-self.branch as (λ _. WasServed may prefetches persists waits c.args.persister.now c.args.service.now.service c.match-self.persister c.match-self.service.service) [
       | in-None w ↦ rw (w.persister-is, w.service-is)
-          (served_turned may prefetches persists waits _ (λ x. x.stage ≡ stage.Queued) w.iterate.result _ _ _ _ _ _ _ (sym w.map-called.ensures.variant ∙ ap is_ok (sym w.called-is ∙ c.in-Ok.is)) w.iterate.ensures.turned)
+          (served_turned may prefetches persists waits _ (λ x. x.stage ≡ stage.Queued) w.iterate.result _ _ _ _ _ _ _ (sym w.map-called.ensures.variant ∙ ap is_ok (sym w.called-is ∙ c.in-Ok.is)) (turned_alone w.iterate.result _ _ w.iterate.ensures.turned))
       | in-Some w ↦ rw (w.persister-is, w.service-is)
           (served_called may prefetches persists waits _ (λ x. x.peek) (λ x. x.stage ≡ stage.Queued) _ w.iterate_prefetched-called.result _ _ _ _ _ _ _ (ap is_ok (sym w.called-is ∙ c.in-Ok.is))
-          w.iterate_prefetched-called.ensures.served w.iterate_prefetched-called.ensures.lost)
+          (λ n same. (w.iterate_prefetched-called.ensures.served n same).0) (λ n same. (w.iterate_prefetched-called.ensures.lost n same).0))
     ])

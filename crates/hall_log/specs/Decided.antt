@@ -1,0 +1,44 @@
+-- which stays a front end ends, and where that stands in the log
+use Rattle.std.specs.Prelude.{◌≡◌, ◌+◌, ◌-◌, ◌^◌, ℕ, min, List, map, take}
+use Rattle.commands.specs.declared.config.Config.{Config}
+use Rattle.replicated_log.specs.Places.{Adds, Same}
+use Rattle.replicated_log.specs.Replicas.{HasApplied}
+use Rattle.replicated_log.specs.ReplicaState.{ReplicaState}
+use Rattle.hall_log.specs.Batches.{batch_of}
+use Rattle.hall_log.specs.Hosted.{IsAtEnd}
+use Rattle.hall_log.specs.Releases.{lines_of}
+use Rattle.hall_log.specs.Stays.{StayApplies, stays_of}
+use Rattle.hall_log.specs.StayState.{StayState}
+use Rattle.hall_log.specs.Watched.{due_of, watched}
+use Rattle.hall_log.specs.declared.kept_stay.KeptStay.{KeptStay}
+use Rattle.hall_log.specs.declared.watches.Watch.{Watch}
+
+-- how often the log was read to its end, once it was read once more, in 64 bits
+abbrev pub next_read : ℕ → ℕ
+next_read n = min (n + 1) (2 ^ 64 - 1)
+
+-- The identities whose stays the front end of a token ends, sixteen at a time: nothing was heard of others for more than the grace time and
+-- the 20 ticks for which they may answer
+abbrev pub ended_of : List ℕ → List ℕ → ℕ → ℕ → List Watch → List KeptStay → List ℕ
+ended_of token left grace tick watches kept = take 16 (due_of token left (grace + 20) tick (map (watched tick watches) kept))
+
+-- a replica has applied all entries of the log, in order, from a hall of the config with no event: a store told that none stands behind them
+pub record HasRead {S : Type 0} (lacks : S → ℕ → Type 0) (stood : ℕ → List ℕ → Type 0) (config : Config) (r : ReplicaState StayState) : Type 0 where
+  pub applied : HasApplied StayApplies stood (stays_of config) r
+  pub end : S
+  pub at_end : IsAtEnd (lacks end) r.place
+
+-- A release was decided by all entries before its place. It is the entry of the front end, at the place up to which it had read the log; its
+-- lines end the stays that were due to the hall there, and nothing else was added to the log
+pub record IsDecided {S : Type 0} (lacks : S → ℕ → Type 0) (stood stands : ℕ → List ℕ → Type 0) (config : Config) (token : List ℕ) (count : ℕ) (left : List ℕ)
+    (grace tick : ℕ) (watches : List Watch) : Type 0 where
+  pub at : ReplicaState StayState
+  pub read : HasRead lacks stood config at
+  pub adds : Adds stood at.place (batch_of token count (lines_of at.machine.hall (ended_of token left grace tick watches at.machine.kept))) stands
+
+-- the stays were looked at where the log was read to its end, and that was counted
+pub record HasLooked {S : Type 0} (lacks : S → ℕ → Type 0) (stood : ℕ → List ℕ → Type 0) (config : Config) (tick tick' : ℕ) (watches watches' : List Watch) : Type 0 where
+  pub at : ReplicaState StayState
+  pub read : HasRead lacks stood config at
+  pub counted : tick' ≡ next_read tick
+  pub looked : watches' ≡ map (watched tick' watches) at.machine.kept
