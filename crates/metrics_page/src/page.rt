@@ -3,7 +3,7 @@
 ghost use Rattle.std.specs.Prelude.{◌≡◌, ◌++◌, codes, decimal, OnOk};
 
 use crate::numbers::Numbers;
-use duration_histogram::{BOUND_MICROS, BOUNDS, DurationHistogram};
+use duration_histogram::{Bucket, DurationHistogram};
 use itoa::Buffer;
 use std::alloc::AllocError;
 
@@ -115,17 +115,19 @@ fn put_seconds(micros: u64, page: &mut Vec<u8>) -> Result<(), AllocError> {
 }
 
 // Appends a bucket of a histogram.
-fn put_bucket(name: &str, at: usize, count: u64, page: &mut Vec<u8>) -> Result<(), AllocError> {
+fn put_bucket(name: &str, bucket: Bucket, page: &mut Vec<u8>) -> Result<(), AllocError> {
     put(name, page)?;
     put("_bucket{le=\"", page)?;
-    if at < BOUNDS {
-        put_seconds(BOUND_MICROS[at], page)?;
-    } else {
-        put("+Inf", page)?;
-    }
+    put_seconds(bucket.bound, page)?;
     put("\"} ", page)?;
-    put_digits(count, page)?;
+    put_digits(bucket.count, page)?;
     put("\n", page)
+}
+
+// Appends the bucket of all calls.
+fn put_last_bucket(name: &str, count: u64, page: &mut Vec<u8>) -> Result<(), AllocError> {
+    put(name, page)?;
+    put_value("_bucket{le=\"+Inf\"}", count, page)
 }
 
 // Appends the metrics of how long calls took.
@@ -135,10 +137,10 @@ fn put_histogram(
     page: &mut Vec<u8>,
 ) -> Result<(), AllocError> {
     put_head(metric, page)?;
-    for at in 0..BOUNDS {
-        put_bucket(metric.name, at, histogram.buckets[at], page)?;
+    for bucket in &histogram.buckets {
+        put_bucket(metric.name, *bucket, page)?;
     }
-    put_bucket(metric.name, BOUNDS, histogram.count, page)?;
+    put_last_bucket(metric.name, histogram.count, page)?;
     put(metric.name, page)?;
     put("_sum ", page)?;
     put_seconds(histogram.total, page)?;
