@@ -34,6 +34,23 @@ impl From<io::Error> for FileFault {
     }
 }
 
+/// Which file a name or a descriptor leads to. As long as a file is open, no other has its number on its device.
+#[derive(Clone, Copy, Debug, Drop, PartialEq, Eq)]
+struct FileNumber {
+    device: u64,
+    inode: u64,
+}
+
+impl FileNumber {
+    /// The number of the file of which this is reported.
+    fn of(reported: &Metadata) -> FileNumber {
+        FileNumber {
+            device: reported.dev(),
+            inode: reported.ino(),
+        }
+    }
+}
+
 /// A file of the system as a disk. It is written at its end alone, and locked as long as it is open.
 #[derive(Drop)]
 pub struct FileDisk<R> {
@@ -41,6 +58,8 @@ pub struct FileDisk<R> {
     /// The path with no link in it.
     path: String,
     file: File,
+    /// The number of that file.
+    number: FileNumber,
     /// How many bytes it has by what was written.
     len: u64,
     /// How often all bytes were replaced.
@@ -73,12 +92,6 @@ fn sync_folder<R: Files<File = File>>(rt: &R, path: &str) -> io::Result<()> {
     File::sync_all(&File::open(rt, folder_of(path))?)
 }
 
-/// Whether a path names a file that is open, of which this is reported.
-fn is_named<R: Files<File = File>>(rt: &R, path: &str, held: &Metadata) -> io::Result<bool> {
-    let named = fs::metadata(rt, path)?;
-    Ok(named.ino() == held.ino() && named.dev() == held.dev())
-}
-
 /// Locks a file that was opened by a path. Where the path names another by now, whoever put that there has it in use.
 fn lock<R: Files<File = File>>(rt: &R, path: &str, file: &File) -> Result<(), FileFault> {
     match File::try_lock(file) {
@@ -86,7 +99,8 @@ fn lock<R: Files<File = File>>(rt: &R, path: &str, file: &File) -> Result<(), Fi
         Err(TryLockError::WouldBlock) => return Err(FileFault::InUse),
         Err(TryLockError::Error(error)) => return Err(FileFault::from(error)),
     }
-    if !is_named(rt, path, &File::metadata(file)?)? {
+    let named = fs::metadata(rt, path)?;
+    if FileNumber::of(&named) != FileNumber::of(&File::metadata(file)?) {
         return Err(FileFault::InUse);
     }
     Ok(())
@@ -152,12 +166,13 @@ impl<R: Files<File = File> + AllocGlobal + Copy> FileDisk<R> {
         let _ = opened(rt, path)?;
         let path = fs::canonicalize(rt, path)?.into_string();
         let file = locked(rt, &path)?;
-        let len = File::metadata(&file)?.len();
+        let held = File::metadata(&file)?;
         Ok(FileDisk {
             files: *rt,
             path,
             file,
-            len,
+            number: FileNumber::of(&held),
+            len: held.len(),
             replacings: 0,
             times: DurationHistogram::new(),
         })
@@ -227,18 +242,20 @@ impl<R: Files<File = File> + Clock + Drop> Disk for FileDisk<R> {
     fn replace(&mut self, alloc: Global, bytes: &[u8]) -> Result<(), DiskFault> {
         let path = self.path_beside(alloc)?;
         let file = written(&self.files, &path, bytes)?;
+        let number = FileNumber::of(&File::metadata(&file)?);
         fs::rename(&self.files, &path, &self.path)?;
         self.file = file;
+        self.number = number;
         self.len = bytes.len() as u64;
         self.replacings = self.replacings.saturating_add(1);
         sync_folder(&self.files, &self.path)?;
         Ok(())
     }
 
+    // Where the path names the file that is open, what is reported of the path is reported of the file.
     fn look(&self) -> Result<(), DiskFault> {
-        let held = File::metadata(&self.file)?;
-        match is_named(&self.files, &self.path, &held) {
-            Ok(true) if held.len() == self.len => Ok(()),
+        match fs::metadata(&self.files, &self.path) {
+            Ok(named) if FileNumber::of(&named) == self.number && named.len() == self.len => Ok(()),
             Ok(_) => Err(DiskFault::Moved),
             Err(error) if error.kind() == ErrorKind::NotFound => Err(DiskFault::Moved),
             Err(error) => Err(DiskFault::from(error)),

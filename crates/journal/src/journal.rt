@@ -1,6 +1,6 @@
 //! The journal of a write-ahead hall, on a disk.
 
-ghost use Rattle.std.specs.Prelude.{◌≡◌, ◌≢◌, true, false, length, Err, Some, OnOk, OnErr, IfOk, IfErr};
+ghost use Rattle.std.specs.Prelude.{◌≡◌, ◌≢◌, ◌≤◌, true, false, length, Err, Some, OnOk, OnErr, IfOk, IfErr};
 ghost use Rattle.journal.specs.Disks.{Changes};
 ghost use Rattle.journal.specs.DiskState.{DiskState};
 ghost use Rattle.hall.specs.Compactions.{IsCompacted};
@@ -152,6 +152,31 @@ impl<D: Disk> Journal<D> {
         }
     }
 
+    // Compacts the write-ahead hall by `compact`, if that makes the history shorter. It stands apart from the question whether that is due: its
+    // room for a hall is cleared whenever it is called.
+    #[inline(never)]
+    fn compact_long(
+        &mut self,
+        alloc: Global,
+        compactor: &mut Compactor,
+        write_ahead: &mut WriteAhead,
+    ) -> Result<(), JournalFault>
+        requires due { compactor.old.due ≤ length write_ahead.old.hall.history }
+        ensures compacted { OnOk result (MayCompact write_ahead.old write_ahead.new) }
+        ensures stands { OnOk result (Stands D.state self.old write_ahead.old → Stands D.state self.new write_ahead.new) }
+        ensures any_moment { Stands D.state self.old write_ahead.old → KeepsWhenCompacted D.state self.old self.new write_ahead.old }
+        ensures same { OnErr result (write_ahead.new ≡ write_ahead.old) }
+        ensures ends { OnErr result (self.new.ended ≡ true) }
+        ensures paced { OnOk result (IsPaced compactor.old write_ahead.old compactor.new write_ahead.new) }
+    {
+        let Some(hall) = compactor.compacted(alloc, write_ahead.hall()) else {
+            return Ok(());
+        };
+        let done = self.compact(alloc, write_ahead, hall)?;
+        put_off_unless(done, compactor, write_ahead.hall());
+        Ok(())
+    }
+
     /// Compacts the write-ahead hall by `compact`, if that is due and makes the history shorter.
     ///
     /// If the new record could not be written beside the old one, the hall stays as it is, and the compaction is put off.
@@ -179,12 +204,7 @@ impl<D: Disk> Journal<D> {
         if !compactor.is_due(write_ahead.hall()) {
             return Ok(());
         }
-        let Some(hall) = compactor.compacted(alloc, write_ahead.hall()) else {
-            return Ok(());
-        };
-        let done = self.compact(alloc, write_ahead, hall)?;
-        put_off_unless(done, compactor, write_ahead.hall());
-        Ok(())
+        self.compact_long(alloc, compactor, write_ahead)
     }
 }
 
