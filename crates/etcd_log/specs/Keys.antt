@@ -1,5 +1,5 @@
 -- The key of a place.
-use Rattle.std.specs.Prelude.{ℕ, zero, suc, ◌+◌, ◌-◌, ◌*◌, ◌/◌, ◌%◌, List, [], ◌∷◌, ◌++◌}
+use Rattle.std.specs.Prelude.{codes, ℕ, zero, suc, ◌+◌, ◌-◌, ◌*◌, ◌/◌, ◌%◌, List, [], ◌∷◌, ◌++◌}
 
 -- the last so many decimal digits of a number
 abbrev pub digits : ℕ → ℕ → List ℕ
@@ -9,6 +9,10 @@ digits (suc k) n = digits k (n / 10) ++ (48 + n % 10) ∷ []
 -- a prefix, and the place in 16 digits: keys come in the order of their places
 abbrev pub key_of : List ℕ → ℕ → List ℕ
 key_of prefix place = prefix ++ digits 16 place
+
+-- the key at which a place is noted for a start. No place has it, since the keys of places are longer
+abbrev pub hint_key_of : List ℕ → List ℕ
+hint_key_of prefix = prefix ++ codes "last"
 
 -- the number that digits say
 abbrev pub number_from : ℕ → List ℕ → ℕ

@@ -3,7 +3,7 @@ use Rattle.std.specs.Prelude.{◌≡◌, ℕ, ◌-◌, List, Some, codes, Ok}
 use Rattle.json.specs.Json.{Json, string, array, object, no_items, item, no_members, member, document}
 use Rattle.base64.specs.Engines.{standard}
 use Rattle.base64.specs.GeneralPurpose.{decode_of}
-use Rattle.etcd_log.specs.Keys.{key_of}
+use Rattle.etcd_log.specs.Keys.{digits, hint_key_of, key_of}
 
 -- an object of one member, and a list of one item
 abbrev pub only : List ℕ → Json → Json
@@ -89,3 +89,17 @@ pub record SaysOne (text prefix : List ℕ) (place : ℕ) : Type 0 where
   pub key : List ℕ
   pub says : document text ≡ Some (only (codes "key") (string key))
   pub at : decode_of standard key ≡ Ok (key_of prefix place)
+
+-- a text is the request that gets the place that is noted under a prefix
+pub record SaysGetHint (text prefix : List ℕ) : Type 0 where
+  pub key : List ℕ
+  pub says : document text ≡ Some (only (codes "key") (string key))
+  pub at : decode_of standard key ≡ Ok (hint_key_of prefix)
+
+-- a text is the request that notes a place under a prefix, in place of another
+pub record SaysPutHint (text prefix : List ℕ) (place : ℕ) : Type 0 where
+  pub key : List ℕ
+  pub value : List ℕ
+  pub says : document text ≡ Some (pair key value)
+  pub at : decode_of standard key ≡ Ok (hint_key_of prefix)
+  pub holds : decode_of standard value ≡ Ok (digits 16 place)

@@ -11,7 +11,7 @@ ghost use Rattle.etcd_log.specs.Answers.{put_said, entry_said, get_said};
 ghost use Rattle.etcd_log.specs.Faults.{IsOverNetwork};
 ghost use Rattle.etcd_log.specs.Found.{HasUnread, IsUnread, SaysAll, SaysFound, SaysFrom, is_written};
 
-use crate::key::key64;
+use crate::key::{hint_key64, key64};
 use base64::DecodeAllocError;
 use base64::engine::general_purpose::STANDARD;
 use json::{Error, Scratch, Value};
@@ -207,4 +207,43 @@ pub fn read_get(
     let mut scratch = Scratch::new(alloc);
     let answer = parsed(alloc, body, &mut scratch)?;
     read_all(alloc, &answer, most, prefix, place)
+}
+
+// Returns the number that 16 digits say, or `None` of other bytes.
+fn place_of(digits: &[u8]) -> Option<u64> {
+    if digits.len() != 16 {
+        return None;
+    }
+    let mut place = 0u64;
+    for digit in digits {
+        if !digit.is_ascii_digit() {
+            return None;
+        }
+        place = place
+            .wrapping_mul(10)
+            .wrapping_add((*digit).wrapping_sub(b'0') as u64);
+    }
+    Some(place)
+}
+
+/// Reads the body of an answer to a request that gets the place that is noted under a prefix. Returns `None` if no place
+/// is noted. Not proved: which place it returns. It is a hint alone.
+///
+/// # Errors
+///
+/// - `Memory`: an allocation failed.
+/// - `Wrong`: the body is no such answer.
+pub fn read_hint(alloc: Global, body: &[u8], prefix: &str) -> Result<Option<u64>, StoreFault>
+    ensures fault { IfErr result IsOverNetwork }
+{
+    let Ok(key) = hint_key64(alloc, prefix) else {
+        return Err(StoreFault::Memory);
+    };
+    let mut scratch = Scratch::new(alloc);
+    let answer = parsed(alloc, body, &mut scratch)?;
+    match get_said(&answer, 0, key.as_str()) {
+        Some(Some(text)) => Ok(place_of(&decoded(alloc, text)?)),
+        Some(None) => Ok(None),
+        None => Err(StoreFault::Wrong),
+    }
 }

@@ -6,10 +6,10 @@ ghost use Rattle.std.specs.declared.alloc.Global.{Global};
 ghost use Rattle.replicated_log.specs.declared.store.TheConstants.{MOST_PLACES};
 ghost use Rattle.etcd_log.specs.Faults.{IsOverNetwork};
 
-use crate::answer::{read_get, read_put};
+use crate::answer::{read_get, read_hint, read_put};
 use crate::dial::Dial;
 use crate::exchange::exchange;
-use crate::request::{get_text, one_text, put_behind_text, put_text};
+use crate::request::{get_text, hint_text, one_text, put_behind_text, put_hint_text, put_text};
 use http1::{Client, Limits};
 use replicated_log::{MOST_PLACES, Put, Store, StoreFault};
 use std::alloc::Global;
@@ -298,5 +298,21 @@ impl<D: Dial> Store for EtcdStore<D> {
         self.place = place + 1;
         *entry = found;
         Ok(true)
+    }
+
+    fn hint(&mut self) -> Result<Option<u64>, StoreFault> {
+        let Ok(text) = hint_text(self.alloc, self.prefix.as_str()) else {
+            return Err(StoreFault::Memory);
+        };
+        let body = self.ask(b"/v3/kv/range", &text)?;
+        read_hint(self.alloc, &body, self.prefix.as_str())
+    }
+
+    fn put_hint(&mut self, place: u64) -> Result<(), StoreFault> {
+        let Ok(text) = put_hint_text(self.alloc, self.prefix.as_str(), place) else {
+            return Err(StoreFault::Memory);
+        };
+        self.ask(b"/v3/kv/put", &text)?;
+        Ok(())
     }
 }

@@ -3,7 +3,7 @@
 ghost use Rattle.std.specs.Prelude.{◌≡◌, ◌<◌, ◌^◌, ◌++◌, ℕ, List, Ok, IfOk, OnOk, string_bytes};
 ghost use Rattle.base64.specs.Engines.{standard};
 ghost use Rattle.base64.specs.GeneralPurpose.{decode_of, encode_of};
-ghost use Rattle.etcd_log.specs.Keys.{digits, key_of};
+ghost use Rattle.etcd_log.specs.Keys.{digits, hint_key_of, key_of};
 
 use base64::engine::general_purpose::STANDARD;
 use std::alloc::{AllocError, Global};
@@ -45,6 +45,32 @@ pub fn key64(alloc: Global, prefix: &str, place: u64) -> Result<String, AllocErr
     ensures text { IfOk result (λ text. string_bytes text ≡ encode_of standard (key_of prefix.now place)) }
 {
     STANDARD.encode(alloc, &key(alloc, prefix, place)?)
+}
+
+/// Returns the place in 16 digits, as it is noted for a start.
+///
+/// # Errors
+///
+/// `AllocError`: an allocation failed.
+pub fn place_text(alloc: Global, place: u64) -> Result<Vec<u8>, AllocError>
+    ensures { IfOk result (λ text. text.items ≡ digits 16 place) }
+{
+    let mut text = Vec::new(alloc);
+    push_digits(&mut text, 16, place)?;
+    Ok(text)
+}
+
+/// Returns the key under a prefix at which a place is noted for a start, in base64: the prefix and `last`.
+///
+/// # Errors
+///
+/// `AllocError`: an allocation failed.
+pub fn hint_key64(alloc: Global, prefix: &str) -> Result<String, AllocError>
+    ensures { IfOk result (λ text. decode_of standard (string_bytes text) ≡ Ok (hint_key_of prefix.now)) }
+{
+    let mut key = Vec::from_slice(alloc, prefix.as_bytes())?;
+    key.extend_from_slice(b"last")?;
+    STANDARD.encode(alloc, &key)
 }
 
 /// A law: under one prefix two places below 10^16 have two keys.

@@ -5,9 +5,9 @@ ghost use Rattle.base64.specs.Engines.{standard};
 ghost use Rattle.base64.specs.GeneralPurpose.{decode_of};
 ghost use Rattle.json.specs.Json.{document, object};
 ghost use Rattle.json.specs.Value.{members_view, value_view};
-ghost use Rattle.etcd_log.specs.Requests.{SaysGet, SaysOne, SaysPut, SaysPutBehind, alone, both, compared, get_request, holds, never_created, only, pair, put_behind_request, put_if};
+ghost use Rattle.etcd_log.specs.Requests.{SaysGet, SaysGetHint, SaysOne, SaysPut, SaysPutBehind, SaysPutHint, alone, both, compared, get_request, holds, never_created, only, pair, put_behind_request, put_if};
 
-use crate::key::key64;
+use crate::key::{hint_key64, key64, place_text};
 use base64::engine::general_purpose::STANDARD;
 use json::{Value, to_vec};
 use std::alloc::{AllocError, Global};
@@ -229,4 +229,30 @@ pub fn one_text(alloc: Global, prefix: &str, place: u64) -> Result<Vec<u8>, Allo
 {
     let key = key64(alloc, prefix, place)?;
     to_vec(alloc, &only(alloc, "key", Value::String(key.as_str()))?)
+}
+
+/// Returns the text of the request that gets the place that is noted under a prefix.
+///
+/// # Errors
+///
+/// `AllocError`: an allocation failed.
+pub fn hint_text(alloc: Global, prefix: &str) -> Result<Vec<u8>, AllocError>
+    ensures { IfOk result (λ text. SaysGetHint text.items prefix.now) }
+{
+    let key = hint_key64(alloc, prefix)?;
+    to_vec(alloc, &only(alloc, "key", Value::String(key.as_str()))?)
+}
+
+/// Returns the text of the request that notes a place under a prefix, in place of the one noted before.
+///
+/// # Errors
+///
+/// `AllocError`: an allocation failed.
+pub fn put_hint_text(alloc: Global, prefix: &str, place: u64) -> Result<Vec<u8>, AllocError>
+    ensures { IfOk result (λ text. SaysPutHint text.items prefix.now place) }
+{
+    let key = hint_key64(alloc, prefix)?;
+    let digits = place_text(alloc, place)?;
+    let value = value64(alloc, &digits)?;
+    to_vec(alloc, &pair(alloc, key.as_str(), value.as_str())?)
 }

@@ -9,7 +9,7 @@ use Rattle.replicated_log.specs.declared.serve_fault.ServeFault.{ServeFault}
 use Rattle.replicated_log.specs.declared.serve_fault.ServeFault.TheVariants.{TooLong, Unknown}
 use Rattle.replicated_log.specs.Places.{Adds, Keeps, Same}
 use Rattle.replicated_log.specs.declared.store.TheConstants.{MOST_PLACES}
-use Rattle.replicated_log.specs.Replicas.{AddsOnce, EndsBy, FaultLeaves, GoesOn, IsAnswered, IsApplied, IsDueAt, IsReplica, Leads, OneMore, StandsFrom}
+use Rattle.replicated_log.specs.Replicas.{AddsOnce, EndsBy, FaultLeaves, GoesOn, IsAnswered, IsApplied, IsDueFrom, IsReplicaFrom, Leads, OneMore, StandsFrom}
 use Rattle.replicated_log.specs.ReplicaState.{ReplicaState}
 
 pub same_trans : (first between last : ℕ → List ℕ → Type 0) → Same first between → Same between last → Same first last
@@ -112,14 +112,14 @@ module _ {M R : Type 0} (applies : M → List ℕ → R → M → Type 0) where
     is_well = h.is_well;
   }
 
-  pub follows : (first last : ℕ → List ℕ → Type 0) → Keeps first last → (old new : ReplicaState M) → (new.poisoned ≡ false → GoesOn applies last old new) → (start : M) → IsReplica applies first start old → IsReplica applies last start new
-  follows first last keeps old new goes start was = λ well.
+  pub follows : (first last : ℕ → List ℕ → Type 0) → Keeps first last → (old new : ReplicaState M) → (new.poisoned ≡ false → GoesOn applies last old new) → (from : ℕ) (start : M) → IsReplicaFrom applies first from start old → IsReplicaFrom applies last from start new
+  follows first last keeps old new goes from start was = λ well.
       let on = goes well in
       let had = was on.was_well in
       record {
         entries = had.entries ++ on.more;
         led = leads_append start old.machine new.machine had.entries on.more had.led on.led;
-        stood = stands_append last 0 had.entries on.more (stands_still_from first last keeps 0 had.entries had.stood) (subst (λ (k : ℕ). StandsFrom last k on.more) (had.count ∙ (let z : length had.entries ≡ 0 + length had.entries = omega arith in z)) on.stood);
+        stood = stands_append last from had.entries on.more (stands_still_from first last keeps from had.entries had.stood) (subst (λ (k : ℕ). StandsFrom last k on.more) had.count on.stood);
         count = (let n = length-append had.entries on.more in let p = had.count in let q = on.count in omega (arith, n, p, q));
       }
 
@@ -161,27 +161,26 @@ module _ {M R : Type 0} (applies : M → List ℕ → R → M → Type 0) where
 
   -- behind what went on and wrote nothing
   pub later_follows : (first between last : ℕ → List ℕ → Type 0) → Same first between → Keeps between last → (a b c : ReplicaState M) →
-      GoesOn applies between a b → (c.poisoned ≡ false → GoesOn applies last b c) → (start : M) → IsReplica applies first start a → IsReplica applies last start c
+      GoesOn applies between a b → (c.poisoned ≡ false → GoesOn applies last b c) → (from : ℕ) (start : M) → IsReplicaFrom applies first from start a → IsReplicaFrom applies last from start c
   later_follows first between last same keeps a b c one two =
       follows first last (λ place entry h. keeps place entry (same.keeps place entry h)) a c (λ well. goes_on_trans between last keeps a b c one (two well))
 
-  pub still : (first last : ℕ → List ℕ → Type 0) → Keeps first last → (start : M) (r : ReplicaState M) → IsReplica applies first start r → IsReplica applies last start r
-  still first last keeps start r h = λ well. let had = h well in
-      record { entries = had.entries; led = had.led; stood = stands_still_from first last keeps 0 had.entries had.stood; count = had.count }
+  pub still : (first last : ℕ → List ℕ → Type 0) → Keeps first last → (from : ℕ) (start : M) (r : ReplicaState M) → IsReplicaFrom applies first from start r → IsReplicaFrom applies last from start r
+  still first last keeps from start r h = λ well. let had = h well in
+      record { entries = had.entries; led = had.led; stood = stands_still_from first last keeps from had.entries had.stood; count = had.count }
 
   -- what is answered behind what was applied from the start
-  pub due_at : (first last : ℕ → List ℕ → Type 0) → Keeps first last → (start : M) (old new : ReplicaState M) (batch : List ℕ) (replies : R) → IsReplica applies first start old → IsAnswered applies last old batch new replies → IsDueAt applies last start batch replies new
-  due_at first last keeps start old new batch replies was so =
-      let had = still first last keeps start old was so.was_well in
-      let at : old.place ≡ 0 + length had.entries = had.count ∙ (let z : length had.entries ≡ 0 + length had.entries = omega arith in z) in
-      let all : StandsFrom last 0 (had.entries ++ (so.others ++ batch ∷ [])) =
-      stands_append last 0 had.entries (so.others ++ batch ∷ []) had.stood (subst (λ (k : ℕ). StandsFrom last k (so.others ++ batch ∷ [])) at so.stood) in
+  pub due_at : (first last : ℕ → List ℕ → Type 0) → Keeps first last → (from : ℕ) (start : M) (old new : ReplicaState M) (batch : List ℕ) (replies : R) → IsReplicaFrom applies first from start old → IsAnswered applies last old batch new replies → IsDueFrom applies last from start batch replies new
+  due_at first last keeps from start old new batch replies was so =
+      let had = still first last keeps from start old was so.was_well in
+      let all : StandsFrom last from (had.entries ++ (so.others ++ batch ∷ [])) =
+      stands_append last from had.entries (so.others ++ batch ∷ []) had.stood (subst (λ (k : ℕ). StandsFrom last k (so.others ++ batch ∷ [])) had.count so.stood) in
       record {
         before = had.entries ++ so.others;
         was = so.before;
         led = leads_append start old.machine so.before had.entries so.others had.led so.led;
         due = so.reported;
-        stood = subst (StandsFrom last 0) (sym (append_assoc had.entries so.others (batch ∷ []))) all;
+        stood = subst (StandsFrom last from) (sym (append_assoc had.entries so.others (batch ∷ []))) all;
         count = (let n = length-append had.entries so.others in let p = had.count in let q = so.count in omega (arith, n, p, q));
         is_well = so.is_well;
       }

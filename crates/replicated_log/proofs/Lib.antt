@@ -1,4 +1,5 @@
 mod Chains
+pub mod Late
 mod LogPlaces
 mod Paces
 mod Shared

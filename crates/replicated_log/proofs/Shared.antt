@@ -106,9 +106,9 @@ module _ {M R : Type 0} (applies : M → List ℕ → R → M → Type 0) (start
     all_still : (replicas : List (ReplicaState M)) (at : ℕ) (one : ReplicaState M) → All (IsReplica applies (stands_in old) start) replicas → IsReplica applies (stands_in new) start one → All (IsReplica applies (stands_in new) start) (slice_set replicas at one)
     all_still [] at one all h = All-nil (IsReplica applies (stands_in new) start)
     all_still (first ∷ rest) zero one all h =
-        All-cons (IsReplica applies (stands_in new) start) one rest h (λ k d within. still applies (stands_in old) (stands_in new) keeps start (get_or rest k d) (all (suc k) d (omega (arith, within))))
+        All-cons (IsReplica applies (stands_in new) start) one rest h (λ k d within. still applies (stands_in old) (stands_in new) keeps 0 start (get_or rest k d) (all (suc k) d (omega (arith, within))))
     all_still (first ∷ rest) (suc at) one all h =
-        All-cons (IsReplica applies (stands_in new) start) first (slice_set rest at one) (still applies (stands_in old) (stands_in new) keeps start first (all zero first (omega arith)))
+        All-cons (IsReplica applies (stands_in new) start) first (slice_set rest at one) (still applies (stands_in old) (stands_in new) keeps 0 start first (all zero first (omega arith)))
         (all_still rest at one (λ k d within. all (suc k) d (omega (arith, within))) h)
 
     pub history_after : (replicas : List (ReplicaState M)) (at : ℕ) (one : ReplicaState M) → IsReplica applies (stands_in new) start one → (reported : List (Reported R)) → IsOneHistory applies start old replicas reported → IsOneHistory applies start new (slice_set replicas at one) reported
@@ -120,7 +120,7 @@ module _ {M R : Type 0} (applies : M → List ℕ → R → M → Type 0) (start
   -- the replies to a batch that was served are due at its place
   pub due_there : (log : List (List ℕ)) (old new : ReplicaState M) (batch : List ℕ) (replies : R) → HasApplied applies (stands_in log) start old → IsAnswered applies (stands_in log) old batch new replies → IsDueIn applies start log (record { batch = batch; replies = replies })
   due_there log old new batch replies had so =
-      let due = due_at applies (stands_in log) (stands_in log) (λ place entry h. h) start old new batch replies (λ well. had) so in
+      let due = due_at applies (stands_in log) (stands_in log) (λ place entry h. h) 0 start old new batch replies (λ well. had) so in
       record {
         before = due.before;
         stands = stands_prefix (due.before ++ batch ∷ []) log due.stood;
@@ -187,7 +187,7 @@ module _ {M R : Type 0} (applies : M → List ℕ → R → M → Type 0) (deter
   same_states start log a b ha hb wa wb place =
       let ga = ha wa in
       let gb = hb wb in
-      let same = same_prefix ga.entries gb.entries log (stands_prefix ga.entries log ga.stood) (stands_prefix gb.entries log gb.stood) (sym ga.count ∙ (place ∙ gb.count)) in
+      let same = same_prefix ga.entries gb.entries log (stands_prefix ga.entries log ga.stood) (stands_prefix gb.entries log gb.stood) (let p = ga.count in let q = gb.count in omega (arith, p, q, place)) in
       same_leads start a.machine b.machine gb.entries (subst (λ (es : List (List ℕ)). Leads applies start es a.machine) same ga.led) gb.led
 
   pub same_reported : (start : M) (log : List (List ℕ)) (one other : Reported R) (h : IsDueIn applies start log one) (k : IsDueIn applies start log other) → length h.before ≡ length k.before → one ≡ other

@@ -39,3 +39,7 @@ module _ {M R : Type 0} (applies : M → List ℕ → R → M → Type 0) where
   -- what is said to an entry, and the machine after it, are determined by the entry and the machine before it
   abbrev pub IsDetermined : Type 0
   IsDetermined = (m : M) (entry : List ℕ) (said other : R) (n k : M) → applies m entry said n → applies m entry other k → (said ≡ other) × (n ≡ k)
+
+  -- machines that are so related are it still behind an entry that was applied to both, whatever was said to it
+  abbrev pub StaysAlike : (M → M → Type 0) → Type 0
+  StaysAlike Alike = (m n : M) (entry : List ℕ) (said other : R) (m' n' : M) → Alike m n → applies m entry said m' → applies n entry other n' → Alike m' n'

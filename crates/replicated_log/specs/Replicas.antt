@@ -82,23 +82,34 @@ module _ {M R : Type 0} (applies : M → List ℕ → R → M → Type 0) where
       pub was_well : old.poisoned ≡ false
       pub is_well : new.poisoned ≡ false
 
-    -- what was applied to the machine since it was so
-    pub record HasApplied (start : M) (r : ReplicaState M) : Type 0 where
+    -- what was applied to the machine from a place on, since it was so there
+    pub record HasAppliedFrom (from : ℕ) (start : M) (r : ReplicaState M) : Type 0 where
       pub entries : List (List ℕ)
       pub led : Leads start entries r.machine
-      pub stood : StandsFrom stands 0 entries
-      pub count : r.place ≡ length entries
+      pub stood : StandsFrom stands from entries
+      pub count : r.place ≡ from + length entries
 
-    -- its machine was led from this start by the entries of the log up to its place, but where it is poisoned
-    abbrev pub IsReplica : M → ReplicaState M → Type 0
-    IsReplica start r = r.poisoned ≡ false → HasApplied start r
+    -- its machine was led from this start by the entries of the log between that place and its own, but where it is poisoned
+    abbrev pub IsReplicaFrom : ℕ → M → ReplicaState M → Type 0
+    IsReplicaFrom from start r = r.poisoned ≡ false → HasAppliedFrom from start r
 
-    -- these are the replies due to a batch at its place, behind all that stands before it, and the replica has applied all that up to it
-    pub record IsDueAt (start : M) (batch : List ℕ) (replies : R) (r : ReplicaState M) : Type 0 where
+    -- these are the replies due to a batch at its place, behind all that stands before it from a place on, and the replica has applied all that
+    -- up to it
+    pub record IsDueFrom (from : ℕ) (start : M) (batch : List ℕ) (replies : R) (r : ReplicaState M) : Type 0 where
       pub before : List (List ℕ)
       pub was : M
       pub led : Leads start before was
       pub due : applies was batch replies r.machine
-      pub stood : StandsFrom stands 0 (before ++ batch ∷ [])
-      pub count : r.place ≡ length before + 1
+      pub stood : StandsFrom stands from (before ++ batch ∷ [])
+      pub count : r.place ≡ from + length before + 1
       pub is_well : r.poisoned ≡ false
+
+    -- the same from the first entry of the log on
+    abbrev pub HasApplied : M → ReplicaState M → Type 0
+    HasApplied start r = HasAppliedFrom 0 start r
+
+    abbrev pub IsReplica : M → ReplicaState M → Type 0
+    IsReplica start r = IsReplicaFrom 0 start r
+
+    abbrev pub IsDueAt : M → List ℕ → R → ReplicaState M → Type 0
+    IsDueAt start batch replies r = IsDueFrom 0 start batch replies r

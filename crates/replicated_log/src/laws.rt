@@ -3,7 +3,7 @@
 ghost use Rattle.std.specs.Prelude.{◌≡◌, ◌≤◌, ℕ, List, length, false};
 ghost use Rattle.replicated_log.specs.Groups.{IsDetermined, IsDueIn, Reported};
 ghost use Rattle.replicated_log.specs.Places.{Contradicts, Keeps, stands_in};
-ghost use Rattle.replicated_log.specs.Replicas.{IsAnswered, IsDueAt, IsReplica};
+ghost use Rattle.replicated_log.specs.Replicas.{IsAnswered, IsDueFrom, IsReplica, IsReplicaFrom};
 ghost use Rattle.replicated_log.specs.ReplicaState.{ReplicaState};
 ghost use Rattle.replicated_log.specs.declared.replica.TheConstants.{MOST_BATCH, MOST_STEPS};
 ghost use Rattle.replicated_log.specs.declared.store.TheConstants.{MOST_PLACES};
@@ -26,14 +26,14 @@ pub fn law_of_agreement<M: Machine>()
 
 /// A law of a replica over a store, before and after a call that keeps all entries of the log.
 ///
-/// - `still`: a replica that the log led from its start is still one that the log led.
-/// - `due`: its replies are those due at the place of the batch, after all entries before it from place 0 on.
+/// - `still`: a replica that the log led from a place on is still one that the log led from there.
+/// - `due`: its replies are those due at the place of the batch, after all entries before it from that place on.
 pub fn law_of_following<M: Machine, S: Store>()
-    ensures still { (start : M) (r : ReplicaState M) (s t : S) → Keeps (S.stands s) (S.stands t) →
-        IsReplica M.applies (S.stands s) start r → IsReplica M.applies (S.stands t) start r }
-    ensures due { (start : M) (old new : ReplicaState M) (batch : List ℕ) (replies : M.Replies) (s t : S) → Keeps (S.stands s) (S.stands t) →
-        IsReplica M.applies (S.stands s) start old → IsAnswered M.applies (S.stands t) old batch new replies →
-        IsDueAt M.applies (S.stands t) start batch replies new }
+    ensures still { (from : ℕ) (start : M) (r : ReplicaState M) (s t : S) → Keeps (S.stands s) (S.stands t) →
+        IsReplicaFrom M.applies (S.stands s) from start r → IsReplicaFrom M.applies (S.stands t) from start r }
+    ensures due { (from : ℕ) (start : M) (old new : ReplicaState M) (batch : List ℕ) (replies : M.Replies) (s t : S) → Keeps (S.stands s) (S.stands t) →
+        IsReplicaFrom M.applies (S.stands s) from start old → IsAnswered M.applies (S.stands t) old batch new replies →
+        IsDueFrom M.applies (S.stands t) from start batch replies new }
 {}
 
 /// A law: a log in memory never reports of one place both that it has an entry and that it has none.

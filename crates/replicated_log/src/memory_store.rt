@@ -16,6 +16,7 @@ use std::marker::Model;
 pub struct MemoryStore {
     alloc: Global,
     entries: Vec<Vec<u8>>,
+    hint: Option<u64>,
 }
 
 impl Model for MemoryStore {
@@ -34,6 +35,7 @@ impl MemoryStore {
         MemoryStore {
             alloc,
             entries: Vec::new(alloc),
+            hint: None,
         }
     }
 
@@ -99,5 +101,14 @@ impl Store for MemoryStore {
             Ok(()) => Ok(true),
             Err(_) => Err(StoreFault::Memory),
         }
+    }
+
+    fn hint(&mut self) -> Result<Option<u64>, StoreFault> {
+        Ok(self.hint)
+    }
+
+    fn put_hint(&mut self, place: u64) -> Result<(), StoreFault> {
+        self.hint = Some(place);
+        Ok(())
     }
 }

@@ -1,8 +1,8 @@
 //! A machine that follows a log.
 
-ghost use Rattle.std.specs.Prelude.{◌≡◌, ◌≢◌, ◌<◌, ◌≤◌, length, true, false, Ok, Err, OnOk, OnErr, IfOk, IfErr, ◌+◌, ◌⊎◌, not};
+ghost use Rattle.std.specs.Prelude.{◌≡◌, ◌≢◌, ◌<◌, ◌≤◌, ℕ, length, true, false, Ok, Err, OnOk, OnErr, IfOk, IfErr, ◌+◌, ◌⊎◌, not};
 ghost use Rattle.replicated_log.specs.Places.{Adds, Contradicts, IsTaken, Same};
-ghost use Rattle.replicated_log.specs.Replicas.{AddsOnce, EndsBy, FaultLeaves, GoesOn, IsAnswered, IsApplied, IsReplica, OneMore, ServeLeaves};
+ghost use Rattle.replicated_log.specs.Replicas.{AddsOnce, EndsBy, FaultLeaves, GoesOn, IsAnswered, IsApplied, IsReplicaFrom, OneMore, ServeLeaves};
 ghost use Rattle.replicated_log.specs.Causes.{MayCause, MayFail};
 ghost use Rattle.replicated_log.specs.declared.store.TheConstants.{MOST_PLACES};
 ghost use Rattle.replicated_log.specs.declared.replica.Step.TheVariants.{Nothing, Answered, Passed};
@@ -72,6 +72,22 @@ impl<M: Machine> Replica<M> {
             place: 0,
             poisoned: false,
             behind: false,
+        }
+    }
+
+    /// Makes a replica of a machine that is where the entries of a log before a place led it, so far as its maker knows.
+    ///
+    /// It has applied no entry from that place on. It reads this place before it writes there.
+    pub fn at(alloc: Global, machine: M, place: u64) -> Replica<M>
+        ensures { result ≡ record { machine = machine; place = place; poisoned = false; behind = true } }
+    {
+        Replica {
+            alloc,
+            machine,
+            entry: Vec::new(alloc),
+            place,
+            poisoned: false,
+            behind: true,
         }
     }
 
@@ -248,7 +264,7 @@ impl<M: Machine> Replica<M> {
         ensures cause { IfErr result (MayCause S.fails) }
         ensures poisoned { self.old.poisoned ≡ true → (result ≡ Err Poisoned) × (store.new ≡ store.old) }
         ensures goes_on { self.new.poisoned ≡ false → GoesOn M.applies (S.stands store.new) self.old self.new }
-        ensures follows { (start : M) → IsReplica M.applies (S.stands store.old) start self.old → IsReplica M.applies (S.stands store.new) start self.new }
+        ensures follows { (from : ℕ) (start : M) → IsReplicaFrom M.applies (S.stands store.old) from start self.old → IsReplicaFrom M.applies (S.stands store.new) from start self.new }
         ensures adds { Adds (S.stands store.old) self.old.place batch.now (S.stands store.new) }
     {
         let result = self.advance(store, batch, replies);
@@ -287,7 +303,7 @@ impl<M: Machine> Replica<M> {
         ensures poisoned { self.old.poisoned ≡ true → length batch.now ≤ 65536 →
             (result ≡ Err (Unknown Poisoned)) × (self.new ≡ self.old) × (store.new ≡ store.old) }
         ensures goes_on { self.new.poisoned ≡ false → GoesOn M.applies (S.stands store.new) self.old self.new }
-        ensures follows { (start : M) → IsReplica M.applies (S.stands store.old) start self.old → IsReplica M.applies (S.stands store.new) start self.new }
+        ensures follows { (from : ℕ) (start : M) → IsReplicaFrom M.applies (S.stands store.old) from start self.old → IsReplicaFrom M.applies (S.stands store.new) from start self.new }
         ensures once { AddsOnce (S.stands store.old) batch.now (S.stands store.new) }
     {
         if batch.len() > MOST_BATCH {
@@ -365,7 +381,7 @@ impl<M: Machine> Replica<M> {
         ensures poisoned { self.old.poisoned ≡ true → (result ≡ Err Poisoned) × (self.new ≡ self.old) }
         ensures not_busy { result ≢ Err Busy }
         ensures goes_on { self.new.poisoned ≡ false → GoesOn M.applies (S.stands store.new) self.old self.new }
-        ensures follows { (start : M) → IsReplica M.applies (S.stands store.old) start self.old → IsReplica M.applies (S.stands store.new) start self.new }
+        ensures follows { (from : ℕ) (start : M) → IsReplicaFrom M.applies (S.stands store.old) from start self.old → IsReplicaFrom M.applies (S.stands store.new) from start self.new }
         ensures same { Same (S.stands store.old) (S.stands store.new) }
         ensures cause { IfErr result (MayCause S.fails) }
     {

@@ -60,4 +60,23 @@ pub trait Store {
         ensures missed { result ≡ Ok false → lacks self.new place }
         ensures same { Same (stands self.old) (stands self.new) }
         ensures fault { IfErr result fails };
+
+    /// Returns the place that was noted last (`put_hint`), or `None` if there is none. It is a hint alone: any place may be
+    /// returned.
+    ///
+    /// # Errors
+    ///
+    /// A fault of `fails`. The log stays as it was.
+    fn hint(&mut self) -> Result<Option<u64>, StoreFault>
+        ensures same { Same (stands self.old) (stands self.new) }
+        ensures fault { IfErr result fails };
+
+    /// Notes a place beside the entries, in place of the one noted before.
+    ///
+    /// # Errors
+    ///
+    /// A fault of `fails`. The log stays as it was, and the place may be noted.
+    fn put_hint(&mut self, place: u64) -> Result<(), StoreFault>
+        ensures same { Same (stands self.old) (stands self.new) }
+        ensures fault { IfErr result fails };
 }

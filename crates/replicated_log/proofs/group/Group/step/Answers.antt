@@ -22,7 +22,7 @@ was_led g c start all =
 stays : (g : _) (c : goal.After-self-1 g) (start : g.row.M.Denot) (reported : List (Reported g.row.M-Replies.Denot)) → IsOneHistory g.M.Machine.applies start c.self.inside.store c.self.inside.replicas.items reported → IsOneHistory g.M.Machine.applies start c.step.new.store (slice_set c.self.inside.replicas.items c.args.at c.step.new.self) reported
 stays g c start reported h =
     history_after g.M.Machine.applies start c.self.inside.store c.step.new.store c.step.ensures.adds.keeps c.self.inside.replicas.items c.args.at c.step.new.self
-    (c.step.ensures.follows start (was_led g c start h.prefixes)) reported h
+    (c.step.ensures.follows 0 start (was_led g c start h.prefixes)) reported h
 
 pub returns-clause-log : goal.returns-clause-log
 returns-clause-log g c =
@@ -47,7 +47,7 @@ tells g c so start reported h =
     let applies = g.M.Machine.applies in
     let was = c.index_mut.result.now in
     let store = c.step.new.store in
-    let had : HasApplied applies (stands_in store) start was = still applies (stands_in c.self.inside.store) (stands_in store) c.step.ensures.adds.keeps start was (was_led g c start h.prefixes) so.was_well in
+    let had : HasApplied applies (stands_in store) start was = still applies (stands_in c.self.inside.store) (stands_in store) c.step.ensures.adds.keeps 0 start was (was_led g c start h.prefixes) so.was_well in
     history_reported applies start store (slice_set c.self.inside.replicas.items c.args.at c.step.new.self) reported (record { batch = c.args.batch.now; replies = c.step.new.replies }) (stays g c start reported h)
     (due_there applies start store was c.step.new.self c.args.batch.now c.step.new.replies had (answered applies (stands_in store) (stands_in store) (λ place entry h. h) was was c.step.new.self c.args.batch.now c.step.new.replies (none_goes_on applies (stands_in store) was so.was_well) so))
 

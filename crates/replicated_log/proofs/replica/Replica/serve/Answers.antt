@@ -73,7 +73,7 @@ pub returns-then-batch-gt-MOST_BATCH-clause-goes_on : goal.returns-then-batch-gt
 returns-then-batch-gt-MOST_BATCH-clause-goes_on g c = none_goes_on g.M.Machine.applies (g.S.Store.stands c.args.store.now) c.args.self.now
 
 pub returns-then-batch-gt-MOST_BATCH-clause-follows : goal.returns-then-batch-gt-MOST_BATCH-clause-follows
-returns-then-batch-gt-MOST_BATCH-clause-follows g c = λ start was. was
+returns-then-batch-gt-MOST_BATCH-clause-follows g c = λ from start was. was
 
 pub returns-then-batch-gt-MOST_BATCH-clause-once : goal.returns-then-batch-gt-MOST_BATCH-clause-once
 returns-then-batch-gt-MOST_BATCH-clause-once g c =
@@ -84,7 +84,7 @@ pub returns-then-self-clause-goes_on : goal.returns-then-self-clause-goes_on
 returns-then-self-clause-goes_on g c = none_goes_on g.M.Machine.applies (g.S.Store.stands c.args.store.now) c.args.self.now
 
 pub returns-then-self-clause-follows : goal.returns-then-self-clause-follows
-returns-then-self-clause-follows g c = λ start was. was
+returns-then-self-clause-follows g c = λ from start was. was
 
 pub returns-then-self-clause-once : goal.returns-then-self-clause-once
 returns-then-self-clause-once g c =
