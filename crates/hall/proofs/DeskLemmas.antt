@@ -21,6 +21,12 @@ alike_along (OverTree w) (OverTree u) (OverTree v) a b = a ∙ b
 alike_along (OverTree w) (OverTree u) (OverGrid v) a b = absurd b
 alike_along (OverTree w) (OverGrid u) v a b = absurd a
 
+pub alike_sym : (w u : DeskValue) → NamesAlike w u → NamesAlike u w
+alike_sym (OverGrid w) (OverGrid u) a = sym a
+alike_sym (OverTree w) (OverTree u) a = sym a
+alike_sym (OverGrid w) (OverTree u) a = absurd a
+alike_sym (OverTree w) (OverGrid u) a = absurd a
+
 -- the two parts are the whole
 pub one_desk : (w u : DeskValue) → NamesAlike w u → slots_of w ≡ slots_of u → w ≡ u
 one_desk (OverGrid w) (OverGrid u) a b = ap OverGrid (rw (a, b) refl)

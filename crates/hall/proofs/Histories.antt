@@ -58,7 +58,7 @@ module _ (h : HallState) (lawful : SatisfiesSpec h) where
   pub refused_so : (e : Event) (why : Refusal) → desk_refusal (desk_of h) e ≡ Some why → desk_reply (desk_of h) e ≡ reply.Refused why
   refused_so e why due = let k = all_calls in (desk.refusal (desk_of h) e h.config k.calls k.after why).1 due
 
-replay_push : (w : DeskValue) (xs : List Exchange) (x : Exchange) → replay w (xs ++ x ∷ []) ≡ desk_after (replay w xs) x.event
+pub replay_push : (w : DeskValue) (xs : List Exchange) (x : Exchange) → replay w (xs ++ x ∷ []) ≡ desk_after (replay w xs) x.event
 replay_push w [] x = refl
 replay_push w (y ∷ xs) x = replay_push (desk_after w y.event) xs x
 

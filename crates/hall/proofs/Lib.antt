@@ -6,5 +6,7 @@ mod Staying
 pub mod Serves
 pub mod HallLaws
 mod RowLemmas
+pub mod ReadingLemmas
 mod DeskLemmas
 mod RebuiltLemmas
+mod ConfigLemmas

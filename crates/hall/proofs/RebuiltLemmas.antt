@@ -26,9 +26,9 @@ use Rattle.hall.specs.declared.slots_copy.SlotsCopy.{SlotsCopy}
 use Rattle.hall.specs.Compactions.{renaming_of}
 use Rattle.hall.specs.Copies.{slots_in}
 use Rattle.hall.specs.DeskParts.{is_renaming, slots_of, NamesAlike}
-use Rattle.hall.specs.Rebuilt.{IsCopied, after_first, HasRenaming, HasTaken, GoesOn, IsSorted}
+use Rattle.hall.specs.Rebuilt.{IsCopied, after_first, HasRenaming, HasTaken, GoesOn, IsOneDesk, IsSorted}
 use Rattle.hall.specs.Slots.{LetsIn, slots_after}
-use Rattle.hall.proofs.DeskLemmas.{alike_self, alike_along, one_desk, slots_go_on, slots_stay, names_stay, alike_back, names_go_on, answered_alike, lets_in}
+use Rattle.hall.proofs.DeskLemmas.{alike_self, alike_along, alike_sym, one_desk, slots_go_on, slots_stay, names_stay, alike_back, names_go_on, answered_alike, lets_in}
 
 -- lists of exchanges, with one more
 replay_more : (w : DeskValue) (xs : List Exchange) (x : Exchange) → replay w (xs ++ x ∷ []) ≡ desk_after (replay w xs) x.event
@@ -40,7 +40,7 @@ take_suc [] n x h = absurd (cc)
 take_suc (y ∷ ys) zero x h = ap (λ (z : Exchange). z ∷ []) (same_Some y x h)
 take_suc (y ∷ ys) (suc n) x h = ap (λ (l : List Exchange). y ∷ l) (take_suc ys n x h)
 
-take_next : (xs : List Exchange) (n : ℕ) (x : Exchange) → slice_get xs n ≡ Some x → take (n + 1) xs ≡ take n xs ++ x ∷ []
+pub take_next : (xs : List Exchange) (n : ℕ) (x : Exchange) → slice_get xs n ≡ Some x → take (n + 1) xs ≡ take n xs ++ x ∷ []
 take_next xs n x h = ap (λ (k : ℕ). take k xs) (add-one n) ∙ take_suc xs n x h
 
 renaming_more : (xs : List Exchange) (x : Exchange) → is_renaming x.event ≡ true → renaming_of (xs ++ x ∷ []) ≡ renaming_of xs ++ x ∷ []
@@ -205,3 +205,17 @@ led_there h new later old is led =
     let sorted = all_sorted h new old is in
     let renaming = renaming_along h new.hall later.hall sorted.0 led.same in
     (renaming, same_desk h later.hall old later.slots renaming sorted.2 (led.copied sorted.1))
+
+-- two halls whose renaming makes one history, and whose pools and slots are the same, have one desk
+pub one_desk_of : (h new : HallState) (a b : Rebuilding) (old copy : SlotsCopy) → IsSorted h (length h.history) a old → IsSorted new (length new.history) b copy →
+    a.hall.history ≡ b.hall.history → slots_in old ≡ slots_in copy → new.config ≡ h.config → IsOneDesk h new
+one_desk_of h new a b old copy is too same slots config =
+    let one = all_sorted h a old is in
+    let two = all_sorted new b copy too in
+    let hall : b.hall ≡ a.hall = ap (λ (c : Config). hall_of c b.hall.history) (two.0.config ∙ config ∙ sym one.0.config) ∙ ap (λ (l : List Exchange). hall_of a.hall.config l) (sym same) in
+    let there : NamesAlike (desk_of b.hall) (desk_of h) = subst (λ (u : HallState). NamesAlike (desk_of u) (desk_of h)) (sym hall) one.0.names in
+    record {
+      desk = one_desk (desk_of new) (desk_of h) (alike_along (desk_of new) (desk_of b.hall) (desk_of h) (alike_sym (desk_of b.hall) (desk_of new) two.0.names) there)
+          (sym two.2 ∙ sym slots ∙ one.2);
+      renaming = sym two.0.renaming ∙ ap renaming_of (sym same) ∙ one.0.renaming;
+    }

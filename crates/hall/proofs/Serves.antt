@@ -100,10 +100,15 @@ transcript_by c k named w u ts fresh run =
     let transcript : IsDeskTranscript c ts = record { run = desk_lawful c w u ts fresh run; owners = desk_tells c w u ts fresh run; could = record { start = w; last = u; is_fresh = fresh; run = run } } in
     where_named (λ (x : WorldKind). IsTranscriptByKind x c ts) k named transcript transcript
 
+-- turns of a fresh desk of a config are a transcript of it
+pub transcript_of : (c : Config) → gives_names c.world ≡ true → (w : DeskValue) (ts : List Turn) → Runs DeskWorldMay (fresh_desk c) ts w → IsTranscript c ts
+transcript_of c named w ts run = transcript_by c c.world named (fresh_desk c) w ts ((desk.fresh_is c (fresh_desk c)).1 (record { named = named; is = refl })) run
+
+pub fresh_lawful : (c : Config) → gives_names c.world ≡ true → SatisfiesSpec (hall_of c [])
+fresh_lawful c named = record { named = named; accepted = tt; few = (omega arith) }
+
 pub transcript : (c : Config) → gives_names c.world ≡ true → (u : HallState) (ts : List Turn) → Runs HallServes (hall_of c []) ts u → IsTranscript c (with_room ts)
-transcript c named u ts run =
-    let fresh = (desk.fresh_is c (fresh_desk c)).1 (record { named = named; is = refl }) in
-    transcript_by c c.world named (fresh_desk c) (desk_of u) (with_room ts) fresh (desk_runs (hall_of c []) u ts (record { named = named; accepted = tt; few = (omega arith) }) run)
+transcript c named u ts run = transcript_of c named (desk_of u) (with_room ts) (desk_runs (hall_of c []) u ts (fresh_lawful c named) run)
 
 pub accepted-one : (x : Exchange) (xs : List Exchange) → accepted (x ∷ xs) ≡ accepted (x ∷ []) ++ accepted xs
 accepted-one x xs = elim (is_refusal x.reply) as (λ b. cond b (accepted xs) (x ∷ accepted xs) ≡ cond b [] (x ∷ []) ++ accepted xs) [

@@ -5,6 +5,8 @@ pub mod HallState
 pub mod Halls
 pub mod Serving
 pub mod ServingProofs
+pub mod Reading
+pub mod ReadingProofs
 pub mod GoesOn
 pub mod Slots
 pub mod Copies

@@ -40,3 +40,8 @@ pub record IsSorted (h : HallState) (n : ℕ) (new : Rebuilding) (old : SlotsCop
   pub same : HasRenaming (after_first n h) new.hall
   pub copied : IsCopied new.hall new.slots
   pub followed : IsCopied (after_first n h) old
+
+-- two halls have one desk, and the same exchanges of renaming
+pub record IsOneDesk (h new : HallState) : Type 0 where
+  pub desk : desk_of new ≡ desk_of h
+  pub renaming : renaming_of new.history ≡ renaming_of h.history

@@ -4,14 +4,15 @@ ghost use Rattle.std.specs.Prelude.{◌≡◌, ◌+◌, length, true, false, Som
 ghost use Rattle.hall.specs.Halls.{desk_of};
 ghost use Rattle.hall.specs.Compactions.{IsCompacted};
 ghost use Rattle.hall.specs.DeskParts.{is_renaming};
-ghost use Rattle.hall.specs.Rebuilt.{HasRenaming, IsSorted};
+ghost use Rattle.hall.specs.Rebuilt.{HasRenaming, IsOneDesk, IsSorted};
 
 use crate::Hall;
 use crate::plan::lead;
 use crate::rebuilding::Rebuilding;
+use crate::same::is_same;
 use crate::slots_copy::SlotsCopy;
 use crate::stuck::Stuck;
-use commands::Event;
+use commands::{Config, Event, WorldKind};
 use std::alloc::Global;
 
 /// Whether an event is of renaming, and not of the pool or the slots.
@@ -47,6 +48,7 @@ fn sort(hall: &Hall, place: usize, new: &mut Rebuilding, old: &mut SlotsCopy) ->
 }
 
 /// A hall with the renaming of another, and a copy of the pool and the slots of that.
+#[derive(Drop)]
 struct Sorted {
     new: Rebuilding,
     old: SlotsCopy,
@@ -96,4 +98,92 @@ pub fn compacted(alloc: Global, hall: &Hall) -> Option<Hall>
         return Some(new);
     }
     None
+}
+
+/// Returns true only if two halls of renaming alone have the same history.
+fn is_one_history(one: &Hall, other: &Hall) -> bool
+    ensures { result ≡ true → one.now.history ≡ other.now.history }
+{
+    if one.len() != other.len() {
+        return false;
+    }
+    for place in 0..one.len() {
+        let (Some(exchange), Some(beside)) = (one.get(place), other.get(place)) else {
+            return false;
+        };
+        if !is_same(&exchange, &beside) {
+            return false;
+        }
+    }
+    true
+}
+
+/// Compares two halls of one config; the error is `Stuck` if their desks or their events of renaming differ.
+fn compare(alloc: Global, hall: &Hall, new: &Hall) -> Result<(), Stuck>
+    requires { new.now.config ≡ hall.now.config }
+    ensures { OnOk result (IsOneDesk hall.now new.now) }
+{
+    let sorted = sort_all(alloc, hall)?;
+    let other = sort_all(alloc, new)?;
+    if !is_one_history(&sorted.new.hall, &other.new.hall) {
+        return Err(Stuck);
+    }
+    if !sorted.old.is_same(&other.old) {
+        return Err(Stuck);
+    }
+    Ok(())
+}
+
+/// Returns true only if the two worlds are the same.
+fn is_same_world(one: WorldKind, other: WorldKind) -> bool
+    ensures { result ≡ true → one ≡ other }
+{
+    match (one, other) {
+        (WorldKind::Splitter, WorldKind::Splitter) => true,
+        (WorldKind::Grid, WorldKind::Grid) => true,
+        (WorldKind::Rename, WorldKind::Rename) => true,
+        (WorldKind::Tree, WorldKind::Tree) => true,
+        _ => false,
+    }
+}
+
+/// Returns true only if the two configs are the same.
+fn is_same_config(one: Config, other: Config) -> bool
+    ensures { result ≡ true → one ≡ other }
+{
+    if !is_same_world(one.world, other.world) {
+        return false;
+    }
+    if one.m != other.m {
+        return false;
+    }
+    if one.k != other.k {
+        return false;
+    }
+    if one.limit != other.limit {
+        return false;
+    }
+    true
+}
+
+/// Returns true only if the second hall is a compaction of the first: it has the same config, the same desk, the same events
+/// of renaming, and fewer events.
+///
+/// Returns false if an allocation failed. Only tested: that it returns true of what `compacted` returns. The time is linear
+/// in the lengths of the histories.
+pub fn is_compacted(alloc: Global, hall: &Hall, new: &Hall) -> bool
+    ensures { result ≡ true → IsCompacted hall.now new.now }
+{
+    if new.len() >= hall.len() {
+        return false;
+    }
+    let one = new.config();
+    let other = hall.config();
+    if !is_same_config(one, other) {
+        return false;
+    }
+    let Ok(()) = compare(alloc, hall, new) else {
+        return false;
+    };
+    true
 }

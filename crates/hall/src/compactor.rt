@@ -47,6 +47,17 @@ impl Compactor {
         }
     }
 
+    /// Makes a compactor whose first compaction is due at so many events.
+    pub fn at(events: usize) -> Compactor
+        ensures due { result.due ≡ events }
+        ensures put_off { result.put_off ≡ false }
+    {
+        Compactor {
+            due: events,
+            put_off: false,
+        }
+    }
+
     /// Returns true if and only if the hall's history is long enough for a compaction.
     pub fn is_due(&self, hall: &Hall) -> bool
         ensures { result ≡ true ↔ (self.now.due ≤ length hall.now.history) }

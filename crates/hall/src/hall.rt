@@ -1,14 +1,19 @@
 //! A desk with its history.
 
-ghost use Rattle.std.specs.Prelude.{◌≡◌, ◌≤◌, ◌⊎◌, ◌↔◌, [], length, slice_get, IfOk, IfErr, Err, false};
+ghost use Rattle.std.specs.Prelude.{◌≡◌, ◌≤◌, ◌⊎◌, ◌↔◌, ℕ, List, [], length, slice_get, IfOk, IfErr, Err, false};
 ghost use Rattle.commands.specs.Config.{gives_names};
-ghost use Rattle.desk.specs.Desk.{owner_reply};
+ghost use Rattle.commands.specs.declared.event.Event.TheVariants.{Get};
+ghost use Rattle.desk.specs.Desk.{desk_reply, owner_reply};
 ghost use Rattle.desk.specs.Held.{slots_of};
 ghost use Rattle.desk.specs.Names.{IsOwnerReply};
 ghost use Rattle.commands.specs.Replies.{with_view};
 ghost use Rattle.hall.specs.Halls.{hall_of, desk_of, SatisfiesSpec, hall_refusal, HallMay};
+ghost use Rattle.hall.specs.Reading.{Serves};
+ghost use Rattle.hall.specs.Serving.{wants_room};
+ghost use Rattle.commands.specs.Requests.Request.{Take};
 
 use crate::log::Log;
+use crate::reads::Reads;
 use commands::{Config, Event, Exchange, Reply};
 use desk::Desk;
 use slot_array::Slots;
@@ -154,6 +159,31 @@ impl Hall {
             self.history.push_reserved(event, reply, view);
         }
         reply
+    }
+
+    /// Returns the reply of the desk to `get` of an identity, and stores nothing: the hall stays as it is.
+    ///
+    /// It is the reply of `apply` to this event, but it is returned even if the history is full.
+    ///
+    /// The reply is a refusal if the identity holds no number. The first that applies is returned:
+    ///
+    /// - `NotCompeting`: the identity does not compete.
+    /// - `NotHolding`: it competes and holds no number.
+    pub fn read(&self, id: u64) -> Reply<()>
+        ensures reply { (view : List (ℕ × ℕ)) → with_view result view ≡ desk_reply (desk_of self.now) (Get id) }
+        ensures room { (view : List (ℕ × ℕ)) → wants_room (with_view result view) ≡ false }
+    {
+        Reply::of_value(self.held.desk.slots().get(id).copied())
+    }
+
+    /// Does what `read` does, if the event is a `get` and reads are plain, and else what `apply_short` does.
+    pub fn serve_short(&mut self, reads: Reads, event: Event, view: &mut View) -> Reply<()>
+        ensures { Serves reads self.old (Take event) (with_view result view.new) self.new }
+    {
+        match (reads, event) {
+            (Reads::Plain, Event::Get(id)) => self.read(id),
+            _ => self.apply_short(event, view),
+        }
     }
 
     /// Returns the pool and its slots, for observers.

@@ -1,20 +1,25 @@
 //! Laws of a hall, which run nothing.
 
-ghost use Rattle.std.specs.Prelude.{◌≡◌, ◌<◌, ◌++◌, ℕ, List, length, None, true, false};
+ghost use Rattle.std.specs.Prelude.{◌≡◌, ◌<◌, ◌++◌, [], ◌∷◌, ℕ, List, length, None, true, false};
 ghost use Rattle.commands.specs.Config.{gives_names};
 ghost use Rattle.commands.specs.Replies.{ShownReply, is_refusal};
 ghost use Rattle.commands.specs.declared.config.Config.{Config};
 ghost use Rattle.commands.specs.declared.event.Event.{Event};
+ghost use Rattle.commands.specs.declared.exchange.Exchange.{Exchange};
+ghost use Rattle.desk.specs.Desk.{desk_reply};
 ghost use Rattle.desk.specs.DeskRun.{IsDeskRunOf};
 ghost use Rattle.schedule_player.specs.IsTranscript.{IsTranscript};
 ghost use Rattle.player.specs.Runs.{Runs};
 ghost use Rattle.player.specs.Turns.{Turn, exchanges};
+ghost use Rattle.player.specs.Turns.Turn.{Answered};
 ghost use Rattle.hall.specs.GoesOn.{GoesOn};
-ghost use Rattle.hall.specs.Halls.{SatisfiesSpec, HallMay, hall_refusal};
+ghost use Rattle.hall.specs.Halls.{SatisfiesSpec, HallMay, desk_of, hall_of, hall_refusal};
 ghost use Rattle.hall.specs.HallState.{HallState};
-ghost use Rattle.hall.specs.Serving.{HallServes, HasServed, with_room, accepted};
+ghost use Rattle.hall.specs.Reading.{IsRead, Serves, is_plain, stored};
+ghost use Rattle.hall.specs.Serving.{HallServes, HasServed, accepted, wants_room, with_room};
 
 use crate::hall::Hall;
+use crate::reads::Reads;
 use commands::{Event, Reply};
 
 /// A law: the history of a hall is a run of the renaming object, the pool and the slots, each fresh at first.
@@ -46,4 +51,24 @@ pub fn law_of_events()
 pub fn law_of_serving()
     ensures transcript { (c : Config) → gives_names c.world ≡ true → (u : HallState) (ts : List Turn) → HasServed c ts u → IsTranscript c (with_room ts) }
     ensures history { (h u : HallState) (ts : List Turn) → SatisfiesSpec h → Runs HallServes h ts u → u.history ≡ h.history ++ accepted (exchanges ts) }
+{}
+
+/// A law of a hall as a service whose reads are logged or plain (`Hall::serve_short`).
+///
+/// - `transcript`: the turns from a hall with no event are a transcript of its config, with all reads in it. Turns
+///   whose reply is `NoMemory` or `HistoryFull` are left out.
+/// - `without`: the turns without plain reads are those of a hall that stores reads, and lead to the same hall.
+/// - `history`: the history gains the accepted events with their replies, without plain reads.
+/// - `replies`: each plain read has the reply of the desk that the turns before it led to.
+/// - `alike`: a hall that stores a read returns the same reply, unless it is `NoMemory` or `HistoryFull`.
+pub fn law_of_reads()
+    ensures transcript { (reads : Reads) (c : Config) → gives_names c.world ≡ true → (u : HallState) (ts : List Turn) →
+        Runs (Serves reads) (hall_of c []) ts u → IsTranscript c (with_room ts) }
+    ensures without { (reads : Reads) (h u : HallState) (ts : List Turn) → Runs (Serves reads) h ts u → Runs HallServes h (stored reads ts) u }
+    ensures history { (reads : Reads) (h u : HallState) (ts : List Turn) → SatisfiesSpec h → Runs (Serves reads) h ts u →
+        u.history ≡ h.history ++ accepted (exchanges (stored reads ts)) }
+    ensures replies { (reads : Reads) (h u : HallState) (before behind : List Turn) (x : Exchange) → is_plain reads x.event ≡ true →
+        Runs (Serves reads) h (before ++ Answered x ∷ behind) u → IsRead reads h before x.event x.reply }
+    ensures alike { (h u : HallState) (id : ℕ) (r : ShownReply) → SatisfiesSpec h → HallMay h (Event.Get id) r u → wants_room r ≡ false →
+        r ≡ desk_reply (desk_of h) (Event.Get id) }
 {}

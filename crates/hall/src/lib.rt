@@ -12,6 +12,10 @@
 //! As a service a hall answers lines (`law_of_serving`). One caller owns it: `locked_world` puts a lock around one, and
 //! a log or a journal may store its events.
 //!
+//! A `get` changes nothing of a desk. `Hall::serve_short` answers it as the desk does and stores it nowhere, if reads
+//! are plain (`Reads`). What is proved of such turns (`law_of_reads`): they are a transcript of the config with all
+//! reads in it, and without the reads they are the turns of a hall that stores reads.
+//!
 //! A reply that shows a view takes a kilobyte. `Hall::apply_short` returns a reply of few bytes instead, and stores the
 //! view in a buffer of the caller.
 //!
@@ -61,14 +65,16 @@ mod helpers;
 pub mod laws;
 pub mod log;
 mod plan;
+pub mod reads;
 mod rebuilding;
 pub mod same;
 mod slots_copy;
 mod stuck;
 
-pub use compacting::compacted;
+pub use compacting::{compacted, is_compacted};
 pub use compactor::Compactor;
 pub use hall::{Hall, MOST_EVENTS};
-pub use laws::{law_of_events, law_of_hall, law_of_serving};
+pub use laws::{law_of_events, law_of_hall, law_of_reads, law_of_serving};
 pub use log::Log;
+pub use reads::Reads;
 pub use same::{is_same, is_same_event};

@@ -4,7 +4,7 @@ ghost use Rattle.std.specs.Prelude.{◌≡◌};
 
 use crate::opening::{Opening, opened};
 use commands::{Config, Event, Reply, WorldKind};
-use hall::Hall;
+use hall::{Hall, Reads};
 use locked_world::{Act, Clerk, HallLock, LockName, Missing, Session};
 use std::alloc::Global;
 use std::marker::Brand;
@@ -55,6 +55,69 @@ fn a_full_history(rt: HostRuntime) {
     let mut hall = hall(&rt, rt.alloc());
     let reported = (fill(&mut hall), refused(&mut hall), hall.len());
     assert!(rt; reported == (true, 7, 1_000_000), "{reported:?}");
+}
+
+/// What a hall replies to reads.
+fn reads(hall: &Hall) -> [Reply<()>; 3] {
+    [hall.read(5), hall.read(6), hall.read(0)]
+}
+
+/// Reads are answered though the history is full, and it stays as it is. All else is refused still.
+#[test]
+fn reads_of_a_full_history(rt: HostRuntime) {
+    let mut hall = hall(&rt, rt.alloc());
+    let mut view = View::new();
+    let is_full = fill(&mut hall);
+    let not_competing = Reply::Refused(Refusal::NotCompeting);
+    let due = [Reply::Value(999_999), not_competing, not_competing];
+    assert!(rt; reads(&hall) == due);
+    let full = Reply::Refused(Refusal::HistoryFull);
+    let served = [
+        hall.serve_short(Reads::Plain, Event::Get(5), &mut view),
+        hall.serve_short(Reads::Logged, Event::Get(5), &mut view),
+        hall.serve_short(Reads::Plain, Event::Put(5, 1), &mut view),
+    ];
+    assert!(rt;
+        is_full && served == [Reply::Value(999_999), full, full] && hall.len() == 1_000_000
+    );
+}
+
+/// What a hall takes, whether its reads are logged, what it replies, and how many events it has then.
+const SERVED: [(Event, bool, Reply<()>, usize); 9] = [
+    (
+        Event::Get(5),
+        false,
+        Reply::Refused(Refusal::NotCompeting),
+        0,
+    ),
+    (Event::Enter(5), false, Reply::Ok, 1),
+    (Event::Get(5), false, Reply::Refused(Refusal::NotHolding), 1),
+    (Event::Probe(5), false, Reply::Got(1), 2),
+    (Event::Get(5), false, Reply::Value(0), 2),
+    (Event::Put(5, 77), false, Reply::Ok, 3),
+    (Event::Get(5), false, Reply::Value(77), 3),
+    (Event::Get(5), true, Reply::Value(77), 4),
+    (Event::Get(5), false, Reply::Value(77), 4),
+];
+
+/// How many of these it serves so, up to the first that it does not.
+fn served(hall: &mut Hall) -> usize {
+    let mut view = View::new();
+    for (i, (event, logged, reply, events)) in SERVED.iter().enumerate() {
+        let reads = if *logged { Reads::Logged } else { Reads::Plain };
+        if hall.serve_short(reads, *event, &mut view) != *reply || hall.len() != *events {
+            return i;
+        }
+    }
+    SERVED.len()
+}
+
+/// Reads are stored, or not, as it is said.
+#[test]
+fn reads_of_a_hall(rt: HostRuntime) {
+    let mut hall = hall(&rt, rt.alloc());
+    let count = served(&mut hall);
+    assert!(rt; count == SERVED.len(), "{count}");
 }
 
 /// What a session does, with the replies: it takes a number, uses its slot, gives it back, and steps.
