@@ -12,43 +12,39 @@ use Rattle.stays.specs.declared.kept_stay.KeptStay.{KeptStay}
 use Rattle.stays.specs.Stays.{Act, after_act, after_acts}
 use Rattle.event_server.specs.declared.attended.Attended.{Attended}
 use Rattle.event_server.specs.Attending.{AttendedMay, Hears, acts_in, acts_of, acts_of_turn, gives_back, heard, keeps_by}
+use Rattle.event_server.specs.Releasing.{is_freed, is_missed, lacks_number}
 
--- a reply says the same of stays whatever view it shows
+-- what a reply tells of stays
+abbrev pub Tells : Type 0
+Tells = record { keeps : Bool; gives : Bool; freed : Bool; lacks : Bool; missed : Bool }
+
+abbrev pub tells : {V : Type 0} → Reply V → Tells
+tells r = record { keeps = keeps_by r; gives = gives_back r; freed = is_freed r; lacks = lacks_number r; missed = is_missed r }
+
+-- it tells the same whatever view it shows
+pub shown : {V W : Type 0} (r : Reply V) (v : W) → tells (with_view r v) ≡ tells r
+shown reply.Ok v = refl
+shown reply.Quiet v = refl
+shown reply.Stop v = refl
+shown reply.Right v = refl
+shown reply.Down v = refl
+shown (reply.Place place) v = refl
+shown (reply.Proposed number) v = refl
+shown (reply.Saw old) v = refl
+shown (reply.Named name old) v = refl
+shown reply.Spent v = refl
+shown reply.Missed v = refl
+shown (reply.Got number) v = refl
+shown (reply.Left number) v = refl
+shown (reply.Value value) v = refl
+shown (reply.Owner owner) v = refl
+shown (reply.Refused why) v = refl
+
 keeps_shown : {V W : Type 0} (r : Reply V) (v : W) → keeps_by (with_view r v) ≡ keeps_by r
-keeps_shown reply.Ok v = refl
-keeps_shown reply.Quiet v = refl
-keeps_shown reply.Stop v = refl
-keeps_shown reply.Right v = refl
-keeps_shown reply.Down v = refl
-keeps_shown (reply.Place place) v = refl
-keeps_shown (reply.Proposed number) v = refl
-keeps_shown (reply.Saw old) v = refl
-keeps_shown (reply.Named name old) v = refl
-keeps_shown reply.Spent v = refl
-keeps_shown reply.Missed v = refl
-keeps_shown (reply.Got number) v = refl
-keeps_shown (reply.Left number) v = refl
-keeps_shown (reply.Value value) v = refl
-keeps_shown (reply.Owner owner) v = refl
-keeps_shown (reply.Refused why) v = refl
+keeps_shown r v = ap (λ (t : Tells). t.keeps) (shown r v)
 
 gives_shown : {V W : Type 0} (r : Reply V) (v : W) → gives_back (with_view r v) ≡ gives_back r
-gives_shown reply.Ok v = refl
-gives_shown reply.Quiet v = refl
-gives_shown reply.Stop v = refl
-gives_shown reply.Right v = refl
-gives_shown reply.Down v = refl
-gives_shown (reply.Place place) v = refl
-gives_shown (reply.Proposed number) v = refl
-gives_shown (reply.Saw old) v = refl
-gives_shown (reply.Named name old) v = refl
-gives_shown reply.Spent v = refl
-gives_shown reply.Missed v = refl
-gives_shown (reply.Got number) v = refl
-gives_shown (reply.Left number) v = refl
-gives_shown (reply.Value value) v = refl
-gives_shown (reply.Owner owner) v = refl
-gives_shown (reply.Refused why) v = refl
+gives_shown r v = ap (λ (t : Tells). t.gives) (shown r v)
 
 pub heard_shown : {V W : Type 0} (c : ℕ) (e : Event) (r : Reply V) (v : W) → heard c e (with_view r v) ≡ heard c e r
 heard_shown c (event.Begin id) r v = refl
@@ -60,7 +56,7 @@ heard_shown c (event.Put id value) r v = refl
 heard_shown c (event.Get id) r v = refl
 heard_shown c (event.Widen size) r v = refl
 
-acts_append : (stays : List KeptStay) (xs ys : List Act) → after_acts (after_acts stays xs) ys ≡ after_acts stays (xs ++ ys)
+pub acts_append : (stays : List KeptStay) (xs ys : List Act) → after_acts (after_acts stays xs) ys ≡ after_acts stays (xs ++ ys)
 acts_append stays [] ys = refl
 acts_append stays (x ∷ xs) ys = acts_append (after_act stays x) xs ys
 

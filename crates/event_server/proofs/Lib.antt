@@ -8,4 +8,6 @@ mod ReportedLemmas
 mod CallLemmas
 mod RoundLemmas
 mod AttendedLemmas
-mod ReleaseLemmas
+pub mod ReleaseLemmas
+mod LosingLemmas
+mod TakingLemmas

@@ -10,7 +10,7 @@ use Rattle.command_lines.specs.PieceProofs.{nowhere-lacks}
 use Rattle.event_server.specs.Reported.{is_request, requests, behind, requests_in, HasPeeked}
 
 -- lines of bytes behind bytes
-whole_append : (l xs ys : List ℕ) → whole_lines_from l (xs ++ ys) ≡ whole_lines_from l xs ++ whole_lines_from (rest_from l xs) ys
+pub whole_append : (l xs ys : List ℕ) → whole_lines_from l (xs ++ ys) ≡ whole_lines_from l xs ++ whole_lines_from (rest_from l xs) ys
 whole_append l [] ys = refl
 whole_append l (b ∷ bs) ys =
     elim (b == 10) as (λ t. cond t (l ∷ whole_lines_from [] (bs ++ ys)) (whole_lines_from (l ++ b ∷ []) (bs ++ ys)) ≡ cond t (l ∷ whole_lines_from [] bs) (whole_lines_from (l ++ b ∷ []) bs) ++ whole_lines_from (cond t (rest_from [] bs) (rest_from (l ++ b ∷ []) bs)) ys) [
@@ -18,7 +18,7 @@ whole_append l (b ∷ bs) ys =
       | false ↦ whole_append (l ++ b ∷ []) bs ys
     ]
 
-rest_append : (l xs ys : List ℕ) → rest_from l (xs ++ ys) ≡ rest_from (rest_from l xs) ys
+pub rest_append : (l xs ys : List ℕ) → rest_from l (xs ++ ys) ≡ rest_from (rest_from l xs) ys
 rest_append l [] ys = refl
 rest_append l (b ∷ bs) ys =
     elim (b == 10) as (λ t. cond t (rest_from [] (bs ++ ys)) (rest_from (l ++ b ∷ []) (bs ++ ys)) ≡ rest_from (cond t (rest_from [] bs) (rest_from (l ++ b ∷ []) bs)) ys) [
@@ -27,23 +27,23 @@ rest_append l (b ∷ bs) ys =
     ]
 
 -- bytes with no LF have no whole line
-whole_none : (l ys : List ℕ) → has_no_lf ys ≡ true → whole_lines_from l ys ≡ []
+pub whole_none : (l ys : List ℕ) → has_no_lf ys ≡ true → whole_lines_from l ys ≡ []
 whole_none l [] h = refl
 whole_none l (b ∷ bs) h =
     let parts = and_parts (not (b == 10)) (has_no_lf bs) h in
     rw (not-true (b == 10) parts.0) (whole_none (l ++ b ∷ []) bs parts.1)
 
-rest_none : (l ys : List ℕ) → has_no_lf ys ≡ true → rest_from l ys ≡ l ++ ys
+pub rest_none : (l ys : List ℕ) → has_no_lf ys ≡ true → rest_from l ys ≡ l ++ ys
 rest_none l [] h = sym (append-nil l)
 rest_none l (b ∷ bs) h =
     let parts = and_parts (not (b == 10)) (has_no_lf bs) h in
     rw (not-true (b == 10) parts.0) (rest_none (l ++ b ∷ []) bs parts.1 ∙ append_assoc l (b ∷ []) bs)
 
 -- and with one behind them they are one
-whole_one : (ys : List ℕ) → has_no_lf ys ≡ true → whole_lines_from [] (ys ++ 10 ∷ []) ≡ ys ∷ []
+pub whole_one : (ys : List ℕ) → has_no_lf ys ≡ true → whole_lines_from [] (ys ++ 10 ∷ []) ≡ ys ∷ []
 whole_one ys h = whole_append [] ys (10 ∷ []) ∙ rw (whole_none [] ys h, rest_none [] ys h) refl
 
-rest_one : (ys : List ℕ) → has_no_lf ys ≡ true → rest_from [] (ys ++ 10 ∷ []) ≡ []
+pub rest_one : (ys : List ℕ) → has_no_lf ys ≡ true → rest_from [] (ys ++ 10 ∷ []) ≡ []
 rest_one ys h = rest_append [] ys (10 ∷ [])
 
 pub requests_append : (kind : WorldKind) (xs ys : List (List ℕ)) → requests kind (xs ++ ys) ≡ requests kind xs ++ requests kind ys

@@ -1,6 +1,7 @@
--- lines that ask who holds numbers, among what waits of a connection
-use Rattle.std.specs.Prelude.{◌≡◌, ◌⊎◌, ◌≤◌, ◌<◌, ℕ, ◌++◌, List, [], length, take, drop, get_or, suc, true, false, Some}
+-- lines that a server answers by itself, among what waits of a connection: those that ask who holds numbers, and those that take a number
+use Rattle.std.specs.Prelude.{◌≡◌, ◌⊎◌, ◌≤◌, ◌<◌, ℕ, ◌++◌, List, length, take, drop, get_or, suc, if◌then◌else◌, true, false, Option, Some, None, codes}
 use Rattle.command_lines.specs.Lines.{has_no_lf}
+use Rattle.command_lines.specs.Meaning.{number_in, same_bytes}
 use Rattle.slot_array.specs.SlotsState.{SlotsState}
 use Rattle.held_lines.specs.Held.{held_query, held_text}
 use Rattle.held_lines.specs.declared.query.HeldQuery.{HeldQuery}
@@ -15,13 +16,25 @@ pub record IsQueryOf (bytes : List ℕ) (query : HeldQuery) (count : ℕ) : Type
   pub ends : get_or bytes end 0 ≡ 10
   pub asks : held_query (take end bytes) ≡ Some query
 
--- so few bytes, none of them an LF, begin with the letter of that word
-abbrev pub IsPrefixOf : List ℕ → Type 0
-IsPrefixOf bytes = (get_or bytes 0 0 ≡ 104) × (length bytes ≤ QUERY_MAX) × (has_no_lf bytes ≡ true)
+-- the identity for which a line takes a number: `take ID`
+abbrev pub taking_of : List ℕ → Option ℕ
+taking_of line = if same_bytes (take 5 line) (codes "take ") then number_in (drop 5 line) else None
 
--- they begin with a line that asks who holds numbers, or may come to ask it
+-- the first so many of these bytes are a line that takes a number for this identity, and its LF
+pub record IsTakingOf (bytes : List ℕ) (identity count : ℕ) : Type 0 where
+  pub end : ℕ
+  pub count_is : count ≡ suc end
+  pub inside : end < length bytes
+  pub ends : get_or bytes end 0 ≡ 10
+  pub asks : taking_of (take end bytes) ≡ Some identity
+
+-- so few bytes, none of them an LF, begin with the letter of either word
+abbrev pub IsPrefixOf : List ℕ → Type 0
+IsPrefixOf bytes = ((get_or bytes 0 0 ≡ 104) ⊎ (get_or bytes 0 0 ≡ 116)) × (length bytes ≤ QUERY_MAX) × (has_no_lf bytes ≡ true)
+
+-- they begin with a line that asks who holds numbers or takes one, or may come to be such a line
 abbrev pub MayAsk : List ℕ → Type 0
-MayAsk bytes = ((query : HeldQuery) × (count : ℕ) × IsQueryOf bytes query count) ⊎ IsPrefixOf bytes
+MayAsk bytes = ((query : HeldQuery) × (count : ℕ) × IsQueryOf bytes query count) ⊎ ((identity : ℕ) × (count : ℕ) × IsTakingOf bytes identity count) ⊎ IsPrefixOf bytes
 
 -- The line that waits first asks who holds numbers: it is taken, and the answer waits behind what waited to be sent. The transcript, and whatever else
 -- waits, is as it was, but where it is at fault

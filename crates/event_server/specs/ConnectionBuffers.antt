@@ -1,5 +1,5 @@
 -- what a connection takes and sends in a turn of the loop
-use Rattle.std.specs.Prelude.{◌≡◌, ◌⊎◌, ◌+◌, ◌<◌, ◌≤◌, ℕ, ◌++◌, ◌||◌, if◌then◌else◌, List, [], Bool, true, false, length, take, Option}
+use Rattle.std.specs.Prelude.{◌≡◌, ◌⊎◌, ◌+◌, ◌<◌, ◌≤◌, ℕ, ◌++◌, ◌||◌, ◌&&◌, ◌==◌, if◌then◌else◌, List, [], Bool, true, false, length, take, Option}
 use Rattle.std.specs.Io.KnownBytes.{Appends, Consumes, IsAtEnd}
 use Rattle.commands.specs.declared.kind.WorldKind.{WorldKind}
 use Rattle.commands.specs.Replies.{ShownReply}
@@ -48,12 +48,23 @@ pub record TakesOf (turns : List Turn) (left : Option (List ℕ)) (s : BuffersSt
   pub at_end : ends ≡ true → IsAtEnd left'
   pub takes : Takes turns came ends s s'
 
+-- it is at fault, or at the end of what comes with all that was said sent
+abbrev pub is_done : BuffersState → Bool
+is_done s = s.broken || (s.ended && (length s.outbox == 0))
+
 -- there is no room for one reply more, or no line more is counted
 abbrev pub IsFull : BuffersState → Type 0
 IsFull s = (UNSENT_ROOM < length s.outbox + TURN_ROOM) ⊎ (MOST_LINES < s.responder.summary.lines)
 
--- nothing that came waits to be taken, unless it is full, at fault or at its end, or what waits asks who holds numbers or begins to: so where
--- another line waited and there was room for a reply, a line at least was taken
+-- something waits to be sent, and its stream takes it; and more may come and be taken
+abbrev pub CanSend : Bool → BuffersState → Type 0
+CanSend writable s = (s.broken ≡ false) × (writable ≡ true) × (0 < length s.outbox)
+
+abbrev pub CanTake : BuffersState → Type 0
+CanTake s = (s.broken ≡ false) × (s.ended ≡ false) × (IsFull s → ⊥)
+
+-- nothing that came waits to be taken, unless it is full, at fault or at its end, or what waits asks who holds numbers, takes one, or begins to: so
+-- where another line waited and there was room for a reply, a line at least was taken
 abbrev pub HasTakenAll : BuffersState → Type 0
 HasTakenAll s = s.broken ≡ false → s.ended ≡ false → 0 < length s.inbox → IsFull s ⊎ MayAsk s.inbox
 

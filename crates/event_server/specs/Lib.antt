@@ -10,3 +10,5 @@ pub mod Answering
 pub mod Attending
 pub mod AttendingProofs
 pub mod Releasing
+pub mod Losing
+pub mod Taking

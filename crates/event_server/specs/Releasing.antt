@@ -1,80 +1,65 @@
 -- what a server says to end stays
-use Rattle.std.specs.Prelude.{◌≡◌, ◌⊎◌, ℕ, Bool, true, false, List, [], ◌∷◌}
+use Rattle.std.specs.Prelude.{◌≡◌, ◌⊎◌, ◌<◌, if◌then◌else◌, ℕ, Bool, true, false, not, is_some, List, [], ◌∷◌, ◌++◌, filter, flat_map, map, replicate}
 use Rattle.std.specs.List.{Contains}
 use Rattle.step_memory.specs.declared.refusal.Refusal.{Refusal}
 use Rattle.step_memory.specs.declared.refusal.Refusal.TheVariants as refusal
+use Rattle.bit_allocator.specs.Competitors.{stay_of}
+use Rattle.bit_allocator.specs.declared.pool.TheConstants.{MOST_NUMBERS}
+use Rattle.slot_array.specs.SlotsState.{SlotsState}
+use Rattle.commands.specs.declared.event.Event.{Event}
 use Rattle.commands.specs.declared.event.Event.TheVariants as event
 use Rattle.commands.specs.declared.reply.Reply.{Reply}
 use Rattle.commands.specs.declared.reply.Reply.TheVariants as reply
 use Rattle.commands.specs.Replies.{ShownReply}
 use Rattle.commands.specs.Requests.{Request}
+use Rattle.commands.specs.Requests.Request.{Take}
 use Rattle.player.specs.Runs.{Runs}
 use Rattle.player.specs.Turns.{Turn}
 use Rattle.player.specs.Turns.Turn.{Answered, Reported, Ended, Misread}
 use Rattle.stays.specs.Stays.{Act}
-use Rattle.stays.specs.Stays.Act.{Entered, Left, Ended as KeeperEnded, Quit}
+use Rattle.stays.specs.Stays.Act.{Left}
 use Rattle.event_server.specs.declared.attended.Attended.{Attended}
 use Rattle.event_server.specs.Attending.{Hears}
 
--- `leave` of an identity, or `probe` before it, where the identity is so
-abbrev pub IsOfRelease : (ℕ → Type 0) → Turn → Type 0
-IsOfRelease P (Answered x) = (id : ℕ) × P id × ((x.event ≡ event.Probe id) ⊎ (x.event ≡ event.Leave id))
-IsOfRelease P (Reported n r) = ⊥
-IsOfRelease P Ended = ⊥
-IsOfRelease P (Misread bad) = ⊥
+-- `leave` of an identity was answered so, and `probe`
+abbrev pub leave_of : ℕ → ShownReply → Turn
+leave_of id r = Answered (record { event = event.Leave id; reply = r })
 
-abbrev pub AreOfRelease : (ℕ → Type 0) → List Turn → Type 0
-AreOfRelease P [] = Unit {0}
-AreOfRelease P (t ∷ ts) = IsOfRelease P t × AreOfRelease P ts
+abbrev pub probe_of : ℕ → ShownReply → Turn
+probe_of id r = Answered (record { event = event.Probe id; reply = r })
 
--- the stay of an identity that is so has ended
-abbrev pub IsLeft : (ℕ → Type 0) → Act → Type 0
-IsLeft P (Entered id c) = ⊥
-IsLeft P (Left id) = P id
-IsLeft P (KeeperEnded c tick) = ⊥
-IsLeft P (Quit c) = ⊥
+-- the identity competes and holds no number, by the reply to `leave`
+abbrev pub is_not_holding : Refusal → Bool
+is_not_holding refusal.NotHolding = true
+is_not_holding _ = false
 
-abbrev pub AreLeft : (ℕ → Type 0) → List Act → Type 0
-AreLeft P [] = Unit {0}
-AreLeft P (a ∷ acts) = IsLeft P a × AreLeft P acts
+abbrev pub lacks_number : {V : Type 0} → Reply V → Bool
+lacks_number (reply.Refused why) = is_not_holding why
+lacks_number _ = false
 
--- Identities that are so were released by turns of the service, each of them `probe` or `leave` of such an identity. Of who keeps stays nothing
--- changed but that stays of such identities are forgotten
-pub record Released {D : Type 0} (may : D → Request → ShownReply → D → Type 0) (P : ℕ → Type 0) (w u : Attended D) : Type 0 where
-  pub turns : List Turn
-  pub run : Runs may w.service turns u.service
-  pub own : AreOfRelease P turns
-  pub acts : List Act
-  pub left : AreLeft P acts
-  pub heard : Hears acts w u
+-- a `probe` was missed
+abbrev pub is_missed : {V : Type 0} → Reply V → Bool
+is_missed reply.Missed = true
+is_missed _ = false
 
--- the stays of these identities were released, and what the service tells of it is kept
-pub record ReleasedAndKept {D K : Type 0} (may : D → Request → ShownReply → D → Type 0) (persists : K → D → K → D → Type 0) (due : List ℕ) (k : K) (w : Attended D) (l : K) (u : Attended D) : Type 0 where
-  pub reported : Attended D
-  pub released : Released may (Contains due) w reported
-  pub kept : persists k reported.service l u.service
-  pub same : Hears [] reported u
+-- `probe` of an identity, missed but for the last, or missed as often as there may be numbers
+abbrev pub AreProbes : ℕ → List Turn → Type 0
+AreProbes id turns =
+    (turns ≡ replicate MOST_NUMBERS (probe_of id reply.Missed)) ⊎
+    ((n : ℕ) × (r : ShownReply) × (n < MOST_NUMBERS) × (is_missed r ≡ false) × (turns ≡ replicate n (probe_of id reply.Missed) ++ probe_of id r ∷ []))
 
--- nothing was done but that stays of identities that are so are forgotten
-pub record Forgot {D : Type 0} (P : ℕ → Type 0) (w u : Attended D) : Type 0 where
-  pub same : u.service ≡ w.service
-  pub acts : List Act
-  pub left : AreLeft P acts
-  pub heard : Hears acts w u
+-- These turns release an identity: `leave`, or, where it holds no number, `probe` and `leave` once more. This is the reply to the last `leave`
+abbrev pub IsReleaseBy : ℕ → ShownReply → List Turn → Type 0
+IsReleaseBy id r turns =
+    ((turns ≡ leave_of id r ∷ []) × (lacks_number r ≡ false)) ⊎
+    ((first : ShownReply) × (probes : List Turn) × (lacks_number first ≡ true) × AreProbes id probes × (turns ≡ leave_of id first ∷ probes ++ leave_of id r ∷ []))
 
--- the persister went on by itself, and then stays of these identities may be forgotten
-pub record WaitedAndForgot {D K : Type 0} (waits : K → D → K → D → Type 0) (due : List ℕ) (k : K) (w : Attended D) (l : K) (u : Attended D) : Type 0 where
-  pub reached : Attended D
-  pub waited : waits k w.service l reached.service
-  pub same : Hears [] w reached
-  pub forgot : Forgot (Contains due) reached u
+-- they release these identities, one after another
+abbrev pub AreReleases : List ℕ → List Turn → Type 0
+AreReleases [] turns = turns ≡ []
+AreReleases (id ∷ ids) turns = (one rest : List Turn) × (r : ShownReply) × (turns ≡ one ++ rest) × IsReleaseBy id r one × AreReleases ids rest
 
--- Either these are none, and nothing was done; or the persister went on by itself; or these were released
-abbrev pub EndsDue : {D K : Type 0} → (D → Request → ShownReply → D → Type 0) → (K → D → K → D → Type 0) → (K → D → K → D → Type 0) → List ℕ → K → Attended D → K → Attended D → Type 0
-EndsDue may persists waits due k w l u =
-    ((due ≡ []) × (l ≡ k) × (u ≡ w)) ⊎ WaitedAndForgot waits due k w l u ⊎ ReleasedAndKept may persists due k w l u
-
--- a stay has ended, by the reply to `leave`: it was accepted, or the identity does not compete
+-- the identity does not compete any more, by the reply to `leave`: it was accepted, or refused for that
 abbrev pub is_not_competing : Refusal → Bool
 is_not_competing refusal.NotCompeting = true
 is_not_competing _ = false
@@ -83,3 +68,75 @@ abbrev pub is_freed : {V : Type 0} → Reply V → Bool
 is_freed (reply.Left number) = true
 is_freed (reply.Refused why) = is_not_competing why
 is_freed _ = false
+
+-- then its stay has ended
+abbrev pub freed_by : {V : Type 0} → Event → Reply V → List Act
+freed_by (event.Leave id) r = if is_freed r then Left id ∷ [] else []
+freed_by _ r = []
+
+abbrev pub freed_of : Turn → List Act
+freed_of (Answered x) = freed_by x.event x.reply
+freed_of (Reported n r) = []
+freed_of Ended = []
+freed_of (Misread bad) = []
+
+abbrev pub freed_in : List Turn → List Act
+freed_in turns = flat_map freed_of turns
+
+-- These identities were released, one after another, by turns of the service that say nothing else. Of who keeps stays nothing changed but that the
+-- stay of each is forgotten that does not compete any more, by the reply to it
+pub record Released {D : Type 0} (may : D → Request → ShownReply → D → Type 0) (due : List ℕ) (w u : Attended D) : Type 0 where
+  pub turns : List Turn
+  pub run : Runs may w.service turns u.service
+  pub each : AreReleases due turns
+  pub heard : Hears (freed_in turns) w u
+
+-- the stays of these identities were released, and what the service tells of it is kept
+pub record ReleasedAndKept {D K : Type 0} (may : D → Request → ShownReply → D → Type 0) (persists : K → D → K → D → Type 0) (due : List ℕ) (k : K) (w : Attended D) (l : K) (u : Attended D) : Type 0 where
+  pub reported : Attended D
+  pub released : Released may due w reported
+  pub kept : persists k reported.service l u.service
+  pub same : Hears [] reported u
+
+-- an identity competes for these slots
+abbrev pub competes_for : SlotsState ℕ → ℕ → Bool
+competes_for slots id = is_some (stay_of id slots.pool.competitors)
+
+-- nothing was done but that the stay of each of these identities is forgotten that does not compete for the slots
+pub record Forgot {D : Type 0} (slots : SlotsState ℕ) (due : List ℕ) (w u : Attended D) : Type 0 where
+  pub same : u.service ≡ w.service
+  pub heard : Hears (map Left (filter (λ id. not (competes_for slots id)) due)) w u
+
+-- the persister went on by itself, and then the stay of each of these identities is forgotten that does not compete any more
+pub record WaitedAndForgot {D K : Type 0} (waits : K → D → K → D → Type 0) (holds : K → D → SlotsState ℕ) (due : List ℕ) (k : K) (w : Attended D) (l : K) (u : Attended D) : Type 0 where
+  pub reached : Attended D
+  pub waited : waits k w.service l reached.service
+  pub same : Hears [] w reached
+  pub forgot : Forgot (holds l reached.service) due reached u
+
+-- Where the persister shares stays it went on by itself. Else these are none, and nothing was done; or these were released
+abbrev pub EndsDue : {D K : Type 0} → (D → Request → ShownReply → D → Type 0) → (K → D → K → D → Type 0) → (K → D → K → D → Type 0) → (K → Bool) → (K → D → SlotsState ℕ) → List ℕ → K → Attended D → K → Attended D → Type 0
+EndsDue may persists waits shares holds due k w l u =
+    ((shares k ≡ true) × WaitedAndForgot waits holds due k w l u) ⊎
+    ((shares k ≡ false) × (((due ≡ []) × (l ≡ k) × (u ≡ w)) ⊎ ReleasedAndKept may persists due k w l u))
+
+-- what a service tells of who competes: not who was freed, and nobody enters by `leave` or `probe`
+pub record TellsOfStays {D : Type 0} (may : D → Request → ShownReply → D → Type 0) (competes : D → ℕ → Bool) : Type 0 where
+  pub freed : (w u : D) (id : ℕ) (r : ShownReply) → may w (Take (event.Leave id)) r u → is_freed r ≡ true → competes u id ≡ false
+  pub leave : (w u : D) (id i : ℕ) (r : ShownReply) → may w (Take (event.Leave i)) r u → competes w id ≡ false → competes u id ≡ false
+  pub probe : (w u : D) (id i : ℕ) (r : ShownReply) → may w (Take (event.Probe i)) r u → competes w id ≡ false → competes u id ≡ false
+
+-- among these turns is a release of an identity whose last `leave` did not free it
+pub record IsNotFreed (id : ℕ) (turns : List Turn) : Type 0 where
+  pub before : List Turn
+  pub one : List Turn
+  pub after : List Turn
+  pub parts : turns ≡ before ++ (one ++ after)
+  pub reply : ShownReply
+  pub by : IsReleaseBy id reply one
+  pub not : is_freed reply ≡ false
+
+-- of a service that tells so, each of these does not compete once it was released, but where its last `leave` did not free it
+abbrev pub ReleasesFree : {D : Type 0} → (D → Request → ShownReply → D → Type 0) → Type 0
+ReleasesFree {D = D} may = (competes : D → ℕ → Bool) (due : List ℕ) (w u : Attended D) (released : Released may due w u) (id : ℕ) → TellsOfStays may competes →
+    Contains due id → (competes u.service id ≡ false) ⊎ IsNotFreed id released.turns

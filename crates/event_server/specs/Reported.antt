@@ -1,5 +1,5 @@
 -- which lines of a connection go to a persister before a turn takes them
-use Rattle.std.specs.Prelude.{◌≡◌, ℕ, ◌<◌, ◌≤◌, if◌then◌else◌, Bool, true, false, List, [], ◌∷◌, ◌++◌, length, get_or, take, Option, Some, None, Result, Ok, Err}
+use Rattle.std.specs.Prelude.{◌≡◌, ℕ, ◌<◌, ◌||◌, nat_lt, ◌≤◌, if◌then◌else◌, Bool, true, false, List, [], ◌∷◌, ◌++◌, length, get_or, take, Option, Some, None, Result, Ok, Err}
 use Rattle.commands.specs.declared.bad.Bad.{Bad}
 use Rattle.commands.specs.declared.command.Command.{Command}
 use Rattle.commands.specs.declared.command.Command.TheVariants as command
@@ -63,6 +63,20 @@ long_of (Some peek) = peek.long
 abbrev pub asks_of : Option Peek → Bool
 asks_of None = false
 asks_of (Some peek) = peek.asks
+
+-- whether a line of it asks who holds numbers
+abbrev pub holds_of : Option Peek → Bool
+holds_of None = false
+holds_of (Some peek) = peek.holds
+
+-- whether more than it takes could be taken
+abbrev pub more_of : Option Peek → Bool
+more_of None = false
+more_of (Some peek) = peek.more
+
+-- it takes something, or more than it takes could be taken
+abbrev pub takes_any : Peek → Bool
+takes_any peek = peek.more || peek.ends || nat_lt 0 peek.bytes
 
 -- no more and no less was looked at
 abbrev pub IsSameGrant : Option Peek → Option Peek → Type 0

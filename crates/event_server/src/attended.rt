@@ -1,14 +1,18 @@
 //! A service, and who keeps the stays in its pool.
 
-ghost use Rattle.std.specs.Prelude.{◌≡◌, ◌∷◌, [], true, false};
+ghost use Rattle.std.specs.Prelude.{◌≡◌, ◌∷◌, [], true, false, Some};
 ghost use Rattle.stays.specs.Stays.Act.{Entered, Left};
 ghost use Rattle.event_server.specs.Attending.{AttendedMay, Hears, heard, keeps_by, gives_back, after_ending};
+ghost use Rattle.event_server.specs.Losing.{lost_act};
 ghost use Rattle.event_server.specs.AttendingProofs.{attended_answers};
 
 use commands::{Event, Reply};
 use player::Service;
 use stays::Stays;
 use step_memory::{Refusal, View};
+
+/// The number of no connection. It keeps a stay that may have begun, though no connection may be answered so.
+pub const NOBODY: u64 = 0;
 
 /// How a connection ended.
 #[derive(Clone, Copy, Debug, Drop, PartialEq, Eq)]
@@ -100,6 +104,19 @@ impl<D> Attended<D> {
         ensures same { (self.new.service ≡ self.old.service) × (self.new.speaker ≡ self.old.speaker) }
     {
         if self.stays.entered(identity, self.speaker).is_err() {
+            self.lacks = true;
+        }
+    }
+
+    /// An `enter` of this identity may have been applied, and its answer was lost. Unless a connection keeps the stay nobody does (`NOBODY`).
+    pub fn note_lost(&mut self, identity: u64)
+        ensures hears { Hears (lost_act self.old.stays (Some identity)) self.old self.new }
+        ensures same { self.new.service ≡ self.old.service }
+    {
+        if !self.keeps || self.stays.is_kept(identity) {
+            return;
+        }
+        if self.stays.entered(identity, NOBODY).is_err() {
             self.lacks = true;
         }
     }

@@ -6,10 +6,10 @@ ghost use Rattle.player.specs.Runs.{Runs};
 ghost use Rattle.player.specs.Turns.{Turn};
 ghost use Rattle.player.specs.declared.form.TheConstants.{TURN_ROOM};
 ghost use Rattle.held_lines.specs.declared.query.TheConstants.{QUERY_MAX};
-ghost use Rattle.event_server.specs.Asking.{IsPrefixOf, IsQueryOf, MayAsk};
+ghost use Rattle.event_server.specs.Asking.{IsPrefixOf, IsQueryOf, IsTakingOf, MayAsk};
 ghost use Rattle.event_server.specs.ConnectionBuffers.{IsFull, AreNewBuffers, Takes, TakesFirst};
 
-use crate::asking::{before_query, first_query, is_prefix_of};
+use crate::asking::{before_query, first_query, first_taking, is_prefix_of};
 use commands::WorldKind;
 use held_lines::HeldQuery;
 use player::{AsReplies, Replies, Responder, Service, TURN_ROOM};
@@ -146,7 +146,7 @@ impl<A: Allocator> Buffers<A> {
         self.outbox.len() <= UNSENT_ROOM - TURN_ROOM && self.responder.summary().lines <= MOST_LINES
     }
 
-    /// Whether nothing waits but the beginning of a line that may ask who holds numbers: then more of it is to come.
+    /// Whether nothing waits but the beginning of a line that may ask who holds numbers, or take one: then more of it is to come.
     pub fn waits_for_more(&self) -> bool
         ensures none { result ≡ true → 0 < length self.now.inbox → MayAsk self.now.inbox }
         ensures few { result ≡ true → length self.now.inbox ≤ QUERY_MAX }
@@ -155,7 +155,7 @@ impl<A: Allocator> Buffers<A> {
         self.inbox.is_empty() || self.is_begun()
     }
 
-    // Whether the beginning of a line waits that may ask who holds numbers.
+    // Whether the beginning of a line waits that may ask who holds numbers, or take one.
     fn is_begun(&self) -> bool
         ensures { result ≡ true → IsPrefixOf self.now.inbox }
     {
@@ -172,6 +172,16 @@ impl<A: Allocator> Buffers<A> {
         first_query(&self.inbox)
     }
 
+    /// For which identity the line that waits first takes a number, where it takes one, and how many bytes the line has with its LF.
+    pub fn taking(&self) -> Option<(u64, usize)>
+        ensures { IfSome result (λ r. IsTakingOf self.now.inbox r.0 r.1) }
+    {
+        if self.in_line || self.is_over() {
+            return None;
+        }
+        first_taking(&self.inbox)
+    }
+
     /// The line that waits first, of so many bytes with its LF, was answered by what these replies are: they wait to be sent. Where memory is
     /// refused it is at fault.
     pub fn answer<B: Allocator>(&mut self, count: usize, replies: &mut Replies<B>)
@@ -186,7 +196,7 @@ impl<A: Allocator> Buffers<A> {
         drop_front(&mut self.inbox, count);
     }
 
-    // How many of the bytes that wait a turn takes: all where no more are to come, or else those before a line that asks who holds numbers.
+    // How many of the bytes that wait a turn takes: all where no more are to come, or else those before a line that asks who holds numbers, or takes one.
     fn free(&self, last: bool) -> usize
         ensures inside { result ≤ length self.now.inbox }
         ensures asks { result < length self.now.inbox → MayAsk (drop result self.now.inbox) }
@@ -209,7 +219,7 @@ impl<A: Allocator> Buffers<A> {
     }
 
     /// Takes lines of what waits and of these bytes, which came behind it, as long as there is room for one reply more, up to a line that
-    /// asks who holds numbers; where they are the last that come, that one too. The rest waits. Where memory is refused it is at fault.
+    /// asks who holds numbers or takes one; where they are the last that come, that one too. The rest waits. Where memory is refused it is at fault.
     pub fn take<R, D: Service<R>, B: Allocator>(
         &mut self,
         rt: &R,

@@ -1,6 +1,6 @@
 //! A connection: its stream, and what is held of it.
 
-ghost use Rattle.std.specs.Prelude.{◌≡◌, ◌⊎◌, ◌+◌, ◌++◌, ◌≤◌, ◌<◌, true, false, List, [], length, take, drop, IfOk, IsTrue};
+ghost use Rattle.std.specs.Prelude.{◌≡◌, ◌⊎◌, ◌+◌, ◌++◌, ◌≤◌, ◌<◌, true, false, List, [], length, take, drop, IfOk, IsTrue, ◌↔◌};
 ghost use Rattle.std.specs.Io.{ReadsAtMost};
 ghost use Rattle.std.specs.Io.KnownBytes.{Appends, ReadConsumes};
 ghost use Rattle.commands.specs.Requests.{Request};
@@ -9,11 +9,12 @@ ghost use Rattle.player.specs.Runs.{Runs};
 ghost use Rattle.player.specs.Turns.{Turn};
 ghost use Rattle.player.specs.declared.form.TheConstants.{TURN_ROOM};
 ghost use Rattle.event_server.specs.SharedBuffers.{AreShared};
-ghost use Rattle.event_server.specs.Reported.{asks_of, requests_seen, IsSameGrant};
+ghost use Rattle.event_server.specs.Reported.{asks_of, holds_of, more_of, requests_seen, IsSameGrant};
 ghost use Rattle.held_lines.specs.declared.query.TheConstants.{QUERY_MAX};
 ghost use Rattle.event_server.specs.Asking.{MayAnswer, MayAsk};
-ghost use Rattle.event_server.specs.ConnectionBuffers.{HasTakenAll, SomeTaken, Takes, TakesEnd, TakesPeeked, SendsTo};
+ghost use Rattle.event_server.specs.ConnectionBuffers.{is_done, CanSend, CanTake, HasTakenAll, SomeTaken, Takes, TakesEnd, TakesPeeked, SendsTo};
 ghost use Rattle.event_server.specs.Gathering.{GathersOf};
+ghost use Rattle.event_server.specs.Taking.{MayTakeNumber};
 ghost use Rattle.event_server.specs.declared.shared.TheConstants.{READ_ROOM};
 ghost use Rattle.event_server.specs.declared.buffers.TheConstants.{UNSENT_ROOM, MOST_LINES};
 
@@ -22,13 +23,15 @@ use crate::peek::{Limits, Peek};
 use crate::persist::Persist;
 use crate::shared::{READ_ROOM, SharedBuffers};
 use crate::stream::Stream;
+use crate::taking::say_taking;
+use command_lines::print_reply;
 use commands::WorldKind;
 use held_lines::QUERY_MAX;
 use player::{Service, TURN_ROOM};
 use std::alloc::Allocator;
 use std::io::{self, ErrorKind};
 
-/// So many bytes are read at most, behind the beginning of a line that may ask who holds numbers.
+/// So many bytes are read at most, behind the beginning of a line that may ask who holds numbers, or take one.
 const MOST_READ: usize = READ_ROOM - QUERY_MAX;
 
 /// Where a connection stands in a turn of the loop.
@@ -119,12 +122,18 @@ impl<S: Stream, A: Allocator> Connection<S, A> {
     }
 
     /// Whether it is at its end: at fault, or all that came is taken and all replies are sent.
-    pub fn is_done(&self) -> bool {
+    pub fn is_done(&self) -> bool
+        ensures { result ≡ is_done self.now.buffers }
+    {
         self.buffers.is_broken() || (self.buffers.is_ended() && self.buffers.unsent().is_empty())
     }
 
     /// Whether a turn more would have something to do, with nothing new told of its stream.
-    pub fn goes_on(&self) -> bool {
+    pub fn goes_on(&self) -> bool
+        ensures sends { CanSend self.now.writable self.now.buffers → IsTrue result }
+        ensures takes { CanTake self.now.buffers → (self.now.readable ≡ true) ⊎ (more_of self.now.peek ≡ true) → IsTrue result }
+        ensures only { IsTrue result → CanSend self.now.writable self.now.buffers ⊎ CanTake self.now.buffers }
+    {
         let sends = self.writable && !self.buffers.unsent().is_empty();
         let waits = match self.peek {
             Some(peek) => peek.more,
@@ -136,6 +145,7 @@ impl<S: Stream, A: Allocator> Connection<S, A> {
 
     // Whether more may come and be taken: there is room for a reply.
     fn may_take(&self) -> bool
+        ensures may { IsTrue result ↔ CanTake self.now.buffers }
         ensures none { result ≡ false → HasTakenAll self.now.buffers }
         ensures whole { IsTrue result → self.now.buffers.broken ≡ false }
         ensures reply { IsTrue result → length self.now.buffers.outbox + TURN_ROOM ≤ UNSENT_ROOM }
@@ -282,7 +292,9 @@ impl<S: Stream, A: Allocator> Connection<S, A> {
     }
 
     /// Whether a line that was looked at asks who holds numbers.
-    pub fn asks_holders(&self) -> bool {
+    pub fn asks_holders(&self) -> bool
+        ensures { result ≡ holds_of self.now.peek }
+    {
         match self.peek {
             Some(peek) => peek.holds,
             None => false,
@@ -473,6 +485,55 @@ impl<S: Stream, A: Allocator> Connection<S, A> {
         match self.peek {
             Some(peek) => peek.holds,
             None => true,
+        }
+    }
+
+    /// For which identity the line that waits first takes a number, where it takes one and there is room for the answer.
+    pub fn taking(&self) -> Option<u64> {
+        if !self.may_take() {
+            return None;
+        }
+        match self.buffers.taking() {
+            Some((identity, _)) => Some(identity),
+            None => None,
+        }
+    }
+
+    /// Where it takes a number, the lines of that went to the persister, and what they are answered is not known: then it is at fault.
+    pub fn give_up_taking(&mut self)
+        ensures buffers { self.new.buffers ≡ record self.old.buffers { broken = self.new.buffers.broken } }
+        ensures whole { self.new.buffers.broken ≡ false → self.old.buffers.broken ≡ false }
+        ensures stream { self.new.stream ≡ self.old.stream }
+    {
+        if self.taking().is_some() {
+            self.buffers.fail();
+        }
+    }
+
+    /// Takes a number, where the line that waits first is `take ID` and there is room for the answer: by events of the service, one after another, of
+    /// which the last reply is the answer (`say_taking`).
+    pub fn take_number<R, D: Service<R>, B: Allocator>(
+        &mut self,
+        rt: &R,
+        service: &mut D,
+        shared: &mut SharedBuffers<B>,
+        ahead: bool,
+    )
+        requires knows { (q : Request) → D.knows q ≡ true }
+        requires room { AreShared shared.old }
+        ensures takes { (turns : List Turn) × Runs D.may service.old turns service.new × MayTakeNumber ahead turns self.old.buffers self.new.buffers }
+        ensures stream { self.new.stream ≡ self.old.stream }
+        ensures stage { self.new.stage ≡ Stage.Taken }
+        ensures room { AreShared shared.new }
+    {
+        self.stage = Stage::Taken;
+        if !self.may_take() {
+            return;
+        }
+        if let Some((identity, count)) = self.buffers.taking() {
+            let reply = say_taking(rt, service, &mut shared.view, identity, ahead);
+            print_reply(reply, &shared.view, &mut shared.replies);
+            self.buffers.answer(count, &mut shared.replies);
         }
     }
 

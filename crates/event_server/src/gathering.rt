@@ -2,9 +2,10 @@
 
 ghost use Rattle.std.specs.Prelude.{◌≡◌, ◌⊎◌, ℕ, List, ◌++◌, ◌≤◌, true, [], get_or, take, None, IfOk, OnErr};
 ghost use Rattle.commands.specs.Requests.{Request};
-ghost use Rattle.command_lines.specs.Lines.{with_ends};
+ghost use Rattle.command_lines.specs.Lines.{whole_lines, with_ends};
 ghost use Rattle.player.specs.Shared.{TurnLog};
 ghost use Rattle.event_server.specs.Attending.{Hears, acts_in, acts_of, number_at};
+ghost use Rattle.event_server.specs.Losing.{lost_acts};
 ghost use Rattle.event_server.specs.SharedBuffers.{AreShared};
 ghost use Rattle.event_server.specs.Seats.{seats_of, CallsSome, EachIs, NoneSent, SeatIdle, SeatIs, TurnsTaken};
 ghost use Rattle.event_server.specs.Gathering.{Gathered, SeatPeeked, SeatAsks, SeatBroken, SeatTurnPeeked, TakenPeeked, Reported, PrefetchedIteration, NotPrefetched, count_of};
@@ -12,6 +13,7 @@ ghost use Rattle.event_server.specs.Reported.{SeatLines, all_lines, IsAmong};
 
 use crate::attended::Attended;
 use crate::connection::{Connection, Stage};
+use crate::losing::note_lost;
 use crate::peek::has_room;
 use crate::persist::{Persist, Prefetch};
 use crate::shared::SharedBuffers;
@@ -156,7 +158,8 @@ fn take_peeked_at<R, D: Service<R>, S: Stream, A: Allocator, B: Allocator>(
     requires knows { (q : Request) → D.knows q ≡ true }
     requires room { AreShared shared.old }
     ensures took { ((service.new ≡ service.old) × (seats.new ≡ seats.old)) ⊎
-        ((peeked : SeatTurnPeeked (seats_of S.left S.gone) (λ c. c.peek) (λ c. c.stage ≡ Stage.Queued) D.may key service.old.service seats.old service.new.service seats.new) ×
+        ((peeked : SeatTurnPeeked (seats_of S.left S.gone) (λ c. c.peek) (λ c. c.stage ≡ Stage.Queued) D.may key
+        service.old.service seats.old service.new.service seats.new) ×
         Hears (acts_of number peeked.turn.turns) service.old service.new) }
     ensures done { SeatIs (λ c. c.stage ≡ Stage.Queued → ⊥) (get_or seats.new key None) }
     ensures others { (i : ℕ) → (i ≡ key → ⊥) → get_or seats.new i None ≡ get_or seats.old i None }
@@ -211,8 +214,8 @@ fn any_asks_holders<S: Stream, A: Allocator>(
     false
 }
 
-// Has the persister learn a batch, where there is something in it.
-fn prefetch<D, K: Persist<D>, B: Allocator>(
+/// Has the persister learn a batch, where there is something in it.
+pub(crate) fn prefetch<D, K: Persist<D>, B: Allocator>(
     service: &mut D,
     persister: &mut K,
     batch: &Batch<B>,
@@ -230,7 +233,8 @@ fn prefetch<D, K: Persist<D>, B: Allocator>(
 /// One turn of the loop over a service that learns its answers before: the connections of these seats are read, the requests among their
 /// lines go to the persister, which has the service prefetch the answers, and then they take their turns (as in `iterate`). Where the answers are not
 /// prefetched in time, those whose lines are in the batch are at fault, and nothing is sent. No connection takes more than was looked at. One seat at
-/// least is called, where any is given, and of each that is called the connection rests then. Who keeps a stay is noted as in `iterate`.
+/// least is called, where any is given, and of each that is called the connection rests then. Who keeps a stay is noted as in `iterate`. Of each
+/// `enter` among lines whose answers are lost it is noted that nobody keeps the stay, unless a connection does: it may have been applied.
 ///
 /// The fault of what keeps, with no byte sent.
 pub fn iterate_prefetched<R, D: Service<R>, K: Persist<D>, S: Stream, A: Allocator, B: Allocator>(
@@ -250,7 +254,8 @@ pub fn iterate_prefetched<R, D: Service<R>, K: Persist<D>, S: Stream, A: Allocat
         persister.old service.old.service seats.old batch.new.lines.items persister.new service.new.service seats.new) ×
         Hears (acts_in (number_at numbers.now) turned.turn.log) service.old service.new }
     ensures unserved { (called : ℕ) → result ≡ Ok (Called.Unserved called) → NotPrefetched (seats_of S.left S.gone) seats.old batch.new.lines.items seats.new }
-    ensures lost { (called : ℕ) → result ≡ Ok (Called.Unserved called) → K.waits persister.old service.old.service persister.new service.new.service × Hears [] service.old service.new }
+    ensures lost { (called : ℕ) → result ≡ Ok (Called.Unserved called) → K.waits persister.old service.old.service persister.new service.new.service ×
+        Hears (lost_acts batch.old.kind service.old.stays (whole_lines batch.new.lines.items)) service.old service.new }
     ensures unsent { OnErr result (NoneSent (seats_of S.left S.gone) seats.old seats.new) }
     ensures called { IfOk result (λ called. CallsSome ready.now (count_of called)) }
     ensures rest { IfOk result (λ called. EachIs (λ c. c.stage ≡ Stage.Idle) (take (count_of called) ready.now) seats.new) }
@@ -268,6 +273,7 @@ pub fn iterate_prefetched<R, D: Service<R>, K: Persist<D>, S: Stream, A: Allocat
         }
         Prefetch::Lost => {
             give_up(seats, called);
+            note_lost(service, &batch.lines, batch.kind);
             Ok(Called::Unserved(peeked))
         }
     }

@@ -6,7 +6,7 @@ ghost use Rattle.event_server.specs.SharedBuffers.{AreShared};
 ghost use Rattle.event_server.specs.Rounds.{WasServed};
 
 use crate::answering::answer_queries;
-use crate::attended::Attended;
+use crate::attended::{Attended, Ending, NOBODY};
 use crate::connection::Connection;
 use crate::connections::ConnectionTable;
 use crate::doors::{Accepted, Doors};
@@ -16,6 +16,7 @@ use crate::persist::{Persist, Tally};
 use crate::releasing::end_due;
 use crate::shared::SharedBuffers;
 use crate::socket::Socket;
+use crate::taking::{prefetch_takings, serve_takings};
 use crate::teller::Teller;
 use crate::turns::iterate;
 use crate::watching::{LoopNumbers, Watch};
@@ -452,8 +453,69 @@ impl Hosting {
         match called {
             Ok(called) => {
                 self.note_lost(called);
+                self.take_numbers(rt, service, persister, shared, called)?;
                 self.answer(&service.service, persister, shared, called);
                 self.settle(called.count())
+            }
+            Err(fault) => Err(HostFault::Persist(fault)),
+        }
+    }
+
+    // Takes numbers for those who say `take`, where any do.
+    fn take_numbers<R, D: Service<R>, K: Persist<D>>(
+        &mut self,
+        rt: &R,
+        service: &mut Attended<D>,
+        persister: &mut K,
+        shared: &mut SharedBuffers<Global>,
+        called: Called,
+    ) -> Result<(), HostFault<K::Fault>>
+        requires knows { (q : Request) → D.knows q ≡ true }
+        requires room { AreShared shared.old }
+        ensures room { AreShared shared.new }
+        ensures served { OnOk result (WasServed D.may K.prefetches K.persists K.waits persister.old service.old.service persister.new service.new.service) }
+    {
+        let Called::Served(count) = called else {
+            return Ok(());
+        };
+        let ConnectionTable {
+            seats,
+            numbers,
+            ready,
+            ..
+        } = &mut self.connections;
+        let few = count.min(ready.len());
+        if !any_takes(seats, &ready[..few]) {
+            return Ok(());
+        }
+        let Some(batch) = &mut self.batch else {
+            return match serve_takings(
+                rt,
+                service,
+                persister,
+                shared,
+                seats,
+                numbers,
+                &ready[..few],
+                false,
+            ) {
+                Ok(()) => Ok(()),
+                Err(fault) => Err(HostFault::Persist(fault)),
+            };
+        };
+        match prefetch_takings(
+            rt,
+            service,
+            persister,
+            batch,
+            shared,
+            seats,
+            numbers,
+            &ready[..few],
+        ) {
+            Ok(served) => {
+                self.note_lost(served);
+                Ok(())
             }
             Err(fault) => Err(HostFault::Persist(fault)),
         }
@@ -487,7 +549,7 @@ impl Hosting {
         Ok(())
     }
 
-    // The connections that have ended keep no stay from now on.
+    // The connections that have ended keep no stay from now on, and nobody keeps one of which it was lost whether it began.
     fn note_ended<D>(&mut self, service: &mut Attended<D>)
         ensures { service.new.service ≡ service.old.service }
     {
@@ -495,6 +557,15 @@ impl Hosting {
             service.end(*ending, self.tick);
         }
         self.connections.ended.clear();
+        if self.lost {
+            service.end(
+                Ending {
+                    number: NOBODY,
+                    by_quit: false,
+                },
+                self.tick,
+            );
+        }
     }
 
     // Ends the stays that are due, where a second has passed or connections have ended, and any are to end.
@@ -701,6 +772,20 @@ fn any_asks(seats: &[Option<Connection<Socket, Global>>], called: &[usize]) -> b
         if *key < seats.len() {
             if let Some(connection) = &seats[*key] {
                 if connection.buffers.has_input() {
+                    return true;
+                }
+            }
+        }
+    }
+    false
+}
+
+// Whether the connection of any of these seats takes a number.
+fn any_takes(seats: &[Option<Connection<Socket, Global>>], called: &[usize]) -> bool {
+    for key in called {
+        if *key < seats.len() {
+            if let Some(connection) = &seats[*key] {
+                if connection.taking().is_some() {
                     return true;
                 }
             }

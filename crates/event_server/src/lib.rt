@@ -20,6 +20,10 @@
 //! A service is `Attended`: it notes which connection keeps each stay in the pool, by the numbers that connections have (`Hears`). `end_due` ends the stays
 //! that are due, and no others.
 //!
+//! After an iteration a line `take ID` that waits first takes a number (`serve_takings`): the server says `enter ID`, and `probe ID` as often as it takes, and
+//! answers the last reply. This is kept before it is answered, like all else. Where answers are prefetched, the lines of that are a batch of their own
+//! (`prefetch_takings`).
+//!
 //! `host` is a whole server over sockets: it waits until some are ready (`mio`), gives those their turn, and closes who is at an end or idle.
 //!
 //! Not promised, and shown by running it: that a connection that is due has its turn soon, and what sockets carry.
@@ -51,12 +55,14 @@ pub mod doors;
 pub mod gathering;
 pub mod host_fault;
 pub mod hosting;
+mod losing;
 pub mod peek;
 pub mod persist;
 pub mod releasing;
 pub mod shared;
 pub mod socket;
 pub mod stream;
+pub mod taking;
 pub mod teller;
 pub mod turns;
 pub mod watching;
@@ -70,8 +76,9 @@ pub use host_fault::HostFault;
 pub use hosting::{HostOptions, Hosted, host};
 pub use peek::Peek;
 pub use persist::{Persist, Prefetch, Tally};
-pub use releasing::{end_due, release, release_all};
+pub use releasing::{end_due, law_of_releases, release, release_all};
 pub use shared::{READ_ROOM, SharedBuffers};
 pub use stream::Stream;
+pub use taking::{prefetch_takings, say_taking, serve_takings};
 pub use teller::Teller;
 pub use turns::{iterate, send_replies, take_turns};

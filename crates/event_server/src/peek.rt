@@ -2,8 +2,9 @@
 
 ghost use Rattle.std.specs.Prelude.{◌≡◌, ◌++◌, ◌≤◌, List, ℕ, true, false, [], ◌∷◌, length, take, drop, IfOk, IsTrue};
 ghost use Rattle.command_lines.specs.Lines.{has_no_lf, unless_empty, with_ends};
-ghost use Rattle.event_server.specs.Reported.{requests, behind, requests_in, HasPeeked};
+ghost use Rattle.event_server.specs.Reported.{requests, behind, requests_in, takes_any, HasPeeked};
 
+use crate::asking::is_own;
 use crate::buffers::UNSENT_ROOM;
 use commands::{Command, Event, WorldKind};
 use held_lines::held_query;
@@ -137,7 +138,9 @@ impl Peek {
     }
 
     /// What it was to take was taken.
-    pub fn taken(self) -> Peek {
+    pub fn taken(self) -> Peek
+        ensures { result ≡ record self { bytes = 0; ends = false; asks = false; long = self.goes_on; goes_on = self.long } }
+    {
         Peek {
             asks: false,
             long: self.goes_on,
@@ -147,7 +150,9 @@ impl Peek {
     }
 
     /// What it was to take was not taken, and is to be looked at again.
-    pub fn untaken(self) -> Peek {
+    pub fn untaken(self) -> Peek
+        ensures { result ≡ record self { bytes = 0; ends = false; asks = false; goes_on = self.long; holds = false; more = takes_any self } }
+    {
         Peek {
             asks: false,
             more: self.more || self.ends || 0 < self.bytes,
@@ -155,7 +160,8 @@ impl Peek {
         }
     }
 
-    /// Looks at what waits, as far as there is room: the next turn takes its whole lines, and the requests of those are added to the batch.
+    /// Looks at what waits, as far as there is room, and up to a line that the server answers by itself: the next turn takes its whole lines, and the
+    /// requests of those are added to the batch.
     pub fn peek_over<B: Allocator>(
         &mut self,
         bytes: &[u8],
@@ -213,8 +219,8 @@ impl Peek {
             let Some(end) = memchr(LF, rest) else {
                 return Ok(true);
             };
-            if !self.goes_on && held_query(&rest[..end]).is_some() {
-                self.holds = self.bytes == 0;
+            if !self.goes_on && is_own(&rest[..end]) {
+                self.holds = self.bytes == 0 && held_query(&rest[..end]).is_some();
                 return Ok(false);
             }
             self.bytes += end + 1;

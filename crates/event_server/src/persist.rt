@@ -1,6 +1,6 @@
 //! What is kept of a turn before its replies go out.
 
-ghost use Rattle.std.specs.Prelude.{◌≡◌, ◌≤◌, ◌+◌, ◌++◌, ℕ, List, is_some, length, OnOk};
+ghost use Rattle.std.specs.Prelude.{◌≡◌, ◌≤◌, ◌+◌, ◌++◌, ℕ, Bool, List, None, is_some, length, OnOk};
 ghost use Rattle.bit_allocator.specs.Competitors.{stay_of};
 ghost use Rattle.command_lines.specs.declared.replies.TheConstants.{HELD_REPLIES};
 ghost use Rattle.slot_array.specs.SlotsState.{SlotsState};
@@ -39,7 +39,20 @@ pub struct Tally {
 
 impl Tally {
     /// Nothing is known but how many events there are.
-    pub fn of_events(events: u64) -> Tally {
+    pub fn of_events(events: u64) -> Tally
+        ensures { result ≡ record {
+          events = events;
+          events_left = None;
+          compactions = None;
+          competitors = None;
+          numbers_free = None;
+          names_given = None;
+          journal_bytes = None;
+          syncs = None;
+          log_place = None;
+          log_answers = None;
+        } }
+    {
         Tally {
             events,
             events_left: None,
@@ -81,6 +94,9 @@ pub trait Persist<D> {
     /// The pool and its slots, as they are where all is kept that the service told.
     ghost holds: { Self → D → SlotsState ℕ };
 
+    /// Whether other servers share the service's stays.
+    ghost shares: { Self → Bool };
+
     /// Appends who holds numbers, as it is asked.
     fn put_held<B: Allocator>(&self, service: &D, query: HeldQuery, out: &mut Replies<B>)
         requires room { length out.old + HELD_ROOM ≤ HELD_REPLIES }
@@ -109,7 +125,8 @@ pub trait Persist<D> {
         ensures { OnOk result (waits self.old service.old self.new service.new) };
 
     /// Whether other servers share the service's stays, so that this persister ends them itself (`end_stays`).
-    fn shares_stays(&self) -> bool;
+    fn shares_stays(&self) -> bool
+        ensures { result ≡ shares self.now };
 
     /// Ends stays that are shared: those of these identities, which nobody keeps here any more, and those of servers that are gone. Is called
     /// about once a second where the server ends stays, and only where `shares_stays` says so.

@@ -1,12 +1,15 @@
 //! Stays that a server ends.
 
-ghost use Rattle.std.specs.Prelude.{◌≡◌, ◌⊎◌, ◌∷◌, [], true, OnOk};
-ghost use Rattle.std.specs.List.{Contains};
+ghost use Rattle.std.specs.Prelude.{◌≡◌, ◌∷◌, [], List, true, OnOk};
+ghost use Rattle.commands.specs.Replies.{ShownReply, with_view};
 ghost use Rattle.commands.specs.Requests.{Request};
+ghost use Rattle.commands.specs.Requests.Request.{Take};
+ghost use Rattle.commands.specs.declared.event.Event.TheVariants as event;
+ghost use Rattle.player.specs.Runs.{Runs};
+ghost use Rattle.player.specs.Turns.{Turn};
 ghost use Rattle.event_server.specs.Attending.{Hears};
-ghost use Rattle.event_server.specs.Releasing.{EndsDue, Forgot, Released};
+ghost use Rattle.event_server.specs.Releasing.{AreProbes, EndsDue, Forgot, Released, ReleasesFree, freed_by, is_missed, lacks_number};
 ghost use Rattle.stays.specs.Stays.{all_due};
-ghost use Rattle.stays.specs.Stays.Act.{Left};
 
 use crate::attended::Attended;
 use crate::host_fault::HostFault;
@@ -17,6 +20,20 @@ use player::Service;
 use std::alloc::Global;
 use step_memory::{Refusal, View};
 
+// Whether a `probe` was missed, by the reply to it.
+fn is_missed(reply: &Reply<()>) -> bool
+    ensures { result ≡ is_missed reply.now }
+{
+    matches!(reply, Reply::Missed)
+}
+
+// Whether the identity competes and holds no number, by the reply to `leave`.
+fn lacks_number(reply: &Reply<()>) -> bool
+    ensures { result ≡ lacks_number reply.now }
+{
+    matches!(reply, Reply::Refused(Refusal::NotHolding))
+}
+
 // Says `probe` of an identity as often as it takes to hold a number, and no more often than there are numbers.
 fn probe_to_number<R, D: Service<R>>(
     rt: &R,
@@ -25,11 +42,11 @@ fn probe_to_number<R, D: Service<R>>(
     identity: u64,
 )
     requires { (q : Request) → D.knows q ≡ true }
-    ensures { Released D.may (λ id. id ≡ identity) service.old service.new }
+    ensures { (turns : List Turn) × AreProbes identity turns × Runs D.may service.old.service turns service.new.service × Hears [] service.old service.new }
 {
-    for _ in 0..MOST_NUMBERS {
+    for _tries in 0..MOST_NUMBERS {
         let reply = service.apply(rt, Event::Probe(identity), view);
-        if !matches!(reply, Reply::Missed) {
+        if !is_missed(&reply) {
             break;
         }
     }
@@ -43,7 +60,8 @@ fn say_leave<R, D: Service<R>>(
     identity: u64,
 ) -> Reply<()>
     requires { (q : Request) → D.knows q ≡ true }
-    ensures { Released D.may (λ id. id ≡ identity) service.old service.new }
+    ensures said { D.may service.old.service (Take (event.Leave identity)) (with_view result view.new) service.new.service }
+    ensures hears { Hears (freed_by (event.Leave identity) result) service.old service.new }
 {
     let reply = service.apply(rt, Event::Leave(identity), view);
     if let Reply::Refused(Refusal::NotCompeting) = reply {
@@ -56,10 +74,10 @@ fn say_leave<R, D: Service<R>>(
 /// `leave`. Where `leave` is refused since an allocation failed or the history is full, the stay goes on.
 pub fn release<R, D: Service<R>>(rt: &R, service: &mut Attended<D>, view: &mut View, identity: u64)
     requires { (q : Request) → D.knows q ≡ true }
-    ensures { Released D.may (λ id. id ≡ identity) service.old service.new }
+    ensures { Released D.may (identity ∷ []) service.old service.new }
 {
     let reply = say_leave(rt, service, view, identity);
-    if let Reply::Refused(Refusal::NotHolding) = reply {
+    if lacks_number(&reply) {
         probe_to_number(rt, service, view, identity);
         say_leave(rt, service, view, identity);
     }
@@ -73,7 +91,7 @@ pub fn release_all<R, D: Service<R>>(
     due: &[u64],
 )
     requires { (q : Request) → D.knows q ≡ true }
-    ensures { Released D.may (Contains due.now) service.old service.new }
+    ensures { Released D.may due.now service.old service.new }
 {
     for identity in due {
         release(rt, service, view, *identity);
@@ -82,7 +100,7 @@ pub fn release_all<R, D: Service<R>>(
 
 // Forgets the stay of an identity, if it does not compete any more.
 fn forget_one<D, K: Persist<D>>(service: &mut Attended<D>, persister: &K, identity: u64)
-    ensures { (service.new ≡ service.old) ⊎ (Hears (Left identity ∷ []) service.old service.new × (service.new.service ≡ service.old.service)) }
+    ensures { Forgot (K.holds persister.now service.old.service) (identity ∷ []) service.old service.new }
 {
     if !persister.has_stay(&service.service, identity) {
         service.forget(identity);
@@ -91,7 +109,7 @@ fn forget_one<D, K: Persist<D>>(service: &mut Attended<D>, persister: &K, identi
 
 // Forgets the stays of those of these identities that do not compete any more.
 fn forget_ended<D, K: Persist<D>>(service: &mut Attended<D>, persister: &K, due: &[u64])
-    ensures { Forgot (Contains due.now) service.old service.new }
+    ensures { Forgot (K.holds persister.now service.old.service) due.now service.old service.new }
 {
     for identity in due {
         forget_one(service, persister, *identity);
@@ -108,7 +126,7 @@ fn end_these<R, D: Service<R>, K: Persist<D>>(
     due: &[u64],
 ) -> Result<(), K::Fault>
     requires { (q : Request) → D.knows q ≡ true }
-    ensures { OnOk result (EndsDue D.may K.persists K.waits due.now persister.old service.old persister.new service.new) }
+    ensures { OnOk result (EndsDue D.may K.persists K.waits K.shares K.holds due.now persister.old service.old persister.new service.new) }
 {
     if persister.shares_stays() {
         persister.end_stays(&mut service.service, due)?;
@@ -139,7 +157,8 @@ pub fn end_due<R, D: Service<R>, K: Persist<D>>(
     tick: u64,
 ) -> Result<(), HostFault<K::Fault>>
     requires { (q : Request) → D.knows q ≡ true }
-    ensures { OnOk result (EndsDue D.may K.persists K.waits (all_due grace tick service.old.stays) persister.old service.old persister.new service.new) }
+    ensures { OnOk result (EndsDue D.may K.persists K.waits K.shares K.holds
+        (all_due grace tick service.old.stays) persister.old service.old persister.new service.new) }
 {
     let Ok(due) = service.stays.due(alloc, grace, tick) else {
         return Err(HostFault::Memory);
@@ -149,3 +168,11 @@ pub fn end_due<R, D: Service<R>, K: Persist<D>>(
         Err(fault) => Err(HostFault::Persist(fault)),
     }
 }
+
+/// A law, which runs nothing, of stays that are released (`release`, `release_all`, and `end_due` where they are not shared).
+///
+/// Of each service that frees whoever its replies to `leave` say is free, and by whose `leave` and `probe` nobody enters: once identities were
+/// released, each of them does not compete, unless its own release ended in a `leave` whose reply frees nobody.
+pub fn law_of_releases<R, D: Service<R>>()
+    ensures { ReleasesFree D.may }
+{}

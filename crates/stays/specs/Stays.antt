@@ -1,5 +1,5 @@
 -- who keeps each stay, what changes it, and which stays are due
-use Rattle.std.specs.Prelude.{◌≡◌, ◌≢◌, ◌==◌, if◌then◌else◌, ◌⊎◌, ◌+◌, ◌<◌, nat_lt, not, filter, map, ℕ, Bool, true, false, List, [], ◌∷◌, ◌++◌, Option, Some, None}
+use Rattle.std.specs.Prelude.{◌≡◌, ◌≢◌, ◌==◌, if◌then◌else◌, ◌⊎◌, ◌+◌, ◌<◌, nat_lt, not, filter, map, ℕ, Bool, true, false, ◌&&◌, List, [], ◌∷◌, ◌++◌}
 use Rattle.stays.specs.declared.keeper.Keeper.{Keeper}
 use Rattle.stays.specs.declared.keeper.Keeper.TheVariants as keeper
 use Rattle.stays.specs.declared.kept_stay.KeptStay.{KeptStay}
@@ -28,6 +28,12 @@ abbrev pub is_kept_by : ℕ → Keeper → Bool
 is_kept_by c (keeper.Open a) = a == c
 is_kept_by c (keeper.Gone since) = false
 is_kept_by c keeper.Quit = false
+
+-- it has not ended
+abbrev pub is_open : Keeper → Bool
+is_open (keeper.Open a) = true
+is_open (keeper.Gone since) = false
+is_open keeper.Quit = false
 
 -- the same of a stay
 abbrev pub ended_by : ℕ → ℕ → KeptStay → KeptStay
@@ -67,11 +73,7 @@ is_due grace tick keeper.Quit = true
 abbrev pub IsDue : ℕ → ℕ → Keeper → Type 0
 IsDue grace tick k = is_due grace tick k ≡ true
 
--- the first identity whose stay is due, and all of them
-abbrev pub first_due : ℕ → ℕ → List KeptStay → Option ℕ
-first_due grace tick [] = None
-first_due grace tick (s ∷ ss) = if is_due grace tick s.keeper then Some s.identity else first_due grace tick ss
-
+-- the identities whose stays are due
 abbrev pub all_due : ℕ → ℕ → List KeptStay → List ℕ
 all_due grace tick [] = []
 all_due grace tick (s ∷ ss) = if is_due grace tick s.keeper then s.identity ∷ all_due grace tick ss else all_due grace tick ss
@@ -80,6 +82,11 @@ all_due grace tick (s ∷ ss) = if is_due grace tick s.keeper then s.identity �
 abbrev pub keeps_any : ℕ → List KeptStay → Bool
 keeps_any c [] = false
 keeps_any c (s ∷ ss) = if is_kept_by c s.keeper then true else keeps_any c ss
+
+-- whether any keeper keeps the stay of an identity
+abbrev pub is_kept : ℕ → List KeptStay → Bool
+is_kept id [] = false
+is_kept id (s ∷ ss) = if s.identity == id && is_open s.keeper then true else is_kept id ss
 
 -- a stay is among these
 abbrev pub Has : KeptStay → List KeptStay → Type 0

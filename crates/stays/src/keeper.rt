@@ -1,7 +1,7 @@
 //! Who keeps a stay.
 
 ghost use Rattle.std.specs.Prelude.{◌≡◌};
-ghost use Rattle.stays.specs.Stays.{after_end, after_quit, is_due, is_kept_by};
+ghost use Rattle.stays.specs.Stays.{after_end, after_quit, is_due, is_kept_by, is_open};
 
 /// Who keeps a stay.
 #[derive(Clone, Copy, Debug, Drop, PartialEq, Eq)]
@@ -41,6 +41,16 @@ impl Keeper {
     {
         match self {
             Keeper::Open(open) => open == keeper,
+            Keeper::Gone(_) | Keeper::Quit => false,
+        }
+    }
+
+    /// Whether it has not ended.
+    pub fn is_open(self) -> bool
+        ensures { result ≡ is_open self }
+    {
+        match self {
+            Keeper::Open(_) => true,
             Keeper::Gone(_) | Keeper::Quit => false,
         }
     }

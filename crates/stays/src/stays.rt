@@ -1,7 +1,7 @@
 //! The stays that are kept.
 
 ghost use Rattle.std.specs.Prelude.{◌≡◌, ◌++◌, [], map, length, IfOk, OnErr};
-ghost use Rattle.stays.specs.Stays.{after_act, ended_by, quit_by, gone_at, without, first_due, all_due, keeps_any};
+ghost use Rattle.stays.specs.Stays.{after_act, ended_by, quit_by, gone_at, without, all_due, is_kept, keeps_any};
 ghost use Rattle.stays.specs.Stays.Act.{Entered, Left, Ended, Quit};
 
 use crate::keeper::Keeper;
@@ -54,16 +54,16 @@ fn keeps_any(stays: &[KeptStay], keeper: u64) -> bool
     false
 }
 
-// The identity of the first of these that is to end at this tick.
-fn first_due(stays: &[KeptStay], grace: u64, tick: u64) -> Option<u64>
-    ensures { result ≡ first_due grace tick stays.now }
+// Whether any keeper keeps the stay of an identity.
+fn is_kept(stays: &[KeptStay], identity: u64) -> bool
+    ensures { result ≡ is_kept identity stays.now }
 {
     for stay in stays {
-        if stay.keeper.is_due(grace, tick) {
-            return Some(stay.identity);
+        if stay.identity == identity && stay.keeper.is_open() {
+            return true;
         }
     }
-    None
+    false
 }
 
 // The identities of all of these that are to end at this tick.
@@ -160,11 +160,11 @@ impl Stays {
         keeps_any(&self.stays, keeper)
     }
 
-    /// Returns the identity of the first stay that is to end at this tick; `None` if none is.
-    pub fn next_due(&self, grace: u64, tick: u64) -> Option<u64>
-        ensures { result ≡ first_due grace tick self.now }
+    /// Whether any keeper keeps the stay of this identity: one that has not ended.
+    pub fn is_kept(&self, identity: u64) -> bool
+        ensures { result ≡ is_kept identity self.now }
     {
-        first_due(&self.stays, grace, tick)
+        is_kept(&self.stays, identity)
     }
 
     /// Returns the identities of all stays that are to end at this tick.

@@ -1,11 +1,12 @@
 use Rattle.std.proofs.lemmas.List.{length-take-le}
-use Rattle.std.proofs.Common.{◌≡◌, Ok, ap, sym, take}
+use Rattle.std.proofs.Common.{◌≡◌, Ok, ap, subst, sym, take}
 use Rattle.event_server.specs.declared.connection.Stage.TheVariants as stage
 use Rattle.event_server.specs.Seats.{NoneSent, seats_of}
 use Rattle.event_server.proofs.RoundLemmas.{always_wrong}
 use Rattle.event_server.proofs.GatherLemmas.{gathered_more, none_sent_peeked}
 use Rattle.event_server.proofs.ReportedLemmas.{reported_broken, taken_reported}
-use Rattle.event_server.proofs.AttendedLemmas.{hears_about, hears_inside, hears_none}
+use Rattle.event_server.proofs.AttendedLemmas.{hears_about}
+use Rattle.event_server.proofs.LosingLemmas.{lost_whole}
 use Rattle.event_server.proofs.gathering.iterate_prefetched.Goals as goal
 
 pub returns-in_ok-persist-in-Known-clause-served : goal.returns-in_ok-persist-in-Known-clause-served
@@ -46,7 +47,10 @@ pub returns-in_ok-persist-in-Known-clause-rest : goal.returns-in_ok-persist-in-K
 returns-in_ok-persist-in-Known-clause-rest g c = c.send_replies.ensures.rest c.take_peeked.ensures.done
 
 pub returns-in-Lost-clause-lost : goal.returns-in-Lost-clause-lost
-returns-in-Lost-clause-lost g c = λ called same. (c.in_ok-prefetch.ensures.lost (ap Ok c.in-Lost.is), hears_inside c.args.service.now c.args.service.now c.prefetch.new.service (hears_none c.args.service.now))
+returns-in-Lost-clause-lost g c = λ called same. (
+  subst (λ d. g.K.Persist.waits c.args.persister.now c.args.service.now.service c.prefetch.new.persister d) (sym c.note_lost.ensures.same) (c.in_ok-prefetch.ensures.lost (ap Ok c.in-Lost.is)),
+  lost_whole c.args.service.now c.note_lost.new.service c.prefetch.new.service _ _ _ _ c.gather-peeked.ensures.kind c.deref.ensures.value c.note_lost.ensures.hears,
+)
 
 pub returns-in_err-persist-in-Known-clause-unsent : goal.returns-in_err-persist-in-Known-clause-unsent
 returns-in_err-persist-in-Known-clause-unsent g c =

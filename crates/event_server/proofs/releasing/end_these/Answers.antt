@@ -1,4 +1,4 @@
-use Rattle.std.proofs.Common.{inl, inr}
+use Rattle.std.proofs.Common.{◌∙◌, inl, inr, sym}
 use Rattle.event_server.proofs.AttendedLemmas.{hears_inside, hears_none}
 use Rattle.event_server.proofs.RoundLemmas.{ok_then}
 use Rattle.event_server.proofs.releasing.end_these.Goals as goal
@@ -6,14 +6,17 @@ use Rattle.event_server.proofs.releasing.end_these.Goals as goal
 pub returns : goal.returns
 returns g c =
     let freed = c.release_all.new.service in
-    ok_then c.persist.result _ _ (λ kept. inr (inr (record { reported = freed; released = c.release_all.ensures; kept = kept; same = hears_inside freed freed c.persist.new.service (hears_none freed) }))) c.persist.ensures
+    ok_then c.persist.result _ _ (λ kept. inr (sym c.shares_stays.ensures ∙ c.if-shares_stays.false, inr (record { reported = freed; released = c.release_all.ensures; kept = kept; same = hears_inside freed freed c.persist.new.service (hears_none freed) }))) c.persist.ensures
 
 pub returns-then-shares_stays : goal.returns-then-shares_stays
 returns-then-shares_stays g c =
     let kept = c.args.service.now in
-    inr (inl (record {
-      reached = record kept { service = c.end_stays.new.service };
-      waited = c.in_ok-end_stays.ensures;
-      same = hears_inside kept kept c.end_stays.new.service (hears_none kept);
-      forgot = c.forget_ended.ensures;
-    }))
+    inl (
+      sym c.shares_stays.ensures ∙ c.if-shares_stays.true,
+      record {
+        reached = record kept { service = c.end_stays.new.service };
+        waited = c.in_ok-end_stays.ensures;
+        same = hears_inside kept kept c.end_stays.new.service (hears_none kept);
+        forgot = c.forget_ended.ensures;
+      },
+    )

@@ -1,18 +1,16 @@
-use Rattle.std.proofs.Common.{◌≡◌, ℕ, refl}
-use Rattle.event_server.proofs.ReleaseLemmas.{released_none, released_probe, released_then}
+use Rattle.std.proofs.Common.{[], ◌∙◌, sym}
+use Rattle.event_server.proofs.AttendedLemmas.{hears_then}
+use Rattle.event_server.proofs.ReleaseLemmas.{probed, probed_more}
 use Rattle.event_server.proofs.releasing.probe_to_number.Goals as goal
 
-pub loop-init : goal.loop-init
-loop-init g c = released_none (λ i. i ≡ c.args.identity) g.D.Service.may c.args.service.now
+pub loop-tries-preserved : goal.loop-tries-preserved
+loop-tries-preserved g c = record {
+  run = probed_more g.D.Service.may c.args.identity c.loop-tries._tries c.apply-reply.result c.apply-reply.new.view _ _ _ c.loop-tries.invariant.run c.apply-reply.ensures.0 (sym c.is_missed.ensures ∙ c.if-not-is_missed.false);
+  heard = hears_then [] [] _ _ _ c.loop-tries.invariant.heard c.apply-reply.ensures.1;
+}
 
-pub loop-preserved : goal.loop-preserved
-loop-preserved g c =
-    let P : ℕ → Type 0 = λ i. i ≡ c.args.identity in
-    let may = g.D.Service.may in
-    released_then P may _ _ _ c.loop.invariant (released_probe P may c.args.identity refl _ _ _ c.apply-reply.ensures)
-
-pub returns-then-not-matches : goal.returns-then-not-matches
-returns-then-not-matches g c =
-    let P : ℕ → Type 0 = λ i. i ≡ c.args.identity in
-    let may = g.D.Service.may in
-    released_then P may _ _ _ c.loop.invariant (released_probe P may c.args.identity refl _ _ _ c.apply-reply.ensures)
+pub returns-then-not-is_missed : goal.returns-then-not-is_missed
+returns-then-not-is_missed g c =
+    let said = probed g.D.Service.may c.args.identity c.loop-tries._tries c.apply-reply.result c.apply-reply.new.view _ _ _ c.loop-tries-test.true c.loop-tries.invariant.run c.apply-reply.ensures.0
+    (sym c.is_missed.ensures ∙ c.if-not-is_missed.true) in
+    (said.0, said.1, said.2, hears_then [] [] _ _ _ c.loop-tries.invariant.heard c.apply-reply.ensures.1)

@@ -1,9 +1,15 @@
-use Rattle.std.proofs.Common.{◌≡◌, ℕ}
-use Rattle.event_server.proofs.ReleaseLemmas.{released_then}
+use Rattle.std.proofs.Common.{◌∙◌, sym}
+use Rattle.event_server.proofs.ReleaseLemmas.{released_leave, released_probed}
 use Rattle.event_server.proofs.releasing.release.Goals as goal
 
-pub returns-in-Refused-NotHolding : goal.returns-in-Refused-NotHolding
-returns-in-Refused-NotHolding g c =
-    let P : ℕ → Type 0 = λ i. i ≡ c.args.identity in
-    let may = g.D.Service.may in
-    released_then P may _ _ _ c.say_leave-reply.ensures (released_then P may _ _ _ c.probe_to_number.ensures c.say_leave.ensures)
+pub returns-then-lacks_number : goal.returns-then-lacks_number
+returns-then-lacks_number g c =
+    let one = c.say_leave-reply in
+    let probes = c.probe_to_number.ensures in
+    released_probed g.D.Service.may c.args.identity one.result c.say_leave.result one.new.view c.say_leave.new.view probes.0 _ _ _ _ one.ensures.said one.ensures.hears
+    (sym c.lacks_number.ensures ∙ c.if-lacks_number.true) probes.1 probes.2 probes.3 c.say_leave.ensures.said c.say_leave.ensures.hears
+
+pub returns-else-lacks_number : goal.returns-else-lacks_number
+returns-else-lacks_number g c =
+    let one = c.say_leave-reply in
+    released_leave g.D.Service.may c.args.identity one.result one.new.view _ _ one.ensures.said one.ensures.hears (sym c.lacks_number.ensures ∙ c.if-lacks_number.false)

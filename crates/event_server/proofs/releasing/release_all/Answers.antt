@@ -1,15 +1,12 @@
-use Rattle.std.proofs.Common.{◌≡◌, ℕ, subst, sym}
-use Rattle.std.specs.List.{Contains}
-use Rattle.std.proofs.lemmas.List.Elements.{Contains-get_or}
-use Rattle.event_server.proofs.ReleaseLemmas.{released_none, released_then, released_wider}
+use Rattle.std.proofs.Common.{List, ℕ, sym, subst, take}
+use Rattle.std.proofs.lemmas.List.{take_more}
+use Rattle.event_server.specs.Releasing.{Released}
+use Rattle.event_server.proofs.ReleaseLemmas.{released_then}
 use Rattle.event_server.proofs.releasing.release_all.Goals as goal
-
-pub loop-identity-init : goal.loop-identity-init
-loop-identity-init g c = released_none (Contains c.args.due.now) g.D.Service.may c.args.service.now
 
 pub loop-identity-preserved : goal.loop-identity-preserved
 loop-identity-preserved g c =
     let due = c.args.due.now in
-    let may = g.D.Service.may in
-    released_then (Contains due) may _ _ _ c.loop-identity.invariant
-    (released_wider _ (Contains due) (λ (i : ℕ) same. subst (λ (x : ℕ). Contains due x) (sym same) (Contains-get_or due c.loop-identity.identity-index 0 c.loop-identity-test.true)) may _ _ c.release.ensures)
+    let at = c.loop-identity.identity-index in
+    subst (λ (l : List ℕ). Released g.D.Service.may l c.args.service.now c.release.new.service) (sym (take_more due at 0 c.loop-identity-test.true))
+    (released_then g.D.Service.may (take at due) _ _ _ _ c.loop-identity.invariant c.release.ensures)

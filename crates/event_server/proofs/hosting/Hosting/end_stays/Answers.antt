@@ -1,5 +1,5 @@
 -- To end stays is what a server does to its service and its persister.
-use Rattle.std.proofs.Common.{◌≡◌, OnOk, subst}
+use Rattle.std.proofs.Common.{OnOk, subst}
 use Rattle.event_server.specs.Rounds.{WasServed}
 use Rattle.event_server.proofs.ReleaseLemmas.{served_due}
 use Rattle.event_server.proofs.RoundLemmas.{ok_then}
@@ -12,4 +12,4 @@ returns-clause-served g c =
     let persists = g.K.Persist.persists in
     let waits = g.K.Persist.waits in
     subst (λ d. OnOk c.end_due.result (WasServed may prefetches persists waits c.args.persister.now d c.end_due.new.persister c.end_due.new.service.service)) c.note_ended.ensures
-    (ok_then c.end_due.result _ _ (served_due may prefetches persists waits _ _ _ _ _) c.end_due.ensures)
+    (ok_then c.end_due.result _ _ (served_due may prefetches persists waits g.K.Persist.shares g.K.Persist.holds _ _ _ _ _) c.end_due.ensures)

@@ -1,0 +1,5 @@
+use Rattle.event_server.proofs.Common.{Gathered, seats_of}
+use Rattle.event_server.proofs.taking.give_up_takings.Given as goal
+
+abbrev pub invariant-loop-key : goal.invariant-loop-key
+invariant-loop-key g l = Gathered (seats_of g.S.Stream.left g.S.Stream.gone) l.fn.seats l.seats

@@ -1,0 +1,21 @@
+use Rattle.std.proofs.lemmas.List.{length-take-le}
+use Rattle.std.proofs.Common.{Ok, ap, refl, subst, sym}
+use Rattle.event_server.proofs.AttendedLemmas.{hears_about}
+use Rattle.event_server.proofs.LosingLemmas.{lost_whole}
+use Rattle.event_server.proofs.taking.prefetch_takings.Goals as goal
+
+pub returns-in_ok-serve_takings-in-Known-clause-served : goal.returns-in_ok-serve_takings-in-Known-clause-served
+returns-in_ok-serve_takings-in-Known-clause-served g c = λ count same.
+    let t = c.in_ok-serve_takings-in-Known.ensures.turned in (
+      record { prefetched_by = c.prefetch.new.persister; ready = c.prefetch.new.service; prefetched = c.in_ok-prefetch.ensures.known (ap Ok c.in-Known.is); turn = t.0 },
+      hears_about c.args.service.now c.prefetch.new.service c.serve_takings.new.service _ t.1,
+    )
+
+pub returns-in-Lost-clause-lost : goal.returns-in-Lost-clause-lost
+returns-in-Lost-clause-lost g c = λ count same. (
+  subst (λ d. g.K.Persist.waits c.args.persister.now c.args.service.now.service c.prefetch.new.persister d) (sym c.note_lost.ensures.same) (c.in_ok-prefetch.ensures.lost (ap Ok c.in-Lost.is)),
+  lost_whole c.args.service.now c.note_lost.new.service c.prefetch.new.service _ _ _ _ refl c.deref.ensures.value c.note_lost.ensures.hears,
+)
+
+pub slice_bounds-few-end : goal.slice_bounds-few-end
+slice_bounds-few-end g c = sym (length-take-le c.gather_takings-seen.result c.args.called.now c.gather_takings-seen.ensures.few)
