@@ -1,5 +1,5 @@
 -- what a turn of the loop is for the history, for the journal and for each connection
-use Rattle.std.proofs.Common.{◌≡◌, ℕ, ◌≤◌, List, [], ◌∷◌, ◌++◌, length, take, get_or, Option, Some, None, inl, inr, refl, sym, ap, subst, ◌∙◌, arith}
+use Rattle.std.proofs.Common.{◌≡◌, ℕ, ◌≤◌, Bool, true, false, List, [], ◌∷◌, ◌++◌, length, take, get_or, Option, Some, None, inl, inr, refl, sym, ap, subst, ◌∙◌, arith}
 use Rattle.std.proofs.lemmas.List.{take-append-le}
 use Rattle.std.specs.Io.KnownBytes.{Appends, Consumes}
 use Rattle.step_memory.specs.declared.refusal.Refusal.{Refusal}
@@ -17,10 +17,12 @@ use Rattle.player.specs.Turns.{Turn, exchanges}
 use Rattle.player.specs.Turns.Turn.{Answered, Reported, Ended, Misread}
 use Rattle.hall.specs.Halls.{HallMay, SatisfiesSpec, after_unless, hall_refusal}
 use Rattle.hall.specs.HallState.{HallState}
+use Rattle.hall.specs.Reading.{Serves, TakesPlainly, is_plain, stored}
 use Rattle.hall.specs.Serving.{HallServes, accepted}
+use Rattle.hall.specs.declared.reads.Reads.{Reads}
 use Rattle.journal.specs.declared.journal.Journal.{Journal}
 use Rattle.journal.specs.WriteAheadState.{WriteAheadState}
-use Rattle.journal.specs.WriteAheads.{WriteAheadServes, write_ahead_of, reported_record}
+use Rattle.journal.specs.WriteAheads.{write_ahead_of, reported_record}
 use Rattle.journal.specs.Compactings.{MayCompact}
 use Rattle.journal.specs.Journals.{HasSynced, KeepsAtAnyMoment, KeepsHandedOn, Stands}
 use Rattle.event_server.specs.Seats.{Seating, SeatSends, SeatTakes, LoopIteration}
@@ -28,6 +30,8 @@ use Rattle.event_server.specs.ConnectionBuffers.{after_taken}
 use Rattle.hall_host.specs.declared.persisters.Recorded.{Recorded}
 use Rattle.hall_host.specs.Kept.{IsKept, KeptBy, MayCompactHall, all_reported}
 use Rattle.hall_host.specs.Hosting.{IsHosted, IsReported}
+use Rattle.hall_host.specs.Readings.{ReadingServes}
+use Rattle.hall_host.specs.declared.reading.Reading.{Reading}
 
 -- an event leaves a hall its config
 config_after : (o : Option Refusal) (h : HallState) (e : Event) → (after_unless o h e).config ≡ h.config
@@ -38,22 +42,42 @@ config_may : (h u : HallState) (e : Event) (r : ShownReply) → HallMay h e r u 
 config_may h u e r (inl done) = ap (λ (x : HallState). x.config) done.1 ∙ config_after (hall_refusal h e) h e
 config_may h u e r (inr refused) = ap (λ (x : HallState). x.config) refused.1
 
--- a write-ahead hall answers as its hall does, with its config, and hands nothing on
-pub record Follows (c u : WriteAheadState) (ts : List Turn) : Type 0 where
-  pub run : Runs HallServes c.hall ts u.hall
-  pub config : u.hall.config ≡ c.hall.config
-  pub reported : u.reported ≡ c.reported
+config_takes : (plain : Bool) (h u : HallState) (e : Event) (r : ShownReply) → TakesPlainly plain h e r u → u.config ≡ h.config
+config_takes true h u e r may = ap (λ (x : HallState). x.config) may.1
+config_takes false h u e r may = config_may h u e r may
 
-pub follows : (c u : WriteAheadState) (ts : List Turn) → Runs WriteAheadServes c ts u → Follows c u ts
-follows c u [] run = record { run = ap (λ (x : WriteAheadState). x.hall) run; config = ap (λ (x : WriteAheadState). x.hall.config) (sym run); reported = ap (λ (x : WriteAheadState). x.reported) (sym run) }
+-- a write-ahead hall answers as its hall does, with its config, and hands nothing on; it stores reads as before
+pub record Follows (c u : Reading WriteAheadState) (ts : List Turn) : Type 0 where
+  pub run : Runs (Serves c.reads) c.service.hall ts u.service.hall
+  pub config : u.service.hall.config ≡ c.service.hall.config
+  pub reported : u.service.reported ≡ c.service.reported
+  pub reads : u.reads ≡ c.reads
+
+-- the first of more turns
+one_follows : (c mid u : Reading WriteAheadState) (ts : List Turn) → mid.service.hall.config ≡ c.service.hall.config → mid.service.reported ≡ c.service.reported → mid.reads ≡ c.reads → Follows mid u ts →
+    Runs (Serves c.reads) mid.service.hall ts u.service.hall × (u.service.hall.config ≡ c.service.hall.config) × (u.service.reported ≡ c.service.reported) × (u.reads ≡ c.reads)
+one_follows c mid u ts config reported reads later =
+    (subst (λ (k : Reads). Runs (Serves k) mid.service.hall ts u.service.hall) reads later.run, later.config ∙ config, later.reported ∙ reported, later.reads ∙ reads)
+
+pub follows : (c u : Reading WriteAheadState) (ts : List Turn) → Runs ReadingServes c ts u → Follows c u ts
+follows c u [] run = record {
+  run = ap (λ (x : Reading WriteAheadState). x.service.hall) run;
+  config = ap (λ (x : Reading WriteAheadState). x.service.hall.config) (sym run);
+  reported = ap (λ (x : Reading WriteAheadState). x.service.reported) (sym run);
+  reads = ap (λ (x : Reading WriteAheadState). x.reads) (sym run);
+}
 follows c u (Answered x ∷ ts) run =
-    let later = follows run.0 u ts run.2 in
-    record { run = (run.0.hall, run.1.0, later.run); config = later.config ∙ config_may c.hall run.0.hall x.event x.reply run.1.0; reported = later.reported ∙ run.1.1 }
+    let mid = run.0 in
+    let config = config_takes (is_plain c.reads x.event) c.service.hall mid.service.hall x.event x.reply run.1.0 in
+    let all = one_follows c mid u ts config run.1.1 run.1.2 (follows mid u ts run.2) in
+    record { run = (mid.service.hall, run.1.0, all.0); config = all.1; reported = all.2; reads = all.3 }
 follows c u (Reported n r ∷ ts) run =
-    let later = follows run.0 u ts run.2 in
-    record { run = (run.0.hall, run.1.0, later.run); config = later.config ∙ ap (λ (x : HallState). x.config) run.1.0.1; reported = later.reported ∙ run.1.1 }
-follows c u (Ended ∷ ts) run = let later = follows c u ts run in record { run = later.run; config = later.config; reported = later.reported }
-follows c u (Misread bad ∷ ts) run = let later = follows c u ts run in record { run = later.run; config = later.config; reported = later.reported }
+    let mid = run.0 in
+    let config = ap (λ (x : HallState). x.config) run.1.0.1 in
+    let all = one_follows c mid u ts config run.1.1 run.1.2 (follows mid u ts run.2) in
+    record { run = (mid.service.hall, run.1.0, all.0); config = all.1; reported = all.2; reads = all.3 }
+follows c u (Ended ∷ ts) run = let later = follows c u ts run in record { run = later.run; config = later.config; reported = later.reported; reads = later.reads }
+follows c u (Misread bad ∷ ts) run = let later = follows c u ts run in record { run = later.run; config = later.config; reported = later.reported; reads = later.reads }
 
 -- what was committed stays the same record where the history goes on
 pub same_reported : (c u : WriteAheadState) (more : List Exchange) → c.reported ≤ length c.hall.history → u.hall.config ≡ c.hall.config → u.reported ≡ c.reported → u.hall.history ≡ c.hall.history ++ more → reported_record u ≡ reported_record c
@@ -101,31 +125,44 @@ module _ {C : Type 0} (on : Seating C) where
   reported_at turns (Some x) None (Some z) a d took sends was is = elim took [ ]
 
   module _ {D : Type 0} (state : D → Option DiskState)
-      (history : (h u : HallState) (ts : List Turn) → SatisfiesSpec h → Runs HallServes h ts u → u.history ≡ h.history ++ accepted (exchanges ts))
+      (history : (reads : Reads) (h u : HallState) (ts : List Turn) → SatisfiesSpec h → Runs (Serves reads) h ts u → u.history ≡ h.history ++ accepted (exchanges (stored reads ts)))
       (between : (c : WriteAheadState) (s : DiskState) → HasSynced c s → c.reported ≤ length c.hall.history → KeepsHandedOn c s s) where
-    pub hosted : (k l : Recorded D) (c u : WriteAheadState) (seats seats' : List (Option C)) → SatisfiesSpec c.hall → c.reported ≤ length c.hall.history → Stands state k.journal c →
-        (t : LoopIteration on WriteAheadServes (KeptBy state) k c seats l u seats') →
+    pub hosted : (k l : Recorded D) (c u : Reading WriteAheadState) (seats seats' : List (Option C)) → SatisfiesSpec c.service.hall → c.service.reported ≤ length c.service.hall.history →
+        Stands state k.journal c.service → (t : LoopIteration on ReadingServes (KeptBy state) k c seats l u seats') →
         IsHosted on state t.log k.journal c seats l.journal u seats'
     hosted k l c u seats seats' lawful few stands t =
-        let reported = t.reported in
-        let kept : IsKept state k.journal t.reported l.journal u = t.kept in
-        let way = follows c reported (all_turns t.log) t.taken.run in
-        let gained = history c.hall reported.hall (all_turns t.log) lawful way.run in
-        let stood = still_stands state k.journal c reported (same_reported c reported (accepted (exchanges (all_turns t.log))) few way.config way.reported gained) stands in
+        let reported = t.reported.service in
+        let kept : IsKept state k.journal t.reported.service l.journal u.service = t.kept.0 in
+        let way = follows c t.reported (all_turns t.log) t.taken.run in
+        let gained = history c.reads c.service.hall reported.hall (all_turns t.log) lawful way.run in
+        let more = accepted (exchanges (stored c.reads (all_turns t.log))) in
+        let stood = still_stands state k.journal c.service reported (same_reported c.service reported more few way.config way.reported gained) stands in
         let stood_then = kept.stands stood in
         let stands_after = kept.stands_then stood_then in
-        let ended = after_compacting reported u kept.compacted in
-        let was_reported : reported ≡ write_ahead_of reported.hall c.reported = ap (write_ahead_of reported.hall) way.reported in
+        let ended = after_compacting reported u.service kept.compacted in
+        let was_reported : reported ≡ write_ahead_of reported.hall c.service.reported = ap (write_ahead_of reported.hall) way.reported in
         record {
           full = reported.hall;
           committed = kept.committed;
           config = way.config;
+          run = way.run;
           history = gained;
           before = subst (KeepsAtAnyMoment state k.journal kept.committed) was_reported (kept.any_moment stood);
           between = kept.any_moment_then stood_then;
           compacted = ended.0;
           reported = ended.1;
+          reads = t.kept.1 ∙ way.reads;
           stands = stands_after;
-          after = λ s is. between u s (stands_after.known s is) (omega (arith, ended.1));
+          after = λ s is. between u.service s (stands_after.known s is) (omega (arith, ended.1));
           each = λ i a d was is. reported_at (turns_of i t.log) (get_or seats i None) (get_or t.between i None) (get_or seats' i None) a d (t.taken.each i) (t.sent.each i) was is;
         }
+
+-- plain reads alone leave a write-ahead hall as it was
+pub idle : (without : (reads : Reads) (h u : HallState) (ts : List Turn) → Runs (Serves reads) h ts u → Runs HallServes h (stored reads ts) u) →
+    (c u : Reading WriteAheadState) (ts : List Turn) → Runs ReadingServes c ts u → stored c.reads ts ≡ [] → u ≡ c
+idle without c u ts run none =
+    let way = follows c u ts run in
+    let same : c.service.hall ≡ u.service.hall = subst (λ (xs : List Turn). Runs HallServes c.service.hall xs u.service.hall) none (without c.reads c.service.hall u.service.hall ts way.run) in
+    ap (λ (h : HallState). let w : Reading WriteAheadState = record { service = write_ahead_of h u.service.reported; reads = u.reads } in w) (sym same)
+    ∙ (ap (λ (n : ℕ). let w : Reading WriteAheadState = record { service = write_ahead_of c.service.hall n; reads = u.reads } in w) way.reported
+    ∙ ap (λ (k : Reads). let w : Reading WriteAheadState = record { service = c.service; reads = k } in w) way.reads)

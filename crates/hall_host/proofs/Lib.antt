@@ -3,3 +3,4 @@ mod HostingLemmas
 mod KeptLemmas
 mod ExportLemmas
 mod ServedLemmas
+mod FreeingLemmas

@@ -9,14 +9,17 @@ use Rattle.player.specs.Turns.Turn.{Answered, Reported, Ended, Misread}
 use Rattle.hall.specs.GoesOn.{GoesOn}
 use Rattle.hall.specs.Halls.{HallMay, SatisfiesSpec}
 use Rattle.hall.specs.HallState.{HallState}
+use Rattle.hall.specs.Reading.{Serves as ServesBy, stored}
 use Rattle.hall.specs.Serving.{HallServes, accepted}
+use Rattle.hall.specs.declared.reads.Reads.{Reads}
 use Rattle.journal.specs.WriteAheadState.{WriteAheadState}
-use Rattle.journal.specs.WriteAheads.{WriteAheadServes}
 use Rattle.journal.specs.Journals.{Stands}
 use Rattle.event_server.specs.Rounds.{AllDone, Deed, WasServed}
 use Rattle.event_server.specs.Rounds.Deed.{Waits, Prefetches, Serves}
 use Rattle.hall_host.specs.declared.persisters.Recorded.{Recorded}
 use Rattle.hall_host.specs.Hosting.{WasHosted}
+use Rattle.hall_host.specs.Readings.{ReadingServes}
+use Rattle.hall_host.specs.declared.reading.Reading.{Reading}
 use Rattle.hall_host.specs.Kept.{IsKept, KeptBy, MayCompactHall, Rests}
 use Rattle.hall_host.proofs.HostingLemmas.{after_compacting, follows, same_reported, still_stands}
 
@@ -27,10 +30,11 @@ compacted_lawful h u (inr done) lawful = (done.lawful, done.config)
 
 module _ {D : Type 0} (state : D → Option DiskState)
     (goes_on : (h u : HallState) (e : Event) (r : ShownReply) → SatisfiesSpec h → HallMay h e r u → GoesOn h e r u)
-    (history : (h u : HallState) (ts : List Turn) → SatisfiesSpec h → Runs HallServes h ts u → u.history ≡ h.history ++ accepted (exchanges ts)) where
+    (without : (reads : Reads) (h u : HallState) (ts : List Turn) → Runs (ServesBy reads) h ts u → Runs HallServes h (stored reads ts) u)
+    (history : (reads : Reads) (h u : HallState) (ts : List Turn) → SatisfiesSpec h → Runs (ServesBy reads) h ts u → u.history ≡ h.history ++ accepted (exchanges (stored reads ts))) where
   -- what is done to a write-ahead hall and its persister
-  abbrev LongServed : Recorded D → WriteAheadState → List Deed → Recorded D → WriteAheadState → Type 0
-  LongServed k c deeds l u = AllDone WriteAheadServes (λ j w lines i v. Rests j w i v) (KeptBy state) (λ j w i v. Rests j w i v) k c deeds l u
+  abbrev LongServed : Recorded D → Reading WriteAheadState → List Deed → Recorded D → Reading WriteAheadState → Type 0
+  LongServed k c deeds l u = AllDone ReadingServes (λ j w lines i v. Rests j w i v) (KeptBy state) (λ j w i v. Rests j w i v) k c deeds l u
 
   -- a lawful hall answers turns as a lawful one
   lawful_run : (h u : HallState) (ts : List Turn) → SatisfiesSpec h → Runs HallServes h ts u → SatisfiesSpec u
@@ -41,38 +45,43 @@ module _ {D : Type 0} (state : D → Option DiskState)
   lawful_run h u (Misread bad ∷ ts) lawful run = lawful_run h u ts lawful run
 
   -- after a turn of the loop
-  served_once : (k l : Recorded D) (c reported u : WriteAheadState) (ts : List Turn) → SatisfiesSpec c.hall → c.reported ≤ length c.hall.history → Stands state k.journal c →
-      Runs WriteAheadServes c ts reported → IsKept state k.journal reported l.journal u → WasHosted state c l.journal u
-  served_once k l c reported u ts lawful few stands run kept =
+  served_once : (k l : Recorded D) (c reported u : Reading WriteAheadState) (ts : List Turn) → SatisfiesSpec c.service.hall → c.service.reported ≤ length c.service.hall.history →
+      Stands state k.journal c.service → Runs ReadingServes c ts reported → KeptBy state k reported l u → WasHosted state c l.journal u
+  served_once k l c reported u ts lawful few stands run both =
+      let kept : IsKept state k.journal reported.service l.journal u.service = both.0 in
       let way = follows c reported ts run in
-      let gained = history c.hall reported.hall ts lawful way.run in
-      let stood = still_stands state k.journal c reported (same_reported c reported (accepted (exchanges ts)) few way.config way.reported gained) stands in
-      let ended = after_compacting reported u kept.compacted in
-      let whole = compacted_lawful reported.hall u.hall ended.0 (lawful_run c.hall reported.hall ts lawful way.run) in
+      let gained = history c.reads c.service.hall reported.service.hall ts lawful way.run in
+      let same = same_reported c.service reported.service (accepted (exchanges (stored c.reads ts))) few way.config way.reported gained in
+      let stood = still_stands state k.journal c.service reported.service same stands in
+      let ended = after_compacting reported.service u.service kept.compacted in
+      let lawful_then = lawful_run c.service.hall reported.service.hall (stored c.reads ts) lawful (without c.reads c.service.hall reported.service.hall ts way.run) in
+      let whole = compacted_lawful reported.service.hall u.service.hall ended.0 lawful_then in
       record {
         lawful = whole.0;
         config = whole.1 ∙ way.config;
+        reads = both.1 ∙ way.reads;
         few = (let all = ended.1 in omega (arith, all));
         stands = kept.stands_then (kept.stands stood);
       }
 
   -- the same was done where nothing happened first
-  rested : (deeds : List Deed) (k mid l : Recorded D) (c then u : WriteAheadState) → Rests k c mid then → LongServed mid then deeds l u → LongServed k c deeds l u
+  rested : (deeds : List Deed) (k mid l : Recorded D) (c then u : Reading WriteAheadState) → Rests k c mid then → LongServed mid then deeds l u → LongServed k c deeds l u
   rested deeds k mid l c then u rests done =
-      subst (λ (j : Recorded D). LongServed j c deeds l u) rests.0 (subst (λ (v : WriteAheadState). LongServed mid v deeds l u) rests.1 done)
+      subst (λ (j : Recorded D). LongServed j c deeds l u) rests.0 (subst (λ (v : Reading WriteAheadState). LongServed mid v deeds l u) rests.1 done)
 
   -- and after any number of them
-  served_long : (deeds : List Deed) (k l : Recorded D) (c u : WriteAheadState) → SatisfiesSpec c.hall → c.reported ≤ length c.hall.history → Stands state k.journal c →
-      LongServed k c deeds l u → WasHosted state c l.journal u
+  served_long : (deeds : List Deed) (k l : Recorded D) (c u : Reading WriteAheadState) → SatisfiesSpec c.service.hall → c.service.reported ≤ length c.service.hall.history →
+      Stands state k.journal c.service → LongServed k c deeds l u → WasHosted state c l.journal u
   served_long [] k l c u lawful few stands done =
-      subst (λ (j : Recorded D). WasHosted state c j.journal u) (sym done.0) (subst (λ (v : WriteAheadState). WasHosted state c k.journal v) (sym done.1) (record { lawful = lawful; config = refl; few = few; stands = stands }))
+      subst (λ (j : Recorded D). WasHosted state c j.journal u) (sym done.0)
+      (subst (λ (v : Reading WriteAheadState). WasHosted state c k.journal v) (sym done.1) (record { lawful = lawful; config = refl; reads = refl; few = few; stands = stands }))
   served_long (Waits ∷ deeds) k l c u lawful few stands done = served_long deeds k l c u lawful few stands (rested deeds k done.0 l c done.1 u done.2 done.3)
   served_long (Prefetches lines ∷ deeds) k l c u lawful few stands done = served_long deeds k l c u lawful few stands (rested deeds k done.0 l c done.1 u done.2 done.3)
   served_long (Serves ts ∷ deeds) k l c u lawful few stands done =
       let once = served_once k done.0 c done.2.0 done.1 ts lawful few stands done.2.1 done.2.2 in
       let rest = served_long deeds done.0 l done.1 u once.lawful once.few once.stands done.3 in
-      record { lawful = rest.lawful; config = rest.config ∙ once.config; few = rest.few; stands = rest.stands }
+      record { lawful = rest.lawful; config = rest.config ∙ once.config; reads = rest.reads ∙ once.reads; few = rest.few; stands = rest.stands }
 
-  pub was_hosted : (k l : Recorded D) (c u : WriteAheadState) → SatisfiesSpec c.hall → c.reported ≤ length c.hall.history → Stands state k.journal c →
-      WasServed WriteAheadServes (λ j w lines i v. Rests j w i v) (KeptBy state) (λ j w i v. Rests j w i v) k c l u → WasHosted state c l.journal u
+  pub was_hosted : (k l : Recorded D) (c u : Reading WriteAheadState) → SatisfiesSpec c.service.hall → c.service.reported ≤ length c.service.hall.history → Stands state k.journal c.service →
+      WasServed ReadingServes (λ j w lines i v. Rests j w i v) (KeptBy state) (λ j w i v. Rests j w i v) k c l u → WasHosted state c l.journal u
   was_hosted k l c u lawful few stands served = served_long served.0 k l c u lawful few stands served.1

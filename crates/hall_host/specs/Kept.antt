@@ -9,6 +9,7 @@ use Rattle.journal.specs.WriteAheads.{write_ahead_of}
 use Rattle.journal.specs.Compactings.{KeepsWhenCompacted, MayCompact}
 use Rattle.journal.specs.Journals.{Stands, KeepsAtAnyMoment}
 use Rattle.hall_host.specs.declared.persisters.Recorded.{Recorded}
+use Rattle.hall_host.specs.declared.reading.Reading.{Reading}
 
 -- a hall is as it was, or compacted
 abbrev pub MayCompactHall : HallState → HallState → Type 0
@@ -34,5 +35,5 @@ pub record IsKept {D : Type 0} (state : D → Option DiskState) (j : Journal D) 
   pub any_moment_then : Stands state committed (all_reported c) → KeepsWhenCompacted state committed j' (all_reported c)
 
 -- so a persister with a journal keeps it
-abbrev pub KeptBy : {D : Type 0} → (D → Option DiskState) → Recorded D → WriteAheadState → Recorded D → WriteAheadState → Type 0
-KeptBy state k c l u = IsKept state k.journal c l.journal u
+abbrev pub KeptBy : {D : Type 0} → (D → Option DiskState) → Recorded D → Reading WriteAheadState → Recorded D → Reading WriteAheadState → Type 0
+KeptBy state k c l u = IsKept state k.journal c.service l.journal u.service × (u.reads ≡ c.reads)

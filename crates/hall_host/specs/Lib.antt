@@ -3,3 +3,6 @@ pub mod Hosting
 pub mod Exports
 pub mod Holders
 pub mod Keepers
+pub mod Readings
+pub mod ReadingProofs
+pub mod Freeing

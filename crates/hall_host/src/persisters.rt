@@ -1,12 +1,13 @@
 //! What is kept of the turns of a loop over a hall.
 
-ghost use Rattle.std.specs.Prelude.{◌≡◌, OnOk};
+ghost use Rattle.std.specs.Prelude.{◌≡◌, false, length, OnOk};
 ghost use Rattle.desk.specs.Held.{slots_of};
 ghost use Rattle.hall.specs.Halls.{desk_of};
-ghost use Rattle.journal.specs.Compactings.{KeepsWhenCompacted, MayCompact};
+ghost use Rattle.journal.specs.Compactings.{IsPaced, KeepsWhenCompacted, MayCompact};
 ghost use Rattle.journal.specs.Journals.{Stands};
-ghost use Rattle.hall_host.specs.Kept.{KeptBy, MayCompactHall, Rests};
+ghost use Rattle.hall_host.specs.Kept.{IsKept, KeptBy, MayCompactHall, Rests};
 
+use crate::reading::Reading;
 use event_server::{Persist, Prefetch, Tally};
 use hall::{Compactor, Hall};
 use hall_log::tally_of;
@@ -34,33 +35,51 @@ pub struct Unrecorded {
     pub compactions: u64,
 }
 
-impl Persist<Hall> for Unrecorded {
+impl Unrecorded {
+    // Compacts the hall, if that makes the history shorter. It stands apart from the question whether that is due: its room for a hall is cleared
+    // whenever it is called.
+    #[inline(never)]
+    fn compact(&mut self, hall: &mut Hall)
+        ensures { MayCompactHall hall.old hall.new }
+    {
+        if let Some(shorter) = self.compactor.compacted(self.alloc, hall) {
+            *hall = shorter;
+            self.compactions = self.compactions.saturating_add(1);
+        }
+    }
+}
+
+impl Persist<Reading<Hall>> for Unrecorded {
     type Fault = JournalFault;
 
-    ghost persists = { λ k h l u. MayCompactHall h u };
+    ghost persists = { λ k h l u. MayCompactHall h.service u.service × (u.reads ≡ h.reads) };
 
     // The hall answers each request as it comes, and there is nothing to learn.
     ghost prefetches = { λ k h lines l u. Rests k h l u };
 
     ghost waits = { λ k h l u. Rests k h l u };
 
-    ghost holds = { λ k h. slots_of (desk_of h) };
+    ghost holds = { λ k h. slots_of (desk_of h.service) };
 
-    fn put_held<B: Allocator>(&self, hall: &Hall, query: HeldQuery, out: &mut Replies<B>) {
-        put_held(hall.slots(), query, out);
+    ghost shares = { λ k. false };
+
+    fn put_held<B: Allocator>(
+        &self,
+        reading: &Reading<Hall>,
+        query: HeldQuery,
+        out: &mut Replies<B>,
+    ) {
+        put_held(reading.service.slots(), query, out);
     }
 
-    fn is_full(&self, _hall: &Hall) -> bool {
+    fn is_full(&self, _reading: &Reading<Hall>) -> bool {
         false
     }
 
-    fn persist(&mut self, hall: &mut Hall) -> Result<(), JournalFault> {
-        if !self.compactor.is_due(hall) {
-            return Ok(());
-        }
-        if let Some(shorter) = self.compactor.compacted(self.alloc, hall) {
-            *hall = shorter;
-            self.compactions = self.compactions.saturating_add(1);
+    fn persist(&mut self, reading: &mut Reading<Hall>) -> Result<(), JournalFault> {
+        let hall = &mut reading.service;
+        if self.compactor.is_due(hall) {
+            self.compact(hall);
         }
         Ok(())
     }
@@ -69,11 +88,15 @@ impl Persist<Hall> for Unrecorded {
         None
     }
 
-    fn prefetch(&mut self, _hall: &mut Hall, _lines: &[u8]) -> Result<Prefetch, JournalFault> {
+    fn prefetch(
+        &mut self,
+        _reading: &mut Reading<Hall>,
+        _lines: &[u8],
+    ) -> Result<Prefetch, JournalFault> {
         Ok(Prefetch::Known)
     }
 
-    fn tick(&mut self, _hall: &mut Hall) -> Result<(), JournalFault> {
+    fn tick(&mut self, _reading: &mut Reading<Hall>) -> Result<(), JournalFault> {
         Ok(())
     }
 
@@ -82,12 +105,16 @@ impl Persist<Hall> for Unrecorded {
         false
     }
 
-    fn end_stays(&mut self, _hall: &mut Hall, _due: &[u64]) -> Result<(), JournalFault> {
+    fn end_stays(
+        &mut self,
+        _reading: &mut Reading<Hall>,
+        _due: &[u64],
+    ) -> Result<(), JournalFault> {
         Ok(())
     }
 
-    fn has_stay(&self, hall: &Hall, identity: u64) -> bool {
-        hall.slots().pool().stay_of(identity).is_some()
+    fn has_stay(&self, reading: &Reading<Hall>, identity: u64) -> bool {
+        reading.service.slots().pool().stay_of(identity).is_some()
     }
 
     fn may_answer_stays(&self) -> bool {
@@ -98,10 +125,10 @@ impl Persist<Hall> for Unrecorded {
         None
     }
 
-    fn tally(&self, hall: &Hall) -> Tally {
+    fn tally(&self, reading: &Reading<Hall>) -> Tally {
         Tally {
             compactions: Some(self.compactions),
-            ..tally_of(hall)
+            ..tally_of(&reading.service)
         }
     }
 }
@@ -123,13 +150,35 @@ impl<D: Disk> Recorded<D> {
         ensures compacted { OnOk result (MayCompact write_ahead.old write_ahead.new) }
         ensures stands { OnOk result (Stands D.state self.old.journal write_ahead.old → Stands D.state self.new.journal write_ahead.new) }
         ensures any_moment { Stands D.state self.old.journal write_ahead.old → KeepsWhenCompacted D.state self.old.journal self.new.journal write_ahead.old }
+
+        // Where it could not be written, nothing changed, and it is due again a tenth of the room further on.
+        ensures paced { OnOk result (IsPaced self.old.compactor write_ahead.old self.new.compactor write_ahead.new) }
     {
         self.journal
             .compact_when_due(self.alloc, &mut self.compactor, write_ahead)
     }
+
+    /// Commits all that is pending, and compacts the history behind that where it is long.
+    ///
+    /// # Errors
+    ///
+    /// Those of `Journal::commit` and of `compact_when_due`.
+    pub fn commit_all(&mut self, write_ahead: &mut WriteAhead) -> Result<(), JournalFault>
+        ensures kept { OnOk result (IsKept D.state self.old.journal write_ahead.old self.new.journal write_ahead.new) }
+
+        // Where nothing is pending, as after plain reads alone, nothing is written and nothing is synced.
+        ensures idle { write_ahead.old.reported ≡ length write_ahead.old.hall.history → (self.new ≡ self.old) × (write_ahead.new ≡ write_ahead.old) }
+    {
+        law_of_crashes();
+        if !write_ahead.has_waiting() {
+            return Ok(());
+        }
+        self.journal.commit(write_ahead)?;
+        self.compact_when_due(write_ahead)
+    }
 }
 
-impl<D: Disk> Persist<WriteAhead> for Recorded<D> {
+impl<D: Disk> Persist<Reading<WriteAhead>> for Recorded<D> {
     type Fault = JournalFault;
 
     ghost persists = { KeptBy D.state };
@@ -139,28 +188,25 @@ impl<D: Disk> Persist<WriteAhead> for Recorded<D> {
 
     ghost waits = { λ k c l u. Rests k c l u };
 
-    ghost holds = { λ k c. slots_of (desk_of c.hall) };
+    ghost holds = { λ k c. slots_of (desk_of c.service.hall) };
+
+    ghost shares = { λ k. false };
 
     fn put_held<B: Allocator>(
         &self,
-        write_ahead: &WriteAhead,
+        reading: &Reading<WriteAhead>,
         query: HeldQuery,
         out: &mut Replies<B>,
     ) {
-        put_held(write_ahead.hall().slots(), query, out);
+        put_held(reading.service.hall().slots(), query, out);
     }
 
-    fn is_full(&self, write_ahead: &WriteAhead) -> bool {
-        FULL_BYTES < write_ahead.waiting().len()
+    fn is_full(&self, reading: &Reading<WriteAhead>) -> bool {
+        FULL_BYTES < reading.service.waiting().len()
     }
 
-    fn persist(&mut self, write_ahead: &mut WriteAhead) -> Result<(), JournalFault> {
-        law_of_crashes();
-        if !write_ahead.has_waiting() {
-            return Ok(());
-        }
-        self.journal.commit(write_ahead)?;
-        self.compact_when_due(write_ahead)
+    fn persist(&mut self, reading: &mut Reading<WriteAhead>) -> Result<(), JournalFault> {
+        self.commit_all(&mut reading.service)
     }
 
     fn most_prefetched(&self) -> Option<usize> {
@@ -169,14 +215,14 @@ impl<D: Disk> Persist<WriteAhead> for Recorded<D> {
 
     fn prefetch(
         &mut self,
-        _write_ahead: &mut WriteAhead,
+        _reading: &mut Reading<WriteAhead>,
         _lines: &[u8],
     ) -> Result<Prefetch, JournalFault> {
         Ok(Prefetch::Known)
     }
 
     // A file that was deleted, moved or cut short is noticed though nothing is written.
-    fn tick(&mut self, _write_ahead: &mut WriteAhead) -> Result<(), JournalFault> {
+    fn tick(&mut self, _reading: &mut Reading<WriteAhead>) -> Result<(), JournalFault> {
         self.journal.look()
     }
 
@@ -187,14 +233,15 @@ impl<D: Disk> Persist<WriteAhead> for Recorded<D> {
 
     fn end_stays(
         &mut self,
-        _write_ahead: &mut WriteAhead,
+        _reading: &mut Reading<WriteAhead>,
         _due: &[u64],
     ) -> Result<(), JournalFault> {
         Ok(())
     }
 
-    fn has_stay(&self, write_ahead: &WriteAhead, identity: u64) -> bool {
-        write_ahead
+    fn has_stay(&self, reading: &Reading<WriteAhead>, identity: u64) -> bool {
+        reading
+            .service
             .hall()
             .slots()
             .pool()
@@ -214,12 +261,12 @@ impl<D: Disk> Persist<WriteAhead> for Recorded<D> {
         }
     }
 
-    fn tally(&self, write_ahead: &WriteAhead) -> Tally {
+    fn tally(&self, reading: &Reading<WriteAhead>) -> Tally {
         Tally {
             compactions: self.journal.disk().replacings(),
             journal_bytes: Some(self.journal.disk().size()),
             syncs: self.journal.disk().sync_times(),
-            ..tally_of(write_ahead.hall())
+            ..tally_of(reading.service.hall())
         }
     }
 }

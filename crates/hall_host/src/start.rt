@@ -5,10 +5,11 @@ use crate::failure::HostFailure;
 use crate::keepers::stays_at_start;
 use crate::log_plan::{LogPlan, MEMBER_SECONDS, Patience, fresh_token, members_of};
 use crate::persisters::{Recorded, Unrecorded};
+use crate::reading::Reading;
 use commands::Config;
 use etcd_log::{EtcdStore, TcpDial};
 use event_server::{Attended, HostOptions, Hosted, host};
-use hall::{Compactor, Hall};
+use hall::{Compactor, Hall, Reads};
 use hall_log::{LogPersister, Pause, ReplyQueue};
 use journal::{Disk, FileDisk, Journal, Opened};
 use listeners::{ListenPlan, Listening, SocketFile, listen};
@@ -49,6 +50,8 @@ pub struct HostPlan<'a> {
     pub idle: Option<u64>,
     /// How many seconds after its connection has ended a stay ends; never, where it is not given.
     pub grace: Option<u64>,
+    /// Whether the history stores reads: the `get` of clients.
+    pub reads: Reads,
     /// Where the history is kept.
     pub keeping: Keeping<'a>,
     /// Whether a line at first and then one a minute tells how much there is.
@@ -139,7 +142,11 @@ fn host_recorded<R: Net + Wait + Clock + Files, D: Disk, W: Write, E: Write>(
         Ok(stays) => stays,
         Err(failure) => return Err(failure),
     };
-    let mut attended = Attended::new(write_ahead, stays, plan.grace.is_some());
+    let reading = Reading {
+        service: write_ahead,
+        reads: plan.reads,
+    };
+    let mut attended = Attended::new(reading, stays, plan.grace.is_some());
     let Listening { listeners, file } = match listen(rt, alloc, plan.listen) {
         Ok(listening) => listening,
         Err(fault) => return Err(HostFailure::from(fault)),
@@ -166,7 +173,11 @@ fn host_unrecorded<R: Net + Wait + Clock + Files, W: Write, E: Write>(
     errors: &mut E,
 ) -> Result<(), HostFailure> {
     let hall = Hall::new(alloc, plan.config)?;
-    let mut attended = Attended::new(hall, Stays::new(alloc), plan.grace.is_some());
+    let reading = Reading {
+        service: hall,
+        reads: plan.reads,
+    };
+    let mut attended = Attended::new(reading, Stays::new(alloc), plan.grace.is_some());
     let mut persister = Unrecorded {
         alloc,
         compactor: Compactor::new(),
@@ -257,6 +268,7 @@ where
     if let Some(grace) = plan.grace {
         persister.grant_grace(grace.min(MOST_GRACE) as u32);
     }
+    persister.choose_reads(plan.reads);
     // Who kept the stays that are there at the start follows from the log.
     let reply_queue = ReplyQueue::new(alloc);
     let mut attended = Attended::new(reply_queue, Stays::new(alloc), plan.grace.is_some());

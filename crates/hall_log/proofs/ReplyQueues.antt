@@ -1,9 +1,11 @@
 -- a turn over a queue of replies is one over the hall whose answers it says
 use Rattle.std.proofs.Common.{◌≡◌, ℕ, true, false, List, [], ◌∷◌, ◌++◌, Option, inl, inr, sym, ap, subst, ◌∙◌, arith}
-use Rattle.hall_log.proofs.Common.{append-nil, Config, ShownReply, Request, Take, OwnerOf, Runs, Turn, Answered, Reported, Ended, Misread, HallState, HallServes, HallApplies, ReplyQueueReplies, said, ReplyQueueState}
+use Rattle.hall_log.proofs.Common.{append-nil, Config, ShownReply, Request, Take, OwnerOf, Runs, Turn, Answered, Reported, Ended, Misread, HallState, HallApplies, ReplyQueueReplies, said, ReplyQueueState}
 use Rattle.replicated_log.specs.ReplicaState.{ReplicaState}
 use Rattle.player.specs.Shared.{all_turns}
 use Rattle.event_server.specs.Seats.{LoopIteration, Seating}
+use Rattle.hall.specs.Reading.{Serves}
+use Rattle.hall_log.specs.Entries.{reads_of}
 use Rattle.hall_log.specs.Hosted.{IsHostedOverLog, IsPrefetched, IsUsedUp}
 
 -- what was said again, by a queue of replies that is not poisoned
@@ -66,6 +68,6 @@ hosted on stands config place lines reply_queue u r k l seats after prefetched t
       led = due.led;
       later = (let n = due.count in let p = prefetched.later in omega (arith, n, p));
       between = t.between;
-      taken = record { run = same_said HallServes due.was r.machine entry.turns (all_turns t.log) same entry.run; each = t.taken.each; many = t.taken.many };
+      taken = record { run = same_said (Serves (reads_of prefetched.batch)) due.was r.machine entry.turns (all_turns t.log) same entry.run; each = t.taken.each; many = t.taken.many };
       sent = t.sent;
     }

@@ -1,5 +1,7 @@
 -- the batches that a front end puts into a log
-use Rattle.std.specs.Prelude.{ℕ, zero, suc, ◌+◌, ◌/◌, ◌%◌, ◌^◌, ltb, if◌then◌else◌, List, [], ◌∷◌, ◌++◌}
+use Rattle.std.specs.Prelude.{codes, ℕ, zero, suc, ◌+◌, ◌/◌, ◌%◌, ◌^◌, ltb, if◌then◌else◌, List, [], ◌∷◌, ◌++◌}
+use Rattle.hall.specs.declared.reads.Reads.{Reads}
+use Rattle.hall.specs.declared.reads.Reads.TheVariants.{Logged, Plain}
 
 -- a digit to the base of 16
 abbrev pub hex_digit : ℕ → ℕ
@@ -17,6 +19,15 @@ head_of token count = token ++ 32 ∷ hex_digits 16 count
 -- a batch: its first line, and then these lines
 abbrev pub batch_of : List ℕ → ℕ → List ℕ → List ℕ
 batch_of token count lines = head_of token count ++ 10 ∷ lines
+
+-- what stands behind the count of a batch whose reads are plain
+abbrev pub told_of : Reads → List ℕ
+told_of Logged = []
+told_of Plain = codes " plain"
+
+-- a batch whose reads are logged or plain
+abbrev pub batch_by : Reads → List ℕ → ℕ → List ℕ → List ℕ
+batch_by reads token count lines = head_of token count ++ (told_of reads ++ 10 ∷ lines)
 
 -- the count of the next batch, in 64 bits
 abbrev pub next_count : ℕ → ℕ

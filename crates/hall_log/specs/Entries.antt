@@ -1,5 +1,5 @@
 -- entries of a log that are applied to a hall
-use Rattle.std.specs.Prelude.{◌≡◌, ◌==◌, if◌then◌else◌, ℕ, List, [], ◌∷◌, ◌++◌, codes, decimal, map, Result}
+use Rattle.std.specs.Prelude.{◌≡◌, ◌==◌, ◌&&◌, if◌then◌else◌, ℕ, Bool, false, List, [], ◌∷◌, ◌++◌, codes, decimal, map, Option, Some, None, Result, slice_get}
 use Rattle.commands.specs.declared.bad.Bad.{Bad}
 use Rattle.commands.specs.declared.command.Command.{Command}
 use Rattle.commands.specs.Config.{world_name}
@@ -13,7 +13,9 @@ use Rattle.player.specs.Says.{Spoke}
 use Rattle.player.specs.ResponderState.{ResponderState}
 use Rattle.player.specs.Turns.{Turn, asked}
 use Rattle.hall.specs.HallState.{HallState}
-use Rattle.hall.specs.Serving.{HallServes}
+use Rattle.hall.specs.Reading.{Serves}
+use Rattle.hall.specs.declared.reads.Reads.{Reads}
+use Rattle.hall.specs.declared.reads.Reads.TheVariants.{Logged, Plain}
 use Rattle.hall_log.specs.Said.{said, reply_queue_of}
 use Rattle.hall_log.specs.ReplyQueueState.{ReplyQueueState}
 
@@ -32,11 +34,21 @@ behind_first_line (b ∷ bs) = if b == 10 then bs else behind_first_line bs
 abbrev pub asked_in : WorldKind → List ℕ → List (Result Command Bad)
 asked_in kind entry = (after_bytes kind at_start (behind_first_line entry)).asked
 
--- the hall was so, and answered what the lines of the entry ask for, in order, with no growth refused: that is on the queue of replies, and it is so
+-- a byte is there, and is this one
+abbrev pub is_there : Option ℕ → ℕ → Bool
+is_there None byte = false
+is_there (Some b) byte = b == byte
+
+-- the reads of an entry are plain where a space and a `p` stand behind its token and its count, and else they are logged
+abbrev pub reads_of : List ℕ → Reads
+reads_of entry = if is_there (slice_get entry 49) 32 && is_there (slice_get entry 50) 112 then Plain else Logged
+
+-- The hall was so, and answered what the lines of the entry ask for, in order, with no growth refused. It stored reads or not, as the entry says.
+-- The answers are on the queue of replies, and it is so
 pub record HallApplies (h : HallState) (entry : List ℕ) (reply_queue : ReplyQueueState) (u : HallState) : Type 0 where
   pub turns : List Turn
   pub asked_is : map asked turns ≡ asked_in h.config.world entry
-  pub run : Runs HallServes h turns u
+  pub run : Runs (Serves (reads_of entry)) h turns u
   pub granted : NoneRefusedGrowth turns
   pub reply_queue_is : reply_queue ≡ reply_queue_of (said turns)
 

@@ -1,5 +1,7 @@
 -- faults behind which nothing more is served
 use Rattle.std.specs.Prelude.{Option, Some, None}
+use Rattle.step_memory.specs.declared.refusal.Refusal.{Refusal}
+use Rattle.step_memory.specs.declared.refusal.Refusal.TheVariants as refusal
 use Rattle.replicated_log.specs.declared.serve_fault.Cause.{Cause}
 use Rattle.replicated_log.specs.declared.serve_fault.Cause.TheVariants as cause
 use Rattle.replicated_log.specs.declared.serve_fault.ServeFault.{ServeFault}
@@ -30,3 +32,8 @@ fault_of_cause cause.Busy = None
 abbrev pub fault_of : ServeFault → Option LogFault
 fault_of serve.TooLong = Some fault.TooLong
 fault_of (serve.Unknown cause) = fault_of_cause cause
+
+-- why a hall was not opened
+abbrev pub fault_of_refusal : Refusal → LogFault
+fault_of_refusal refusal.NoMemory = fault.Memory
+fault_of_refusal why = fault.NoNames

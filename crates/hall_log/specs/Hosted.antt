@@ -8,10 +8,11 @@ use Rattle.replicated_log.specs.declared.store.TheConstants.{MOST_PLACES}
 use Rattle.player.specs.Shared.{TurnLog}
 use Rattle.hall.specs.HallState.{HallState}
 use Rattle.hall.specs.Halls.{hall_of}
-use Rattle.hall.specs.Serving.{HallServes}
+use Rattle.hall.specs.Reading.{Serves}
+use Rattle.hall.specs.declared.reads.Reads.{Reads}
 use Rattle.event_server.specs.Seats.{RepliesSent, Seating, TurnsTaken}
-use Rattle.hall_log.specs.Batches.{batch_of, next_count}
-use Rattle.hall_log.specs.Entries.{HallApplies, behind_first_line}
+use Rattle.hall_log.specs.Batches.{batch_by, next_count}
+use Rattle.hall_log.specs.Entries.{HallApplies, behind_first_line, reads_of}
 use Rattle.hall_log.specs.Said.{reply_queue_of}
 use Rattle.hall_log.specs.ReplyQueueState.{ReplyQueueState}
 
@@ -32,11 +33,13 @@ pub record IsServed (stands : ℕ → List ℕ → Type 0) (config : Config) (pl
   pub prefetched : IsPrefetched stands config place (behind_first_line batch) reply_queue r
   pub batch_is : prefetched.batch ≡ batch
 
--- the same, of a batch of these lines, whose first line has the token of its front end and the count behind that of the batch before
-pub record IsPrefetchedBy (stands : ℕ → List ℕ → Type 0) (config : Config) (place : ℕ) (token : List ℕ) (count count' : ℕ) (lines : List ℕ)
+-- the same, of a batch of these lines, whose first line has the token of its front end, the count behind that of the batch before, and whether its
+-- reads are plain
+pub record IsPrefetchedBy (stands : ℕ → List ℕ → Type 0) (config : Config) (place : ℕ) (reads : Reads) (token : List ℕ) (count count' : ℕ) (lines : List ℕ)
     (reply_queue : ReplyQueueState) (r : ReplicaState HallState) : Type 0 where
   pub prefetched : IsPrefetched stands config place lines reply_queue r
-  pub batch_is : prefetched.batch ≡ batch_of token count' lines
+  pub batch_is : prefetched.batch ≡ batch_by reads token count' lines
+  pub reads_are : reads_of prefetched.batch ≡ reads
   pub count_is : count' ≡ next_count count
 
 -- A front end went on by itself, or waited in vain: all that stood in the log stands, its hall is of the same config and no earlier, and its
@@ -57,8 +60,8 @@ pub record IsUsedUp {K : Type 0} (k : K) (w : ReplyQueueState) (l : K) (u : Repl
 
 -- A turn of the loop is over the hall of a log: behind entries that all stand in the log an entry of just these lines stands, at a later
 -- place than had been applied before the turn. From the hall to which just those entries were applied, in order, all turns of all
--- connections, in the one order of the turn's log, are a run of the hall to where that entry leads it; each connection takes its own lines
--- and waits for the replies to them, and some of what waits is sent
+-- connections, in the one order of the turn's log, are a run of the hall to where that entry leads it, which stores reads or not as the entry says;
+-- each connection takes its own lines and waits for the replies to them, and some of what waits is sent
 pub record IsHostedOverLog {C : Type 0} (on : Seating C) (stands : ℕ → List ℕ → Type 0) (config : Config) (log : TurnLog) (place : ℕ) (lines : List ℕ)
     (r : ReplicaState HallState) (seats seats' : List (Option C)) : Type 0 where
   pub batch : List ℕ
@@ -69,5 +72,5 @@ pub record IsHostedOverLog {C : Type 0} (on : Seating C) (stands : ℕ → List 
   pub led : Leads HallApplies (hall_of config []) before was
   pub later : place ≤ length before
   pub between : List (Option C)
-  pub taken : TurnsTaken on HallServes was seats log r.machine between
+  pub taken : TurnsTaken on (Serves (reads_of batch)) was seats log r.machine between
   pub sent : RepliesSent on between seats'

@@ -7,7 +7,7 @@ use Rattle.commands.specs.Requests.{Request}
 use Rattle.commands.specs.Requests.Request.{Take, OwnerOf}
 use Rattle.player.specs.Turns.{Turn}
 use Rattle.player.specs.Turns.Turn.{Answered, Reported, Ended, Misread}
-use Rattle.hall.specs.Serving.{HallServes}
+use Rattle.hall.specs.Reading.{Serves}
 use Rattle.hall_log.specs.declared.note.Asked.{Asked}
 use Rattle.hall_log.specs.declared.note.Asked.TheVariants.{ToTake, ToTell}
 use Rattle.hall_log.specs.declared.note.Note.{Note}
@@ -54,7 +54,8 @@ ReplyQueueReplies w q r u =
 -- the hall answers, and it is noted; no memory was refused
 pub record IsNoted (w : NotingState) (q : Request) (r : ShownReply) (u : NotingState) : Type 0 where
   pub was_well : w.lost ≡ false
-  pub serves : HallServes w.hall q r u.hall
+  pub serves : Serves w.reads w.hall q r u.hall
+  pub reads : u.reads ≡ w.reads
   pub noted : u.said ≡ w.said ++ (q, r) ∷ []
   pub granted : r ≢ reply.Refused refusal.NoMemory
 

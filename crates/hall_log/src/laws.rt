@@ -9,8 +9,8 @@ ghost use Rattle.replicated_log.specs.ReplicaState.{ReplicaState};
 ghost use Rattle.hall.specs.HallState.{HallState};
 ghost use Rattle.hall.specs.Halls.{hall_of};
 ghost use Rattle.event_server.specs.Seats.{LoopIteration, Seating};
-ghost use Rattle.hall_log.specs.Batches.{batch_of};
-ghost use Rattle.hall_log.specs.Entries.{HallApplies};
+ghost use Rattle.hall_log.specs.Batches.{batch_by};
+ghost use Rattle.hall_log.specs.Entries.{HallApplies, reads_of};
 ghost use Rattle.hall_log.specs.Hosted.{IsHostedOverLog, IsPrefetched, IsUsedUp};
 ghost use Rattle.hall_log.specs.Said.{ReplyQueueReplies};
 ghost use Rattle.hall_log.specs.ReplyQueueState.{ReplyQueueState};
@@ -21,6 +21,7 @@ ghost use Rattle.hall_log.specs.declared.watches.Watch.{Watch};
 
 use crate::machine::HallMachine;
 use crate::stay_machine::StayMachine;
+use hall::Reads;
 use replicated_log::{Store, law_of_agreement};
 
 /// A law, which runs nothing: what a hall says to an entry, and the hall after it, are determined by the entry and the hall before it; so
@@ -60,9 +61,12 @@ pub fn law_of_log_hosting<C, K, S: Store>()
         IsHostedOverLog on (S.stands s) config t.log place lines r seats after }
 {}
 
-/// A law, which runs nothing: of two front ends whose tokens are as long, two batches are the same entry only where token, count and lines are
-/// the same.
+/// A law, which runs nothing, of the batches of front ends whose tokens are as long.
+///
+/// - `one`: two batches are the same entry only where token, count and lines are the same, and whether reads are plain.
+/// - `reads`: an entry tells whether its reads are plain.
 pub fn law_of_batches()
-    ensures { (token other : List ℕ) (count next : ℕ) (lines more : List ℕ) → length token ≡ length other → count < 2 ^ 64 → next < 2 ^ 64 →
-        batch_of token count lines ≡ batch_of other next more → (token ≡ other) × (count ≡ next) × (lines ≡ more) }
+    ensures one { (reads kind : Reads) (token other : List ℕ) (count next : ℕ) (lines more : List ℕ) → length token ≡ length other → count < 2 ^ 64 →
+        next < 2 ^ 64 → batch_by reads token count lines ≡ batch_by kind other next more → (reads ≡ kind) × (token ≡ other) × (count ≡ next) × (lines ≡ more) }
+    ensures reads { (reads : Reads) (token : List ℕ) (count : ℕ) (lines : List ℕ) → length token ≡ 32 → reads_of (batch_by reads token count lines) ≡ reads }
 {}

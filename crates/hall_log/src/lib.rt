@@ -12,6 +12,8 @@
 //! turns of all connections, in one order, are a run of the hall to which just the entries before this turn's were applied. Halls of one
 //! config that have applied one log up to one place are the same (`law_of_halls`).
 //!
+//! An entry tells whether the hall stores its reads: those of an entry with ` plain` in its first line are answered, and are no events.
+//!
 //! `StayMachine` has with the hall who keeps each stay in its pool, as the log tells: the front end whose entry said `enter` of it last and was
 //! answered `ok` or `refused 9` (`law_of_keepers`). `LogPersister::end_stays` ends the stays of this front end that nobody keeps any more, and those of
 //! front ends of which nothing was heard for long. A release is offered for one place, that up to which the log was read, and for no other.

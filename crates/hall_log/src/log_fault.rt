@@ -72,6 +72,11 @@ impl LogFault {
 }
 
 impl From<Refusal> for LogFault {
+    ghost use Rattle.std.specs.Prelude.{◌≡◌};
+    ghost use Rattle.hall_log.specs.Faults.{fault_of_refusal};
+
+    ghost from_gives = { λ why fault. fault ≡ fault_of_refusal why };
+
     fn from(why: Refusal) -> LogFault {
         match why {
             Refusal::NoMemory => LogFault::Memory,

@@ -1,6 +1,7 @@
 //! A hall that follows a log.
 
-ghost use Rattle.std.specs.Prelude.{◌≡◌, ◌<◌, ◌≤◌, ◌+◌, ◌⊎◌, true, false, Ok, Err, OnOk, OnErr, IfOk, []};
+ghost use Rattle.std.specs.Prelude.{◌≡◌, ◌<◌, ◌≤◌, ◌+◌, ◌⊎◌, ◌↔◌, true, false, Ok, Err, OnOk, OnErr, IfErr, IfOk, []};
+ghost use Rattle.commands.specs.Config.{gives_names};
 ghost use Rattle.replicated_log.specs.Places.{Adds, Contradicts, Keeps, Same};
 ghost use Rattle.replicated_log.specs.Replicas.{IsDueAt};
 ghost use Rattle.replicated_log.specs.declared.replica.Step.TheVariants.{Answered};
@@ -62,8 +63,14 @@ fn begins_with<S: Store>(
 
 impl<S: Store + Drop> LogHall<S> {
     /// A hall of this config, to which no entry was applied.
+    ///
+    /// # Errors
+    ///
+    /// Those of `HallMachine::new`.
     pub fn new(alloc: Global, store: S, config: Config) -> Result<LogHall<S>, Refusal>
-        ensures { IfOk result (λ l. l.config ≡ config) }
+        ensures opened { IfOk result (λ l. l.config ≡ config) }
+        ensures out_of_range { result ≡ Err Refusal.OutOfRange ↔ (gives_names config.world ≡ false) }
+        ensures only { IfErr result (λ why. (why ≡ Refusal.NoMemory) ⊎ (why ≡ Refusal.OutOfRange)) }
     {
         let machine = StayMachine::new(alloc, config)?;
         Ok(LogHall {

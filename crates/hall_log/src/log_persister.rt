@@ -1,9 +1,11 @@
 //! Serves the clients of one front end over a log.
 
-ghost use Rattle.std.specs.Prelude.{◌≡◌, ◌≢◌, ◌+◌, ◌-◌, ◌++◌, ◌≤◌, ◌<◌, ◌⊎◌, ℕ, [], true, false, leb, map, Ok, OnOk, IfOk, All};
+ghost use Rattle.std.specs.Prelude.{◌≡◌, ◌≢◌, ◌↔◌, ◌==◌, ◌+◌, ◌-◌, ◌++◌, ◌≤◌, ◌<◌, ◌⊎◌, ℕ, [], true, false, leb, map, Ok, Err, OnOk, IfOk, All};
+ghost use Rattle.std.specs.List.{list_any};
 ghost use Rattle.std.specs.String.{string_bytes};
+ghost use Rattle.commands.specs.Config.{gives_names};
 ghost use Rattle.replicated_log.specs.Places.{Adds, Keeps, Same};
-ghost use Rattle.hall_log.specs.Batches.{batch_of, head_of, hex_digit, hex_digits, next_count};
+ghost use Rattle.hall_log.specs.Batches.{batch_by, batch_of, head_of, hex_digit, hex_digits, next_count, told_of};
 ghost use Rattle.hall_log.specs.Decided.{HasLooked, IsDecided, ended_of, next_read};
 ghost use Rattle.hall_log.specs.Entries.{first_line_of};
 ghost use Rattle.hall_log.specs.Hosted.{HasGoneOn, IsAtEnd, IsPrefetchedBy, IsServed};
@@ -21,7 +23,7 @@ use crate::sessions::Sessions;
 use crate::tallying::tally_of;
 use commands::Config;
 use event_server::{Persist, Prefetch, Tally};
-use hall::Hall;
+use hall::{Hall, Reads};
 use held_lines::{HeldQuery, put_held};
 use player::Replies;
 use replicated_log::{Cause, MOST_BATCH, MOST_PLACES, ServeFault, Step, Store, StoreFault};
@@ -30,8 +32,8 @@ use std::alloc::{AllocError, Allocator, Global};
 /// What ends a line.
 const LF: u8 = 10;
 
-/// How many bytes the first line of a batch has: a token, a count and its LF.
-const HEAD: usize = 50;
+/// How many bytes the first line of a batch has, at most: a token, a count, ` plain` and its LF.
+const HEAD: usize = 56;
 
 /// How often a store is asked for one batch, at most; a `Pause` ends it before.
 const MOST_TRIES: u32 = 1_000_000;
@@ -49,6 +51,8 @@ pub struct LogPersister<S: Store, T: Pause> {
     batch: Vec<u8>,
     token: [u8; 32],
     count: u64,
+    /// Whether the history stores reads of this front end.
+    reads: Reads,
     pause: T,
     /// Whether the store had no room for the last batch.
     no_space: bool,
@@ -68,6 +72,7 @@ impl<S: Store + Drop, T: Pause + Drop> Drop for LogPersister<S, T> {
             batch: _,
             token: _,
             count: _,
+            reads: _,
             pause: _,
             no_space: _,
             answers: _,
@@ -109,11 +114,28 @@ fn put_head(head: &mut Vec<u8>, token: &[u8], count: u64) -> Result<(), AllocErr
     push_count(head, 16, count)
 }
 
-// Puts a batch of these lines over a list: a first line of a token and a count, and then the lines.
-fn put_batch(batch: &mut Vec<u8>, token: &[u8], count: u64, lines: &[u8]) -> Result<(), AllocError>
-    ensures { OnOk result (batch.new.items ≡ batch_of token.now count lines.now) }
+// What the first line of a batch tells of its reads.
+fn told_of(reads: Reads) -> &'static [u8]
+    ensures { result.now ≡ told_of reads }
+{
+    match reads {
+        Reads::Logged => b"",
+        Reads::Plain => b" plain",
+    }
+}
+
+// Puts a batch of these lines over a list: a first line of a token, a count and whether its reads are plain, and then the lines.
+fn put_batch(
+    batch: &mut Vec<u8>,
+    reads: Reads,
+    token: &[u8],
+    count: u64,
+    lines: &[u8],
+) -> Result<(), AllocError>
+    ensures { OnOk result (batch.new.items ≡ batch_by reads token.now count lines.now) }
 {
     put_head(batch, token, count)?;
+    batch.extend_from_slice(told_of(reads))?;
     batch.push(LF)?;
     batch.extend_from_slice(lines)?;
     Ok(())
@@ -143,6 +165,8 @@ impl<S: Store + Drop, T: Pause + Drop> LogPersister<S, T> {
         ensures config { IfOk result (λ k. k.log.config ≡ config) }
         ensures begins { IfOk result (λ k. S.stands k.log.store 0 (first_line_of config)) }
         ensures all { IfOk result (λ k. IsAtEnd (S.lacks k.log.store) k.log.replica.place) }
+        ensures token { result ≡ Err LogFault.Token ↔ (list_any (λ b. b == 10) token ≡ true) }
+        ensures named { OnOk result (gives_names config.world ≡ true) }
     {
         if token.contains(&LF) {
             return Err(LogFault::Token);
@@ -157,6 +181,7 @@ impl<S: Store + Drop, T: Pause + Drop> LogPersister<S, T> {
             batch: Vec::new(alloc),
             token,
             count: 0,
+            reads: Reads::Logged,
             pause,
             no_space: false,
             answers: true,
@@ -187,6 +212,7 @@ impl<S: Store, T: Pause> LogPersister<S, T> {
     // Has the log begin with a line, and applies all that stands in it. A function of its own, since what owns a persister takes it apart at each
     // way out.
     fn start(&mut self, line: &[u8]) -> Result<(), LogFault>
+        ensures other { result ≢ Err LogFault.Token }
         ensures begins { OnOk result (S.stands self.new.log.store 0 line.now) }
         ensures all { OnOk result (IsAtEnd (S.lacks self.new.log.store) self.new.log.replica.place) }
         ensures config { self.new.log.config ≡ self.old.log.config }
@@ -197,6 +223,7 @@ impl<S: Store, T: Pause> LogPersister<S, T> {
 
     // Has the log begin with a line, as soon as the store answers.
     fn begin(&mut self, line: &[u8]) -> Result<(), LogFault>
+        ensures other { result ≢ Err LogFault.Token }
         ensures begins { OnOk result (S.stands self.new.log.store 0 line.now) }
         ensures config { self.new.log.config ≡ self.old.log.config }
     {
@@ -218,6 +245,7 @@ impl<S: Store, T: Pause> LogPersister<S, T> {
 
     // Applies all that stands in the log, as soon as the store answers.
     fn apply_all(&mut self) -> Result<(), LogFault>
+        ensures other { result ≢ Err LogFault.Token }
         ensures keeps { Keeps (S.stands self.old.log.store) (S.stands self.new.log.store) }
         ensures all { OnOk result (IsAtEnd (S.lacks self.new.log.store) self.new.log.replica.place) }
         ensures config { self.new.log.config ≡ self.old.log.config }
@@ -271,6 +299,15 @@ impl<S: Store, T: Pause> LogPersister<S, T> {
         Ok(Prefetch::Lost)
     }
 
+    /// Has the history store the reads of this front end from now on, or not. It stores them until this is called. Each entry tells it, so that
+    /// front ends of one log may differ in it.
+    pub fn choose_reads(&mut self, reads: Reads)
+        ensures reads { self.new.reads ≡ reads }
+        ensures same { (self.new.log ≡ self.old.log) × (self.new.count ≡ self.old.count) × (self.new.token ≡ self.old.token) }
+    {
+        self.reads = reads;
+    }
+
     /// For how many seconds a stay goes on that nobody keeps. It is 0 until this is called.
     pub fn grant_grace(&mut self, seconds: u32)
         ensures { self.new.sessions.grace ≡ seconds }
@@ -319,7 +356,7 @@ impl<S: Store, T: Pause> LogPersister<S, T> {
     {
         let now = self.pause.seconds();
         let count = self.count.wrapping_add(1);
-        let Ok(()) = put_batch(&mut self.batch, &self.token, count, lines) else {
+        let Ok(()) = put_batch(&mut self.batch, Reads::Logged, &self.token, count, lines) else {
             return Err(LogFault::Memory);
         };
         self.count = count;
@@ -400,7 +437,7 @@ impl<S: Store, T: Pause> Persist<ReplyQueue> for LogPersister<S, T> {
 
     ghost persists = { λ k w l u. IsUsedUp k w l u };
 
-    ghost prefetches = { λ k w lines l u. IsPrefetchedBy (S.stands l.log.store) l.log.config k.log.replica.place k.token k.count l.count lines u l.log.replica };
+    ghost prefetches = { λ k w lines l u. IsPrefetchedBy (S.stands l.log.store) l.log.config k.log.replica.place k.reads k.token k.count l.count lines u l.log.replica };
 
     ghost waits = { λ k w l u. HasGoneOn (S.stands k.log.store) (S.stands l.log.store) k.log.config l.log.config k.count l.count k.log.replica l.log.replica u };
 
@@ -408,6 +445,8 @@ impl<S: Store, T: Pause> Persist<ReplyQueue> for LogPersister<S, T> {
     ghost use Rattle.hall.specs.Halls.{desk_of};
 
     ghost holds = { λ k w. slots_of (desk_of k.log.replica.machine) };
+
+    ghost shares = { λ k. true };
 
     fn put_held<B: Allocator>(
         &self,
@@ -435,7 +474,7 @@ impl<S: Store, T: Pause> Persist<ReplyQueue> for LogPersister<S, T> {
 
     fn prefetch(&mut self, reply_queue: &mut ReplyQueue, lines: &[u8]) -> Result<Prefetch, LogFault>
         ensures known { result ≡ Ok Prefetch.Known → IsPrefetchedBy (S.stands self.new.log.store) self.new.log.config self.old.log.replica.place
-            self.old.token self.old.count self.new.count lines.now reply_queue.new self.new.log.replica }
+            self.old.reads self.old.token self.old.count self.new.count lines.now reply_queue.new self.new.log.replica }
         ensures lost { result ≡ Ok Prefetch.Lost → HasGoneOn (S.stands self.old.log.store) (S.stands self.new.log.store)
             self.old.log.config self.new.log.config self.old.count self.new.count self.old.log.replica self.new.log.replica reply_queue.new }
 
@@ -445,7 +484,7 @@ impl<S: Store, T: Pause> Persist<ReplyQueue> for LogPersister<S, T> {
         ensures token { self.new.token ≡ self.old.token }
     {
         self.count = self.count.wrapping_add(1);
-        let Ok(()) = put_batch(&mut self.batch, &self.token, self.count, lines) else {
+        let Ok(()) = put_batch(&mut self.batch, self.reads, &self.token, self.count, lines) else {
             return Err(LogFault::Memory);
         };
         self.serve_batch(reply_queue)

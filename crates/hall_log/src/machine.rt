@@ -1,14 +1,15 @@
 //! A hall to which the entries of a log are applied.
 
-ghost use Rattle.std.specs.Prelude.{◌≡◌, ◌+◌, ◌<◌, [], IfOk, OnOk, Err};
+ghost use Rattle.std.specs.Prelude.{◌≡◌, ◌⊎◌, ◌↔◌, ◌+◌, ◌<◌, [], false, IfErr, IfOk, OnOk, Err, slice_get};
+ghost use Rattle.commands.specs.Config.{gives_names};
 ghost use Rattle.hall.specs.Halls.{hall_of};
-ghost use Rattle.hall_log.specs.Entries.{HallApplies, TakesBytes, behind_first_line};
+ghost use Rattle.hall_log.specs.Entries.{HallApplies, TakesBytes, behind_first_line, is_there, reads_of};
 ghost use Rattle.hall_log.specs.Said.{NotingSays, reply_queue_of};
 
 use crate::noting::Noting;
 use crate::reply_queue::ReplyQueue;
 use commands::Config;
-use hall::Hall;
+use hall::{Hall, Reads};
 use player::{AsReplies, Replies, Responder};
 use replicated_log::Machine;
 use std::alloc::{AllocError, Global};
@@ -18,8 +19,12 @@ use step_memory::{Refusal, View};
 /// What ends a line.
 const LF: u8 = 10;
 
+/// Where it stands in the first line of an entry whether its reads are plain: behind a token, a space and a count.
+const MARK: usize = 49;
+
 /// A hall to which the entries of a log are applied. An entry is a first line, which is passed over, and then lines of commands, each with
-/// its LF: they are played over the hall in order, and what it says to them is put on a queue of replies. `quit` ends an entry.
+/// its LF: they are played over the hall in order, and what it says to them is put on a queue of replies. `quit` ends an entry. Where ` plain`
+/// stands behind the token and the count of the first line, the hall stores no read of the entry.
 #[derive(Drop)]
 pub struct HallMachine {
     alloc: Global,
@@ -50,6 +55,27 @@ fn behind_first_line(entry: &[u8]) -> &[u8]
     rest
 }
 
+/// Whether this byte stands at a place of an entry.
+fn is_there(entry: &[u8], place: usize, byte: u8) -> bool
+    ensures { result ≡ is_there (slice_get entry.now place) byte }
+{
+    match entry.get(place) {
+        Some(found) => *found == byte,
+        None => false,
+    }
+}
+
+/// Whether the history stores the reads of an entry, as its first line says.
+fn reads_of(entry: &[u8]) -> Reads
+    ensures { result ≡ reads_of entry.now }
+{
+    if is_there(entry, MARK, b' ') && is_there(entry, MARK + 1, b'p') {
+        Reads::Plain
+    } else {
+        Reads::Logged
+    }
+}
+
 /// Plays lines over a hall. The text of the replies is let go: what was said is noted.
 fn play(
     noting: &mut Noting,
@@ -69,10 +95,18 @@ fn play(
 }
 
 impl HallMachine {
-    /// A hall of this config with no event; `OutOfRange` where no names are given in the config's world, and `NoMemory` where its room was
-    /// refused.
+    /// Makes a hall of this config with no event.
+    ///
+    /// # Errors
+    ///
+    /// The first that applies is returned:
+    ///
+    /// - `OutOfRange`: the config's world gives no names.
+    /// - `NoMemory`: an allocation failed.
     pub fn new(alloc: Global, config: Config) -> Result<HallMachine, Refusal>
         ensures opened { IfOk result (λ m. m ≡ hall_of config []) }
+        ensures out_of_range { result ≡ Err Refusal.OutOfRange ↔ (gives_names config.world ≡ false) }
+        ensures only { IfErr result (λ why. (why ≡ Refusal.NoMemory) ⊎ (why ≡ Refusal.OutOfRange)) }
     {
         let noting = Noting::new(alloc, config)?;
         let Ok(replies) = Replies::new(alloc) else {
@@ -101,7 +135,7 @@ impl HallMachine {
         let Ok(mut responder) = Responder::new(self.alloc, kind) else {
             return Err(AllocError);
         };
-        self.noting.begin();
+        self.noting.begin(reads_of(entry));
         play(
             &mut self.noting,
             &mut responder,

@@ -1,17 +1,19 @@
 //! A hall of which each answer is noted.
 
-ghost use Rattle.std.specs.Prelude.{◌≡◌, ◌≢◌, ◌∷◌, ◌++◌, [], true, false, IfOk, OnOk, map};
+ghost use Rattle.std.specs.Prelude.{◌≡◌, ◌≢◌, ◌⊎◌, ◌↔◌, ◌∷◌, ◌++◌, [], true, false, Err, IfErr, IfOk, OnOk, map};
 ghost use Rattle.step_memory.specs.declared.refusal.Refusal.TheVariants as refusal;
 ghost use Rattle.commands.specs.declared.reply.Reply.TheVariants as replies;
+ghost use Rattle.commands.specs.Config.{gives_names};
 ghost use Rattle.commands.specs.Replies.{with_view};
 ghost use Rattle.hall.specs.Halls.{hall_of};
+ghost use Rattle.hall.specs.declared.reads.Reads.TheVariants.{Logged};
 ghost use Rattle.hall_log.specs.Said.{NotingSays, request_of, said_by, reply_queue_of};
 ghost use Rattle.hall_log.specs.SaidProofs.{noting_answers};
 
 use crate::note::{Asked, Note, lacks_memory};
 use crate::reply_queue::ReplyQueue;
 use commands::{Config, Event, Reply};
-use hall::Hall;
+use hall::{Hall, Reads};
 use player::Service;
 use std::alloc::{AllocError, Global};
 use std::marker::Model;
@@ -24,6 +26,8 @@ pub(crate) struct Noting {
     hall: Hall,
     notes: Vec<Note>,
     lost: bool,
+    /// Whether the history stores reads.
+    reads: Reads,
 }
 
 impl Model for Noting {
@@ -34,13 +38,15 @@ impl Model for Noting {
 
     ghost use Rattle.hall_log.specs.Said.{said_by};
 
-    ghost view = { λ n. record { hall = n.hall; said = map said_by n.notes.items; lost = n.lost } };
+    ghost view = { λ n. record { hall = n.hall; said = map said_by n.notes.items; lost = n.lost; reads = n.reads } };
 }
 
 impl Noting {
     /// A hall of this config with no event, of which nothing is noted.
     pub(crate) fn new(alloc: Global, config: Config) -> Result<Noting, Refusal>
-        ensures { IfOk result (λ n. n ≡ record { hall = hall_of config []; said = []; lost = false }) }
+        ensures opened { IfOk result (λ n. n ≡ record { hall = hall_of config []; said = []; lost = false; reads = Logged }) }
+        ensures out_of_range { result ≡ Err Refusal.OutOfRange ↔ (gives_names config.world ≡ false) }
+        ensures only { IfErr result (λ why. (why ≡ Refusal.NoMemory) ⊎ (why ≡ Refusal.OutOfRange)) }
     {
         let hall = Hall::new(alloc, config)?;
         Ok(Noting {
@@ -48,6 +54,7 @@ impl Noting {
             hall,
             notes: Vec::new(alloc),
             lost: false,
+            reads: Reads::Logged,
         })
     }
 
@@ -58,12 +65,13 @@ impl Noting {
         &self.hall
     }
 
-    /// Nothing is noted so far.
-    pub(crate) fn begin(&mut self)
-        ensures { self.new ≡ record { hall = self.old.hall; said = []; lost = false } }
+    /// Nothing is noted so far, and reads are logged or plain from then on.
+    pub(crate) fn begin(&mut self, reads: Reads)
+        ensures { self.new ≡ record { hall = self.old.hall; said = []; lost = false; reads = reads } }
     {
         self.notes.clear();
         self.lost = false;
+        self.reads = reads;
     }
 
     /// Has a queue of replies say what was noted; an error where memory was refused.
@@ -81,6 +89,7 @@ impl Noting {
     // Notes a request, and the reply to it with the view beside it.
     fn note(&mut self, asked: Asked, reply: Reply<()>, view: &View)
         ensures hall { self.new.hall ≡ self.old.hall }
+        ensures reads { self.new.reads ≡ self.old.reads }
         ensures well { self.new.lost ≡ false → self.old.lost ≡ false }
         ensures noted { self.new.lost ≡ false → self.new.said ≡ self.old.said ++ (request_of asked, with_view reply view.now) ∷ [] }
         ensures granted { self.new.lost ≡ false → with_view reply view.now ≢ replies.Refused refusal.NoMemory }
@@ -105,7 +114,7 @@ impl<R> Service<R> for Noting {
     ghost answers = { λ w q known. noting_answers w q };
 
     fn apply(&mut self, _rt: &R, event: Event, view: &mut View) -> Reply<()> {
-        let reply = self.hall.apply_short(event, view);
+        let reply = self.hall.serve_short(self.reads, event, view);
         self.note(Asked::ToTake(event), reply, view);
         reply
     }

@@ -1,6 +1,7 @@
 //! A hall to which the entries of a log are applied, and who keeps its stays.
 
-ghost use Rattle.std.specs.Prelude.{◌≡◌, IfOk, OnOk, []};
+ghost use Rattle.std.specs.Prelude.{◌≡◌, ◌⊎◌, ◌↔◌, false, Err, IfErr, IfOk, OnOk, []};
+ghost use Rattle.commands.specs.Config.{gives_names};
 ghost use Rattle.hall_log.specs.Stays.{StayApplies, stays_of};
 
 use crate::keeping::Keeping;
@@ -38,6 +39,8 @@ impl StayMachine {
     /// Those of `HallMachine::new`.
     pub fn new(alloc: Global, config: Config) -> Result<StayMachine, Refusal>
         ensures opened { IfOk result (λ m. m ≡ stays_of config) }
+        ensures out_of_range { result ≡ Err Refusal.OutOfRange ↔ (gives_names config.world ≡ false) }
+        ensures only { IfErr result (λ why. (why ≡ Refusal.NoMemory) ⊎ (why ≡ Refusal.OutOfRange)) }
     {
         let halls = HallMachine::new(alloc, config)?;
         Ok(StayMachine {

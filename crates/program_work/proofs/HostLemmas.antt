@@ -5,7 +5,7 @@ use Rattle.std.specs.Borrow.{Bor}
 use Rattle.std.specs.Net.Grammar.{IsIpText, Parses}
 use Rattle.std.specs.Str.Parse.{IsNumeral, ParsesUnsigned, digits_value, without_leading_plus}
 use Rattle.std.specs.declared.net.ip_addr.IpAddr.{IpAddr}
-use Rattle.program_work.specs.Asked.{AreEndpointsOf, HasAddress, HasMode, HasNumber, HasText, MayHavePort, IsConfigOf, IsGraceOf, IsHoldingOf, IsHostingOf, IsKeepingOf, IsLogOf, asks_flag, asks_log}
+use Rattle.program_work.specs.Asked.{AreEndpointsOf, HasAddress, HasMode, HasNumber, HasText, MayHavePort, IsConfigOf, IsGraceOf, IsHoldingOf, IsHostingOf, IsKeepingOf, IsLogOf, StoreReads, asks_flag, asks_log}
 use Rattle.program_work.specs.Ranges.{IsHostingRange, IsModeRange}
 use Rattle.program_work.specs.declared.asked.Endpoints.{Endpoints}
 use Rattle.program_work.specs.declared.asked.Keeping.{Keeping}
@@ -76,13 +76,13 @@ reached rows address metrics_address port metrics path mode None has_address has
     cc
 
 -- what is made of the matched values is the hosting, where there is one
-pub hosted : (rows : List Row) (c : Config) (endpoints : Endpoints) (clients idle : ℕ) (holding : Holding) (keeping : Keeping) (verbose : Bool) (o : Option Hosting)
+pub hosted : (rows : List Row) (c : Config) (endpoints : Endpoints) (clients idle : ℕ) (holding : Holding) (stores : Bool) (keeping : Keeping) (verbose : Bool) (o : Option Hosting)
     → IsConfigOf rows c → AreEndpointsOf rows endpoints → HasNumber rows (codes "clients") clients → HasNumber rows (codes "idle") idle
-    → IsHoldingOf rows holding → IsKeepingOf rows keeping → verbose ≡ asks_flag (codes "verbose") rows
-    → IfSome o (λ h. (h.config ≡ c) × (h.clients ≡ clients) × (h.idle ≡ idle)) → IfSome o (λ h. (h.endpoints ≡ endpoints) × (h.keeping ≡ keeping) × (h.verbose ≡ verbose) × (h.holding ≡ holding))
+    → IsHoldingOf rows holding → StoreReads rows stores → IsKeepingOf rows keeping → verbose ≡ asks_flag (codes "verbose") rows
+    → IfSome o (λ h. (h.config ≡ c) × (h.clients ≡ clients) × (h.idle ≡ idle)) → IfSome o (λ h. (h.endpoints ≡ endpoints) × (h.keeping ≡ keeping) × (h.verbose ≡ verbose) × (h.holding ≡ holding) × (h.stores_reads ≡ stores))
     → (IsSome o ↔ IsHostingRange c.world clients idle)
     → MatchOption o ((h : Hosting) → IsHostingOf rows h → ⊥) (IsHostingOf rows)
-hosted rows c endpoints clients idle holding keeping verbose (Some h) config has_endpoints has_clients has_idle has_holding has_keeping asks sizes others range = record {
+hosted rows c endpoints clients idle holding stores keeping verbose (Some h) config has_endpoints has_clients has_idle has_holding has_reads has_keeping asks sizes others range = record {
   config = subst (λ (x : Config). IsConfigOf rows x) (sym sizes.0) config;
   endpoints = subst (λ (x : Endpoints). AreEndpointsOf rows x) (sym others.0) has_endpoints;
   clients = subst (λ x. HasNumber rows (codes "clients") x) (sym sizes.1) has_clients;
@@ -90,8 +90,9 @@ hosted rows c endpoints clients idle holding keeping verbose (Some h) config has
   keeping = subst (λ (x : Keeping). IsKeepingOf rows x) (sym others.1) has_keeping;
   verbose = others.2 ∙ asks;
   holding = subst (λ (x : Holding). IsHoldingOf rows x) (sym others.3) has_holding;
+  reads = subst (λ (x : Bool). StoreReads rows x) (sym others.4) has_reads;
 }
-hosted rows c endpoints clients idle holding keeping verbose None config has_endpoints has_clients has_idle has_holding has_keeping asks sizes others range = λ h is.
+hosted rows c endpoints clients idle holding stores keeping verbose None config has_endpoints has_clients has_idle has_holding has_reads has_keeping asks sizes others range = λ h is.
     let same_clients : h.clients ≡ clients = same_number rows (codes "clients") h.clients clients is.clients has_clients in
     let same_idle : h.idle ≡ idle = same_number rows (codes "idle") h.idle idle is.idle has_idle in
     let same_kind : h.config.world ≡ c.world = same_world rows h.config.world c.world is.config.world config.world in

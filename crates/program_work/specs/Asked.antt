@@ -152,6 +152,11 @@ abbrev pub IsHoldingOf : List Row → Holding → Type 0
 IsHoldingOf rows Forever = (first_of (codes "hold") rows ≡ Some (codes "forever")) × HasNoNumber rows (codes "grace")
 IsHoldingOf rows (Connection g) = (first_of (codes "hold") rows ≡ Some (codes "connection")) × IsGraceOf rows g
 
+-- the history stores reads, or it does not, by the options of `host`
+abbrev pub StoreReads : List Row → Bool → Type 0
+StoreReads rows true = first_of (codes "reads") rows ≡ Some (codes "logged")
+StoreReads rows false = first_of (codes "reads") rows ≡ Some (codes "plain")
+
 -- the hosting that the options of `host` give, as clap matched them, each number in its range
 pub record IsHostingOf (rows : List Row) (h : Hosting) : Type 0 where
   pub config : IsConfigOf rows h.config
@@ -159,6 +164,7 @@ pub record IsHostingOf (rows : List Row) (h : Hosting) : Type 0 where
   pub clients : HasNumber rows (codes "clients") h.clients
   pub idle : HasNumber rows (codes "idle") h.idle
   pub holding : IsHoldingOf rows h.holding
+  pub reads : StoreReads rows h.stores_reads
   pub keeping : IsKeepingOf rows h.keeping
   pub verbose : h.verbose ≡ asks_flag (codes "verbose") rows
 

@@ -304,6 +304,8 @@ pub struct Hosting<'a> {
     pub idle: u64,
     /// How long a stay in the pool goes on.
     pub holding: Holding,
+    /// Whether the history stores reads, the `get` of clients.
+    pub stores_reads: bool,
     /// Where its history is kept.
     pub keeping: Keeping<'a>,
     /// Whether it tells once a minute how much there is.
@@ -319,11 +321,12 @@ impl<'a> Hosting<'a> {
         clients: u64,
         idle: u64,
         holding: Holding,
+        stores_reads: bool,
         keeping: Keeping<'a>,
         verbose: bool,
     ) -> Option<Hosting<'a>>
         ensures sizes { IfSome result (λ h. (h.config ≡ config) × (h.clients ≡ clients) × (h.idle ≡ idle)) }
-        ensures others { IfSome result (λ h. (h.endpoints ≡ endpoints.entry) × (h.keeping ≡ keeping.entry) × (h.verbose ≡ verbose) × (h.holding ≡ holding)) }
+        ensures others { IfSome result (λ h. (h.endpoints ≡ endpoints.entry) × (h.keeping ≡ keeping.entry) × (h.verbose ≡ verbose) × (h.holding ≡ holding) × (h.stores_reads ≡ stores_reads)) }
         ensures range { IsSome result ↔ IsHostingRange config.world clients idle }
     {
         if clients < 1 || 1_000_000 < clients || 31_536_000 < idle {
@@ -338,6 +341,7 @@ impl<'a> Hosting<'a> {
             clients,
             idle,
             holding,
+            stores_reads,
             keeping,
             verbose,
         })

@@ -306,6 +306,11 @@ const HOST: Manual = Manual {
             help: "how many seconds the grace time has, with --hold connection alone, which has 10 without this; after quit there is none",
         },
         Choice {
+            name: "reads",
+            takes: Takes::TextOr("HOW", "plain"),
+            help: "plain: a get is answered and stored nowhere; logged: it is an event of the history, which ends at 1000000 events",
+        },
+        Choice {
             name: "journal",
             takes: Takes::Text("FILE"),
             help: "the file of the journal, made where it is missing; without one the history ends with the program",

@@ -1,8 +1,8 @@
 //! What the words of a command line ask for.
 
-ghost use Rattle.std.specs.Prelude.{◌≡◌, ℕ, ◌<◌, ◌^◌, MatchOption, Some, map};
+ghost use Rattle.std.specs.Prelude.{◌≡◌, ℕ, Bool, ◌<◌, ◌^◌, MatchOption, Some, map};
 ghost use Rattle.clap.specs.Words.{found_of, kind_of, rows_of, subcommand_rows_of};
-ghost use Rattle.program_work.specs.Asked.{AreEndpointsOf, HasMode, HasNumber, HasWorld, IsAsked, IsConfigOf, HasAddress, HasText, MayHavePort, IsDrawingOf, IsGraceOf, IsHoldingOf, IsHostingOf, IsKeepingOf, IsLogOf, IsMisuseOf, IsPlayingOf, IsRacingOf, IsRead, IsRefusal, IsServingOf, IsShowingOf, asks_flag, asks_log};
+ghost use Rattle.program_work.specs.Asked.{AreEndpointsOf, HasMode, HasNumber, HasWorld, IsAsked, IsConfigOf, HasAddress, HasText, MayHavePort, IsDrawingOf, IsGraceOf, IsHoldingOf, IsHostingOf, IsKeepingOf, IsLogOf, IsMisuseOf, IsPlayingOf, IsRacingOf, IsRead, IsRefusal, IsServingOf, IsShowingOf, StoreReads, asks_flag, asks_log};
 ghost use Rattle.commands.specs.declared.config.Config.{Config};
 ghost use Rattle.commands.specs.declared.kind.WorldKind.{WorldKind};
 ghost use Rattle.program_work.specs.declared.asked.Drawing.{Drawing};
@@ -221,6 +221,17 @@ fn holding_given(matches: &ArgMatches<'_>) -> Option<Holding>
     }
 }
 
+// Whether the options of `host` have the history store reads, where they say so.
+fn reads_given(matches: &ArgMatches<'_>) -> Option<bool>
+    ensures { MatchOption result ((stores : Bool) → StoreReads (rows_of (found_of matches.now)) stores → ⊥) (StoreReads (rows_of (found_of matches.now))) }
+{
+    match text_given(matches, "reads")? {
+        "logged" => Some(true),
+        "plain" => Some(false),
+        _ => None,
+    }
+}
+
 // What the options of `host` have the hall reached by, where they say so.
 fn endpoints_given<'a>(matches: &ArgMatches<'a>) -> Option<Endpoints<'a>>
     ensures { MatchOption result ((e : Endpoints) → AreEndpointsOf (rows_of (found_of matches.now)) e → ⊥) (AreEndpointsOf (rows_of (found_of matches.now))) }
@@ -243,9 +254,19 @@ fn host_given<'a>(matches: &ArgMatches<'a>) -> Option<Hosting<'a>>
     let clients = number_given(matches, "clients")?;
     let idle = number_given(matches, "idle")?;
     let holding = holding_given(matches)?;
+    let stores_reads = reads_given(matches)?;
     let keeping = keeping_given(matches)?;
     let verbose = flag_given(matches, "verbose");
-    Hosting::new(config, endpoints, clients, idle, holding, keeping, verbose)
+    Hosting::new(
+        config,
+        endpoints,
+        clients,
+        idle,
+        holding,
+        stores_reads,
+        keeping,
+        verbose,
+    )
 }
 
 // What a subcommand with these options asks for, where it asks for something.
@@ -291,6 +312,12 @@ fn why_nothing_in(world: WorldKind, options: &ArgMatches<'_>) -> &'static str {
     }
     if !mode_given(options).is_some_and(|mode| mode <= 0o777) {
         return "error: '--mode' wants octal digits, at most 777\n";
+    }
+    if holding_given(options).is_none() {
+        return "error: '--hold' wants forever or connection, and '--grace' goes with the latter alone\n";
+    }
+    if reads_given(options).is_none() {
+        return "error: '--reads' wants plain or logged\n";
     }
     if text_given(options, "journal").is_some() {
         return "error: '--journal' goes with none of '--etcd', '--prefix' and '--export'\n";

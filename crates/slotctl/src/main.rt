@@ -12,6 +12,7 @@ ghost use Rattle.std.specs.Prelude.{◌≡◌};
 
 mod race;
 
+use hall::Reads;
 use hall_host::{HostFailure, HostPlan, Keeping, LogPlan, export_hall, host_hall, write_holders};
 use listeners::{ListenPlan, SocketPlan};
 use locked_world::Opened;
@@ -156,6 +157,11 @@ fn host_plan_of<'a>(hosting: Hosting<'a>, seen: bool) -> HostPlan<'a> {
         grace: match hosting.holding {
             Holding::Forever => None,
             Holding::Connection(grace) => Some(grace),
+        },
+        reads: if hosting.stores_reads {
+            Reads::Logged
+        } else {
+            Reads::Plain
         },
         keeping: keeping_of(hosting.keeping),
         reports: hosting.verbose || seen,

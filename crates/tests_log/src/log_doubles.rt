@@ -96,6 +96,14 @@ impl Store for Lossy {
     fn get(&mut self, place: u64, entry: &mut Vec<u8>) -> Result<bool, StoreFault> {
         self.store.get(place, entry)
     }
+
+    fn hint(&mut self) -> Result<Option<u64>, StoreFault> {
+        self.store.hint()
+    }
+
+    fn put_hint(&mut self, place: u64) -> Result<(), StoreFault> {
+        self.store.put_hint(place)
+    }
 }
 
 /// Patience for so many tries.
@@ -188,6 +196,20 @@ impl Store for SharedLog<'_> {
     fn get(&mut self, place: u64, entry: &mut Vec<u8>) -> Result<bool, StoreFault> {
         match self.log.try_borrow_mut() {
             Ok(mut log) => log.get(place, entry),
+            Err(_) => Err(StoreFault::Lost),
+        }
+    }
+
+    fn hint(&mut self) -> Result<Option<u64>, StoreFault> {
+        match self.log.try_borrow_mut() {
+            Ok(mut log) => log.hint(),
+            Err(_) => Err(StoreFault::Lost),
+        }
+    }
+
+    fn put_hint(&mut self, place: u64) -> Result<(), StoreFault> {
+        match self.log.try_borrow_mut() {
+            Ok(mut log) => log.put_hint(place),
             Err(_) => Err(StoreFault::Lost),
         }
     }

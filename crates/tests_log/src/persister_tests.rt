@@ -3,6 +3,7 @@
 use crate::front_tests::{answers, config};
 use crate::log_doubles::{Lossy, Tries};
 use event_server::{Persist, Prefetch};
+use hall::Reads;
 use hall_log::{LogFault, LogPersister, Pause, ReplyQueue};
 use replicated_log::{MemoryStore, Store, StoreFault};
 use std::alloc::Global;
@@ -128,6 +129,73 @@ const TRANSCRIPTS: [Transcript; 3] = [
 fn front_ends_over_a_log_of_others(rt: HostRuntime) {
     for transcript in &TRANSCRIPTS {
         assert!(rt; goes(rt.alloc(), transcript), "{}", transcript.title);
+    }
+}
+
+/// What two other front ends have written: one whose reads are plain, and one whose reads are logged.
+const READERS: [&[u8]; 4] = [
+    FIRST,
+    OTHERS,
+    b"0123456789abcdef0123456789abcdef 1000000000000000 plain\nput 1 7\nget 1\nget 2\n",
+    b"0123456789abcdef0123456789abcdee 1000000000000000\nget 1\n",
+];
+
+/// Lines to a front end, and what it answers.
+type Said = (&'static [u8], Option<&'static [u8]>);
+
+const READ: [Said; 2] = [
+    (
+        b"get 1\nget 3\nput 1 8\nget 1\n",
+        Some(b"value 7\nrefused 8\nok\nvalue 8\n"),
+    ),
+    (b"get 1\nget 1\n", Some(b"value 8\nvalue 8\n")),
+];
+
+/// The reads of a front end alone are stored that says so, whoever reads the log.
+const READINGS: [(Reads, Transcript); 2] = [
+    (
+        Reads::Plain,
+        Transcript {
+            title: "plain reads are no events",
+            entries: &READERS,
+            every: 0,
+            most: 0,
+            reported: &READ,
+            then: (6, 5),
+        },
+    ),
+    (
+        Reads::Logged,
+        Transcript {
+            title: "logged reads are",
+            entries: &READERS,
+            every: 0,
+            most: 0,
+            reported: &READ,
+            then: (6, 9),
+        },
+    ),
+];
+
+// Whether a front end of these reads goes so.
+fn reads_so(alloc: Global, reads: Reads, transcript: &Transcript) -> bool {
+    match opened(alloc, transcript.entries, transcript.every, transcript.most) {
+        Ok(mut persister) => {
+            persister.choose_reads(reads);
+            goes_so(alloc, &mut persister, transcript)
+        }
+        Err(_) => false,
+    }
+}
+
+#[test]
+fn reads_over_a_log(rt: HostRuntime) {
+    for (reads, transcript) in &READINGS {
+        assert!(rt;
+            reads_so(rt.alloc(), *reads, transcript),
+            "{}",
+            transcript.title
+        );
     }
 }
 

@@ -141,6 +141,8 @@ impl Persist<Reported> for Teller {
 
     ghost waits = { λ k w l u. ⊤ };
 
+    ghost shares = { λ k. true };
+
     ghost holds = { λ k w. record { pool = record { size = 0; bits = record { first = tt; values = []; bits = [] }; competitors = [] }; values = [] } };
 
     fn put_held<B: Allocator>(&self, _service: &Reported, query: HeldQuery, out: &mut Replies<B>) {

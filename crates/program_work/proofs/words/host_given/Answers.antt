@@ -22,7 +22,10 @@ returns-in_err-holding c = unless_some c.from_residual-in_err-holding.result _ _
 pub returns-in_err-keeping : goal.returns-in_err-keeping
 returns-in_err-keeping c = unless_some c.from_residual-in_err-keeping.result _ _ c.from_residual-in_err-keeping.ensures (λ given h. c.in_err-keeping.ensures given.keeping h.keeping)
 
+pub returns-in_err-stores_reads : goal.returns-in_err-stores_reads
+returns-in_err-stores_reads c = unless_some c.from_residual-in_err-stores_reads.result _ _ c.from_residual-in_err-stores_reads.ensures (λ given h. c.in_err-stores_reads.ensures given.stores_reads h.reads)
+
 pub returns : goal.returns
 returns c =
-    hosted (rows_of (found_of c.args.matches.now)) c.in_ok-config.config c.in_ok-endpoints.endpoints c.in_ok-clients.clients c.in_ok-idle.idle c.in_ok-holding.holding c.in_ok-keeping.keeping c.flag_given-verbose.result c.new.result
-    c.in_ok-config.ensures c.in_ok-endpoints.ensures c.in_ok-clients.ensures c.in_ok-idle.ensures c.in_ok-holding.ensures c.in_ok-keeping.ensures c.flag_given-verbose.ensures c.new.ensures.sizes c.new.ensures.others c.new.ensures.range
+    hosted (rows_of (found_of c.args.matches.now)) c.in_ok-config.config c.in_ok-endpoints.endpoints c.in_ok-clients.clients c.in_ok-idle.idle c.in_ok-holding.holding c.in_ok-stores_reads.stores_reads c.in_ok-keeping.keeping c.flag_given-verbose.result c.new.result
+    c.in_ok-config.ensures c.in_ok-endpoints.ensures c.in_ok-clients.ensures c.in_ok-idle.ensures c.in_ok-holding.ensures c.in_ok-stores_reads.ensures c.in_ok-keeping.ensures c.flag_given-verbose.ensures c.new.ensures.sizes c.new.ensures.others c.new.ensures.range

@@ -1,8 +1,9 @@
 -- What was prefetched is the batch of these lines, behind a first line of its own.
 use Rattle.std.proofs.Common.{rules, ◌≡◌, ◌∙◌, ℕ, ap, sym}
-use Rattle.hall_log.specs.Batches.{batch_of, next_count}
-use Rattle.hall_log.specs.Entries.{behind_first_line}
-use Rattle.hall_log.proofs.Heads.{behind_batch}
+use Rattle.hall.specs.declared.reads.Reads.{Reads}
+use Rattle.hall_log.specs.Batches.{batch_by, next_count}
+use Rattle.hall_log.specs.Entries.{behind_first_line, reads_of}
+use Rattle.hall_log.proofs.Heads.{behind_batch, told_reads}
 use Rattle.hall_log.proofs.log_persister.LogPersisterPersistReplyQueue.prefetch.Goals as goal
 
 pub returns-clause-known : goal.returns-clause-known
@@ -11,14 +12,17 @@ returns-clause-known g c = λ known.
     let lines = c.args.lines.now in
     let count = c.serve_batch.new.self.count in
     let served = c.serve_batch.ensures.prefetched known in
-    let text : c.put_batch.new.batch.items ≡ batch_of token count lines = c.in-Ok.ensures ∙ ap (λ (n : ℕ). batch_of token n lines) (sym c.serve_batch.ensures.head.0) in
+    let reads = c.args.self.now.reads in
+    let text : c.put_batch.new.batch.items ≡ batch_by reads token count lines = c.in-Ok.ensures ∙ ap (λ (n : ℕ). batch_by reads token n lines) (sym c.serve_batch.ensures.head.0) in
+    let batch_is : served.prefetched.batch ≡ batch_by reads token count lines = served.batch_is ∙ text in
     record {
       prefetched = record {
         batch = served.prefetched.batch;
-        lines_are = served.prefetched.lines_are ∙ ap behind_first_line text ∙ behind_batch token count lines c.args.self.now.one_line;
+        lines_are = served.prefetched.lines_are ∙ ap behind_first_line text ∙ behind_batch reads token count lines c.args.self.now.one_line;
         due = served.prefetched.due;
         later = served.prefetched.later;
       };
-      batch_is = served.batch_is ∙ text;
+      batch_is = batch_is;
+      reads_are = ap reads_of batch_is ∙ told_reads reads token count lines (search rules);
       count_is = search rules;
     }
