@@ -2,6 +2,8 @@
 
 ghost use Rattle.std.specs.Prelude.{◌≡◌, ◌∷◌, [], true, false, Some};
 ghost use Rattle.stays.specs.Stays.Act.{Entered, Left};
+ghost use Rattle.commands.specs.Replies.{with_view};
+ghost use Rattle.commands.specs.Requests.Request.{Take};
 ghost use Rattle.event_server.specs.Attending.{AttendedMay, Hears, heard, keeps_by, gives_back, after_ending};
 ghost use Rattle.event_server.specs.Losing.{lost_act};
 ghost use Rattle.event_server.specs.AttendingProofs.{attended_answers};
@@ -137,6 +139,22 @@ impl<D> Attended<D> {
     }
 }
 
+// An event is applied, and what the reply says of stays is noted.
+#[inline(never)]
+fn apply_and_hear<R, D: Service<R>>(
+    attended: &mut Attended<D>,
+    rt: &R,
+    event: Event,
+    view: &mut View,
+) -> Reply<()>
+    requires { D.knows (Take event) ≡ true }
+    ensures { AttendedMay D.may attended.old (Take event) (with_view result view.new) attended.new }
+{
+    let reply = attended.service.apply(rt, event, view);
+    attended.hear(event, &reply);
+    reply
+}
+
 impl<R, D: Service<R>> Service<R> for Attended<D> {
     ghost knows = { D.knows };
 
@@ -144,10 +162,13 @@ impl<R, D: Service<R>> Service<R> for Attended<D> {
 
     ghost answers = { λ w q known. attended_answers D.may w q (D.answers w.service q known) };
 
+    // Where nothing is noted the reply goes on as it is. Each line of clients comes by here, so it is no call of its own.
+    #[inline(always)]
     fn apply(&mut self, rt: &R, event: Event, view: &mut View) -> Reply<()> {
-        let reply = self.service.apply(rt, event, view);
-        self.hear(event, &reply);
-        reply
+        if !self.keeps {
+            return self.service.apply(rt, event, view);
+        }
+        apply_and_hear(self, rt, event, view)
     }
 
     fn owner(&mut self, rt: &R, n: u64) -> Reply<View> {

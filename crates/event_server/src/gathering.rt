@@ -1,6 +1,6 @@
 //! One turn of the loop over a service that learns its answers before.
 
-ghost use Rattle.std.specs.Prelude.{◌≡◌, ◌⊎◌, ℕ, List, ◌++◌, ◌≤◌, true, [], get_or, take, None, IfOk, OnErr};
+ghost use Rattle.std.specs.Prelude.{◌≡◌, ◌⊎◌, ℕ, List, ◌++◌, ◌≤◌, true, false, [], get_or, take, None, IfOk, OnErr};
 ghost use Rattle.commands.specs.Requests.{Request};
 ghost use Rattle.command_lines.specs.Lines.{whole_lines, with_ends};
 ghost use Rattle.player.specs.Shared.{TurnLog};
@@ -39,7 +39,8 @@ pub struct Batch<A: Allocator> {
 impl<A: Allocator> Batch<A> {
     /// Nothing is reported yet, and so many bytes at most are at once.
     pub fn new(alloc: A, kind: WorldKind, most: usize) -> Batch<A>
-        ensures { result.lines.items ≡ [] }
+        ensures empty { (result.lines.items ≡ []) × (result.holds ≡ false) }
+        ensures limits { (result.kind ≡ kind) × (result.most ≡ most) }
     {
         Batch {
             kind,
@@ -170,6 +171,7 @@ fn take_peeked_at<R, D: Service<R>, S: Stream, A: Allocator, B: Allocator>(
             if let Stage::Queued = connection.stage {
                 service.listen_to(number);
                 connection.take_peeked(rt, service, shared);
+                shared.note_turn(connection.buffers.has_input());
             }
         }
     }

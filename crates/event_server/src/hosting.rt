@@ -109,6 +109,8 @@ struct Hosting {
     teller: Teller,
     /// Whether it was said that something is amiss with the persister.
     said_trouble: bool,
+    /// Of how many tenths of the history's room it was said that they are used up: 0, 5 or 9.
+    said_tenths: u8,
     /// Those who watch, where any may.
     watch: Option<Watch>,
 }
@@ -139,6 +141,7 @@ impl Drop for Hosting {
             looks: _,
             teller: _,
             said_trouble: _,
+            said_tenths: _,
             watch: _,
         } = self;
     }
@@ -271,6 +274,7 @@ impl Hosting {
             looks: false,
             teller: Teller::new(rt, alloc)?,
             said_trouble: false,
+            said_tenths: 0,
             watch,
         })
     }
@@ -296,6 +300,7 @@ impl Hosting {
         self.end_stays(rt, service, persister, shared)?;
         self.serve(rt, service, persister, shared)?;
         self.tell_trouble(persister.trouble(), errors);
+        self.tell_room(persister.lasting_tenths(), errors);
         self.tell_lost(errors);
         self.tell_numbers(&service.service, persister, errors);
         Ok(())
@@ -478,6 +483,9 @@ impl Hosting {
         let Called::Served(count) = called else {
             return Ok(());
         };
+        if !shared.waits {
+            return Ok(());
+        }
         let ConnectionTable {
             seats,
             numbers,
@@ -521,7 +529,7 @@ impl Hosting {
         }
     }
 
-    // Answers who asks who holds numbers, where any may.
+    // Answers who asks who holds numbers.
     fn answer<D, K: Persist<D>>(
         &mut self,
         service: &D,
@@ -532,12 +540,13 @@ impl Hosting {
         requires { AreShared shared.old }
         ensures { AreShared shared.new }
     {
+        if !shared.waits {
+            return;
+        }
         if let Called::Served(count) = called {
             let ConnectionTable { seats, ready, .. } = &mut self.connections;
             let few = count.min(ready.len());
-            if any_asks(seats, &ready[..few]) {
-                answer_queries(service, persister, shared, seats, &ready[..few]);
-            }
+            answer_queries(service, persister, shared, seats, &ready[..few]);
         }
     }
 
@@ -694,6 +703,24 @@ impl Hosting {
         }
     }
 
+    // Says once that half of the history's room is used up for good, and once that nine tenths are.
+    fn tell_room<E: Write>(&mut self, tenths: u8, errors: &mut E) {
+        let said = self.said_tenths;
+        if 9 <= tenths && said < 9 {
+            self.said_tenths = 9;
+            self.teller.tell(
+                b"slotctl: nine tenths of the history's room are used up, and no compaction gives them back\n",
+                errors,
+            );
+        } else if 5 <= tenths && said < 5 {
+            self.said_tenths = 5;
+            self.teller.tell(
+                b"slotctl: half of the history's room is used up, and no compaction gives it back\n",
+                errors,
+            );
+        }
+    }
+
     // Whether it is time to tell how much there is: at first and once a minute where that is wanted.
     fn is_report_due(&self) -> bool {
         self.options.reports && self.report <= self.tick
@@ -764,20 +791,6 @@ impl Hosting {
         put_line(format!(in self.alloc; "served {served}\n"), output)?;
         Ok(Hosted { served })
     }
-}
-
-// Whether the connection of any of these seats has something that waits, as a line that asks who holds numbers does.
-fn any_asks(seats: &[Option<Connection<Socket, Global>>], called: &[usize]) -> bool {
-    for key in called {
-        if *key < seats.len() {
-            if let Some(connection) = &seats[*key] {
-                if connection.buffers.has_input() {
-                    return true;
-                }
-            }
-        }
-    }
-    false
 }
 
 // Whether the connection of any of these seats takes a number.

@@ -1,7 +1,8 @@
 //! What is seen of a connection's lines before its turn takes them.
 
-ghost use Rattle.std.specs.Prelude.{◌≡◌, ◌++◌, ◌≤◌, List, ℕ, true, false, [], ◌∷◌, length, take, drop, IfOk, IsTrue};
+ghost use Rattle.std.specs.Prelude.{◌≡◌, ◌++◌, ◌≤◌, ◌-◌, ◌↔◌, List, ℕ, true, false, [], ◌∷◌, length, take, drop, IfOk, IsTrue};
 ghost use Rattle.command_lines.specs.Lines.{has_no_lf, unless_empty, with_ends};
+ghost use Rattle.event_server.specs.declared.peek.TheConstants.{REQUEST_ROOM};
 ghost use Rattle.event_server.specs.Reported.{requests, behind, requests_in, takes_any, HasPeeked};
 
 use crate::asking::is_own;
@@ -85,7 +86,8 @@ pub struct Limits {
 
 /// Whether there is room for one line more in a batch of so many bytes at most.
 pub fn has_room<B: Allocator>(most: usize, batch: &Vec<u8, B>) -> bool
-    ensures { batch.now.items ≡ [] → IsTrue result }
+    ensures first { batch.now.items ≡ [] → IsTrue result }
+    ensures room { IsTrue result ↔ (length batch.now.items ≤ most - REQUEST_ROOM) }
 {
     batch.len() <= most.saturating_sub(REQUEST_ROOM)
 }
@@ -192,7 +194,8 @@ impl Peek {
 
     /// Whatever waits is taken in the next turn, and asks for nothing, as it does once `quit` was answered.
     pub fn take_all(&mut self, bytes: &[u8])
-        ensures { (self.new.asks ≡ self.old.asks) × (self.new.long ≡ self.old.long) }
+        ensures same { (self.new.asks ≡ self.old.asks) × (self.new.long ≡ self.old.long) }
+        ensures taken { (self.new.bytes ≡ length bytes.now) × (self.new.ends ≡ self.old.at_end) × (self.new.more ≡ false) }
     {
         self.bytes = bytes.len();
         self.ends = self.at_end;

@@ -143,6 +143,9 @@ pub trait Persist<D> {
     /// What is amiss and does not end the server, for people; `None` where nothing is.
     fn trouble(&self) -> Option<&'static str>;
 
+    /// How many tenths of the history's room are used up by what no compaction makes fewer, for people; 0 where that is not known.
+    fn lasting_tenths(&self) -> u8;
+
     /// How much there is, for people. It takes time as there are numbers and names, which are few.
     fn tally(&self, service: &D) -> Tally;
 }

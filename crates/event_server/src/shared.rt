@@ -1,8 +1,8 @@
 //! What the connections of a loop share.
 
-ghost use Rattle.std.specs.Prelude.{◌≡◌, ◌≤◌, IfOk};
+ghost use Rattle.std.specs.Prelude.{◌≡◌, ◌≤◌, ◌||◌, IfOk, false};
 ghost use Rattle.event_server.specs.SharedBuffers.{AreShared};
-ghost use Rattle.event_server.specs.declared.shared.TheConstants.{READ_ROOM};
+ghost use Rattle.event_server.specs.declared.shared.TheConstants.{LEAST_READ, READ_ROOM};
 
 use player::Replies;
 use std::alloc::Allocator;
@@ -22,6 +22,8 @@ pub struct SharedBuffers<A: Allocator> {
     pub replies: Replies<A>,
     /// How many bytes of the chunk a read may fill.
     pub share: usize,
+    /// Whether a connection that had its turn since `share_among` left something to wait, as a line that asks who holds numbers or takes one.
+    pub waits: bool,
 }
 
 impl<A: Allocator + Clone> SharedBuffers<A> {
@@ -41,21 +43,34 @@ impl<A: Allocator + Clone> SharedBuffers<A> {
             chunk,
             replies,
             share: READ_ROOM,
+            waits: false,
         })
     }
 }
 
 impl<A: Allocator> SharedBuffers<A> {
     /// The chunk is divided among so many connections, so that each waits for no more than a chunk of the others; each has 1 KiB at least.
+    /// None of them has left anything to wait yet.
     pub fn share_among(&mut self, connections: usize)
-        ensures { (self.new.chunk ≡ self.old.chunk) × (self.new.replies ≡ self.old.replies) }
+        ensures same { (self.new.chunk ≡ self.old.chunk) × (self.new.replies ≡ self.old.replies) }
+        ensures least { LEAST_READ ≤ self.new.share }
+        ensures none { self.new.waits ≡ false }
     {
         self.share = LEAST_READ.max(READ_ROOM / connections.max(1));
+        self.waits = false;
+    }
+
+    /// A connection had its turn, and left something to wait or not.
+    pub fn note_turn(&mut self, leaves: bool)
+        ensures { self.new ≡ record self.old { waits = self.old.waits || leaves } }
+    {
+        self.waits = self.waits || leaves;
     }
 
     /// How many bytes one read may give.
     pub fn most(&self) -> usize
-        ensures { (1 ≤ result) × (result ≤ READ_ROOM) }
+        ensures room { (1 ≤ result) × (result ≤ READ_ROOM) }
+        ensures least { LEAST_READ ≤ self.now.share → LEAST_READ ≤ result }
     {
         self.share.max(1).min(READ_ROOM)
     }

@@ -47,6 +47,7 @@ fn take_at<R, D: Service<R>, S: Stream, A: Allocator, B: Allocator>(
             if let Stage::Queued = connection.stage {
                 service.listen_to(number);
                 connection.take(rt, service, shared);
+                shared.note_turn(connection.buffers.has_input());
             }
         }
     }

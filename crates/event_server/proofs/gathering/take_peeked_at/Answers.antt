@@ -3,6 +3,7 @@ use Rattle.std.proofs.lemmas.List.{set-get_or, get_or_past}
 use Rattle.std.proofs.Common.{◌≡◌, ◌∙◌, inr, Some, None, sym, inl, refl, subst, set, ap, get_or}
 use Rattle.event_server.proofs.Common.{get_or_default, get_or-set_same, get_or-set_other, SeatIs, seats_of}
 use Rattle.event_server.specs.declared.connection.Stage.TheVariants as stage
+use Rattle.event_server.specs.SharedBuffers.{AreShared}
 use Rattle.event_server.proofs.ReportedLemmas.{seat_turn_peeked}
 use Rattle.event_server.proofs.AttendedLemmas.{runs_listened}
 use Rattle.event_server.proofs.gathering.take_peeked_at.Goals as goal
@@ -38,7 +39,7 @@ pub take_peeked-requires : goal.take_peeked-requires
 take_peeked-requires g c = record { knows = c.requires.knows; room = c.requires.room }
 
 pub returns-in-Queued-clause-room : goal.returns-in-Queued-clause-room
-returns-in-Queued-clause-room g c = c.take_peeked.ensures.room
+returns-in-Queued-clause-room g c = subst (λ s. AreShared s) (sym c.note_turn.ensures) c.take_peeked.ensures.room
 
 pub returns-else-key-seats : goal.returns-else-key-seats
 returns-else-key-seats g c = record {

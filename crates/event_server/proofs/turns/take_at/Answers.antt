@@ -3,6 +3,7 @@ use Rattle.std.proofs.lemmas.List.{set-get_or, get_or_past}
 use Rattle.std.proofs.Common.{◌≡◌, ◌∙◌, inr, Some, None, sym, inl, refl, subst, set, ap, get_or}
 use Rattle.event_server.proofs.Common.{get_or_default, get_or-set_same, get_or-set_other, SeatIs, seats_of}
 use Rattle.event_server.specs.declared.connection.Stage.TheVariants as stage
+use Rattle.event_server.specs.SharedBuffers.{AreShared}
 use Rattle.event_server.proofs.SeatLemmas.{seat_took}
 use Rattle.event_server.specs.ConnectionBuffers.{HasTakenAll}
 use Rattle.event_server.proofs.AttendedLemmas.{runs_listened}
@@ -42,7 +43,7 @@ pub take-requires : goal.take-requires
 take-requires g c = record { knows = c.requires.knows; room = c.requires.room }
 
 pub returns-in-Queued-clause-room : goal.returns-in-Queued-clause-room
-returns-in-Queued-clause-room g c = c.take.ensures.room
+returns-in-Queued-clause-room g c = subst (λ s. AreShared s) (sym c.note_turn.ensures) c.take.ensures.room
 
 pub returns-else-key-seats : goal.returns-else-key-seats
 returns-else-key-seats g c = record {
