@@ -125,6 +125,11 @@ impl Persist<Reading<Hall>> for Unrecorded {
         None
     }
 
+    // Nobody counts it here: a metric tells how much room is left.
+    fn lasting_tenths(&self) -> u8 {
+        0
+    }
+
     fn tally(&self, reading: &Reading<Hall>) -> Tally {
         Tally {
             compactions: Some(self.compactions),
@@ -259,6 +264,11 @@ impl<D: Disk> Persist<Reading<WriteAhead>> for Recorded<D> {
         } else {
             None
         }
+    }
+
+    // Nobody counts it here: a metric tells how much room is left.
+    fn lasting_tenths(&self) -> u8 {
+        0
     }
 
     fn tally(&self, reading: &Reading<WriteAhead>) -> Tally {

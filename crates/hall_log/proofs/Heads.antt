@@ -59,7 +59,7 @@ abbrev number_of : List ℕ → ℕ
 number_of [] = 0
 number_of (d ∷ ds) = digit_value d + 16 * number_of ds
 
-abbrev sixteens : ℕ → ℕ
+abbrev pub sixteens : ℕ → ℕ
 sixteens zero = 1
 sixteens (suc k) = 16 * sixteens k
 
@@ -81,7 +81,7 @@ digits_back (suc k) n less =
     let rest = digits_back k (n / 16) part in
     omega (arith, low, rest)
 
-digits_many : (k n : ℕ) → length (hex_digits k n) ≡ k
+pub digits_many : (k n : ℕ) → length (hex_digits k n) ≡ k
 digits_many zero n = refl
 digits_many (suc k) n = ap suc (digits_many k (n / 16))
 
@@ -95,7 +95,7 @@ fronts (x ∷ xs) (u ∷ us) ys vs long e =
     let rest = fronts xs us ys vs (omega (arith, long)) (cc e) in
     (ap (λ (z : ℕ). z ∷ xs) first ∙ ap (λ (zs : List ℕ). u ∷ zs) rest.0, rest.1)
 
-head_long : (token : List ℕ) (count : ℕ) → length (head_of token count) ≡ length token + 17
+pub head_long : (token : List ℕ) (count : ℕ) → length (head_of token count) ≡ length token + 17
 head_long token count = let a = length-append token (32 ∷ hex_digits 16 count) in let b = digits_many 16 count in omega (arith, a, b)
 
 -- what stands behind the count tells of the reads, and ends there
@@ -117,7 +117,7 @@ same_batch reads kind token other c d lines more long first second e =
     (told.0, heads.0, sym (digits_back 16 c first) ∙ (ap number_of digits ∙ digits_back 16 d second), told.1)
 
 -- the byte at a place behind the first bytes of a list
-byte_behind : (xs ys : List ℕ) (n : ℕ) → slice_get (xs ++ ys) (length xs + n) ≡ slice_get ys n
+pub byte_behind : (xs ys : List ℕ) (n : ℕ) → slice_get (xs ++ ys) (length xs + n) ≡ slice_get ys n
 byte_behind [] ys n = ap (slice_get ys) (omega arith)
 byte_behind (x ∷ xs) ys n =
     let same : length (x ∷ xs) + n ≡ suc (length xs + n) = omega arith in

@@ -5,5 +5,10 @@ mod ReplyQueues
 mod Agrees
 mod Notes
 mod Keepers
+mod Starts
+mod Uncompacted
+mod Told
 mod Silences
 mod Releasing
+mod Moves
+mod Refusals

@@ -1,5 +1,5 @@
 -- a turn over a queue of replies is one over the hall whose answers it says
-use Rattle.std.proofs.Common.{◌≡◌, ℕ, true, false, List, [], ◌∷◌, ◌++◌, Option, inl, inr, sym, ap, subst, ◌∙◌, arith}
+use Rattle.std.proofs.Common.{◌≡◌, ℕ, Bool, true, false, refl, List, [], ◌∷◌, ◌++◌, Option, inl, inr, sym, ap, subst, ◌∙◌, arith}
 use Rattle.hall_log.proofs.Common.{append-nil, Config, ShownReply, Request, Take, OwnerOf, Runs, Turn, Answered, Reported, Ended, Misread, HallState, HallApplies, ReplyQueueReplies, said, ReplyQueueState}
 use Rattle.replicated_log.specs.ReplicaState.{ReplicaState}
 use Rattle.player.specs.Shared.{all_turns}
@@ -7,6 +7,9 @@ use Rattle.event_server.specs.Seats.{LoopIteration, Seating}
 use Rattle.hall.specs.Reading.{Serves}
 use Rattle.hall_log.specs.Entries.{reads_of}
 use Rattle.hall_log.specs.Hosted.{IsHostedOverLog, IsPrefetched, IsUsedUp}
+use Rattle.hall_log.specs.Stays.{AppliesBy, TakesIfKnown, TakesLines}
+use Rattle.hall_log.specs.StayState.{StayState}
+use Rattle.hall_log.specs.declared.marks.Mark.{Mark}
 
 -- what was said again, by a queue of replies that is not poisoned
 reply_queue_said : (w u : ReplyQueueState) (q : Request) (r : ShownReply) → ReplyQueueReplies w q r u → u.poisoned ≡ false → (w.poisoned ≡ false) × (w.left ≡ (q, r) ∷ u.left)
@@ -50,12 +53,20 @@ module _ {T : Type 0} (may : T → Request → ShownReply → T → Type 0) wher
   pub same_said : (w u : T) (ts us : List Turn) → said ts ≡ said us → Runs may w ts u → Runs may w us u
   same_said w u ts us same run = from_said w u us (subst (λ (xs : List (Request × ShownReply)). RunsSaid may w xs u) same (to_said w u ts run))
 
-pub hosted : {C K : Type 0} (on : Seating C) (stands : ℕ → List ℕ → Type 0) (config : Config) (place : ℕ) (lines : List ℕ) (reply_queue u : ReplyQueueState) (r : ReplicaState HallState)
-    (k l : K) (seats after : List (Option C)) → IsPrefetched stands config place lines reply_queue r → (t : LoopIteration on ReplyQueueReplies IsUsedUp k reply_queue seats l u after) →
-    IsHostedOverLog on stands config t.log place lines r seats after
-hosted on stands config place lines reply_queue u r k l seats after prefetched t =
+-- lines were answered where all is known, if it is still
+known_before : (blind : Bool) (w : StayState) (entry : List ℕ) (reply_queue : ReplyQueueState) (u : StayState) → w.blind ≡ blind → TakesIfKnown blind w entry reply_queue u → u.blind ≡ false → (w.blind ≡ false) × TakesLines w entry reply_queue u
+known_before false w entry reply_queue u is takes known = (is, takes)
+known_before true w entry reply_queue u is gone known = absurd (let no_way : true ≡ false = sym is ∙ (sym (ap (λ (s : StayState). s.blind) gone.state) ∙ known) in cc)
+
+pub hosted : {C K : Type 0} (on : Seating C) (stands : ℕ → List ℕ → Type 0) (config : Config) (from place : ℕ) (lines : List ℕ) (reply_queue u : ReplyQueueState) (r : ReplicaState StayState)
+    (k l : K) (seats after : List (Option C)) → IsPrefetched stands config from place lines reply_queue r → (t : LoopIteration on ReplyQueueReplies IsUsedUp k reply_queue seats l u after) →
+    IsHostedOverLog on stands config t.log from place lines r seats after
+hosted on stands config from place lines reply_queue u r k l seats after prefetched t =
     let due = prefetched.due in
-    let entry : HallApplies due.was prefetched.batch reply_queue r.machine = due.due in
+    let by_mark : TakesIfKnown due.was.blind due.was prefetched.batch reply_queue r.machine =
+    subst (λ (m : Mark). AppliesBy m due.was prefetched.batch reply_queue r.machine) prefetched.ordinary due.due in
+    let known = known_before due.was.blind due.was prefetched.batch reply_queue r.machine refl by_mark prefetched.known in
+    let entry : HallApplies due.was.hall prefetched.batch reply_queue r.machine.hall = known.1.hall in
     let again = reply_queue_ran reply_queue t.reported (all_turns t.log) t.taken.run t.kept.well in
     let all : reply_queue.left ≡ said (all_turns t.log) = again.1 ∙ (ap (λ l. said (all_turns t.log) ++ l) t.kept.all ∙ append-nil (said (all_turns t.log))) in
     let same : said entry.turns ≡ said (all_turns t.log) = ap (λ (w : ReplyQueueState). w.left) (sym entry.reply_queue_is) ∙ all in
@@ -66,8 +77,9 @@ hosted on stands config place lines reply_queue u r k l seats after prefetched t
       stood = due.stood;
       was = due.was;
       led = due.led;
+      known = known.0;
       later = (let n = due.count in let p = prefetched.later in omega (arith, n, p));
       between = t.between;
-      taken = record { run = same_said (Serves (reads_of prefetched.batch)) due.was r.machine entry.turns (all_turns t.log) same entry.run; each = t.taken.each; many = t.taken.many };
+      taken = record { run = same_said (Serves (reads_of prefetched.batch)) due.was.hall r.machine.hall entry.turns (all_turns t.log) same entry.run; each = t.taken.each; many = t.taken.many };
       sent = t.sent;
     }

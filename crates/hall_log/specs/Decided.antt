@@ -2,12 +2,12 @@
 use Rattle.std.specs.Prelude.{◌≡◌, ◌+◌, ◌-◌, ◌^◌, ℕ, min, List, map, take}
 use Rattle.commands.specs.declared.config.Config.{Config}
 use Rattle.replicated_log.specs.Places.{Adds, Same}
-use Rattle.replicated_log.specs.Replicas.{HasApplied}
+use Rattle.replicated_log.specs.Replicas.{HasAppliedFrom}
 use Rattle.replicated_log.specs.ReplicaState.{ReplicaState}
 use Rattle.hall_log.specs.Batches.{batch_of}
 use Rattle.hall_log.specs.Hosted.{IsAtEnd}
 use Rattle.hall_log.specs.Releases.{lines_of}
-use Rattle.hall_log.specs.Stays.{StayApplies, stays_of}
+use Rattle.hall_log.specs.Stays.{StayApplies, start_of}
 use Rattle.hall_log.specs.StayState.{StayState}
 use Rattle.hall_log.specs.Watched.{due_of, watched}
 use Rattle.hall_log.specs.declared.kept_stay.KeptStay.{KeptStay}
@@ -22,9 +22,11 @@ next_read n = min (n + 1) (2 ^ 64 - 1)
 abbrev pub ended_of : List ℕ → List ℕ → ℕ → ℕ → List Watch → List KeptStay → List ℕ
 ended_of token left grace tick watches kept = take 16 (due_of token left (grace + 20) tick (map (watched tick watches) kept))
 
--- a replica has applied all entries of the log, in order, from a hall of the config with no event: a store told that none stands behind them
+-- A replica has applied all entries of the log, in order, from a hall of the config with no event, or from a later place on: a store told that
+-- none stands behind them
 pub record HasRead {S : Type 0} (lacks : S → ℕ → Type 0) (stood : ℕ → List ℕ → Type 0) (config : Config) (r : ReplicaState StayState) : Type 0 where
-  pub applied : HasApplied StayApplies stood (stays_of config) r
+  pub from : ℕ
+  pub applied : HasAppliedFrom StayApplies stood from (start_of config from) r
   pub end : S
   pub at_end : IsAtEnd (lacks end) r.place
 

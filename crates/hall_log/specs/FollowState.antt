@@ -1,12 +1,15 @@
 -- what contracts see of a hall that follows a log
+use Rattle.std.specs.Prelude.{ℕ}
 use Rattle.commands.specs.declared.config.Config.{Config}
 use Rattle.replicated_log.specs.ReplicaState.{ReplicaState}
 use Rattle.hall.specs.HallState.{HallState}
 use Rattle.hall_log.specs.StayState.{StayState}
 
--- the replica of the hall, the same with who keeps its stays, the store of the log, and what the hall was opened for
+-- the replica of the hall, the same with who keeps its stays, the store of the log, what the hall was opened for, and the place from which on
+-- entries were applied
 pub record FollowState (S : Type 0) : Type 0 where
   pub replica : ReplicaState HallState
   pub stays : ReplicaState StayState
   pub store : S
   pub config : Config
+  pub from : ℕ

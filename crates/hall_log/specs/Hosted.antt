@@ -1,43 +1,50 @@
 -- a turn of the loop over a queue of replies that was prefetched of a log
-use Rattle.std.specs.Prelude.{◌≡◌, ◌≤◌, ◌<◌, ◌⊎◌, ℕ, List, [], ◌∷◌, ◌++◌, length, false, Option}
+use Rattle.std.specs.Prelude.{◌≡◌, ◌+◌, ◌≤◌, ◌<◌, ◌⊎◌, ℕ, List, [], ◌∷◌, ◌++◌, length, false, Option}
 use Rattle.commands.specs.declared.config.Config.{Config}
 use Rattle.replicated_log.specs.Places.{Keeps}
-use Rattle.replicated_log.specs.Replicas.{IsDueAt, Leads, StandsFrom}
+use Rattle.replicated_log.specs.Replicas.{IsDueFrom, Leads, StandsFrom}
 use Rattle.replicated_log.specs.ReplicaState.{ReplicaState}
 use Rattle.replicated_log.specs.declared.store.TheConstants.{MOST_PLACES}
 use Rattle.player.specs.Shared.{TurnLog}
 use Rattle.hall.specs.HallState.{HallState}
-use Rattle.hall.specs.Halls.{hall_of}
 use Rattle.hall.specs.Reading.{Serves}
 use Rattle.hall.specs.declared.reads.Reads.{Reads}
 use Rattle.event_server.specs.Seats.{RepliesSent, Seating, TurnsTaken}
 use Rattle.hall_log.specs.Batches.{batch_by, next_count}
-use Rattle.hall_log.specs.Entries.{HallApplies, behind_first_line, reads_of}
+use Rattle.hall_log.specs.Entries.{behind_first_line, reads_of}
+use Rattle.hall_log.specs.FollowState.{FollowState}
+use Rattle.hall_log.specs.Marks.{mark_of}
 use Rattle.hall_log.specs.Said.{reply_queue_of}
 use Rattle.hall_log.specs.ReplyQueueState.{ReplyQueueState}
+use Rattle.hall_log.specs.Stays.{StayApplies, start_of}
+use Rattle.hall_log.specs.StayState.{StayState}
+use Rattle.hall_log.specs.declared.marks.Mark.TheVariants.{Ordinary}
 
 -- nothing stands at the place behind all that was applied, as a store tells, or there is none
 abbrev pub IsAtEnd : (ℕ → Type 0) → ℕ → Type 0
 IsAtEnd lacks place = (MOST_PLACES ≤ place) ⊎ lacks place
 
 -- Where entries stand so in a log: the answers to these lines are on the queue of replies, as they are due at the place of an entry of just them, to a
--- hall to which all entries before it were applied and nothing else. It stands behind all that had been applied before, up to this place
-pub record IsPrefetched (stands : ℕ → List ℕ → Type 0) (config : Config) (place : ℕ) (lines : List ℕ) (reply_queue : ReplyQueueState) (r : ReplicaState HallState) : Type 0 where
+-- hall to which all entries before it were applied and nothing else, from the first or from a later place on. It stands behind all that had been
+-- applied before, up to this place. All is known of the hall there
+pub record IsPrefetched (stands : ℕ → List ℕ → Type 0) (config : Config) (from place : ℕ) (lines : List ℕ) (reply_queue : ReplyQueueState) (r : ReplicaState StayState) : Type 0 where
   pub batch : List ℕ
   pub lines_are : behind_first_line batch ≡ lines
-  pub due : IsDueAt HallApplies stands (hall_of config []) batch reply_queue r
+  pub ordinary : mark_of batch ≡ Ordinary
+  pub due : IsDueFrom StayApplies stands from (start_of config from) batch reply_queue r
   pub later : place < r.place
+  pub known : r.machine.blind ≡ false
 
 -- the same, of just this batch
-pub record IsServed (stands : ℕ → List ℕ → Type 0) (config : Config) (place : ℕ) (batch : List ℕ) (reply_queue : ReplyQueueState) (r : ReplicaState HallState) : Type 0 where
-  pub prefetched : IsPrefetched stands config place (behind_first_line batch) reply_queue r
+pub record IsServed (stands : ℕ → List ℕ → Type 0) (config : Config) (from place : ℕ) (batch : List ℕ) (reply_queue : ReplyQueueState) (r : ReplicaState StayState) : Type 0 where
+  pub prefetched : IsPrefetched stands config from place (behind_first_line batch) reply_queue r
   pub batch_is : prefetched.batch ≡ batch
 
 -- the same, of a batch of these lines, whose first line has the token of its front end, the count behind that of the batch before, and whether its
 -- reads are plain
-pub record IsPrefetchedBy (stands : ℕ → List ℕ → Type 0) (config : Config) (place : ℕ) (reads : Reads) (token : List ℕ) (count count' : ℕ) (lines : List ℕ)
-    (reply_queue : ReplyQueueState) (r : ReplicaState HallState) : Type 0 where
-  pub prefetched : IsPrefetched stands config place lines reply_queue r
+pub record IsPrefetchedBy (stands : ℕ → List ℕ → Type 0) (config : Config) (from place : ℕ) (reads : Reads) (token : List ℕ) (count count' : ℕ) (lines : List ℕ)
+    (reply_queue : ReplyQueueState) (r : ReplicaState StayState) : Type 0 where
+  pub prefetched : IsPrefetched stands config from place lines reply_queue r
   pub batch_is : prefetched.batch ≡ batch_by reads token count' lines
   pub reads_are : reads_of prefetched.batch ≡ reads
   pub count_is : count' ≡ next_count count
@@ -51,6 +58,13 @@ pub record HasGoneOn (stood stands : ℕ → List ℕ → Type 0) (config config
   pub later : r'.poisoned ≡ false → (r.poisoned ≡ false) × (r.place ≤ r'.place)
   pub unreported : reply_queue ≡ reply_queue_of []
 
+-- all that stood in a log stands, and a hall that follows it is of the same config, started where it did, and is no earlier
+pub record HasMovedOn {S : Type 0} (stands : S → ℕ → List ℕ → Type 0) (old new : FollowState S) : Type 0 where
+  pub keeps : Keeps (stands old.store) (stands new.store)
+  pub config : new.config ≡ old.config
+  pub from : new.from ≡ old.from
+  pub later : new.replica.poisoned ≡ false → (old.replica.poisoned ≡ false) × (old.replica.place ≤ new.replica.place)
+
 -- all that was on the queue of replies was said again, to just those who asked for it, and persister and queue of replies are as they were
 pub record IsUsedUp {K : Type 0} (k : K) (w : ReplyQueueState) (l : K) (u : ReplyQueueState) : Type 0 where
   pub all : w.left ≡ []
@@ -59,18 +73,19 @@ pub record IsUsedUp {K : Type 0} (k : K) (w : ReplyQueueState) (l : K) (u : Repl
   pub reply_queue_is : u ≡ w
 
 -- A turn of the loop is over the hall of a log: behind entries that all stand in the log an entry of just these lines stands, at a later
--- place than had been applied before the turn. From the hall to which just those entries were applied, in order, all turns of all
--- connections, in the one order of the turn's log, are a run of the hall to where that entry leads it, which stores reads or not as the entry says;
--- each connection takes its own lines and waits for the replies to them, and some of what waits is sent
-pub record IsHostedOverLog {C : Type 0} (on : Seating C) (stands : ℕ → List ℕ → Type 0) (config : Config) (log : TurnLog) (place : ℕ) (lines : List ℕ)
-    (r : ReplicaState HallState) (seats seats' : List (Option C)) : Type 0 where
+-- place than had been applied before the turn. From the hall to which just those entries were applied, in order, of which all is known there, all
+-- turns of all connections, in the one order of the turn's log, are a run of the hall to where that entry leads it, which stores reads or not as the
+-- entry says; each connection takes its own lines and waits for the replies to them, and some of what waits is sent
+pub record IsHostedOverLog {C : Type 0} (on : Seating C) (stands : ℕ → List ℕ → Type 0) (config : Config) (log : TurnLog) (from place : ℕ) (lines : List ℕ)
+    (r : ReplicaState StayState) (seats seats' : List (Option C)) : Type 0 where
   pub batch : List ℕ
   pub lines_are : behind_first_line batch ≡ lines
   pub before : List (List ℕ)
-  pub stood : StandsFrom stands 0 (before ++ batch ∷ [])
-  pub was : HallState
-  pub led : Leads HallApplies (hall_of config []) before was
-  pub later : place ≤ length before
+  pub stood : StandsFrom stands from (before ++ batch ∷ [])
+  pub was : StayState
+  pub led : Leads StayApplies (start_of config from) before was
+  pub known : was.blind ≡ false
+  pub later : place ≤ from + length before
   pub between : List (Option C)
-  pub taken : TurnsTaken on (Serves (reads_of batch)) was seats log r.machine between
+  pub taken : TurnsTaken on (Serves (reads_of batch)) was.hall seats log r.machine.hall between
   pub sent : RepliesSent on between seats'

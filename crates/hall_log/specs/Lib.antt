@@ -8,7 +8,10 @@ pub mod Hosted
 pub mod FollowState
 pub mod Batches
 pub mod Kept
+pub mod Marks
 pub mod StayState
+pub mod Desks
+pub mod Tellings
 pub mod Stays
 pub mod Watched
 pub mod Releases

@@ -1,6 +1,6 @@
 //! Who keeps a stay in the pool, as a log tells.
 
-ghost use Rattle.std.specs.Prelude.{◌≡◌, ℕ, List};
+ghost use Rattle.std.specs.Prelude.{◌≡◌, ℕ, List, true};
 ghost use Rattle.commands.specs.Replies.{with_view};
 ghost use Rattle.hall_log.specs.Kept.{enters, heard, leaves, token_of};
 
@@ -41,6 +41,34 @@ pub(crate) fn token_of(entry: &[u8]) -> [u8; 32]
         token.copy_from_slice(&entry[..TOKEN]);
     }
     token
+}
+
+// Returns true only if two stays are the same.
+fn is_same(stay: &KeptStay, other: &KeptStay) -> bool
+    ensures { result ≡ true → stay.now ≡ other.now }
+{
+    if stay.token != other.token {
+        return false;
+    }
+    if stay.identity != other.identity {
+        return false;
+    }
+    stay.last == other.last
+}
+
+/// Returns true only if two lists of stays are the same.
+pub(crate) fn are_same(kept: &[KeptStay], other: &[KeptStay]) -> bool
+    ensures { result ≡ true → kept.now ≡ other.now }
+{
+    if kept.len() != other.len() {
+        return false;
+    }
+    for (i, stay) in kept.iter().enumerate() {
+        if !is_same(stay, &other[i]) {
+            return false;
+        }
+    }
+    true
 }
 
 /// Returns true if and only if the reply to `enter` says that the identity competes.

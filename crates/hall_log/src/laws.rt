@@ -4,19 +4,25 @@ ghost use Rattle.std.specs.Prelude.{◌≡◌, ◌<◌, ◌^◌, ℕ, List, [], 
 ghost use Rattle.commands.specs.declared.config.Config.{Config};
 ghost use Rattle.replicated_log.specs.Groups.{IsDetermined};
 ghost use Rattle.replicated_log.specs.Places.{stands_in};
-ghost use Rattle.replicated_log.specs.Replicas.{IsReplica};
+ghost use Rattle.replicated_log.specs.Replicas.{IsReplica, IsReplicaFrom, Leads};
 ghost use Rattle.replicated_log.specs.ReplicaState.{ReplicaState};
 ghost use Rattle.hall.specs.HallState.{HallState};
 ghost use Rattle.hall.specs.Halls.{hall_of};
 ghost use Rattle.event_server.specs.Seats.{LoopIteration, Seating};
 ghost use Rattle.hall_log.specs.Batches.{batch_by};
+ghost use Rattle.hall_log.specs.Desks.{ByDesk, HasItsDesk, lines_in};
 ghost use Rattle.hall_log.specs.Entries.{HallApplies, reads_of};
 ghost use Rattle.hall_log.specs.Hosted.{IsHostedOverLog, IsPrefetched, IsUsedUp};
+ghost use Rattle.hall_log.specs.Marks.{mark_of};
 ghost use Rattle.hall_log.specs.Said.{ReplyQueueReplies};
 ghost use Rattle.hall_log.specs.ReplyQueueState.{ReplyQueueState};
-ghost use Rattle.hall_log.specs.Stays.{StayApplies, stays_of};
+ghost use Rattle.hall_log.specs.Stays.{StayApplies, start_of, stays_of};
 ghost use Rattle.hall_log.specs.StayState.{StayState};
 ghost use Rattle.hall_log.specs.Silence.{IsAmong, Look, WasSo, after_looks};
+ghost use Rattle.hall_log.specs.Tellings.{AreStays, IsReadBack};
+ghost use Rattle.hall_log.specs.declared.gathering.Gathering.{Gathering};
+ghost use Rattle.hall_log.specs.declared.kept_stay.KeptStay.{KeptStay};
+ghost use Rattle.hall_log.specs.declared.marks.Mark.TheVariants.{Ordinary};
 ghost use Rattle.hall_log.specs.declared.watches.Watch.{Watch};
 
 use crate::machine::HallMachine;
@@ -46,6 +52,40 @@ pub fn law_of_keepers()
     law_of_agreement::<StayMachine>();
 }
 
+/// A law, which runs nothing, of compactions in a log. A history is full at 1,000,000 events.
+///
+/// - `each`: where all is known of a hall, lines of commands are answered by it. An entry of a compaction says nothing, and
+///   the desk is the same behind it, with the same events of renaming, the same stays and no less room.
+/// - `all`: a hall that a log led has the desk and the stays of one that passed over all entries of compactions, as long as
+///   that is not full.
+/// - `replies`: then it also answers the next lines as that one.
+pub fn law_of_compactions()
+    ensures each { (w u : StayState) (entry : List ℕ) (reply_queue : ReplyQueueState) → w.blind ≡ false → StayApplies w entry reply_queue u →
+        ByDesk (mark_of entry) w entry reply_queue u }
+    ensures all { (config : Config) (log : List (List ℕ)) (u v : StayState) → Leads StayApplies (stays_of config) log u →
+        Leads StayApplies (stays_of config) (lines_in log) v → length v.hall.history < 1000000 → HasItsDesk v u }
+    ensures replies { (config : Config) (log : List (List ℕ)) (u v after beside : StayState) (entry : List ℕ) (said other : ReplyQueueState) →
+        Leads StayApplies (stays_of config) log u → Leads StayApplies (stays_of config) (lines_in log) v → mark_of entry ≡ Ordinary →
+        StayApplies u entry said after → StayApplies v entry other beside → length beside.hall.history < 1000000 → said ≡ other }
+{}
+
+/// A law, which runs nothing: the entries of a compaction that a front end offers (`Tellings.antt`) are read as what they
+/// tell, each right behind the one that it names, and so who keeps each stay.
+pub fn law_of_tellings()
+    ensures { (token : List ℕ) (count : ℕ) (part : Gathering) (lines : List ℕ) (entries : ℕ) (kept : List KeptStay) → length token ≡ 32 →
+        length part.head ≡ 49 → entries < 2 ^ 64 → length kept < 2 ^ 64 → AreStays kept → IsReadBack token count part lines entries kept }
+{}
+
+/// A law, which runs nothing: a front end that starts at a later place of a log than the first has the hall of one that
+/// applied all of it, with the same history and the same stays, as soon as it has read a compaction whole.
+pub fn law_of_starts()
+    ensures { (config : Config) (log : List (List ℕ)) (from : ℕ) (a b : ReplicaState StayState) →
+        IsReplica StayApplies (stands_in log) (stays_of config) a → IsReplicaFrom StayApplies (stands_in log) from (start_of config from) b →
+        a.poisoned ≡ false → b.poisoned ≡ false → a.place ≡ b.place → b.machine.blind ≡ false → a.machine ≡ b.machine }
+{
+    law_of_agreement::<StayMachine>();
+}
+
 /// A law, which runs nothing: where a watch is what looks at the log came to, one after another, the log told the same of its stay at each look from its tick on.
 pub fn law_of_silence()
     ensures { (looks : List Look) (w : Watch) → IsAmong w (after_looks looks) → WasSo w looks }
@@ -54,11 +94,11 @@ pub fn law_of_silence()
 /// A law, which runs nothing, of what a turn of the loop (`event_server::iterate`) is over a queue of replies that was prefetched of a log and was used up: it is a
 /// turn over the hall of the log, at the place of an entry of just its lines.
 pub fn law_of_log_hosting<C, K, S: Store>()
-    ensures { (on : Seating C) (s : S) (config : Config) (place : ℕ) (lines : List ℕ) (reply_queue u : ReplyQueueState) (r : ReplicaState HallState)
-        (k l : K) (seats after : List (Option C)) →
-        IsPrefetched (S.stands s) config place lines reply_queue r →
+    ensures { (on : Seating C) (s : S) (config : Config) (from place : ℕ) (lines : List ℕ) (reply_queue u : ReplyQueueState)
+        (r : ReplicaState StayState) (k l : K) (seats after : List (Option C)) →
+        IsPrefetched (S.stands s) config from place lines reply_queue r →
         (t : LoopIteration on ReplyQueueReplies IsUsedUp k reply_queue seats l u after) →
-        IsHostedOverLog on (S.stands s) config t.log place lines r seats after }
+        IsHostedOverLog on (S.stands s) config t.log from place lines r seats after }
 {}
 
 /// A law, which runs nothing, of the batches of front ends whose tokens are as long.

@@ -18,6 +18,10 @@
 //! answered `ok` or `refused 9` (`law_of_keepers`). `LogPersister::end_stays` ends the stays of this front end that nobody keeps any more, and those of
 //! front ends of which nothing was heard for long. A release is offered for one place, that up to which the log was read, and for no other.
 //!
+//! A long history is compacted by entries of the log itself, which a front end offers. A replica that read them whole has a shorter history with the
+//! same desk, renaming and stays, and answers as one that passed over them (`law_of_compactions`). A front end may start at such entries, and is then as
+//! one that read all (`law_of_starts`).
+//!
 //! Where memory is refused while an entry is applied nothing is known of the hall any more, and nothing is answered (`LogFault::Memory`).
 //!
 //! Not promised, and shown by running it: that a store over a network is one log, how soon it answers, and that the token is no other's.
@@ -35,13 +39,17 @@
 //! ```
 #![tactic(auto)]
 
+mod compaction;
+mod gathering;
 mod keeping;
 pub mod kept_stay;
+mod lasting;
 pub mod laws;
 pub mod log_fault;
 pub mod log_hall;
 pub mod log_persister;
 pub mod machine;
+pub mod marks;
 pub mod note;
 mod noting;
 pub mod pause;
@@ -53,11 +61,15 @@ pub mod tallying;
 pub mod watches;
 
 pub use kept_stay::KeptStay;
-pub use laws::{law_of_batches, law_of_halls, law_of_keepers, law_of_log_hosting, law_of_silence};
+pub use laws::{
+    law_of_batches, law_of_compactions, law_of_halls, law_of_keepers, law_of_log_hosting,
+    law_of_silence, law_of_starts, law_of_tellings,
+};
 pub use log_fault::LogFault;
 pub use log_hall::LogHall;
 pub use log_persister::LogPersister;
 pub use machine::HallMachine;
+pub use marks::{Mark, mark_of};
 pub use note::{Asked, Note};
 pub use pause::Pause;
 pub use reply_queue::ReplyQueue;

@@ -1,6 +1,6 @@
 //! Serves the clients of one front end over a log.
 
-ghost use Rattle.std.specs.Prelude.{◌≡◌, ◌≢◌, ◌↔◌, ◌==◌, ◌+◌, ◌-◌, ◌++◌, ◌≤◌, ◌<◌, ◌⊎◌, ℕ, [], true, false, leb, map, Ok, Err, OnOk, IfOk, All};
+ghost use Rattle.std.specs.Prelude.{◌≡◌, ◌≢◌, ◌↔◌, ◌==◌, ◌+◌, ◌-◌, ◌++◌, ◌≤◌, ◌<◌, ◌⊎◌, ℕ, [], true, false, ltb, map, Ok, Err, OnOk, IfOk, All};
 ghost use Rattle.std.specs.List.{list_any};
 ghost use Rattle.std.specs.String.{string_bytes};
 ghost use Rattle.commands.specs.Config.{gives_names};
@@ -14,8 +14,11 @@ ghost use Rattle.hall_log.specs.Releases.{lines_of};
 ghost use Rattle.hall_log.specs.Said.{reply_queue_of};
 ghost use Rattle.hall_log.specs.Watched.{watched};
 
+use crate::compaction::Compaction;
+use crate::lasting::Lasting;
 use crate::log_fault::LogFault;
 use crate::log_hall::LogHall;
+use crate::marks::is_ordinary;
 use crate::pause::Pause;
 use crate::release_lines::lines_of;
 use crate::reply_queue::ReplyQueue;
@@ -41,6 +44,9 @@ const MOST_TRIES: u32 = 1_000_000;
 /// What etcd says where its quota is used up.
 const NO_SPACE: &str = "etcdserver: mvcc: database space exceeded";
 
+/// What is said where a compaction told another hall than the entries before it.
+const DIFFERS: &str = "a compaction of the log tells another history";
+
 /// How many entries are applied at once where no client asks for anything.
 const TICK_ENTRIES: u64 = 10_000;
 
@@ -60,6 +66,10 @@ pub struct LogPersister<S: Store, T: Pause> {
     answers: bool,
     /// Who keeps stays.
     sessions: Sessions,
+    /// The compactions that it offers.
+    compaction: Compaction,
+    /// How much of the history no compaction makes shorter.
+    lasting: Lasting,
     ghost one_line: { All (λ b. b ≢ 10) token },
 }
 
@@ -77,6 +87,8 @@ impl<S: Store + Drop, T: Pause + Drop> Drop for LogPersister<S, T> {
             no_space: _,
             answers: _,
             sessions: _,
+            compaction: _,
+            lasting: _,
         } = self;
     }
 }
@@ -94,7 +106,7 @@ fn hex_digit(digit: u8) -> u8
 }
 
 // Adds so many digits of a count to the base of 16, the lowest first.
-fn push_count(head: &mut Vec<u8>, digits: u32, count: u64) -> Result<(), AllocError>
+pub(crate) fn push_count(head: &mut Vec<u8>, digits: u32, count: u64) -> Result<(), AllocError>
     ensures { OnOk result (head.new.items ≡ head.old.items ++ hex_digits digits count) }
 {
     if digits == 0 {
@@ -105,7 +117,7 @@ fn push_count(head: &mut Vec<u8>, digits: u32, count: u64) -> Result<(), AllocEr
 }
 
 // Puts a first line without its end over a list: a token, a space and a count.
-fn put_head(head: &mut Vec<u8>, token: &[u8], count: u64) -> Result<(), AllocError>
+pub(crate) fn put_head(head: &mut Vec<u8>, token: &[u8], count: u64) -> Result<(), AllocError>
     ensures { OnOk result (head.new.items ≡ head_of token.now count) }
 {
     head.clear();
@@ -154,7 +166,8 @@ fn first_line(alloc: Global, config: Config) -> Result<String, AllocError>
 
 impl<S: Store + Drop, T: Pause + Drop> LogPersister<S, T> {
     /// Opens the hall of a log. Where nothing stands in the log it begins with a line of the config, and else it has to begin with just that
-    /// line; then all that stands is applied. The token, which no other front end has, is to have no end of a line in it.
+    /// line; then all that stands is applied: from the place on that is noted in the store, if a compaction that can be read whole stands
+    /// there or behind it, and else from the first entry on. The token, which no other front end has, is to have no end of a line in it.
     pub fn open(
         alloc: Global,
         store: S,
@@ -165,6 +178,7 @@ impl<S: Store + Drop, T: Pause + Drop> LogPersister<S, T> {
         ensures config { IfOk result (λ k. k.log.config ≡ config) }
         ensures begins { IfOk result (λ k. S.stands k.log.store 0 (first_line_of config)) }
         ensures all { IfOk result (λ k. IsAtEnd (S.lacks k.log.store) k.log.replica.place) }
+        ensures known { IfOk result (λ k. k.log.stays.machine.blind ≡ false) }
         ensures token { result ≡ Err LogFault.Token ↔ (list_any (λ b. b == 10) token ≡ true) }
         ensures named { OnOk result (gives_names config.world ≡ true) }
     {
@@ -186,6 +200,8 @@ impl<S: Store + Drop, T: Pause + Drop> LogPersister<S, T> {
             no_space: false,
             answers: true,
             sessions: Sessions::new(alloc),
+            compaction: Compaction::new(alloc, token),
+            lasting: Lasting::new(),
         };
         match persister.start(line.as_bytes()) {
             Ok(()) => Ok(persister),
@@ -215,10 +231,44 @@ impl<S: Store, T: Pause> LogPersister<S, T> {
         ensures other { result ≢ Err LogFault.Token }
         ensures begins { OnOk result (S.stands self.new.log.store 0 line.now) }
         ensures all { OnOk result (IsAtEnd (S.lacks self.new.log.store) self.new.log.replica.place) }
-        ensures config { self.new.log.config ≡ self.old.log.config }
+        ensures known { OnOk result (self.new.log.stays.machine.blind ≡ false) }
+        ensures config { OnOk result (self.new.log.config ≡ self.old.log.config) }
     {
         self.begin(line)?;
+        self.apply_hinted()?;
+        self.apply_known()
+    }
+
+    // Applies all that stands in the log from the place on that is noted in the store, if one is.
+    fn apply_hinted(&mut self) -> Result<(), LogFault>
+        ensures other { result ≢ Err LogFault.Token }
+        ensures keeps { OnOk result (Keeps (S.stands self.old.log.store) (S.stands self.new.log.store)) }
+        ensures all { OnOk result (IsAtEnd (S.lacks self.new.log.store) self.new.log.replica.place) }
+        ensures config { OnOk result (self.new.log.config ≡ self.old.log.config) }
+    {
+        let place = self.log.hint().unwrap_or(0);
+        self.log.start_at(self.alloc, place)?;
         self.apply_all()
+    }
+
+    // Applies all that stands in the log from the first entry on, if nothing is known of the hall.
+    fn apply_known(&mut self) -> Result<(), LogFault>
+        requires { IsAtEnd (S.lacks self.old.log.store) self.old.log.replica.place }
+        ensures other { result ≢ Err LogFault.Token }
+        ensures keeps { OnOk result (Keeps (S.stands self.old.log.store) (S.stands self.new.log.store)) }
+        ensures all { OnOk result (IsAtEnd (S.lacks self.new.log.store) self.new.log.replica.place) }
+        ensures known { OnOk result (self.new.log.stays.machine.blind ≡ false) }
+        ensures config { OnOk result (self.new.log.config ≡ self.old.log.config) }
+    {
+        if !self.log.is_blind() {
+            return Ok(());
+        }
+        self.log.start_at(self.alloc, 0)?;
+        self.apply_all()?;
+        if self.log.is_blind() {
+            return Err(LogFault::Astray);
+        }
+        Ok(())
     }
 
     // Has the log begin with a line, as soon as the store answers.
@@ -269,20 +319,28 @@ impl<S: Store, T: Pause> LogPersister<S, T> {
     // Has the batch come to stand in the log, as soon as the store answers.
     fn serve_batch(&mut self, reply_queue: &mut ReplyQueue) -> Result<Prefetch, LogFault>
         ensures prefetched { result ≡ Ok Prefetch.Known →
-            IsServed (S.stands self.new.log.store) self.new.log.config self.old.log.replica.place self.old.batch.items reply_queue.new self.new.log.replica }
+            IsServed (S.stands self.new.log.store) self.new.log.config self.new.log.from self.old.log.replica.place self.old.batch.items reply_queue.new self.new.log.stays }
         ensures lost { result ≢ Ok Prefetch.Known → reply_queue.new ≡ reply_queue_of [] }
         ensures patient { result ≡ Ok Prefetch.Lost → IsSpent T.is_over T.waited self.new.pause }
         ensures keeps { Keeps (S.stands self.old.log.store) (S.stands self.new.log.store) }
         ensures config { self.new.log.config ≡ self.old.log.config }
         ensures head { (self.new.count ≡ self.old.count) × (self.new.token ≡ self.old.token) }
         ensures sent { result ≡ Ok Prefetch.Known → T.tells self.old.pause self.new.sessions.sent }
+        ensures well { result ≡ Ok Prefetch.Known → self.new.log.replica.poisoned ≡ false }
         ensures later { self.new.log.replica.poisoned ≡ false → (self.old.log.replica.poisoned ≡ false) × (self.old.log.replica.place ≤ self.new.log.replica.place) }
     {
         let now = self.pause.seconds();
         reply_queue.clear();
+        if !is_ordinary(&self.batch) {
+            return Err(LogFault::Astray);
+        }
         self.pause.begin();
         for _tries in 0..MOST_TRIES {
             let Err(fault) = self.log.serve(&self.batch, reply_queue) else {
+                if self.log.is_blind() {
+                    reply_queue.clear();
+                    return Err(LogFault::Astray);
+                }
                 self.no_space = false;
                 self.answers = true;
                 self.sessions.sent = now;
@@ -308,6 +366,13 @@ impl<S: Store, T: Pause> LogPersister<S, T> {
         self.reads = reads;
     }
 
+    /// Has the next compaction that this front end offers be due at so many events. It is due at 450,001 until this is called.
+    pub fn compact_at(&mut self, events: usize)
+        ensures { (self.new.log ≡ self.old.log) × (self.new.count ≡ self.old.count) × (self.new.token ≡ self.old.token) × (self.new.reads ≡ self.old.reads) }
+    {
+        self.compaction.be_due_at(events);
+    }
+
     /// For how many seconds a stay goes on that nobody keeps. It is 0 until this is called.
     pub fn grant_grace(&mut self, seconds: u32)
         ensures { self.new.sessions.grace ≡ seconds }
@@ -322,10 +387,10 @@ impl<S: Store, T: Pause> LogPersister<S, T> {
         true
     }
 
-    /// Returns true if and only if this front end may answer those who keep stays: it sent the last of its entries that stood no more than 20
+    /// Returns true if and only if this front end may answer those who keep stays: it sent the last of its entries that stood less than 20
     /// seconds ago. Others end its stays only later than that and the grace time.
     pub fn may_answer_stays(&self) -> bool
-        ensures { (now : ℕ) × T.tells self.now.pause now × (result ≡ leb (now - self.now.sessions.sent) 20) }
+        ensures { (now : ℕ) × T.tells self.now.pause now × (result ≡ ltb (now - self.now.sessions.sent) 20) }
     {
         self.sessions.may_answer(self.pause.seconds())
     }
@@ -437,7 +502,7 @@ impl<S: Store, T: Pause> Persist<ReplyQueue> for LogPersister<S, T> {
 
     ghost persists = { λ k w l u. IsUsedUp k w l u };
 
-    ghost prefetches = { λ k w lines l u. IsPrefetchedBy (S.stands l.log.store) l.log.config k.log.replica.place k.reads k.token k.count l.count lines u l.log.replica };
+    ghost prefetches = { λ k w lines l u. IsPrefetchedBy (S.stands l.log.store) l.log.config l.log.from k.log.replica.place k.reads k.token k.count l.count lines u l.log.stays };
 
     ghost waits = { λ k w l u. HasGoneOn (S.stands k.log.store) (S.stands l.log.store) k.log.config l.log.config k.count l.count k.log.replica l.log.replica u };
 
@@ -473,8 +538,8 @@ impl<S: Store, T: Pause> Persist<ReplyQueue> for LogPersister<S, T> {
     }
 
     fn prefetch(&mut self, reply_queue: &mut ReplyQueue, lines: &[u8]) -> Result<Prefetch, LogFault>
-        ensures known { result ≡ Ok Prefetch.Known → IsPrefetchedBy (S.stands self.new.log.store) self.new.log.config self.old.log.replica.place
-            self.old.reads self.old.token self.old.count self.new.count lines.now reply_queue.new self.new.log.replica }
+        ensures known { result ≡ Ok Prefetch.Known → IsPrefetchedBy (S.stands self.new.log.store) self.new.log.config self.new.log.from self.old.log.replica.place
+            self.old.reads self.old.token self.old.count self.new.count lines.now reply_queue.new self.new.log.stays }
         ensures lost { result ≡ Ok Prefetch.Lost → HasGoneOn (S.stands self.old.log.store) (S.stands self.new.log.store)
             self.old.log.config self.new.log.config self.old.count self.new.count self.old.log.replica self.new.log.replica reply_queue.new }
 
@@ -484,6 +549,8 @@ impl<S: Store, T: Pause> Persist<ReplyQueue> for LogPersister<S, T> {
         ensures token { self.new.token ≡ self.old.token }
     {
         self.count = self.count.wrapping_add(1);
+        self.compaction
+            .compact(&mut self.log, &mut self.pause, reply_queue)?;
         let Ok(()) = put_batch(&mut self.batch, self.reads, &self.token, self.count, lines) else {
             return Err(LogFault::Memory);
         };
@@ -492,6 +559,7 @@ impl<S: Store, T: Pause> Persist<ReplyQueue> for LogPersister<S, T> {
 
     fn tick(&mut self, reply_queue: &mut ReplyQueue) -> Result<(), LogFault> {
         let caught_up = self.log.catch_up(TICK_ENTRIES, reply_queue);
+        self.lasting.look(self.log.hall());
         self.answers = caught_up.is_ok();
         let Err(cause) = caught_up else {
             return Ok(());
@@ -519,13 +587,21 @@ impl<S: Store, T: Pause> Persist<ReplyQueue> for LogPersister<S, T> {
     }
 
     fn trouble(&self) -> Option<&'static str> {
+        if self.log.differs() {
+            return Some(DIFFERS);
+        }
         if self.no_space { Some(NO_SPACE) } else { None }
+    }
+
+    fn lasting_tenths(&self) -> u8 {
+        self.lasting.tenths()
     }
 
     fn tally(&self, _reply_queue: &ReplyQueue) -> Tally {
         Tally {
             log_place: Some(self.log.place()),
             log_answers: Some(self.answers),
+            compactions: Some(self.log.compactions()),
             ..tally_of(self.log.hall())
         }
     }

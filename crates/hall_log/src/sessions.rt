@@ -1,6 +1,6 @@
 //! What a front end knows of who keeps stays in the pool.
 
-ghost use Rattle.std.specs.Prelude.{◌≡◌, ◌-◌, ◌&&◌, leb, map, OnOk, IfOk};
+ghost use Rattle.std.specs.Prelude.{◌≡◌, ◌-◌, ◌&&◌, leb, ltb, map, OnOk, IfOk};
 ghost use Rattle.hall_log.specs.Decided.{ended_of, next_read};
 ghost use Rattle.hall_log.specs.Watched.{keeps_one, watched};
 
@@ -77,8 +77,8 @@ impl Sessions {
     /// Returns true if and only if the last entry of this front end that stood was sent so lately before this second that no other ends stays
     /// that it keeps.
     pub(crate) fn may_answer(&self, now: u64) -> bool
-        ensures { result ≡ leb (now - self.now.sent) 20 }
+        ensures { result ≡ ltb (now - self.now.sent) 20 }
     {
-        now.saturating_sub(self.sent) <= MOST_SILENT
+        now.saturating_sub(self.sent) < MOST_SILENT
     }
 }

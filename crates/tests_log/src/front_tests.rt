@@ -40,7 +40,7 @@ struct Front {
 }
 
 // The next drawn number below 64.
-fn drawn(state: &mut u64) -> u8
+pub(crate) fn drawn(state: &mut u64) -> u8
     ensures { result < 64 }
 {
     *state = state
@@ -59,7 +59,7 @@ fn draw_batch(state: &mut u64, batch: &mut Vec<u8>) -> Result<(), AllocError> {
 }
 
 // Adds eight drawn lines.
-fn draw_lines(state: &mut u64, batch: &mut Vec<u8>) -> Result<(), AllocError> {
+pub(crate) fn draw_lines(state: &mut u64, batch: &mut Vec<u8>) -> Result<(), AllocError> {
     for _ in 0..8 {
         batch.extend_from_slice(WORDS[(drawn(state) % 10) as usize])?;
         batch.extend_from_slice(&[b'1' + drawn(state) % 6, b'\n'])?;

@@ -4,6 +4,8 @@
 #![tactic(auto)]
 
 #[cfg(test)]
+mod compaction_tests;
+#[cfg(test)]
 mod etcd_tests;
 #[cfg(test)]
 mod front_tests;

@@ -5,7 +5,7 @@ use crate::log_doubles::{HandClock, SharedLog};
 use crate::persister_tests::reported;
 use hall::Hall;
 use hall_log::{LogPersister, ReplyQueue};
-use replicated_log::MemoryStore;
+use replicated_log::{MemoryStore, Store};
 use std::alloc::{AllocError, Global};
 use std::cell::{Cell, RefCell};
 
@@ -33,6 +33,31 @@ impl Site {
             rival: RefCell::new(Vec::new(alloc)),
             seconds: Cell::new(0),
         }
+    }
+
+    /// Notes a place in the log as a hint, and tells whether that went well.
+    pub(crate) fn hint_at(&self, place: u64) -> bool {
+        match self.log.try_borrow_mut() {
+            Ok(mut log) => log.put_hint(place).is_ok(),
+            Err(_) => false,
+        }
+    }
+
+    /// A site whose log has the first entries of this one alone, and no hint.
+    pub(crate) fn cut(&self, entries: usize) -> Option<Site> {
+        let site = Site::new(self.alloc);
+        let Ok(from) = self.log.try_borrow() else {
+            return None;
+        };
+        for place in 0..entries {
+            let entry = from.entry(place)?;
+            site.log
+                .try_borrow_mut()
+                .ok()?
+                .put(place as u64, entry)
+                .ok()?;
+        }
+        Some(site)
     }
 
     /// A second passes.

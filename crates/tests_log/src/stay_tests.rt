@@ -98,13 +98,13 @@ fn a_release_that_is_overtaken_is_not_put(rt: HostRuntime) {
     assert!(rt; left == Some([1, 1, 3]), "{left:?}");
 }
 
-// Whether a front end may answer 20 and 21 seconds after its last entry.
+// Whether a front end may answer 19 and 20 seconds after its last entry.
 fn may_answer(site: &Site) -> Option<[bool; 2]> {
     let mut here = front_end(site, b'a')?;
     if !says(site, &mut here, b"enter 1\n", b"ok\n") {
         return None;
     }
-    for _ in 0..20 {
+    for _ in 0..19 {
         site.pass_second();
     }
     let first = here.may_answer_stays();

@@ -207,6 +207,10 @@ impl Persist<Reported> for Teller {
         None
     }
 
+    fn lasting_tenths(&self) -> u8 {
+        0
+    }
+
     fn tally(&self, _service: &Reported) -> Tally {
         Tally::of_events(0)
     }

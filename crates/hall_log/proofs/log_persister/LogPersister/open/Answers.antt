@@ -1,19 +1,7 @@
 -- The log begins with the line of the config, and a refusal of the hall says nothing of the token.
-use Rattle.std.proofs.Common.{◌≡◌, ℕ, List, true, false, Result, Ok, Err, IsErrAnd, sym, subst, ◌∙◌}
-use Rattle.step_memory.specs.declared.refusal.Refusal.{Refusal}
-use Rattle.step_memory.specs.declared.refusal.Refusal.TheVariants.{NoMemory}
-use Rattle.hall_log.specs.Faults.{fault_of_refusal}
-use Rattle.hall_log.specs.declared.log_fault.LogFault.{LogFault}
-use Rattle.hall_log.specs.declared.log_fault.LogFault.TheVariants.{Token}
+use Rattle.std.proofs.Common.{◌≡◌, ℕ, List, true, false, sym, subst, ◌∙◌}
+use Rattle.hall_log.proofs.Refusals.{refused}
 use Rattle.hall_log.proofs.log_persister.LogPersister.open.Goals as goal
-
-no_token : (why : Refusal) → fault_of_refusal why ≡ Token → ⊥
-no_token NoMemory is = absurd (cc)
-no_token why is = absurd (cc)
-
-refused : {T X : Type 0} (r : Result T LogFault) (why : Refusal) → IsErrAnd r (λ fault. fault ≡ fault_of_refusal why) → r ≡ Err Token → X
-refused (Ok x) why of is = absurd (cc)
-refused (Err fault) why of is = absurd (no_token why (sym of ∙ (let same : fault ≡ Token = cc in same)))
 
 pub returns-in_err-log-clause-token : goal.returns-in_err-log-clause-token
 returns-in_err-log-clause-token g c = (

@@ -1,6 +1,10 @@
 -- What was served stands later than all before.
-use Rattle.std.proofs.Common.{rules, ap, inl, inr, ◌∙◌, arith}
+use Rattle.std.proofs.Common.{rules, ◌≡◌, ap, inl, inr, sym, ◌∙◌, arith}
+use Rattle.replicated_log.specs.ReplicaState.{ReplicaState}
+use Rattle.hall.specs.HallState.{HallState}
 use Rattle.hall_log.specs.Entries.{behind_first_line}
+use Rattle.hall_log.specs.Marks.{mark_of}
+use Rattle.hall_log.specs.declared.marks.Mark.TheVariants.{Ordinary}
 use Rattle.hall_log.proofs.Heads.{waited_more}
 use Rattle.hall_log.proofs.log_persister.LogPersister.serve_batch.Goals as goal
 
@@ -8,13 +12,17 @@ pub returns-in_default-clause-prefetched : goal.returns-in_default-clause-prefet
 returns-in_default-clause-prefetched g c = λ known.
     let last = c.in_default.ensures.at_last in
     let before = (c.loop-tries.invariant.later last.0).1 in
-    let batch = c.deref.ensures.value ∙ ap (λ b. b.items) c.loop-tries.invariant.batch in
+    let ordinary : mark_of c.args.self.now.batch.items ≡ Ordinary = ap mark_of (sym c.deref.ensures.value) ∙ c.is_ordinary.ensures (search rules) in
+    let batch = c.deref-in-loop-tries.ensures.value ∙ ap (λ b. b.items) c.loop-tries.invariant.batch in
+    let place : c.serve.new.self.replica.place ≡ c.serve.new.self.stays.place = ap (λ (r : ReplicaState HallState). r.place) c.serve.ensures.part in
     record {
       prefetched = record {
-        batch = c.deref.result.now;
+        batch = c.deref-in-loop-tries.result.now;
         lines_are = ap behind_first_line batch;
+        ordinary = ap mark_of batch ∙ ordinary;
         due = c.in_default.ensures.due;
-        later = (let p = last.1 in omega (arith, before, p));
+        later = (let p = last.1 in omega (arith, before, p, place));
+        known = sym c.is_blind.ensures ∙ c.if-is_blind.false;
       };
       batch_is = batch;
     }
@@ -35,3 +43,6 @@ returns-then-not-again-clause-patient g c = λ lost. inl (c.again.ensures.over (
 
 pub returns-clause-patient : goal.returns-clause-patient
 returns-clause-patient g c = λ lost. inr (c.loop-tries._tries, search rules, c.loop-tries.invariant.waited)
+
+pub returns-in_default-clause-well : goal.returns-in_default-clause-well
+returns-in_default-clause-well g c = λ known. ap (λ (r : ReplicaState HallState). r.poisoned) c.serve.ensures.part ∙ c.in_default.ensures.due.is_well

@@ -1,5 +1,5 @@
 -- What was prefetched is the batch of these lines, behind a first line of its own.
-use Rattle.std.proofs.Common.{rules, ◌≡◌, ◌∙◌, ℕ, ap, sym}
+use Rattle.std.proofs.Common.{rules, ◌≡◌, ◌<◌, ◌∙◌, ℕ, ap, sym, arith}
 use Rattle.hall.specs.declared.reads.Reads.{Reads}
 use Rattle.hall_log.specs.Batches.{batch_by, next_count}
 use Rattle.hall_log.specs.Entries.{behind_first_line, reads_of}
@@ -13,16 +13,32 @@ returns-clause-known g c = λ known.
     let count = c.serve_batch.new.self.count in
     let served = c.serve_batch.ensures.prefetched known in
     let reads = c.args.self.now.reads in
+    let moved = c.in_ok-compact.ensures.told.moved in
+    let well = c.serve_batch.ensures.later (c.serve_batch.ensures.well known) in
     let text : c.put_batch.new.batch.items ≡ batch_by reads token count lines = c.in-Ok.ensures ∙ ap (λ (n : ℕ). batch_by reads token n lines) (sym c.serve_batch.ensures.head.0) in
     let batch_is : served.prefetched.batch ≡ batch_by reads token count lines = served.batch_is ∙ text in
     record {
       prefetched = record {
         batch = served.prefetched.batch;
         lines_are = served.prefetched.lines_are ∙ ap behind_first_line text ∙ behind_batch reads token count lines c.args.self.now.one_line;
+        ordinary = served.prefetched.ordinary;
         due = served.prefetched.due;
-        later = served.prefetched.later;
+        later = (let p = (moved.later well.0).1 in let q = served.prefetched.later in omega (arith, p, q));
+        known = served.prefetched.known;
       };
       batch_is = batch_is;
       reads_are = ap reads_of batch_is ∙ told_reads reads token count lines (search rules);
       count_is = search rules;
+    }
+
+pub returns-clause-lost : goal.returns-clause-lost
+returns-clause-lost g c = λ lost.
+    let moved = c.in_ok-compact.ensures.told.moved in
+    let e = c.serve_batch.ensures in
+    record {
+      keeps = λ place entry stood. e.keeps place entry (moved.keeps place entry stood);
+      config_is = e.config ∙ moved.config;
+      counts = search rules;
+      later = λ well. let two = e.later well in let one = moved.later two.0 in (one.0, (let p = one.1 in let q = two.1 in omega (arith, p, q)));
+      unreported = search rules;
     }
