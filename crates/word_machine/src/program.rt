@@ -1,20 +1,34 @@
 //! Programs whose registers are words and records.
 
-ghost use Rattle.std.specs.Prelude.{◌≡◌, ◌<◌, ◌≤◌, length, true, false};
+ghost use Rattle.std.specs.Prelude.{◌≡◌, ◌<◌, ◌≤◌, IfSome, length, true, false};
+ghost use Rattle.step_memory.specs.Steps.{ProgramSteps};
+ghost use Rattle.step_memory.specs.declared.access.Access.TheVariants.{Read};
 ghost use Rattle.step_memory.specs.declared.access.Answer.TheVariants.{Value, Done};
 ghost use Rattle.word_machine.specs.NextAccess.{IsNext, IsLong, IsWordAt};
 ghost use Rattle.word_machine.specs.WordLaw.{WordLaw, IsSound, IsAfterHead, skipped};
 
 use crate::size::Size;
 use crate::word_access::WordAccess;
-use step_memory::{Note, StepProgram};
+use step_memory::Note;
 
 /// A program each of whose registers is a word or holds a record, with the machine on which it is proved. Each step of the
 /// machine is one access of one participant's program. So a law that holds after every list of its calls holds of threads that
 /// take the program access by access.
-pub trait WordProgram: StepProgram {
+pub trait WordProgram {
+    /// What names a register.
+    type Reg: Copy;
+
+    /// What a register holds. The program is told words, so no value of this type is made.
+    type Value;
+
+    /// What the program ends with.
+    type Output;
+
     /// What is kept of a program that has ended.
     type End: Copy;
+
+    /// The next access of a program, and its state after each answer.
+    ghost steps: { ProgramSteps Self Self.Reg Self.Value Self.Output };
 
     /// What that is.
     ghost end_of: { Self → Self.End };
@@ -35,30 +49,36 @@ pub trait WordProgram: StepProgram {
 
     /// The access that it makes next.
     fn access(&self) -> WordAccess<Self::Reg>
-        ensures { IsNext Self.steps law self.now result };
+        ensures { IsNext steps law self.now result };
 
     /// How many words spell the record that it writes next, if it writes one.
     fn record_words(&self) -> usize
-        ensures { IsLong Self.steps law self.now result };
+        ensures { IsLong steps law self.now result };
 
     /// One of these words.
     fn record_word(&self, at: usize) -> u64
-        ensures { IsWordAt Self.steps law self.now at result };
+        ensures { IsWordAt steps law self.now at result };
 
     /// Takes the word that it loaded from a register that is one word.
     fn take_word(&mut self, word: u64) -> Note<Self::Output>
-        ensures after { self.new ≡ Self.steps.resumed self.old (Value (law.of_word word)) }
-        ensures note { result ≡ Self.steps.note self.old (Value (law.of_word word)) };
+        ensures after { self.new ≡ steps.resumed self.old (Value (law.of_word word)) }
+        ensures note { result ≡ steps.note self.old (Value (law.of_word word)) };
 
-    /// Takes the record that it read.
-    fn take(&mut self, got: &Self::Value) -> Note<Self::Output>
-        ensures after { self.new ≡ Self.steps.resumed self.old (Value got.now) }
-        ensures note { result ≡ Self.steps.note self.old (Value got.now) };
+    /// Takes what stands in a register until a record is written there.
+    fn take_first(&mut self) -> Note<Self::Output>
+        ensures after { self.new ≡ steps.resumed self.old (Value law.first) }
+        ensures note { result ≡ steps.note self.old (Value law.first) };
+
+    /// Takes the record that words spell.
+    fn take_words(&mut self, words: &[u64]) -> Note<Self::Output>
+        requires { length words.now ≡ law.length }
+        ensures after { self.new ≡ steps.resumed self.old (Value (law.decode words.now)) }
+        ensures note { result ≡ steps.note self.old (Value (law.decode words.now)) };
 
     /// Takes that its write is done.
     fn take_done(&mut self) -> Note<Self::Output>
-        ensures after { self.new ≡ Self.steps.resumed self.old Done }
-        ensures note { result ≡ Self.steps.note self.old Done };
+        ensures after { self.new ≡ steps.resumed self.old Done }
+        ensures note { result ≡ steps.note self.old Done };
 
     /// What is kept of a program that has ended.
     fn end(&self) -> Self::End
@@ -69,18 +89,13 @@ pub trait WordProgram: StepProgram {
         requires { law.MayStart size }
         ensures { result ≡ law.start size identity };
 
-    /// What stands in a register until a record is written there.
-    fn first() -> Self::Value
-        ensures { result ≡ law.first };
-
     /// How many words spell a record.
     fn length() -> usize
         ensures { result ≡ law.length };
 
-    /// The record that words spell.
-    fn read(words: &[u64]) -> Self::Value
-        requires { length words.now ≡ law.length }
-        ensures { result ≡ law.decode words.now };
+    /// The register that it reads next, where reads are ahead.
+    fn reads(&self) -> Option<Self::Reg>
+        ensures { IfSome result (λ register. steps.next self.now ≡ Read register) };
 
     /// How many accesses from here on are reads of registers that hold records, at words one after another, as long as nobody
     /// wrote there.
@@ -90,22 +105,19 @@ pub trait WordProgram: StepProgram {
     /// Takes what nobody wrote as the answer to so many of these reads.
     fn skip(&mut self, count: usize)
         requires { count ≤ law.ahead self.old }
-        ensures { self.new ≡ skipped Self.steps law.first self.old count };
+        ensures { self.new ≡ skipped steps law.first self.old count };
 
     /// How many of the first words of a record say whether the program goes on after reading it.
     fn head() -> usize
         ensures { result ≡ law.head };
 
-    /// A value for `read_head` to write into.
-    fn scratch() -> Self::Value;
-
     /// Takes the record whose first words are these, if the program then goes on and says nothing, whatever the other words are.
     /// Tells whether it did; where not, nothing has changed.
-    fn read_head(&mut self, head: &[u64], scratch: &mut Self::Value) -> bool
+    fn read_head(&mut self, head: &[u64]) -> bool
         requires { length head.now ≡ law.head }
-        ensures after { result ≡ true → IsAfterHead Self.steps law self.old head.now self.new }
+        ensures after { result ≡ true → IsAfterHead steps law self.old head.now self.new }
         ensures kept { result ≡ false → self.new ≡ self.old };
 
     /// What is proved of the machine.
-    ghost sound: { IsSound Self.steps law };
+    ghost sound: { IsSound steps law };
 }

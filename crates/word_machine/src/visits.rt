@@ -2,6 +2,7 @@
 
 ghost use Rattle.std.specs.Prelude.{◌≡◌, ◌<◌, ◌∷◌, [], length, slice_index, true};
 ghost use Rattle.splitter.specs.Machine.{visit_of};
+ghost use Rattle.splitter.specs.Visitor.{visitor_steps};
 ghost use Rattle.word_machine.specs.Visits.{visit_law, visit_words_sound};
 
 use crate::program::WordProgram;
@@ -11,7 +12,15 @@ use splitter::{Visitor, Way};
 use step_memory::{Access, Answer, Note, StepProgram};
 
 impl WordProgram for Visitor<usize> {
+    type Reg = usize;
+
+    type Value = u64;
+
+    type Output = Way;
+
     type End = Visitor<usize>;
+
+    ghost steps = { visitor_steps };
 
     ghost end_of = { λ u. u };
 
@@ -51,8 +60,12 @@ impl WordProgram for Visitor<usize> {
         self.resume(Answer::Value(word))
     }
 
-    fn take(&mut self, got: &u64) -> Note<Way> {
-        self.resume(Answer::Value(*got))
+    fn take_first(&mut self) -> Note<Way> {
+        self.resume(Answer::Value(0))
+    }
+
+    fn take_words(&mut self, words: &[u64]) -> Note<Way> {
+        self.resume(Answer::Value(words[0]))
     }
 
     fn take_done(&mut self) -> Note<Way> {
@@ -69,20 +82,14 @@ impl WordProgram for Visitor<usize> {
         Visitor::new(identity, 0, 1)
     }
 
-    fn first() -> u64
-        ensures { result ≡ 0 }
-    {
-        0
-    }
-
     fn length() -> usize
         ensures { result ≡ 1 }
     {
         1
     }
 
-    fn read(words: &[u64]) -> u64 {
-        words[0]
+    fn reads(&self) -> Option<usize> {
+        None
     }
 
     fn ahead(&self) -> usize {
@@ -95,11 +102,7 @@ impl WordProgram for Visitor<usize> {
         0
     }
 
-    fn scratch() -> u64 {
-        0
-    }
-
-    fn read_head(&mut self, _head: &[u64], _scratch: &mut u64) -> bool {
+    fn read_head(&mut self, _head: &[u64]) -> bool {
         false
     }
 

@@ -1,7 +1,7 @@
 //! A walk through a grid of splitters as a program over words, two for each door.
 
 ghost use Rattle.std.specs.Prelude.{◌≡◌, ◌<◌, ◌≤◌, ◌+◌, ◌*◌, ◌∷◌, [], length, slice_index, true};
-ghost use Rattle.splitter_grid.specs.Walk.{walk_of};
+ghost use Rattle.splitter_grid.specs.Walk.{walk_of, walker_steps};
 ghost use Rattle.word_machine.specs.Walks.{walk_law, walk_words_sound};
 
 use crate::program::WordProgram;
@@ -11,7 +11,15 @@ use splitter_grid::{Door, Walker};
 use step_memory::{Access, Answer, Note, Place, StepProgram};
 
 impl WordProgram for Walker {
+    type Reg = usize;
+
+    type Value = u64;
+
+    type Output = Place;
+
     type End = Walker;
+
+    ghost steps = { walker_steps };
 
     ghost end_of = { λ u. u };
 
@@ -52,8 +60,12 @@ impl WordProgram for Walker {
         self.resume(Answer::Value(word))
     }
 
-    fn take(&mut self, got: &u64) -> Note<Place> {
-        self.resume(Answer::Value(*got))
+    fn take_first(&mut self) -> Note<Place> {
+        self.resume(Answer::Value(0))
+    }
+
+    fn take_words(&mut self, words: &[u64]) -> Note<Place> {
+        self.resume(Answer::Value(words[0]))
     }
 
     fn take_done(&mut self) -> Note<Place> {
@@ -70,20 +82,14 @@ impl WordProgram for Walker {
         Walker::new(identity, Door::corner())
     }
 
-    fn first() -> u64
-        ensures { result ≡ 0 }
-    {
-        0
-    }
-
     fn length() -> usize
         ensures { result ≡ 1 }
     {
         1
     }
 
-    fn read(words: &[u64]) -> u64 {
-        words[0]
+    fn reads(&self) -> Option<usize> {
+        None
     }
 
     fn ahead(&self) -> usize {
@@ -96,11 +102,7 @@ impl WordProgram for Walker {
         0
     }
 
-    fn scratch() -> u64 {
-        0
-    }
-
-    fn read_head(&mut self, _head: &[u64], _scratch: &mut u64) -> bool {
+    fn read_head(&mut self, _head: &[u64]) -> bool {
         false
     }
 

@@ -77,7 +77,6 @@ impl<P: WordProgram, A: Allocator> WordMachine<P, A> {
 
 impl<P: WordProgram + Drop, A: Allocator> WordMachine<P, A>
 where
-    P::Value: Drop,
     P::Output: Drop,
 {
     /// Takes the program of the seat's participant, access by access, until it ends, whatever the other seats do: it makes no
@@ -139,16 +138,9 @@ where
         } = running;
         // Opens the words, so that the machine's bound is known to be small.
         let _size = self.words.size();
-        let first = P::first();
-        let mut scratch = P::scratch();
-        let note = self.words.step(
-            &mut seat,
-            number,
-            &mut written,
-            &mut program,
-            &first,
-            &mut scratch,
-        );
+        let note = self
+            .words
+            .step(&mut seat, number, &mut written, &mut program);
         let accesses = accesses + 1;
         match note.outcome() {
             Some(outcome) => Ok(EnteredSeat {

@@ -19,7 +19,7 @@ use crate::word_access::WordAccess;
 use atomic_table::{Seat, Table};
 use std::alloc::{AllocError, Allocator};
 use std::marker::Model;
-use step_memory::{Note, StepProgram};
+use step_memory::Note;
 
 /// The most words of a record.
 const MOST_WORDS: usize = 132;
@@ -103,19 +103,6 @@ impl<P: WordProgram, A: Allocator> Words<P, A> {
         ensures seat { result.me ≡ (lone_view self.now.size (unbegun number), []) }
     {
         self.table.shared.split_seat::<Deal>(rest)
-    }
-
-    /// The words of the record that was read last, as a value.
-    fn recall(&self, seat: &mut Seat<u8, SeatView<P, P::Output>>, slot: usize) -> P::Value
-        requires ours { seat.old.table_id ≡ self.now.table }
-        requires read { HasRead P.law self.now.size slot seat.old.me }
-        ensures ours { seat.new.table_id ≡ self.now.table }
-        ensures same { seat.new.me ≡ seat.old.me }
-        ensures value { result ≡ P.law.decode (read_in seat.old.me) }
-    {
-        let mut words = [0u64; MOST_WORDS];
-        self.recall_first(seat, slot, &mut words[..self.length]);
-        P::read(&words[..self.length])
     }
 
     /// The first words of the record that was read last.
@@ -238,10 +225,7 @@ impl<P: WordProgram, A: Allocator> Words<P, A> {
     }
 }
 
-impl<P: WordProgram, A: Allocator> Words<P, A>
-where
-    P::Value: Drop,
-{
+impl<P: WordProgram, A: Allocator> Words<P, A> {
     /// What the program makes of the record that was read last. A function of its own, since most registers are not written.
     #[inline(never)]
     fn take_written(
@@ -249,7 +233,6 @@ where
         seat: &mut Seat<u8, SeatView<P, P::Output>>,
         program: &mut P,
         slot: usize,
-        scratch: &mut P::Value,
     ) -> Note<P::Output>
         requires ours { seat.old.table_id ≡ self.now.table }
         requires read { HasRead P.law self.now.size slot seat.old.me }
@@ -261,7 +244,7 @@ where
         let mut head = [0u64; MOST_HEAD];
         let many = P::head();
         self.recall_first(seat, slot, &mut head[..many]);
-        if program.read_head(&head[..many], scratch) {
+        if program.read_head(&head[..many]) {
             return Note::Quiet;
         }
         self.take_whole(seat, program, slot)
@@ -283,8 +266,9 @@ where
         ensures after { program.new ≡ P.steps.resumed program.old (answer.Value (P.law.decode (read_in seat.old.me))) }
         ensures note { result ≡ P.steps.note program.old (answer.Value (P.law.decode (read_in seat.old.me))) }
     {
-        let got = self.recall(seat, slot);
-        program.take(&got)
+        let mut words = [0u64; MOST_WORDS];
+        self.recall_first(seat, slot, &mut words[..self.length]);
+        program.take_words(&words[..self.length])
     }
 
     /// A read of a register that holds a record, and what the program makes of it: nothing is moved where the register was not
@@ -296,26 +280,20 @@ where
         written: usize,
         program: &mut P,
         register: P::Reg,
-        first: &P::Value,
-        scratch: &mut P::Value,
     ) -> Note<P::Output>
         requires ours { seat.old.table_id ≡ self.now.table }
         requires before { Stands P.steps P.law self.now.size number written program.old [] seat.old.me }
         requires reads { P.steps.next program.old ≡ Read register }
         requires record { P.law.is_word register ≡ false }
-        requires first { first.now ≡ P.law.first }
         ensures ours { seat.new.table_id ≡ self.now.table }
         ensures after { HasStepped P.steps P.law self.now.size number written program.new result seat.old.me seat.new.me }
     {
         let at = P::place(self.size, register);
         let found = self.table.shared.load::<ReadRecord<P>>(seat, at);
         if found != 0 {
-            return self.take_written(seat, program, (found - 1) as usize, scratch);
+            return self.take_written(seat, program, (found - 1) as usize);
         }
-        if program.read_on(first) {
-            return Note::Quiet;
-        }
-        program.take(first)
+        program.take_first()
     }
 
     /// A load of a register that is one word, and what the program makes of it.
@@ -384,21 +362,17 @@ where
         program.take_done()
     }
 
-    /// One access of a program, and what the program makes of the answer. `first` is what stands in a register that was not
-    /// written.
+    /// One access of a program, and what the program makes of the answer.
     pub(crate) fn step(
         &self,
         seat: &mut Seat<u8, SeatView<P, P::Output>>,
         number: u64,
         written: &mut usize,
         program: &mut P,
-        first: &P::Value,
-        scratch: &mut P::Value,
     ) -> Note<P::Output>
         requires ours { seat.old.table_id ≡ self.now.table }
         requires before { Stands P.steps P.law self.now.size number written.old program.old [] seat.old.me }
         requires range { number < self.now.size.most }
-        requires first { first.now ≡ P.law.first }
         ensures ours { seat.new.table_id ≡ self.now.table }
         ensures after { HasStepped P.steps P.law self.now.size number written.new program.new result seat.old.me seat.new.me }
     {
@@ -407,9 +381,7 @@ where
             WordAccess::Store(r, word) => {
                 self.step_store(seat, number, *written, program, r, word)
             }
-            WordAccess::Look(r) => {
-                self.step_read(seat, number, *written, program, r, first, scratch)
-            }
+            WordAccess::Look(r) => self.step_read(seat, number, *written, program, r),
             WordAccess::Publish(r) => self.step_publish(seat, number, written, program, r),
             WordAccess::Nothing => Note::Quiet,
         }
@@ -465,13 +437,10 @@ where
         written: &mut usize,
         program: &mut P,
         accesses: &mut u64,
-        first: &P::Value,
-        scratch: &mut P::Value,
     ) -> Note<P::Output>
         requires ours { seat.old.table_id ≡ self.now.table }
         requires before { StandsAfter P.steps P.law self.now.size number written.old program.old accesses.old seat.old.me }
         requires range { number < self.now.size.most }
-        requires first { first.now ≡ P.law.first }
         requires few { accesses.old ≤ P.law.bound self.now.size }
         ensures ours { seat.new.table_id ≡ self.now.table }
         ensures after { HasComeOn P.steps P.law self.now.size number written.new program.new result seat.new.me }
@@ -482,11 +451,11 @@ where
         let _size = self.size;
         let found = self.read_ahead(seat, number, *written, program, accesses);
         if found != 0 {
-            let note = self.take_written(seat, program, (found - 1) as usize, scratch);
+            let note = self.take_written(seat, program, (found - 1) as usize);
             *accesses += 1;
             return note;
         }
-        let note = self.step(seat, number, written, program, first, scratch);
+        let note = self.step(seat, number, written, program);
         *accesses += 1;
         note
     }
@@ -494,7 +463,6 @@ where
 
 impl<P: WordProgram + Drop, A: Allocator> Words<P, A>
 where
-    P::Value: Drop,
     P::Output: Drop,
 {
     /// The accesses of a program that has not begun, one after another, until it ends: with what, and how many they were.
@@ -516,18 +484,8 @@ where
         let _most = self.size.most;
         let mut written = 0;
         let mut accesses = 0;
-        let first = P::first();
-        let mut scratch = P::scratch();
         loop {
-            let note = self.step_ahead(
-                seat,
-                number,
-                &mut written,
-                program,
-                &mut accesses,
-                &first,
-                &mut scratch,
-            );
+            let note = self.step_ahead(seat, number, &mut written, program, &mut accesses);
             if let Some(outcome) = note.outcome() {
                 return (outcome, accesses);
             }

@@ -1,5 +1,6 @@
 -- the reads that a collect makes of segments that nobody wrote
-use Rattle.std.proofs.Common.{◌≡◌, ℕ, zero, suc, ◌+◌, ◌%◌, ◌<◌, ◌≤◌, ◌⊎◌, nat_lt, nat_le, true, false, List, slice_index, Option, Some, None, inl, inr, refl, sym, ap, ◌∙◌, arith}
+use Rattle.std.proofs.Common.{◌≡◌, ◌≢◌, ℕ, zero, suc, ◌+◌, ◌%◌, ◌<◌, ◌≤◌, ◌⊎◌, nat_lt, nat_le, true, false, List, ◌++◌, length, slice_index, Option, Some, None, inl, inr, refl, sym, ap, ◌∙◌, arith}
+use Rattle.std.proofs.lemmas.List.{get_or_append_left}
 use Rattle.std.proofs.lemmas.Bool.Decides.{nat_tests}
 use Rattle.step_memory.specs.declared.access.Access.TheVariants.{Read}
 use Rattle.step_memory.specs.declared.access.Answer.TheVariants.{Value}
@@ -8,7 +9,8 @@ use Rattle.step_memory.specs.declared.note.Note.TheVariants.{Quiet}
 use Rattle.snapshot_core.specs.declared.client.Pending.{Pending}
 use Rattle.snapshot_core.specs.declared.client.Pending.TheVariants.{Nothing, Placing as OnWay, Scan as Scans, Update, Write as Writing}
 use Rattle.snapshot_core.specs.declared.scan.Scan.{Scan}
-use Rattle.snapshot_core.specs.Scan.{scan_after, scan_view}
+use Rattle.step_memory.specs.declared.record.Record.{Record}
+use Rattle.snapshot_core.specs.Scan.{met, is_second_change, scan_after, scan_view}
 use Rattle.snapshot_core.specs.Client.{note_after}
 use Rattle.snapshot_core.specs.SnapWorld.{reported}
 use Rattle.rename_core.specs.Round.{followed}
@@ -18,9 +20,11 @@ use Rattle.snapshot_places.specs.declared.grid_register.GridRegister.TheVariants
 use Rattle.snapshot_places.specs.declared.grid_walk.GridWalk.{GridWalk}
 use Rattle.snapshot_places.specs.Grid.{grid_walks}
 use Rattle.word_machine.specs.declared.size.Size.{Size}
-use Rattle.word_machine.specs.WordLaw.{skipped, GoesAhead}
+use Rattle.word_machine.specs.WordLaw.{skipped, GoesAhead, IsAfterHead}
 use Rattle.word_names.specs.NameMachine.{Naming, naming_steps, names_law, reads_in, ahead_in, reads_ahead}
 use Rattle.word_names.specs.Renamers.{note_of}
+use Rattle.word_names.specs.Spelling.{record_in, value_in}
+use Rattle.word_names.specs.Spelled.{record_read}
 
 -- a collect is under way
 abbrev pub IsReading : Pending → Type 0
@@ -49,7 +53,7 @@ resumed_reading x (Update n) is reading v none = rw (is, none) refl
 resumed_reading x (Writing n view) is reading v none = absurd reading
 
 -- what is said of a read by which a scan shows this
-abbrev said : Naming → Option ℕ → Option (List (ℕ × ℕ)) → Note (Option ℕ)
+abbrev pub said : Naming → Option ℕ → Option (List (ℕ × ℕ)) → Note (Option ℕ)
 said x updates_with view = note_of (followed x.round x.identity (reported (note_after view updates_with)) x.limit).reply
 
 noted_reading : (x : Naming) (p : Pending) → x.client.pending ≡ p → IsReading p → (v : GridValue) → scan_view grid_walks x.client.scan v ≡ None → naming_steps.note x (Value v) ≡ Quiet
@@ -96,6 +100,10 @@ pub walk_fits : (p : Pending) (k : GridWalk) (n : ℕ) → n ≤ ahead_in p k �
 walk_fits p k zero l = inl refl
 walk_fits p k (suc n) l = let low = (reading_of p k n (omega arith)).1 in inr (omega arith)
 
+-- a read is ahead only before the end of a walk
+pub some_ahead : (x : Naming) → 0 < reads_ahead x → x.client.scan.walk.at + 1 < x.client.scan.walk.most
+some_ahead x some = let low = (reading_of x.client.pending x.client.scan.walk 0 some).1 in omega arith
+
 pub skipped_is : (x : Naming) (n : ℕ) → n ≤ reads_ahead x → skipped naming_steps (Contents None) x n ≡ moved_to x (x.client.scan.walk.at + n)
 skipped_is x zero l = sym (ap (moved_to x) (let none : x.client.scan.walk.at + 0 ≡ x.client.scan.walk.at = omega arith in none))
 skipped_is x (suc n) l =
@@ -115,6 +123,32 @@ goes_ahead size x = record {
       ap (λ (y : Naming). naming_steps.note y (Value (Contents None))) (skipped_is x i (omega arith)) ∙ (on_one (moved_to x (x.client.scan.walk.at + i)) reading.0 (omega arith)).1);
 }
 
--- a value is a record of which these are the first words
-abbrev pub HasHead : List ℕ → GridValue → Type 0
-HasHead head v = (view : List (ℕ × ℕ)) × (v ≡ Contents (Some (record { identity = slice_index head 1; value = slice_index head 2; number = slice_index head 3 % 4294967296; view = view })))
+-- such a record with this view
+abbrev pub headed : List ℕ → List (ℕ × ℕ) → Record
+headed head view = record { identity = slice_index head 1; value = slice_index head 2; number = slice_index head 3 % 4294967296; view = view }
+
+-- a read of a record that is noted, which is not the last of its collect
+on_noted : (s : Scan GridWalk) (walk : GridWalk) (r : Record) → is_second_change s s.walk.at r ≡ false → s.walk.at + 1 < s.walk.most
+    → (scan_after grid_walks s (Contents (Some r)) walk ≡ scan_to (met s s.walk.at r) (s.walk.at + 1)) × (scan_view grid_walks s (Contents (Some r)) ≡ None)
+on_noted s walk r once l =
+    let more : nat_lt s.walk.at s.walk.most ≡ true = grind (arith, nat_tests) in
+    let not_over : nat_le s.walk.most (s.walk.at + 1) ≡ false = grind (arith, nat_tests) in
+    rw (once, more, not_over) (refl, refl)
+
+-- the first words of a record say what the program makes of it, if its segment is not the last of its collect, and shows no second change
+pub head_read : (x : Naming) (head : List ℕ) → length head ≡ 4 → slice_index head 0 ≢ 0 → slice_index head 0 ≢ 100 → 0 < reads_ahead x
+    → (s : Scan GridWalk) → ((view : List (ℕ × ℕ)) → s ≡ met x.client.scan x.client.scan.walk.at (headed head view)) → ((view : List (ℕ × ℕ)) → is_second_change x.client.scan x.client.scan.walk.at (headed head view) ≡ false)
+    → IsAfterHead naming_steps names_law x head (with_scan x (scan_to s (x.client.scan.walk.at + 1)))
+head_read x head long a b some s is once rest =
+    let same = λ (i : ℕ) (l : i < length head). get_or_append_left head rest 0 i l in
+    let first = same 0 (omega arith) in
+    let view = (record_in (head ++ rest)).view in
+    let r : record_in (head ++ rest) ≡ headed head view = (λ i. record { identity = same 1 (omega arith) i; value = same 2 (omega arith) i; number = same 3 (omega arith) i % 4294967296; view = view }) in
+    let value : Contents (Some (headed head view)) ≡ value_in (head ++ rest) = record_read (head ++ rest) (λ e. a (sym first ∙ e)) (λ e. b (sym first ∙ e)) (headed head view) (sym r) in
+    let reading = reading_of x.client.pending x.client.scan.walk 0 some in
+    let low = reading.1 in
+    let on = on_noted x.client.scan x.client.walk (headed head view) (once view) (omega arith) in
+    let read = on_reading x x.client.pending refl reading.0 (Contents (Some (headed head view))) on.1 in (
+      ap (λ (z : Scan GridWalk). with_scan x (scan_to z (x.client.scan.walk.at + 1))) (is view) ∙ sym (read.0 ∙ ap (with_scan x) on.0) ∙ ap (λ (v : GridValue). naming_steps.resumed x (Value v)) value,
+      sym (ap (λ (v : GridValue). naming_steps.note x (Value v)) value) ∙ read.1,
+    )

@@ -14,3 +14,5 @@ pub mod Sound
 pub mod Seats
 pub mod Direct
 pub mod NameLaw
+pub mod Taken
+pub mod Namers

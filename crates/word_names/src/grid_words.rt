@@ -1,28 +1,29 @@
 //! The registers of a grid with segments as words and records, and how words spell what stands in them.
 
-ghost use Rattle.std.specs.Prelude.{◌≡◌, ◌≤◌, ◌<◌, ◌+◌, ◌*◌, length, slice_index, if◌then◌else◌, true, false, None};
+ghost use Rattle.std.specs.Prelude.{◌≡◌, ◌≤◌, ◌<◌, ◌+◌, ◌*◌, ℕ, List, [], length, slice_index, if◌then◌else◌, not, true, false, IfSome, None, Some};
 ghost use Rattle.std.proofs.Common.{get_or};
 ghost use Rattle.word_machine.specs.declared.size.Size.{Size};
 ghost use Rattle.snapshot_places.specs.declared.grid_register.GridValue.TheVariants.{Contents, Word};
 ghost use Rattle.word_machine.specs.WordLaw.{IsAfterHead, skipped};
 ghost use Rattle.step_memory.specs.View.{IsRising};
+ghost use Rattle.step_memory.specs.declared.access.Access.TheVariants.{Read};
 ghost use Rattle.step_memory.specs.declared.access.Answer.TheVariants.{Value, Done};
-ghost use Rattle.snapshot_places.specs.Grid.{grid_place, word_answer};
+ghost use Rattle.snapshot_places.specs.Grid.{grid_place};
 ghost use Rattle.word_machine.specs.NextAccess.{IsNext, IsLong, IsWordAt};
 ghost use Rattle.word_names.specs.Seats.{place_or_first};
-ghost use Rattle.word_names.specs.Direct.{access_told, word_access_of, proposing, walked, looking, decided_on, decided_note};
-ghost use Rattle.word_names.specs.Ahead.{HasHead};
+ghost use Rattle.word_names.specs.Direct.{access_told, word_access_of};
+ghost use Rattle.word_names.specs.Ahead.{IsReading};
+ghost use Rattle.word_names.specs.Taken.{seen_by, seen_note};
 ghost use Rattle.word_names.specs.NameMachine.{names_law, naming_steps, place_for, naming_from, reads_in, reads_ahead, MayStart};
 ghost use Rattle.word_names.specs.Spelling.{record_word, pairs_in, pairs_of, value_in};
 ghost use Rattle.word_names.specs.Sound.{names_sound};
 
-use crate::renamer::Renamer;
-use rename_core::proposal::is_taken;
-use rename_core::{Round, Stage, next_proposal};
-use snapshot_core::{Client, MOST_UPDATES, Pending, PlaceWalker, ToScan, ToUpdate};
+use crate::namer::{Doing, Namer, meet};
+use rename_core::Round;
+use snapshot_core::{PlaceWalker, Scan};
 use snapshot_places::{GridRegister, GridValue, GridWalk, GridWalker};
 use splitter_grid::{Door, Walker};
-use step_memory::{Access, Answer, Note, Place, Record, Request, StepProgram, View};
+use step_memory::{Access, Answer, Note, Place, StepProgram, View};
 use word_machine::{Size, WordAccess, WordProgram};
 
 /// How many words spell a record at most: what kind of value it is and how long its view, identity, value and number, and the view's
@@ -108,22 +109,6 @@ fn count_ahead(walk: GridWalk) -> usize
     if left < 1000 { left as usize } else { 0 }
 }
 
-/// Puts what the first words of a record say into a record, which keeps its view. False if the value is none.
-fn put_head(head: &[u64], scratch: &mut GridValue) -> bool
-    requires { length head.now ≡ 4 }
-    ensures { result ≡ true → HasHead head.now scratch.new }
-{
-    match scratch {
-        GridValue::Contents(Some(record)) => {
-            record.identity = head[1];
-            record.value = head[2];
-            record.number = (head[3] % 4_294_967_296) as u32;
-            true
-        }
-        _ => false,
-    }
-}
-
 /// The access of a walk through doors, as one of words.
 fn door_access(access: Access<usize, u64>) -> WordAccess<GridRegister>
     ensures { result ≡ word_access_of access }
@@ -137,99 +122,52 @@ fn door_access(access: Access<usize, u64>) -> WordAccess<GridRegister>
     }
 }
 
-/// What a client accesses next.
-fn next_of(client: &Client<GridWalker, GridWalk>) -> WordAccess<GridRegister>
-    ensures { result ≡ access_told client.now client.now.pending }
-{
-    match client.pending {
-        Pending::Nothing => WordAccess::Nothing,
-        Pending::Placing => door_access(client.walker.walker.next()),
-        Pending::Scan | Pending::Update(_) => {
-            WordAccess::Look(GridRegister::Segment(client.scan.walk.at))
+impl Namer {
+    /// What it accesses next.
+    fn told(&self) -> WordAccess<GridRegister>
+        ensures { result ≡ access_told self.now.client self.now.client.pending }
+    {
+        match self.doing {
+            Doing::Nothing => WordAccess::Nothing,
+            Doing::Placing => door_access(self.walker.walker.next()),
+            Doing::Scanning | Doing::Update(_) => {
+                WordAccess::Look(GridRegister::Segment(self.scan.walk.at))
+            }
+            Doing::Write(_) => match self.walker.place() {
+                Some(place) => WordAccess::Publish(GridRegister::Segment(place)),
+                None => WordAccess::Nothing,
+            },
         }
-        Pending::Write(_, _) => match client.walker.place() {
-            Some(place) => WordAccess::Publish(GridRegister::Segment(place)),
-            None => WordAccess::Nothing,
-        },
+    }
+
+    /// Takes the view that these words of a record spell, with which its scan has ended.
+    fn borrow(&mut self, words: &[u64]) -> Note<Option<u64>>
+        requires reading { IsReading self.old.client.pending }
+        requires long { length words.now ≡ 132 }
+        requires some { 1 ≤ slice_index words.now 0 }
+        ensures after { self.new ≡ seen_by self.old self.old.client.pending (pairs_in words.now 0 (pairs_of (slice_index words.now 0))) }
+        ensures note { result ≡ seen_note self.old self.old.client.pending (pairs_in words.now 0 (pairs_of (slice_index words.now 0))) }
+    {
+        if let Doing::Update(value) = self.doing {
+            self.view = read_view(words, pairs_spelled(words[0]));
+            self.doing = Doing::Write(value);
+            return Note::Quiet;
+        }
+        let view = read_view(words, pairs_spelled(words[0]));
+        self.decide(&view)
     }
 }
 
-/// What a walk through doors gets of this value.
-fn word_answer(value: &GridValue) -> Answer<u64>
-    ensures { result ≡ word_answer (Value value.now) }
-{
-    match value {
-        GridValue::Word(word) => Answer::Value(*word),
-        GridValue::Contents(_) => Answer::Done,
-    }
-}
+impl WordProgram for Namer {
+    type Reg = GridRegister;
 
-impl Renamer<GridWalker, GridWalk> {
-    /// Proposes a number.
-    fn propose(&mut self, number: u64)
-        ensures { self.new ≡ proposing self.old number }
-    {
-        self.round.stage = Stage::Proposing(number);
-        if self.client.updates < MOST_UPDATES {
-            ToUpdate { value: number }.ask(&mut self.client);
-        } else {
-            self.client.pending = Pending::Nothing;
-        }
-    }
+    type Value = GridValue;
 
-    /// Goes on to its place, and proposes 1 there.
-    fn walk_on(&mut self, got: Answer<u64>)
-        ensures { self.new ≡ walked self.old got }
-    {
-        match self.client.walker.walker.resume(got) {
-            Note::Ended(_) => self.propose(1),
-            Note::Said(_) => {}
-            Note::Quiet => {}
-        }
-    }
+    type Output = Option<u64>;
 
-    /// Looks at what the others propose, once its proposal is written.
-    fn look(&mut self)
-        ensures { self.new ≡ looking self.old }
-    {
-        let number = match self.round.stage {
-            Stage::Proposing(number) => number,
-            Stage::Placing => 0,
-            Stage::Looking => 0,
-            Stage::Settled => 0,
-            Stage::Over => 0,
-        };
-        if self.round.count < self.limit {
-            self.round.count += 1;
-        }
-        self.round.proposal = number;
-        self.round.stage = Stage::Looking;
-        ToScan.ask(&mut self.client);
-    }
-
-    /// Takes its proposal as its name, or proposes another, by what the others propose.
-    fn decide(&mut self, view: &View) -> Note<Option<u64>>
-        ensures after { self.new ≡ decided_on self.old view.now }
-        ensures note { result ≡ decided_note self.old view.now }
-    {
-        if !is_taken(view, self.identity, self.round.proposal) {
-            self.round.stage = Stage::Settled;
-            self.client.pending = Pending::Nothing;
-            return Note::Ended(Some(self.round.proposal));
-        }
-        if self.limit <= self.round.count {
-            self.round.stage = Stage::Over;
-            self.client.pending = Pending::Nothing;
-            return Note::Ended(None);
-        }
-        let number = next_proposal(view, self.identity);
-        self.propose(number);
-        Note::Quiet
-    }
-}
-
-impl WordProgram for Renamer<GridWalker, GridWalk> {
     type End = Place;
+
+    ghost steps = { naming_steps };
 
     ghost end_of = { λ x. place_or_first (grid_place x.client.walker) };
 
@@ -259,33 +197,32 @@ impl WordProgram for Renamer<GridWalker, GridWalk> {
     fn access(&self) -> WordAccess<GridRegister>
         ensures { IsNext naming_steps names_law self.now result }
     {
-        next_of(&self.client)
+        self.told()
     }
 
     fn record_words(&self) -> usize
         ensures { IsLong naming_steps names_law self.now result }
     {
-        match &self.client.pending {
-            Pending::Write(_, view) => words_with(view, self.client.updates),
-            Pending::Nothing => 0,
-            Pending::Placing => 0,
-            Pending::Scan => 0,
-            Pending::Update(_) => 0,
+        match self.doing {
+            Doing::Write(_) => words_with(&self.view, self.updates),
+            Doing::Nothing => 0,
+            Doing::Placing => 0,
+            Doing::Scanning => 0,
+            Doing::Update(_) => 0,
         }
     }
 
     fn record_word(&self, at: usize) -> u64
         ensures { IsWordAt naming_steps names_law self.now at result }
     {
-        let number = self.client.updates;
-        match &self.client.pending {
-            Pending::Write(value, view) => {
-                spell_record(self.client.identity, *value, number, view, at)
+        match self.doing {
+            Doing::Write(value) => {
+                spell_record(self.identity, value, self.updates, &self.view, at)
             }
-            Pending::Nothing => 0,
-            Pending::Placing => 0,
-            Pending::Scan => 0,
-            Pending::Update(_) => 0,
+            Doing::Nothing => 0,
+            Doing::Placing => 0,
+            Doing::Scanning => 0,
+            Doing::Update(_) => 0,
         }
     }
 
@@ -293,50 +230,62 @@ impl WordProgram for Renamer<GridWalker, GridWalk> {
         ensures after { self.new ≡ naming_steps.resumed self.old (Value (Word word)) }
         ensures note { result ≡ naming_steps.note self.old (Value (Word word)) }
     {
-        if let Pending::Placing = self.client.pending {
-            self.walk_on(Answer::Value(word));
-            return Note::Quiet;
+        if self.is_reading() {
+            return self.scan_on();
         }
-        self.take(&GridValue::Word(word))
+        match self.doing {
+            Doing::Placing => self.walk_on(Answer::Value(word)),
+            Doing::Write(_) => self.look(),
+            Doing::Nothing => {}
+            Doing::Scanning => {}
+            Doing::Update(_) => {}
+        }
+        Note::Quiet
     }
 
-    fn take(&mut self, got: &GridValue) -> Note<Option<u64>>
-        ensures after { self.new ≡ naming_steps.resumed self.old (Value got.now) }
-        ensures note { result ≡ naming_steps.note self.old (Value got.now) }
+    fn take_first(&mut self) -> Note<Option<u64>>
+        ensures after { self.new ≡ naming_steps.resumed self.old (Value (Contents None)) }
+        ensures note { result ≡ naming_steps.note self.old (Value (Contents None)) }
     {
-        match self.client.pending {
-            Pending::Scan => match self.client.scan.resume(got, self.client.walk) {
-                Some(view) => self.decide(&view),
-                None => Note::Quiet,
-            },
-            Pending::Update(value) => {
-                if let Some(view) = self.client.scan.resume(got, self.client.walk) {
-                    self.client.pending = Pending::Write(value, view);
-                }
-                Note::Quiet
-            }
-            Pending::Placing => {
-                self.walk_on(word_answer(got));
-                Note::Quiet
-            }
-            Pending::Write(_, _) => {
-                self.look();
-                Note::Quiet
-            }
-            Pending::Nothing => Note::Quiet,
+        if self.is_reading() {
+            return self.scan_on();
         }
+        self.take_done()
+    }
+
+    fn take_words(&mut self, words: &[u64]) -> Note<Option<u64>>
+        requires { length words.now ≡ 132 }
+        ensures after { self.new ≡ naming_steps.resumed self.old (Value (value_in words.now)) }
+        ensures note { result ≡ naming_steps.note self.old (Value (value_in words.now)) }
+    {
+        if words[0] == 0 {
+            return self.take_first();
+        }
+        if words[0] == DOOR_WORD {
+            return self.take_word(words[2]);
+        }
+        if !self.is_reading() {
+            return self.take_done();
+        }
+        let number = (words[3] % 4_294_967_296) as u32;
+        if meet(&mut self.scan, words[1], words[2], number) {
+            return self.scan_on();
+        }
+        self.borrow(words)
     }
 
     fn take_done(&mut self) -> Note<Option<u64>>
         ensures after { self.new ≡ naming_steps.resumed self.old Done }
         ensures note { result ≡ naming_steps.note self.old Done }
     {
-        match self.client.pending {
-            Pending::Placing => self.walk_on(Answer::Done),
-            Pending::Write(_, _) => self.look(),
-            Pending::Nothing => {}
-            Pending::Scan => {}
-            Pending::Update(_) => {}
+        match self.doing {
+            Doing::Placing => self.walk_on(Answer::Done),
+            Doing::Write(_) => {
+                self.look();
+            }
+            Doing::Nothing => {}
+            Doing::Scanning => {}
+            Doing::Update(_) => {}
         }
         Note::Quiet
     }
@@ -344,7 +293,7 @@ impl WordProgram for Renamer<GridWalker, GridWalk> {
     fn end(&self) -> Place
         ensures { result ≡ place_or_first (grid_place self.now.client.walker) }
     {
-        match self.client.walker.place() {
+        match self.walker.place() {
             Some(place) => place,
             None => 0,
         }
@@ -361,48 +310,41 @@ impl WordProgram for Renamer<GridWalker, GridWalk> {
             at: 0,
             most: (size.most * (size.most + 1) / 2) as Place,
         };
-        Renamer {
+        Namer {
             identity,
             limit: size.limit,
-            client: Client::new(identity, walker, walk),
+            walker,
+            walk,
+            updates: 0,
+            doing: Doing::Placing,
             round: Round::first(false),
+            view: View::new(),
+            scan: Scan::new(walk),
         }
-    }
-
-    fn first() -> GridValue {
-        GridValue::Contents(None)
     }
 
     fn length() -> usize {
         RECORD_WORDS
     }
 
-    fn read(words: &[u64]) -> GridValue
-        requires { length words.now ≡ 132 }
-        ensures { result ≡ value_in words.now }
+    fn reads(&self) -> Option<GridRegister>
+        ensures { IfSome result (λ register. naming_steps.next self.now ≡ Read register) }
     {
-        if words[0] == 0 {
-            return GridValue::Contents(None);
+        if self.is_reading() {
+            Some(GridRegister::Segment(self.scan.walk.at))
+        } else {
+            None
         }
-        if words[0] == DOOR_WORD {
-            return GridValue::Word(words[2]);
-        }
-        GridValue::Contents(Some(Record {
-            identity: words[1],
-            value: words[2],
-            number: (words[3] % 4_294_967_296) as u32,
-            view: read_view(words, pairs_spelled(words[0])),
-        }))
     }
 
     fn ahead(&self) -> usize
         ensures { result ≤ reads_ahead self.now }
     {
-        match self.client.pending {
-            Pending::Scan | Pending::Update(_) => count_ahead(self.client.scan.walk),
-            Pending::Nothing => 0,
-            Pending::Placing => 0,
-            Pending::Write(_, _) => 0,
+        match self.doing {
+            Doing::Scanning | Doing::Update(_) => count_ahead(self.scan.walk),
+            Doing::Nothing => 0,
+            Doing::Placing => 0,
+            Doing::Write(_) => 0,
         }
     }
 
@@ -410,42 +352,30 @@ impl WordProgram for Renamer<GridWalker, GridWalk> {
         requires { count ≤ reads_ahead self.old }
         ensures { self.new ≡ skipped naming_steps (Contents None) self.old count }
     {
-        let walk = self.client.scan.walk;
-        self.client.scan.walk.at = walk.at + count as Place;
+        let walk = self.scan.walk;
+        self.scan.walk.at = walk.at + count as Place;
     }
 
     fn head() -> usize {
         4
     }
 
-    fn scratch() -> GridValue {
-        GridValue::Contents(Some(Record {
-            identity: 0,
-            value: 0,
-            number: 0,
-            view: View::new(),
-        }))
-    }
-
-    fn read_head(&mut self, head: &[u64], scratch: &mut GridValue) -> bool
+    fn read_head(&mut self, head: &[u64]) -> bool
         requires { length head.now ≡ 4 }
         ensures after { result ≡ true → IsAfterHead naming_steps names_law self.old head.now self.new }
         ensures kept { result ≡ false → self.new ≡ self.old }
     {
-        if head[0] == 0 || head[0] == DOOR_WORD {
+        let ahead = self.ahead();
+        if head[0] == 0 || head[0] == DOOR_WORD || ahead == 0 {
             return false;
         }
-        if !put_head(head, scratch) {
+        let walk = self.scan.walk;
+        let number = (head[3] % 4_294_967_296) as u32;
+        if !meet(&mut self.scan, head[1], head[2], number) {
             return false;
         }
-        match self.client.pending {
-            Pending::Scan | Pending::Update(_) => {
-                self.client.scan.read_on(scratch, self.client.walk)
-            }
-            Pending::Nothing => false,
-            Pending::Placing => false,
-            Pending::Write(_, _) => false,
-        }
+        self.scan.walk.at = walk.at + 1;
+        true
     }
 
     ghost sound = { names_sound };

@@ -24,10 +24,12 @@
 #![tactic(auto)]
 
 pub mod grid_words;
+pub mod namer;
 pub mod names;
 pub mod renamer;
 pub mod seats;
 
+pub use namer::Namer;
 pub use names::Names;
 pub use renamer::Renamer;
 pub use seats::{Claim, Dealer, FreshSeat, GridRenamer, Renamed, Renaming};

@@ -3,14 +3,13 @@
 ghost use Rattle.std.specs.Prelude.{◌≡◌};
 ghost use Rattle.word_names.specs.NameLaw.{NameSpec};
 
-use crate::renamer::Renamer;
+use crate::namer::Namer;
 use rename_core::Round;
-use snapshot_places::{GridWalk, GridWalker};
 use std::marker::Model;
 use step_memory::Place;
 
 /// A participant over a grid.
-pub type GridRenamer = Renamer<GridWalker, GridWalk>;
+pub type GridRenamer = Namer;
 
 /// The most seats.
 pub const MOST_SEATS: usize = 16;

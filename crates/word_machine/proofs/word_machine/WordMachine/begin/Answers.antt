@@ -10,6 +10,6 @@ invariant_of-result g c =
     c.size.ensures.count ∙ ap (λ (w : WordsId). w.size) (c.self.view_is ∙ sym c.requires.ours) ∙ sym (ap (λ (s : SeatId). s.words.size) c.fresh.view_is) in (
       c.fresh.invariant.0,
       sym (ap accesses_in c.fresh.invariant.1),
-      begins g.P.StepProgram.steps g.P.WordProgram.law g.met.P.WordProgram.sound _ _ _ _ (subst (λ (n : Size). 1 ≤ n.most) size c.size.ensures.some) (subst g.P.WordProgram.law.MayStart size c.size.ensures.may) c.fresh.invariant.0
+      begins g.P.WordProgram.steps g.P.WordProgram.law g.met.P.WordProgram.sound _ _ _ _ (subst (λ (n : Size). 1 ≤ n.most) size c.size.ensures.some) (subst g.P.WordProgram.law.MayStart size c.size.ensures.may) c.fresh.invariant.0
           (c.start-program.ensures ∙ ap (λ (n : Size). g.P.WordProgram.law.start n (own c.fresh.inside.number)) size) c.fresh.invariant.1,
     )

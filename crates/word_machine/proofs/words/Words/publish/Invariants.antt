@@ -6,7 +6,7 @@ abbrev pub invariant-loop-i : goal.invariant-loop-i
 invariant-loop-i g l = record {
   ours : l.seat.table_id ≡ l.self.table;
   few : l.i ≤ l.long;
-  me_is : (v : g.row.P-Value.Denot) → g.P.StepProgram.steps.next l.program ≡ Write l.fn.register v → l.seat.me ≡ prepared (take l.i (g.P.WordProgram.law.encode v)) l.fn.seat.me;
+  me_is : (v : g.row.P-Value.Denot) → g.P.WordProgram.steps.next l.program ≡ Write l.fn.register v → l.seat.me ≡ prepared (take l.i (g.P.WordProgram.law.encode v)) l.fn.seat.me;
 }
 
 abbrev pub decreases-loop-i : goal.decreases-loop-i

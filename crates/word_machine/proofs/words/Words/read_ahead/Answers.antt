@@ -10,7 +10,7 @@ overflow_add-at g c =
     let size : c.self.inside.size ≡ c.args.self.now.size = ap (λ (w : WordsId). w.size) c.self.view_is in
     let upto = c.ahead-count.ensures in
     let test = c.loop-i-test.true in
-    let inside = low_word g.P.StepProgram.steps law g.met.P.WordProgram.sound c.args.self.now.size c.args.number c.args.written c.args.program.now c.loop-i.i (omega arith) c.loop-i.seat.me c.loop-i.invariant.stands.0 c.in-Some.register c.place-at.result c.in-Some.ensures (c.place-at.ensures ∙ ap (λ (k : Size). law.place k c.in-Some.register) size) in
+    let inside = low_word g.P.WordProgram.steps law g.met.P.WordProgram.sound c.args.self.now.size c.args.number c.args.written c.args.program.now c.loop-i.i (omega arith) c.loop-i.seat.me c.loop-i.invariant.stands.0 c.in-Some.register c.place-at.result c.in-Some.ensures (c.place-at.ensures ∙ ap (λ (k : Size). law.place k c.in-Some.register) size) in
     let small = g.met.P.WordProgram.sound.small c.args.self.now.size (subst law.MayStart size c.self.invariant.1) in
     omega arith
 
@@ -21,12 +21,12 @@ load-found-requires g c =
     let upto = c.ahead-count.ensures in
     let test = c.loop-i-test.true in
     let at = c.place-at.ensures ∙ ap (λ (k : Size). law.place k c.in-Some.register) size in
-    let inside = low_word g.P.StepProgram.steps law g.met.P.WordProgram.sound c.args.self.now.size c.args.number c.args.written c.args.program.now c.loop-i.i (omega arith) c.loop-i.seat.me c.loop-i.invariant.stands.0 c.in-Some.register c.place-at.result c.in-Some.ensures at in
+    let inside = low_word g.P.WordProgram.steps law g.met.P.WordProgram.sound c.args.self.now.size c.args.number c.args.written c.args.program.now c.loop-i.i (omega arith) c.loop-i.seat.me c.loop-i.invariant.stands.0 c.in-Some.register c.place-at.result c.in-Some.ensures at in
     let registers : law.registers c.self.inside.size ≡ law.registers c.args.self.now.size = ap law.registers size in
     let all = c.self.invariant.5 in (
       c.loop-i.invariant.ours ∙ ap (λ (w : WordsId). w.table) (sym c.self.view_is),
       omega arith,
-      may_go g.P.StepProgram.steps law g.met.P.WordProgram.sound c.args.self.now.size c.args.number c.args.written c.args.program.now c.loop-i.i (omega arith) c.loop-i.seat.me c.loop-i.invariant.stands.0 _ (sym size ∙ sym c.self.invariant.2) _ _ _ c.in-Some.register c.place-at.result c.in-Some.ensures at,
+      may_go g.P.WordProgram.steps law g.met.P.WordProgram.sound c.args.self.now.size c.args.number c.args.written c.args.program.now c.loop-i.i (omega arith) c.loop-i.seat.me c.loop-i.invariant.stands.0 _ (sym size ∙ sym c.self.invariant.2) _ _ _ c.in-Some.register c.place-at.result c.in-Some.ensures at,
     )
 
 pub skip-requires : goal.skip-requires
@@ -42,7 +42,7 @@ overflow_add-accesses g c =
 
 pub returns-then-found-ne0-clause-found : goal.returns-then-found-ne0-clause-found
 returns-then-found-ne0-clause-found g c some =
-    let steps = g.P.StepProgram.steps in
+    let steps = g.P.WordProgram.steps in
     let law = g.P.WordProgram.law in
     let upto = c.ahead-count.ensures in
     let test = c.loop-i-test.true in
@@ -57,7 +57,7 @@ returns-then-found-ne0-clause-more g c = let before = c.loop-i.invariant.before 
 
 pub loop-i-preserved : goal.loop-i-preserved
 loop-i-preserved g c =
-    let steps = g.P.StepProgram.steps in
+    let steps = g.P.WordProgram.steps in
     let law = g.P.WordProgram.law in
     let upto = c.ahead-count.ensures in
     let test = c.loop-i-test.true in
@@ -90,7 +90,7 @@ overflow_add-accesses-2 g c =
 
 pub returns-clause-none : goal.returns-clause-none
 returns-clause-none g c _ =
-    let steps = g.P.StepProgram.steps in
+    let steps = g.P.WordProgram.steps in
     let law = g.P.WordProgram.law in
     let upto = c.loop-i.invariant.upto in
     let test = c.loop-i-test.false in

@@ -9,7 +9,7 @@ invariant-loop-i g l = record {
   upto : l.i ≤ l.count;
   same : l.program ≡ l.fn.program;
   before : l.accesses ≡ l.fn.accesses;
-  stands : StandsAfter g.P.StepProgram.steps g.P.WordProgram.law l.self.size l.number l.written (skipped g.P.StepProgram.steps g.P.WordProgram.law.first l.fn.program l.i) (l.fn.accesses + l.i) l.seat.me;
+  stands : StandsAfter g.P.WordProgram.steps g.P.WordProgram.law l.self.size l.number l.written (skipped g.P.WordProgram.steps g.P.WordProgram.law.first l.fn.program l.i) (l.fn.accesses + l.i) l.seat.me;
   few : l.fn.accesses + l.i ≤ g.P.WordProgram.law.bound l.self.size;
 }
 

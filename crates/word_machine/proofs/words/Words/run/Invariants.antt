@@ -5,7 +5,7 @@ use Rattle.word_machine.proofs.words.Words.run.Given as goal
 abbrev pub invariant-loop-outcome : goal.invariant-loop-outcome
 invariant-loop-outcome g l = record {
   ours : l.seat.table_id ≡ l.self.table;
-  stands : Stands g.P.StepProgram.steps g.P.WordProgram.law {S = ℕ} l.self.size l.number l.written l.program [] l.seat.me;
+  stands : Stands g.P.WordProgram.steps g.P.WordProgram.law {S = ℕ} l.self.size l.number l.written l.program [] l.seat.me;
   counted : l.accesses ≡ accesses_in l.seat.me;
   few : l.accesses ≤ g.P.WordProgram.law.bound l.self.size;
 }

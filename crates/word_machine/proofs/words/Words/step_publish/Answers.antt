@@ -12,7 +12,7 @@ overflow_add-written g c =
 
 pub returns-clause-after : goal.returns-clause-after
 returns-clause-after g c =
-    let steps = g.P.StepProgram.steps in
+    let steps = g.P.WordProgram.steps in
     let law = g.P.WordProgram.law in
     has_stepped steps law g.met.P.WordProgram.sound _ c.args.self.now.size refl c.args.number _ _ _ c.requires.before Done Done 1 (c.args.written.now + 1) c.take_done.new.self c.take_done.result c.publish.new.seat.me
     c.publish.ensures.wrote refl refl c.take_done.ensures.after c.take_done.ensures.note

@@ -11,7 +11,7 @@ returns-then-read_head-clause-after g c =
     let short = sound.short_head in
     let within = sound.within_head in
     let is = c.head-many.ensures in
-    (after_head g.P.StepProgram.steps law c.args.program.now c.read_head.new.self _ (read_in c.args.seat.now.me) (c.read_head.ensures.after c.if-read_head.true)
+    (after_head g.P.WordProgram.steps law c.args.program.now c.read_head.new.self _ (read_in c.args.seat.now.me) (c.read_head.ensures.after c.if-read_head.true)
     (head_is law.head c.head-many.result c.recall_first.new.words (0 ∷ 0 ∷ 0 ∷ 0 ∷ []) (read_in c.args.seat.now.me) c.recall_first.ensures.words (omega arith) (omega arith) is)).0
 
 pub returns-then-read_head-clause-note : goal.returns-then-read_head-clause-note
@@ -22,5 +22,5 @@ returns-then-read_head-clause-note g c =
     let short = sound.short_head in
     let within = sound.within_head in
     let is = c.head-many.ensures in
-    (after_head g.P.StepProgram.steps law c.args.program.now c.read_head.new.self _ (read_in c.args.seat.now.me) (c.read_head.ensures.after c.if-read_head.true)
+    (after_head g.P.WordProgram.steps law c.args.program.now c.read_head.new.self _ (read_in c.args.seat.now.me) (c.read_head.ensures.after c.if-read_head.true)
     (head_is law.head c.head-many.result c.recall_first.new.words (0 ∷ 0 ∷ 0 ∷ 0 ∷ []) (read_in c.args.seat.now.me) c.recall_first.ensures.words (omega arith) (omega arith) is)).1

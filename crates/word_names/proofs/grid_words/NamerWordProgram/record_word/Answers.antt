@@ -1,0 +1,18 @@
+use Rattle.std.proofs.Common.{◌≡◌, ap, sym, ◌∙◌}
+use Rattle.snapshot_core.specs.declared.client.Pending.TheVariants.{Write as Writing}
+use Rattle.word_names.specs.Spelling.{record_word, word_at}
+use Rattle.word_names.specs.Spelled.{word_of_them}
+use Rattle.word_names.specs.Direct.{is_writing}
+use Rattle.word_names.specs.NameMachine.{Naming}
+use Rattle.word_names.specs.Namers.{pending_with}
+use Rattle.word_names.proofs.grid_words.NamerWordProgram.record_word.Goals as goal
+
+pub returns-in-Write : goal.returns-in-Write
+returns-in-Write c r v is kind low =
+    let x = c.args.self.now in
+    let w = is_writing x r v is kind in
+    let own = ap (λ d. pending_with d c.self.inside.view) (sym c.in-Write.is) ∙ ap (λ (y : Naming). y.client.pending) c.self.view_is ∙ w.pending in
+    let view : c.self.inside.view ≡ w.view = cc in
+    let value : c.in-Write.value ≡ w.n = cc in
+    c.spell_record.ensures ∙ (λ i. record_word (record { identity = (c.self.view_is i).client.identity; value = value i; number = (c.self.view_is i).client.updates; view = view i }) c.args.at)
+    ∙ sym (word_of_them v c.args.at low ∙ ap (λ u. word_at u c.args.at) w.value)

@@ -1,0 +1,214 @@
+//! One participant over a grid, as the program that threads run.
+
+ghost use Rattle.std.specs.Prelude.{◌≡◌, ◌≤◌, ◌+◌, ℕ, List, [], if◌then◌else◌, not, true, false, None, Some};
+ghost use Rattle.step_memory.specs.declared.access.Answer.TheVariants.{Value};
+ghost use Rattle.snapshot_core.specs.Scan.{scan_after, scan_view, is_second_change, met};
+ghost use Rattle.snapshot_core.specs.Sightings.{shown_by};
+ghost use Rattle.snapshot_places.specs.declared.grid_register.GridValue.TheVariants.{Contents};
+ghost use Rattle.snapshot_places.specs.Grid.{grid_walks};
+ghost use Rattle.word_names.specs.NameMachine.{naming_steps};
+ghost use Rattle.word_names.specs.Direct.{proposing, walked, looking, decided_on, decided_note};
+ghost use Rattle.word_names.specs.Ahead.{IsReading};
+
+use rename_core::proposal::is_taken;
+use rename_core::{Round, Stage, next_proposal};
+use snapshot_core::{MOST_UPDATES, Met, Scan, Sighting};
+use snapshot_places::{GridWalk, GridWalker};
+use std::marker::Model;
+use step_memory::{Answer, Note, StepProgram, View};
+
+/// What a participant has to do in the snapshot object.
+#[derive(Clone, Copy, Debug, Drop)]
+pub enum Doing {
+    /// Nothing.
+    Nothing,
+    /// To reach its place.
+    Placing,
+    /// To scan.
+    Scanning,
+    /// To scan, and then to write this value.
+    Update(u64),
+    /// To write this value, with the view that it has scanned.
+    Write(u64),
+}
+
+/// A participant, as contracts see a `Renamer`. Its view stands in one place, so no view is moved or cleared where it goes on to do
+/// something else.
+#[derive(Drop)]
+pub struct Namer {
+    pub(crate) identity: u64,
+    pub(crate) limit: u64,
+    pub(crate) walker: GridWalker,
+    pub(crate) walk: GridWalk,
+    pub(crate) updates: u32,
+    pub(crate) doing: Doing,
+    pub(crate) round: Round,
+    // It says something only where it is to be written.
+    pub(crate) view: View,
+    pub(crate) scan: Scan<GridWalk>,
+}
+
+impl Model for Namer {
+    ghost use Rattle.word_names.specs.NameMachine.{Naming};
+    ghost use Rattle.word_names.specs.Namers.{naming_with};
+
+    ghost Value = { Naming };
+
+    ghost view = { λ n. naming_with n.identity n.limit n.walker n.walk n.updates n.doing n.view n.scan n.round };
+}
+
+/// Notes a record of this identity, value and number in the segment that a scan reads. False where it shows the segment's second
+/// change: then nothing has changed.
+pub(crate) fn meet(scan: &mut Scan<GridWalk>, identity: u64, value: u64, number: u32) -> bool
+    ensures after { (view : List (ℕ × ℕ)) → scan.new ≡ met scan.old scan.old.walk.at (record { identity = identity; value = value; number = number; view = view }) }
+    ensures answer { (view : List (ℕ × ℕ)) → result ≡ not (is_second_change scan.old scan.old.walk.at (record { identity = identity; value = value; number = number; view = view })) }
+{
+    let place = scan.walk.at;
+    let at = scan.sightings.find(place);
+    let known = scan.sightings.get(place, at);
+    let differs = !scan.is_first && known.before != number;
+    if differs && known.changed {
+        return false;
+    }
+    scan.differs = scan.differs || differs;
+    let sighting = Sighting {
+        place,
+        before: known.before,
+        now: Some(Met {
+            identity,
+            value,
+            number,
+        }),
+        changed: known.changed || differs,
+    };
+    scan.sightings.put(at, sighting);
+    true
+}
+
+/// Goes on from a segment that was noted, or had no record. True where the scan has ended: what the collect met is its view. Where the
+/// collect has ended, and not the scan, another begins, which takes this walk.
+fn pass(scan: &mut Scan<GridWalk>, walk: GridWalk) -> bool
+    ensures after { scan.new ≡ scan_after grid_walks scan.old (Contents None) walk }
+    ensures view { scan_view grid_walks scan.old (Contents None) ≡ (if result then Some (shown_by [] scan.new.sightings) else None) }
+{
+    if scan.walk.at < scan.walk.most {
+        scan.walk.at += 1;
+    }
+    if scan.walk.at < scan.walk.most {
+        return false;
+    }
+    if !scan.is_first && !scan.differs {
+        return true;
+    }
+    scan.walk = walk;
+    scan.is_first = false;
+    scan.differs = false;
+    scan.sightings.carry_over();
+    false
+}
+
+impl Namer {
+    /// Whether it reads segments.
+    pub(crate) fn is_reading(&self) -> bool
+        ensures yes { result ≡ true → IsReading self.now.client.pending }
+        ensures no { result ≡ false → IsReading self.now.client.pending → ⊥ }
+    {
+        match self.doing {
+            Doing::Scanning | Doing::Update(_) => true,
+            Doing::Nothing => false,
+            Doing::Placing => false,
+            Doing::Write(_) => false,
+        }
+    }
+
+    /// Proposes a number.
+    fn propose(&mut self, number: u64)
+        ensures { self.new ≡ proposing self.old number }
+    {
+        self.round.stage = Stage::Proposing(number);
+        if self.updates < MOST_UPDATES {
+            self.updates += 1;
+            self.doing = Doing::Update(number);
+            self.scan.restart(self.walk);
+        } else {
+            self.doing = Doing::Nothing;
+        }
+    }
+
+    /// Goes on to its place, and proposes 1 there.
+    pub(crate) fn walk_on(&mut self, got: Answer<u64>)
+        ensures { self.new ≡ walked self.old got }
+    {
+        match self.walker.walker.resume(got) {
+            Note::Ended(_) => self.propose(1),
+            Note::Said(_) => {}
+            Note::Quiet => {}
+        }
+    }
+
+    /// Looks at what the others propose, once its proposal is written.
+    pub(crate) fn look(&mut self)
+        ensures { self.new ≡ looking self.old }
+    {
+        let number = match self.round.stage {
+            Stage::Proposing(number) => number,
+            Stage::Placing => 0,
+            Stage::Looking => 0,
+            Stage::Settled => 0,
+            Stage::Over => 0,
+        };
+        if self.round.count < self.limit {
+            self.round.count += 1;
+        }
+        self.round.proposal = number;
+        self.round.stage = Stage::Looking;
+        self.doing = Doing::Scanning;
+        self.scan.restart(self.walk);
+    }
+
+    /// Takes its proposal as its name, or proposes another, by what the others propose.
+    pub(crate) fn decide(&mut self, view: &View) -> Note<Option<u64>>
+        ensures after { self.new ≡ decided_on self.old view.now }
+        ensures note { result ≡ decided_note self.old view.now }
+    {
+        if !is_taken(view, self.identity, self.round.proposal) {
+            self.round.stage = Stage::Settled;
+            self.doing = Doing::Nothing;
+            return Note::Ended(Some(self.round.proposal));
+        }
+        if self.limit <= self.round.count {
+            self.round.stage = Stage::Over;
+            self.doing = Doing::Nothing;
+            return Note::Ended(None);
+        }
+        let number = next_proposal(view, self.identity);
+        self.propose(number);
+        Note::Quiet
+    }
+
+    /// Goes on from a segment that was noted, or had no record.
+    #[inline(never)]
+    pub(crate) fn scan_on(&mut self) -> Note<Option<u64>>
+        requires { IsReading self.old.client.pending }
+        ensures after { self.new ≡ naming_steps.resumed self.old (Value (Contents None)) }
+        ensures note { result ≡ naming_steps.note self.old (Value (Contents None)) }
+    {
+        if !pass(&mut self.scan, self.walk) {
+            return Note::Quiet;
+        }
+        match self.doing {
+            Doing::Update(value) => {
+                self.view = self.scan.sightings.view();
+                self.doing = Doing::Write(value);
+                Note::Quiet
+            }
+            Doing::Scanning => {
+                let view = self.scan.sightings.view();
+                self.decide(&view)
+            }
+            Doing::Nothing => Note::Quiet,
+            Doing::Placing => Note::Quiet,
+            Doing::Write(_) => Note::Quiet,
+        }
+    }
+}
