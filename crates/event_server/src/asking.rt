@@ -8,7 +8,7 @@ ghost use Rattle.event_server.specs.Asking.{IsPrefixOf, IsQueryOf, IsTakingOf, M
 
 use command_lines::words::{is_word, number};
 use held_lines::{HeldQuery, QUERY_MAX, held_query};
-use memchr::{memchr, memchr2, memrchr};
+use memchr::{memchr, memrchr};
 
 /// What ends a line.
 const LF: u8 = 10;
@@ -142,9 +142,10 @@ fn last_line(begins: bool, bytes: &[u8]) -> usize
     }
 }
 
-// Whether none of these bytes is a letter that lines have which the server answers by itself, and no command has.
+// Whether none of these bytes is a letter that lines have which the server answers by itself, and no command has. Every byte of clients comes by
+// here. Two looks for one letter each take less than half the time of one look for either (`memchr2`).
 fn lacks_letters(bytes: &[u8]) -> bool {
-    memchr2(ASKS, INSIDE, bytes).is_none()
+    memchr(ASKS, bytes).is_none() && memchr(INSIDE, bytes).is_none()
 }
 
 /// How many of these bytes stand before the first line that asks who holds numbers or takes one, or may come to be such a line. The first of them
