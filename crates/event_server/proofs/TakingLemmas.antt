@@ -1,5 +1,5 @@
 -- numbers that are taken, one connection after another
-use Rattle.std.proofs.Common.{◌≡◌, ◌⊎◌, ◌≤◌, ◌<◌, ◌+◌, ◌-◌, ◌∙◌, inl, inr, arith, ℕ, Bool, true, false, set, List, [], ◌∷◌, ◌++◌, length, length-append, map, get_or, Option, Some, None, Result, Ok, refl, sym, ap, subst}
+use Rattle.std.proofs.Common.{◌≡◌, ◌⊎◌, ◌≤◌, ◌<◌, ◌+◌, ◌-◌, ◌∙◌, inl, inr, arith, ℕ, Bool, true, false, set, List, [], ◌∷◌, ◌++◌, length, length-append, map, get_or, Option, Some, None, Result, Ok, Err, OnOk, refl, sym, ap, subst}
 use Rattle.bit_allocator.specs.declared.pool.TheConstants.{MOST_NUMBERS}
 use Rattle.commands.specs.declared.event.Event.TheVariants as event
 use Rattle.commands.specs.declared.reply.Reply.{Reply}
@@ -184,8 +184,9 @@ module _ {C : Type 0} (on : Seating C) (ahead : Bool) where
       ]
 
   -- or where they were not
-  pub served_prefetch : {T K E : Type 0} (may : T → Request → ShownReply → T → Type 0) (prefetches : K → T → List ℕ → K → T → Type 0) (persists waits : K → T → K → T → Type 0) (r : Called) (result : Result Called E) (k l : K) (w u : T) (lines : List ℕ)
-      (seats seats' : List (Option C)) → result ≡ Ok r → ((n : ℕ) → result ≡ Ok (called.Served n) → TakingsPrefetched on ahead may prefetches persists k w seats lines l u seats') → ((n : ℕ) → result ≡ Ok (called.Unserved n) → waits k w l u) →
-      WasServed may prefetches persists waits k w l u
-  served_prefetch may prefetches persists waits (called.Served n) result k l w u lines seats seats' is served lost = served_ahead may prefetches persists waits k l w u lines seats seats' (served n is)
-  served_prefetch may prefetches persists waits (called.Unserved n) result k l w u lines seats seats' is served lost = served_waits may prefetches persists waits k l w u (lost n is)
+  pub served_prefetch : {T K E : Type 0} (may : T → Request → ShownReply → T → Type 0) (prefetches : K → T → List ℕ → K → T → Type 0) (persists waits : K → T → K → T → Type 0) (result : Result Called E) (k l : K) (w u : T) (lines : List ℕ)
+      (seats seats' : List (Option C)) → ((n : ℕ) → result ≡ Ok (called.Served n) → TakingsPrefetched on ahead may prefetches persists k w seats lines l u seats') → ((n : ℕ) → result ≡ Ok (called.Unserved n) → waits k w l u) →
+      OnOk result (WasServed may prefetches persists waits k w l u)
+  served_prefetch may prefetches persists waits (Ok (called.Served n)) k l w u lines seats seats' served lost = served_ahead may prefetches persists waits k l w u lines seats seats' (served n refl)
+  served_prefetch may prefetches persists waits (Ok (called.Unserved n)) k l w u lines seats seats' served lost = served_waits may prefetches persists waits k l w u (lost n refl)
+  served_prefetch may prefetches persists waits (Err e) k l w u lines seats seats' served lost = tt

@@ -486,46 +486,47 @@ impl Hosting {
         if !shared.waits {
             return Ok(());
         }
+        match self.take_of(rt, service, persister, shared, count) {
+            Ok(taken) => {
+                self.note_lost(taken);
+                Ok(())
+            }
+            Err(fault) => Err(HostFault::Persist(fault)),
+        }
+    }
+
+    // Takes numbers for those of the first of the seats that are ready who say `take`, where any do.
+    fn take_of<R, D: Service<R>, K: Persist<D>>(
+        &mut self,
+        rt: &R,
+        service: &mut Attended<D>,
+        persister: &mut K,
+        shared: &mut SharedBuffers<Global>,
+        count: usize,
+    ) -> Result<Called, K::Fault>
+        requires knows { (q : Request) → D.knows q ≡ true }
+        requires room { AreShared shared.old }
+        ensures room { AreShared shared.new }
+        ensures served { OnOk result (WasServed D.may K.prefetches K.persists K.waits persister.old service.old.service persister.new service.new.service) }
+    {
         let ConnectionTable {
             seats,
             numbers,
             ready,
             ..
         } = &mut self.connections;
-        let few = count.min(ready.len());
-        if !any_takes(seats, &ready[..few]) {
-            return Ok(());
+        let first = &ready[..count.min(ready.len())];
+        if !any_takes(seats, first) {
+            return Ok(Called::Served(count));
         }
-        let Some(batch) = &mut self.batch else {
-            return match serve_takings(
-                rt,
-                service,
-                persister,
-                shared,
-                seats,
-                numbers,
-                &ready[..few],
-                false,
-            ) {
-                Ok(()) => Ok(()),
-                Err(fault) => Err(HostFault::Persist(fault)),
-            };
-        };
-        match prefetch_takings(
-            rt,
-            service,
-            persister,
-            batch,
-            shared,
-            seats,
-            numbers,
-            &ready[..few],
-        ) {
-            Ok(served) => {
-                self.note_lost(served);
-                Ok(())
+        match &mut self.batch {
+            None => {
+                serve_takings(rt, service, persister, shared, seats, numbers, first, false)?;
+                Ok(Called::Served(count))
             }
-            Err(fault) => Err(HostFault::Persist(fault)),
+            Some(batch) => prefetch_takings(
+                rt, service, persister, batch, shared, seats, numbers, first,
+            ),
         }
     }
 
