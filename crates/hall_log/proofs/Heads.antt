@@ -1,5 +1,5 @@
 -- first lines of batches
-use Rattle.std.proofs.Common.{◌≡◌, ◌≢◌, ◌&&◌, ◌≤◌, ◌<◌, ◌+◌, ◌-◌, ◌*◌, ◌/◌, ◌%◌, ◌^◌, ℕ, zero, suc, cond, Bool, if◌then◌else◌, ltb, inl, inr, subst, length, List, [], ◌∷◌, ◌++◌, refl, ap, sym, ◌∙◌, arith, append_assoc, length-append, add-one}
+use Rattle.std.proofs.Common.{◌≡◌, ◌≢◌, ◌&&◌, ◌≤◌, ◌<◌, ◌+◌, ◌-◌, ◌*◌, ◌/◌, ◌%◌, ◌^◌, ℕ, zero, suc, cond, Bool, if◌then◌else◌, inl, inr, subst, length, List, [], ◌∷◌, ◌++◌, refl, ap, sym, ◌∙◌, arith, append_assoc, length-append, add-one}
 use Rattle.std.specs.List.{All}
 use Rattle.std.proofs.lemmas.Bool.Decides.{eqb_tells, leb_tells}
 use Rattle.std.proofs.lemmas.List.Elements.{All-append, All-cons, All-nil}
@@ -8,6 +8,7 @@ use Rattle.hall.specs.declared.reads.Reads.{Reads}
 use Rattle.hall.specs.declared.reads.Reads.TheVariants.{Logged, Plain}
 use Rattle.hall_log.specs.Batches.{batch_by, head_of, hex_digit, hex_digits, told_of}
 use Rattle.hall_log.specs.Entries.{behind_first_line, is_there, reads_of}
+use Rattle.hall_log.specs.Marks.{digit_value, number_of}
 use Rattle.hall_log.specs.Pauses.{HasWaited}
 
 -- no digit ends a line
@@ -51,14 +52,7 @@ behind_batch reads token count lines plain =
 
 -- ---- batches of two counts differ
 
--- the number that a digit says, and digits, the lowest first
-abbrev digit_value : ℕ → ℕ
-digit_value b = if ltb b 58 then b - 48 else b - 87
-
-abbrev number_of : List ℕ → ℕ
-number_of [] = 0
-number_of (d ∷ ds) = digit_value d + 16 * number_of ds
-
+-- how many numbers so many digits say
 abbrev pub sixteens : ℕ → ℕ
 sixteens zero = 1
 sixteens (suc k) = 16 * sixteens k
@@ -73,13 +67,15 @@ value_back d less = elim (leb_tells (suc d) 10) [
       elim (leb_tells (suc (87 + d)) 58) [ inl s ↦ absurd (let a = t.1 in let b = s.1 in omega (arith, a, b)) | inr s ↦ ap digit_value digit ∙ rw s.0 (omega arith) ]
 ]
 
-digits_back : (k n : ℕ) → n < sixteens k → number_of (hex_digits k n) ≡ n
-digits_back zero n less = omega (arith, less)
-digits_back (suc k) n less =
+-- digits are read back
+pub digits_read : (k n : ℕ) → n < sixteens k → n < 2 ^ 64 → number_of (hex_digits k n) ≡ n
+digits_read zero n less fits = omega (arith, less)
+digits_read (suc k) n less fits =
     let part : n / 16 < sixteens k = omega (arith, less) in
+    let small : n / 16 < 2 ^ 64 = omega (arith, fits) in
     let low = value_back (n % 16) (omega arith) in
-    let rest = digits_back k (n / 16) part in
-    omega (arith, low, rest)
+    let rest = digits_read k (n / 16) part small in
+    rw (low, rest) (omega (arith, fits))
 
 pub digits_many : (k n : ℕ) → length (hex_digits k n) ≡ k
 digits_many zero n = refl
@@ -114,7 +110,7 @@ same_batch reads kind token other c d lines more long first second e =
     let heads = fronts token other (32 ∷ hex_digits 16 c) (32 ∷ hex_digits 16 d) long parts.0 in
     let digits : hex_digits 16 c ≡ hex_digits 16 d = cc (heads.1) in
     let told = same_told reads kind lines more parts.1 in
-    (told.0, heads.0, sym (digits_back 16 c first) ∙ (ap number_of digits ∙ digits_back 16 d second), told.1)
+    (told.0, heads.0, sym (digits_read 16 c first first) ∙ (ap number_of digits ∙ digits_read 16 d second second), told.1)
 
 -- the byte at a place behind the first bytes of a list
 pub byte_behind : (xs ys : List ℕ) (n : ℕ) → slice_get (xs ++ ys) (length xs + n) ≡ slice_get ys n

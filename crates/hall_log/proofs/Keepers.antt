@@ -1,15 +1,15 @@
 -- a hall that a log leads, with who keeps its stays: what it comes to is determined, and a compaction leaves its desk
-use Rattle.std.proofs.Common.{◌≡◌, ◌≤◌, ◌<◌, ℕ, Bool, true, false, Option, Some, None, List, [], ◌∷◌, length, map, refl, sym, ap, subst, ◌∙◌, arith}
-use Rattle.hall_log.proofs.Common.{HallState, HallApplies, ReplyQueueState, reply_queue_of}
+use Rattle.std.proofs.Common.{◌≡◌, ℕ, Bool, true, false, Option, Some, None, List, [], refl, sym, ap, subst, ◌∙◌, arith}
+use Rattle.hall_log.proofs.Common.{HallState, ReplyQueueState, reply_queue_of}
 use Rattle.hall.specs.Halls.{hall_of}
 use Rattle.replicated_log.specs.Groups.{IsDetermined}
 use Rattle.hall_log.specs.Desks.{ByDesk, LeavesDesk}
-use Rattle.hall_log.specs.Kept.{heard, kept_after_all, token_of}
+use Rattle.hall_log.specs.Kept.{kept_behind, token_of}
 use Rattle.hall_log.specs.Marks.{mark_of, next_in}
 use Rattle.hall_log.specs.Stays.{AppliesBy, EndsFrom, Gathers, GoesOnFrom, LetsGo, ReadsLast, ReadsPart, StayApplies, TakesIfKnown, TakesLines, told_by}
 use Rattle.hall_log.specs.StayState.{StayState}
 use Rattle.hall_log.specs.declared.gathering.Gathering.{Gathering}
-use Rattle.hall_log.specs.declared.kept_stay.KeptStay.{KeptStay}
+use Rattle.hall_log.specs.declared.front_end_stay.FrontEndStay.{FrontEndStay}
 use Rattle.hall_log.specs.declared.marks.Mark.{Mark}
 use Rattle.hall_log.specs.declared.marks.Mark.TheVariants.{Ordinary, Begins, GoesOn, Ends}
 use Rattle.hall_log.proofs.Agrees.{determined}
@@ -17,7 +17,7 @@ use Rattle.hall_log.proofs.Agrees.{determined}
 same_state : (n k : StayState) → n.hall ≡ k.hall → n.kept ≡ k.kept → n.entries ≡ k.entries → n.gathered ≡ k.gathered → n.blind ≡ k.blind → n ≡ k
 same_state n k hall kept entries gathered blind =
     ap (λ (h : HallState). let s : StayState = record { hall = h; kept = n.kept; entries = n.entries; gathered = n.gathered; blind = n.blind } in s) hall ∙
-    (ap (λ (l : List KeptStay). let s : StayState = record { hall = k.hall; kept = l; entries = n.entries; gathered = n.gathered; blind = n.blind } in s) kept ∙
+    (ap (λ (l : List FrontEndStay). let s : StayState = record { hall = k.hall; kept = l; entries = n.entries; gathered = n.gathered; blind = n.blind } in s) kept ∙
     (ap (λ (e : ℕ). let s : StayState = record { hall = k.hall; kept = k.kept; entries = e; gathered = n.gathered; blind = n.blind } in s) entries ∙
     (ap (λ (g : Option Gathering). let s : StayState = record { hall = k.hall; kept = k.kept; entries = k.entries; gathered = g; blind = n.blind } in s) gathered ∙
     ap (λ (b : Bool). let s : StayState = record { hall = k.hall; kept = k.kept; entries = k.entries; gathered = k.gathered; blind = b } in s) blind)))
@@ -35,7 +35,7 @@ same_part from entry g k a b =
 lines_same : (w : StayState) (entry : List ℕ) (said other : ReplyQueueState) (n k : StayState) → TakesLines w entry said n → TakesLines w entry other k → (said ≡ other) × (n ≡ k)
 lines_same w entry said other n k a b =
     let one = determined w.hall entry said other n.hall k.hall a.hall b.hall in
-    let kept_of = λ (q : ReplyQueueState). kept_after_all (token_of entry) w.entries (map (heard (token_of entry) w.entries) w.kept) q.left in
+    let kept_of = λ (q : ReplyQueueState). kept_behind (token_of entry) w.entries w.kept q.left in
     (one.0, same_state n k one.1 (a.kept ∙ (ap kept_of one.0 ∙ sym b.kept)) (a.entries ∙ sym b.entries) (a.gathered ∙ sym b.gathered) (a.blind ∙ sym b.blind))
 
 gone_same : (w : StayState) (said other : ReplyQueueState) (n k : StayState) → LetsGo w said n → LetsGo w other k → (said ≡ other) × (n ≡ k)

@@ -1,17 +1,13 @@
 -- what was added to a log, in the steps of a call
-use Rattle.std.proofs.Common.{◌≡◌, ◌+◌, ◌⊎◌, ℕ, List, [], ◌∷◌, ◌++◌, map, inl, inr, refl, sym, ap, subst, ◌∙◌}
+use Rattle.std.proofs.Common.{◌≡◌, ◌⊎◌, ℕ, List, map, inl, inr, sym, subst}
 use Rattle.commands.specs.declared.config.Config.{Config}
 use Rattle.replicated_log.specs.Places.{Adds, Same}
 use Rattle.replicated_log.specs.ReplicaState.{ReplicaState}
 use Rattle.hall_log.specs.Batches.{batch_of}
-use Rattle.hall_log.specs.Decided.{HasLooked, HasRead, IsDecided, ended_of, next_read}
-use Rattle.hall_log.specs.Releases.{lines_of}
+use Rattle.hall_log.specs.Decided.{HasLooked, HasRead, IsDecided, next_read, release_lines}
 use Rattle.hall_log.specs.StayState.{StayState}
 use Rattle.hall_log.specs.Watched.{watched}
 use Rattle.hall_log.specs.declared.watches.Watch.{Watch}
-
-pub same_once : (before : ℕ → List ℕ → Type 0) → Same before before
-same_once before = record { keeps = λ place entry stood. stood; only = λ place entry stood. stood }
 
 pub same_then : (before mid after : ℕ → List ℕ → Type 0) → Same before mid → Same mid after → Same before after
 same_then before mid after one two = record {
@@ -28,19 +24,16 @@ adds_then before mid after at written one two = record {
   ];
 }
 
-pub adds_none : (before : ℕ → List ℕ → Type 0) (at : ℕ) (written : List ℕ) → Adds before at written before
-adds_none before at written = record { keeps = λ place entry stood. stood; only = λ place entry stood. inl stood }
-
 -- a release that was offered behind all that was read was decided by it
 pub decided_after : {S : Type 0} (lacks : S → ℕ → Type 0) (stood mid stands : ℕ → List ℕ → Type 0) (config config' : Config) (r : ReplicaState StayState) (token : List ℕ) (count : ℕ) (left : List ℕ)
     (grace tick : ℕ) (watches : List Watch) → HasRead lacks stood config r → Same stood mid → config' ≡ config →
-    (Same mid stands ⊎ Adds mid r.place (batch_of token count (lines_of r.machine.hall (ended_of token left grace tick watches r.machine.kept))) stands) →
+    (Same mid stands ⊎ Adds mid r.place (batch_of token count (release_lines token left grace tick watches r.machine)) stands) →
     Same stood stands ⊎ IsDecided lacks stood stands config' token count left grace tick watches
 decided_after lacks stood mid stands config config' r token count left grace tick watches read same config_is (inl nothing) = inl (same_then stood mid stands same nothing)
 decided_after lacks stood mid stands config config' r token count left grace tick watches read same config_is (inr adds) = inr (record {
   at = r;
   read = subst (λ (c : Config). HasRead lacks stood c r) (sym config_is) read;
-  adds = adds_then stood mid stands r.place (batch_of token count (lines_of r.machine.hall (ended_of token left grace tick watches r.machine.kept))) same adds;
+  adds = adds_then stood mid stands r.place (batch_of token count (release_lines token left grace tick watches r.machine)) same adds;
 })
 
 pub looked_after : {S : Type 0} (lacks : S → ℕ → Type 0) (stood : ℕ → List ℕ → Type 0) (config config' : Config) (r : ReplicaState StayState) (tick tick' : ℕ) (watches watches' : List Watch) →

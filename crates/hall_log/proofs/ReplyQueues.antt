@@ -1,6 +1,6 @@
 -- a turn over a queue of replies is one over the hall whose answers it says
 use Rattle.std.proofs.Common.{◌≡◌, ℕ, Bool, true, false, refl, List, [], ◌∷◌, ◌++◌, Option, inl, inr, sym, ap, subst, ◌∙◌, arith}
-use Rattle.hall_log.proofs.Common.{append-nil, Config, ShownReply, Request, Take, OwnerOf, Runs, Turn, Answered, Reported, Ended, Misread, HallState, HallApplies, ReplyQueueReplies, said, ReplyQueueState}
+use Rattle.hall_log.proofs.Common.{append-nil, Config, ShownReply, Request, Take, OwnerOf, Runs, Turn, Answered, Reported, Ended, Misread, HallApplies, ReplyQueueReplies, said, ReplyQueueState}
 use Rattle.replicated_log.specs.ReplicaState.{ReplicaState}
 use Rattle.player.specs.Shared.{all_turns}
 use Rattle.event_server.specs.Seats.{LoopIteration, Seating}

@@ -1,5 +1,5 @@
 -- a machine that is blind at a later place of a log, beside one that read all of it
-use Rattle.std.proofs.Common.{◌≡◌, ◌==◌, ◌⊎◌, ℕ, Bool, true, false, if◌then◌else◌, Option, Some, None, List, [], ◌∷◌, inl, inr, refl, sym, ap, subst, ◌∙◌}
+use Rattle.std.proofs.Common.{◌≡◌, ◌⊎◌, ℕ, Bool, true, false, if◌then◌else◌, Option, Some, None, List, [], ◌∷◌, inl, inr, refl, sym, ap, subst, ◌∙◌}
 use Rattle.std.proofs.lemmas.Bool.Decides.{eqb_tells}
 use Rattle.hall_log.proofs.Common.{Config, HallState, HallApplies, HallServes, ReplyQueueState, Runs, Turn, Answered, Reported, Ended, Misread, ShownReply}
 use Rattle.step_memory.specs.declared.refusal.Refusal.{Refusal}
@@ -14,7 +14,7 @@ use Rattle.replicated_log.specs.ReplicaState.{ReplicaState}
 use Rattle.replicated_log.proofs.Late.{late_alike}
 use Rattle.hall_log.specs.Entries.{reads_of}
 use Rattle.hall_log.specs.Marks.{mark_of, next_in}
-use Rattle.hall_log.specs.Stays.{AppliesBy, EndsFrom, GoesOnFrom, LetsGo, ReadsLast, ReadsPart, StayApplies, TakesIfKnown, TakesLines, blind_of, start_of, stays_of, told_by}
+use Rattle.hall_log.specs.Stays.{AppliesBy, EndsFrom, GoesOnFrom, LetsGo, ReadsPart, StayApplies, TakesIfKnown, TakesLines, blind_of, start_of, stays_of, told_by}
 use Rattle.hall_log.specs.StayState.{StayState}
 use Rattle.hall_log.specs.declared.gathering.Gathering.{Gathering}
 use Rattle.hall_log.specs.declared.marks.Mark.{Mark}

@@ -1,19 +1,19 @@
 -- the entries of a compaction, written and read back
-use Rattle.std.proofs.Common.{◌≡◌, ◌≤◌, ◌<◌, ◌+◌, ◌-◌, ◌*◌, ◌/◌, ◌%◌, ◌^◌, ◌∷◌, ◌++◌, ℕ, zero, suc, Bool, true, false, ltb, if◌then◌else◌, Option, Some, None, List, [], length, take, drop, replicate, inl, inr, refl, sym, ap, subst, ◌∙◌, arith, append_assoc, length-append, add-one, drop-cons, get_or}
+use Rattle.std.proofs.Common.{◌≡◌, ◌<◌, ◌+◌, ◌^◌, ◌∷◌, ◌++◌, ℕ, suc, Bool, true, false, if◌then◌else◌, Some, None, List, [], length, take, drop, inl, inr, refl, sym, ap, subst, ◌∙◌, arith, append_assoc, length-append, add-one, drop-cons, get_or}
 use Rattle.std.proofs.Math.Seq.{drop-append_seam, drop-append-add, take-append_seam, take-length}
 use Rattle.std.proofs.lemmas.Bool.Decides.{leb_tells}
-use Rattle.std.specs.Cmp.Lexicographic.{other_text, pointwise}
-use Rattle.std.specs.Prelude.{codes, nat_eq, slice_get}
-use Rattle.hall_log.specs.Batches.{head_of, hex_digit, hex_digits}
+use Rattle.std.specs.Cmp.Lexicographic.{other_text}
+use Rattle.std.specs.Prelude.{codes, slice_get}
+use Rattle.hall_log.specs.Batches.{head_of, hex_digits}
 use Rattle.hall_log.specs.Desks.{is_lines}
+use Rattle.hall_log.specs.Entries.{is_there}
 use Rattle.hall_log.specs.Kept.{token_of}
-use Rattle.hall_log.specs.Marks.{digit_value, entries_in, head_at, is_byte, is_head, kept_in, kind_by, mark_of, next_in, number_of, stay_in, stays_in}
+use Rattle.hall_log.specs.Marks.{entries_in, head_at, is_head, kept_in, kind_by, mark_of, next_in, number_of, stay_in, stays_in}
 use Rattle.hall_log.specs.Tellings.{AreStays, IsReadBack, IsStay, IsTelling, first_entry, last_entry, more_entry, number_then, stay_text, stay_texts}
 use Rattle.hall_log.specs.declared.gathering.Gathering.{Gathering}
-use Rattle.hall_log.specs.declared.kept_stay.KeptStay.{KeptStay}
-use Rattle.hall_log.specs.declared.marks.Mark.{Mark}
-use Rattle.hall_log.specs.declared.marks.Mark.TheVariants.{Ordinary, Begins, GoesOn, Ends}
-use Rattle.hall_log.proofs.Heads.{byte_behind, digits_many, head_long, sixteens}
+use Rattle.hall_log.specs.declared.front_end_stay.FrontEndStay.{FrontEndStay}
+use Rattle.hall_log.specs.declared.marks.Mark.TheVariants.{Ordinary}
+use Rattle.hall_log.proofs.Heads.{byte_behind, digits_many, digits_read, head_long}
 
 -- ---- a list of which the length of the front is known
 
@@ -28,31 +28,12 @@ further xs ys n k long = subst (λ (m : ℕ). drop (m + k) (xs ++ ys) ≡ drop k
 
 -- ---- numbers
 
-value_back : (d : ℕ) → d < 16 → digit_value (hex_digit d) ≡ d
-value_back d less = elim (leb_tells (suc d) 10) [
-  | inl t ↦
-      let digit : hex_digit d ≡ 48 + d = rw t.0 refl in
-      elim (leb_tells (suc (48 + d)) 58) [ inl s ↦ ap digit_value digit ∙ rw s.0 (omega arith) | inr s ↦ absurd (let a = t.1 in let b = s.1 in omega (arith, a, b)) ]
-  | inr t ↦
-      let digit : hex_digit d ≡ 87 + d = rw t.0 refl in
-      elim (leb_tells (suc (87 + d)) 58) [ inl s ↦ absurd (let a = t.1 in let b = s.1 in omega (arith, a, b)) | inr s ↦ ap digit_value digit ∙ rw s.0 (omega arith) ]
-]
-
-digits_read : (k n : ℕ) → n < sixteens k → n < 2 ^ 64 → number_of (hex_digits k n) ≡ n
-digits_read zero n less fits = omega (arith, less)
-digits_read (suc k) n less fits =
-    let part : n / 16 < sixteens k = omega (arith, less) in
-    let small : n / 16 < 2 ^ 64 = omega (arith, fits) in
-    let low = value_back (n % 16) (omega arith) in
-    let rest = digits_read k (n / 16) part small in
-    rw (low, rest) (omega (arith, fits))
-
 number_read : (n : ℕ) (rest : List ℕ) → n < 2 ^ 64 → number_of (take 16 (hex_digits 16 n ++ rest)) ≡ n
 number_read n rest fits = ap number_of (front (hex_digits 16 n) rest 16 (digits_many 16 n)) ∙ digits_read 16 n fits fits
 
 -- ---- stays
 
-stay_long : (s : KeptStay) → IsStay s → length (stay_text s) ≡ 64
+stay_long : (s : FrontEndStay) → IsStay s → length (stay_text s) ≡ 64
 stay_long s is =
     let a = length-append (hex_digits 16 s.identity) (hex_digits 16 s.last ++ s.token) in
     let b = length-append (hex_digits 16 s.last) s.token in
@@ -61,13 +42,13 @@ stay_long s is =
     let e = is.long in
     omega (arith, a, b, c, d, e)
 
-same_stay : (s t : KeptStay) → s.identity ≡ t.identity → s.token ≡ t.token → s.last ≡ t.last → s ≡ t
+same_stay : (s t : FrontEndStay) → s.identity ≡ t.identity → s.token ≡ t.token → s.last ≡ t.last → s ≡ t
 same_stay s t identity token last =
-    ap (λ (n : ℕ). let k : KeptStay = record { identity = n; token = s.token; last = s.last } in k) identity ∙
-    (ap (λ (l : List ℕ). let k : KeptStay = record { identity = t.identity; token = l; last = s.last } in k) token ∙
-    ap (λ (n : ℕ). let k : KeptStay = record { identity = t.identity; token = t.token; last = n } in k) last)
+    ap (λ (n : ℕ). let k : FrontEndStay = record { identity = n; token = s.token; last = s.last } in k) identity ∙
+    (ap (λ (l : List ℕ). let k : FrontEndStay = record { identity = t.identity; token = l; last = s.last } in k) token ∙
+    ap (λ (n : ℕ). let k : FrontEndStay = record { identity = t.identity; token = t.token; last = n } in k) last)
 
-stay_read : (s : KeptStay) → IsStay s → stay_in (stay_text s) ≡ s
+stay_read : (s : FrontEndStay) → IsStay s → stay_in (stay_text s) ≡ s
 stay_read s is =
     let first = hex_digits 16 s.identity in
     let second = hex_digits 16 s.last in
@@ -78,7 +59,7 @@ stay_read s is =
     same_stay (stay_in (stay_text s)) s (number_read s.identity (second ++ s.token) is.identity) token
     (ap (λ (l : List ℕ). number_of (take 16 l)) behind ∙ number_read s.last s.token is.last)
 
-stays_read : (kept : List KeptStay) (rest : List ℕ) → AreStays kept → stays_in (length kept) (stay_texts kept ++ rest) ≡ kept
+stays_read : (kept : List FrontEndStay) (rest : List ℕ) → AreStays kept → stays_in (length kept) (stay_texts kept ++ rest) ≡ kept
 stays_read [] rest are = refl
 stays_read (s ∷ kept) rest are =
     let behind = stay_texts kept ++ rest in
@@ -87,7 +68,7 @@ stays_read (s ∷ kept) rest are =
     let one : stay_in (take 64 (stay_texts (s ∷ kept) ++ rest)) ≡ s = ap (λ (l : List ℕ). stay_in (take 64 l)) text ∙ (ap stay_in (front (stay_text s) behind 64 long) ∙ stay_read s are.0) in
     let others : stays_in (length kept) (drop 64 (stay_texts (s ∷ kept) ++ rest)) ≡ kept =
     ap (λ (l : List ℕ). stays_in (length kept) (drop 64 l)) text ∙ (ap (stays_in (length kept)) (back (stay_text s) behind 64 long) ∙ stays_read kept rest are.1) in
-    ap (λ (x : KeptStay). x ∷ stays_in (length kept) (drop 64 (stay_texts (s ∷ kept) ++ rest))) one ∙ ap (λ (l : List KeptStay). s ∷ l) others
+    ap (λ (x : FrontEndStay). x ∷ stays_in (length kept) (drop 64 (stay_texts (s ∷ kept) ++ rest))) one ∙ ap (λ (l : List FrontEndStay). s ∷ l) others
 
 -- ---- what an entry is
 
@@ -98,7 +79,7 @@ module _ (token : List ℕ) (count : ℕ) (long : length token ≡ 32) where
   byte_at : (behind : List ℕ) (n : ℕ) → slice_get (head_of token count ++ behind) (49 + n) ≡ slice_get behind n
   byte_at behind n = subst (λ (k : ℕ). slice_get (head_of token count ++ behind) (k + n) ≡ slice_get behind n) head_is (byte_behind (head_of token count) behind n)
 
-  kind_read : (behind : List ℕ) → mark_of (head_of token count ++ behind) ≡ (if is_byte (slice_get behind 0) 32 then kind_by (slice_get behind 1) else Ordinary)
+  kind_read : (behind : List ℕ) → mark_of (head_of token count ++ behind) ≡ (if is_there (slice_get behind 0) 32 then kind_by (slice_get behind 1) else Ordinary)
   kind_read behind = rw (byte_at behind 0, byte_at behind 1) refl
 
   token_read : (behind : List ℕ) → token_of (head_of token count ++ behind) ≡ token
@@ -119,7 +100,7 @@ module _ (token : List ℕ) (count : ℕ) (long : length token ≡ 32) where
       let behind = codes " more behind " ++ (before ++ 10 ∷ lines) in
       record { marked = ap is_lines (kind_read behind); own = token_read behind }
 
-  pub last_told : (before : List ℕ) (entries : ℕ) (kept : List KeptStay) → IsTelling token (last_entry token count before entries kept)
+  pub last_told : (before : List ℕ) (entries : ℕ) (kept : List FrontEndStay) → IsTelling token (last_entry token count before entries kept)
   last_told before entries kept =
       let behind = codes " ends behind " ++ (before ++ 32 ∷ number_then entries (number_then (length kept) (stay_texts kept ++ 10 ∷ []))) in
       record { marked = ap is_lines (kind_read behind); own = token_read behind }
@@ -167,7 +148,7 @@ number_past n k rest = further (hex_digits 16 n) (32 ∷ rest) 16 (suc k) (digit
 
 -- ---- what is told is read back
 
-module _ (token : List ℕ) (count : ℕ) (part : Gathering) (lines : List ℕ) (entries : ℕ) (kept : List KeptStay) (long : length token ≡ 32) (fits : length part.head ≡ 49) where
+module _ (token : List ℕ) (count : ℕ) (part : Gathering) (lines : List ℕ) (entries : ℕ) (kept : List FrontEndStay) (long : length token ≡ 32) (fits : length part.head ≡ 49) where
   abbrev texts : List ℕ
   texts = stay_texts kept ++ 10 ∷ []
 
@@ -206,11 +187,11 @@ module _ (token : List ℕ) (count : ℕ) (part : Gathering) (lines : List ℕ) 
 
 -- ---- and how it is written
 
-pub stays_on : (kept : List KeptStay) (at : ℕ) (d : KeptStay) (before all new : List ℕ) → at < length kept → before ++ stay_texts (drop at kept) ≡ all → new ≡ before ++ stay_text (get_or kept at d) →
+pub stays_on : (kept : List FrontEndStay) (at : ℕ) (d : FrontEndStay) (before all new : List ℕ) → at < length kept → before ++ stay_texts (drop at kept) ≡ all → new ≡ before ++ stay_text (get_or kept at d) →
     new ++ stay_texts (drop (at + 1) kept) ≡ all
 stays_on kept at d before all new inside so is =
     let text = stay_text (get_or kept at d) in
     let rest = stay_texts (drop (suc at) kept) in
     ap (λ (k : ℕ). new ++ stay_texts (drop k kept)) (add-one at)
     ∙ (ap (λ (l : List ℕ). l ++ rest) is
-    ∙ (append_assoc before text rest ∙ (ap (λ (l : List KeptStay). before ++ stay_texts l) (sym (drop-cons kept at d inside)) ∙ so)))
+    ∙ (append_assoc before text rest ∙ (ap (λ (l : List FrontEndStay). before ++ stay_texts l) (sym (drop-cons kept at d inside)) ∙ so)))

@@ -7,7 +7,6 @@ use Rattle.step_memory.specs.declared.refusal.Refusal.{Refusal}
 use Rattle.step_memory.specs.declared.refusal.Refusal.TheVariants as refusal
 use Rattle.commands.specs.declared.event.Event.{Event}
 use Rattle.commands.specs.declared.exchange.Exchange.{Exchange}
-use Rattle.commands.specs.declared.kind.WorldKind.{WorldKind}
 use Rattle.commands.specs.declared.reply.Reply.TheVariants as reply
 use Rattle.desk.specs.Desk.{desk_after, desk_refusal, desk_reply, fresh_desk, owner_reply}
 use Rattle.desk.specs.DeskCalls.{exchange}
@@ -15,19 +14,19 @@ use Rattle.desk.specs.DeskValue.{DeskValue}
 use Rattle.player.specs.Turns.{asked}
 use Rattle.hall.specs.Compactions.{renaming_of}
 use Rattle.hall.specs.DeskParts.{is_renaming}
-use Rattle.hall.specs.Halls.{HallMay, after_unless, desk_of, full_unless, hall_refusal, longer, reply_unless}
+use Rattle.hall.specs.Halls.{after_unless, desk_of, full_unless, hall_refusal, longer, reply_unless}
 use Rattle.hall.specs.Reading.{Serves, TakesPlainly, is_plain}
 use Rattle.hall.specs.declared.reads.Reads.{Reads}
 use Rattle.hall.proofs.Histories.{replay_push}
 use Rattle.replicated_log.specs.Replicas.{Leads}
 use Rattle.hall_log.specs.Batches.{next_count}
-use Rattle.hall_log.specs.Desks.{HasItsDesk, LeavesDesk, ByDesk, is_lines, lines_in}
+use Rattle.hall_log.specs.Desks.{HasItsDesk, ByDesk, is_lines, lines_in}
 use Rattle.hall_log.specs.Entries.{asked_in, reads_of}
-use Rattle.hall_log.specs.Kept.{heard, kept_after_all, token_of}
+use Rattle.hall_log.specs.Kept.{kept_behind, token_of}
 use Rattle.hall_log.specs.Marks.{mark_of}
 use Rattle.hall_log.specs.Stays.{StayApplies, TakesLines, stays_of}
 use Rattle.hall_log.specs.StayState.{StayState}
-use Rattle.hall_log.specs.declared.kept_stay.KeptStay.{KeptStay}
+use Rattle.hall_log.specs.declared.front_end_stay.FrontEndStay.{FrontEndStay}
 use Rattle.hall_log.specs.declared.marks.Mark.{Mark}
 use Rattle.hall_log.specs.declared.marks.Mark.TheVariants.{Ordinary, Begins, GoesOn, Ends}
 use Rattle.hall_log.proofs.Keepers.{by_desk}
@@ -180,9 +179,9 @@ lines_so v h v' h' entry other reported so a b free =
     let from : IsRoomier v.hall h.hall = record { config = so.config; desk = so.desk; renaming = so.renaming; room = so.room } in
     let one = entry_so v.hall h.hall v'.hall h'.hall entry other reported from a.hall b.hall free in
     let token = token_of entry in
-    let kept_by = λ (entries : ℕ) (kept : List KeptStay) (q : ReplyQueueState). kept_after_all token entries (map (heard token entries) kept) q.left in
+    let kept_by = λ (entries : ℕ) (kept : List FrontEndStay) (q : ReplyQueueState). kept_behind token entries kept q.left in
     let kept : kept_by h.entries h.kept reported ≡ kept_by v.entries v.kept other =
-    ap (λ (n : ℕ). kept_by n h.kept reported) so.entries ∙ (ap (λ (l : List KeptStay). kept_by v.entries l reported) so.kept ∙ ap (kept_by v.entries v.kept) one.0) in (
+    ap (λ (n : ℕ). kept_by n h.kept reported) so.entries ∙ (ap (λ (l : List FrontEndStay). kept_by v.entries l reported) so.kept ∙ ap (kept_by v.entries v.kept) one.0) in (
       one.0,
       record {
         config = one.1.config;

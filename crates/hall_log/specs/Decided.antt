@@ -1,16 +1,17 @@
 -- which stays a front end ends, and where that stands in the log
 use Rattle.std.specs.Prelude.{◌≡◌, ◌+◌, ◌-◌, ◌^◌, ℕ, min, List, map, take}
 use Rattle.commands.specs.declared.config.Config.{Config}
-use Rattle.replicated_log.specs.Places.{Adds, Same}
+use Rattle.replicated_log.specs.Places.{Adds}
 use Rattle.replicated_log.specs.Replicas.{HasAppliedFrom}
 use Rattle.replicated_log.specs.ReplicaState.{ReplicaState}
 use Rattle.hall_log.specs.Batches.{batch_of}
+use Rattle.hall_log.specs.FollowState.{FollowState}
 use Rattle.hall_log.specs.Hosted.{IsAtEnd}
 use Rattle.hall_log.specs.Releases.{lines_of}
 use Rattle.hall_log.specs.Stays.{StayApplies, start_of}
 use Rattle.hall_log.specs.StayState.{StayState}
 use Rattle.hall_log.specs.Watched.{due_of, watched}
-use Rattle.hall_log.specs.declared.kept_stay.KeptStay.{KeptStay}
+use Rattle.hall_log.specs.declared.front_end_stay.FrontEndStay.{FrontEndStay}
 use Rattle.hall_log.specs.declared.watches.Watch.{Watch}
 
 -- how often the log was read to its end, once it was read once more, in 64 bits
@@ -19,8 +20,16 @@ next_read n = min (n + 1) (2 ^ 64 - 1)
 
 -- The identities whose stays the front end of a token ends, sixteen at a time: nothing was heard of others for more than the grace time and
 -- the 20 ticks for which they may answer
-abbrev pub ended_of : List ℕ → List ℕ → ℕ → ℕ → List Watch → List KeptStay → List ℕ
+abbrev pub ended_of : List ℕ → List ℕ → ℕ → ℕ → List Watch → List FrontEndStay → List ℕ
 ended_of token left grace tick watches kept = take 16 (due_of token left (grace + 20) tick (map (watched tick watches) kept))
+
+-- the lines that end them
+abbrev pub release_lines : List ℕ → List ℕ → ℕ → ℕ → List Watch → StayState → List ℕ
+release_lines token left grace tick watches w = lines_of w.hall (ended_of token left grace tick watches w.kept)
+
+-- at most a batch of these lines was added to a log, at the place of a hall that follows it
+abbrev pub AddsBatch : {S : Type 0} → (S → ℕ → List ℕ → Type 0) → FollowState S → List ℕ → ℕ → List ℕ → FollowState S → Type 0
+AddsBatch stands old token count lines new = Adds (stands old.store) old.stays.place (batch_of token count lines) (stands new.store)
 
 -- A replica has applied all entries of the log, in order, from a hall of the config with no event, or from a later place on: a store told that
 -- none stands behind them
@@ -36,7 +45,7 @@ pub record IsDecided {S : Type 0} (lacks : S → ℕ → Type 0) (stood stands :
     (grace tick : ℕ) (watches : List Watch) : Type 0 where
   pub at : ReplicaState StayState
   pub read : HasRead lacks stood config at
-  pub adds : Adds stood at.place (batch_of token count (lines_of at.machine.hall (ended_of token left grace tick watches at.machine.kept))) stands
+  pub adds : Adds stood at.place (batch_of token count (release_lines token left grace tick watches at.machine)) stands
 
 -- the stays were looked at where the log was read to its end, and that was counted
 pub record HasLooked {S : Type 0} (lacks : S → ℕ → Type 0) (stood : ℕ → List ℕ → Type 0) (config : Config) (tick tick' : ℕ) (watches watches' : List Watch) : Type 0 where

@@ -6,7 +6,6 @@ use Rattle.replicated_log.specs.Replicas.{IsDueFrom, Leads, StandsFrom}
 use Rattle.replicated_log.specs.ReplicaState.{ReplicaState}
 use Rattle.replicated_log.specs.declared.store.TheConstants.{MOST_PLACES}
 use Rattle.player.specs.Shared.{TurnLog}
-use Rattle.hall.specs.HallState.{HallState}
 use Rattle.hall.specs.Reading.{Serves}
 use Rattle.hall.specs.declared.reads.Reads.{Reads}
 use Rattle.event_server.specs.Seats.{RepliesSent, Seating, TurnsTaken}
@@ -35,35 +34,38 @@ pub record IsPrefetched (stands : ℕ → List ℕ → Type 0) (config : Config)
   pub later : place < r.place
   pub known : r.machine.blind ≡ false
 
--- the same, of just this batch
-pub record IsServed (stands : ℕ → List ℕ → Type 0) (config : Config) (from place : ℕ) (batch : List ℕ) (reply_queue : ReplyQueueState) (r : ReplicaState StayState) : Type 0 where
-  pub prefetched : IsPrefetched stands config from place (behind_first_line batch) reply_queue r
-  pub batch_is : prefetched.batch ≡ batch
+-- a replica is poisoned, or was not, and has applied no fewer entries than before
+abbrev pub IsNoEarlier : {M : Type 0} → ReplicaState M → ReplicaState M → Type 0
+IsNoEarlier old new = new.poisoned ≡ false → (old.poisoned ≡ false) × (old.place ≤ new.place)
 
--- the same, of a batch of these lines, whose first line has the token of its front end, the count behind that of the batch before, and whether its
--- reads are plain
-pub record IsPrefetchedBy (stands : ℕ → List ℕ → Type 0) (config : Config) (from place : ℕ) (reads : Reads) (token : List ℕ) (count count' : ℕ) (lines : List ℕ)
-    (reply_queue : ReplyQueueState) (r : ReplicaState StayState) : Type 0 where
-  pub prefetched : IsPrefetched stands config from place lines reply_queue r
-  pub batch_is : prefetched.batch ≡ batch_by reads token count' lines
-  pub reads_are : reads_of prefetched.batch ≡ reads
-  pub count_is : count' ≡ next_count count
+-- where entries stand so in a log, as each state of its store tells
+module _ {S : Type 0} (stands : S → ℕ → List ℕ → Type 0) where
+  -- the same of a hall that follows the log, and of just this batch
+  pub record IsServed (old new : FollowState S) (batch : List ℕ) (reply_queue : ReplyQueueState) : Type 0 where
+    pub prefetched : IsPrefetched (stands new.store) new.config new.from old.replica.place (behind_first_line batch) reply_queue new.stays
+    pub batch_is : prefetched.batch ≡ batch
 
--- A front end went on by itself, or waited in vain: all that stood in the log stands, its hall is of the same config and no earlier, and its
--- queue of replies tells nothing. Its count is that of one batch more, where one may stand in the log
-pub record HasGoneOn (stood stands : ℕ → List ℕ → Type 0) (config config' : Config) (count count' : ℕ) (r r' : ReplicaState HallState) (reply_queue : ReplyQueueState) : Type 0 where
-  pub keeps : Keeps stood stands
-  pub config_is : config' ≡ config
-  pub counts : (count' ≡ count) ⊎ (count' ≡ next_count count)
-  pub later : r'.poisoned ≡ false → (r.poisoned ≡ false) × (r.place ≤ r'.place)
-  pub unreported : reply_queue ≡ reply_queue_of []
+  -- the same, of a batch of these lines, whose first line has the token of its front end, the count behind that of the batch before, and whether its
+  -- reads are plain
+  pub record IsPrefetchedBy (old new : FollowState S) (reads : Reads) (token : List ℕ) (count count' : ℕ) (lines : List ℕ) (reply_queue : ReplyQueueState) : Type 0 where
+    pub prefetched : IsPrefetched (stands new.store) new.config new.from old.replica.place lines reply_queue new.stays
+    pub batch_is : prefetched.batch ≡ batch_by reads token count' lines
+    pub reads_are : reads_of prefetched.batch ≡ reads
+    pub count_is : count' ≡ next_count count
 
--- all that stood in a log stands, and a hall that follows it is of the same config, started where it did, and is no earlier
-pub record HasMovedOn {S : Type 0} (stands : S → ℕ → List ℕ → Type 0) (old new : FollowState S) : Type 0 where
-  pub keeps : Keeps (stands old.store) (stands new.store)
-  pub config : new.config ≡ old.config
-  pub from : new.from ≡ old.from
-  pub later : new.replica.poisoned ≡ false → (old.replica.poisoned ≡ false) × (old.replica.place ≤ new.replica.place)
+  -- all that stood in a log stands, and a hall that follows it is of the same config, started where it did, and is no earlier
+  pub record HasMovedOn (old new : FollowState S) : Type 0 where
+    pub keeps : Keeps (stands old.store) (stands new.store)
+    pub config : new.config ≡ old.config
+    pub from : new.from ≡ old.from
+    pub later : IsNoEarlier old.replica new.replica
+
+  -- A front end went on by itself, or waited in vain: its hall moved on, and its queue of replies tells nothing. Its count is that of one batch more,
+  -- where one may stand in the log
+  pub record HasGoneOn (old new : FollowState S) (count count' : ℕ) (reply_queue : ReplyQueueState) : Type 0 where
+    pub moved : HasMovedOn old new
+    pub counts : (count' ≡ count) ⊎ (count' ≡ next_count count)
+    pub unreported : reply_queue ≡ reply_queue_of []
 
 -- all that was on the queue of replies was said again, to just those who asked for it, and persister and queue of replies are as they were
 pub record IsUsedUp {K : Type 0} (k : K) (w : ReplyQueueState) (l : K) (u : ReplyQueueState) : Type 0 where

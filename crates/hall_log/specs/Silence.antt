@@ -1,7 +1,7 @@
 -- for how long the log told the same of a stay
 use Rattle.std.specs.Prelude.{◌≡◌, ◌⊎◌, ℕ, List, [], ◌∷◌, ◌++◌, All, map}
 use Rattle.hall_log.specs.Watched.{watched}
-use Rattle.hall_log.specs.declared.kept_stay.KeptStay.{KeptStay}
+use Rattle.hall_log.specs.declared.front_end_stay.FrontEndStay.{FrontEndStay}
 use Rattle.hall_log.specs.declared.watches.Watch.{Watch}
 
 -- an element of a list
@@ -12,7 +12,7 @@ IsAmong x (y ∷ ys) = (y ≡ x) ⊎ IsAmong x ys
 -- the log was read to its end at a tick, and told of these stays
 pub record Look : Type 0 where
   pub tick : ℕ
-  pub kept : List KeptStay
+  pub kept : List FrontEndStay
 
 abbrev pub watches_after : List Watch → List Look → List Watch
 watches_after watches [] = watches

@@ -2,13 +2,13 @@
 use Rattle.std.specs.Prelude.{ℕ, List, Bool, Option}
 use Rattle.hall.specs.HallState.{HallState}
 use Rattle.hall_log.specs.declared.gathering.Gathering.{Gathering}
-use Rattle.hall_log.specs.declared.kept_stay.KeptStay.{KeptStay}
+use Rattle.hall_log.specs.declared.front_end_stay.FrontEndStay.{FrontEndStay}
 
 -- The hall, the stays with the front end that keeps each, how many entries were applied, and the part of a compaction that was read. It is blind
 -- where it began at a later place of the log than the first, and has read no compaction whole: then its hall is nobody's
 pub record StayState : Type 0 where
   pub hall : HallState
-  pub kept : List KeptStay
+  pub kept : List FrontEndStay
   pub entries : ℕ
   pub gathered : Option Gathering
   pub blind : Bool

@@ -1,5 +1,5 @@
 -- a hall that a log leads, and who keeps its stays
-use Rattle.std.specs.Prelude.{◌≡◌, ◌==◌, ℕ, List, [], map, Bool, true, false, if◌then◌else◌, Option, Some, None}
+use Rattle.std.specs.Prelude.{◌≡◌, ◌==◌, ℕ, List, [], Bool, true, false, if◌then◌else◌, Option, Some, None}
 use Rattle.commands.specs.declared.config.Config.{Config}
 use Rattle.replicated_log.specs.ReplicaState.{ReplicaState}
 use Rattle.hall.specs.Compactions.{IsCompacted}
@@ -7,7 +7,7 @@ use Rattle.hall.specs.HallState.{HallState}
 use Rattle.hall.specs.Halls.{hall_of}
 use Rattle.hall_log.specs.Batches.{next_count}
 use Rattle.hall_log.specs.Entries.{HallApplies}
-use Rattle.hall_log.specs.Kept.{heard, kept_after_all, token_of}
+use Rattle.hall_log.specs.Kept.{kept_behind, token_of}
 use Rattle.hall_log.specs.Marks.{entries_in, head_at, kept_in, mark_of, next_in}
 use Rattle.hall_log.specs.Said.{reply_queue_of}
 use Rattle.hall_log.specs.ReplyQueueState.{ReplyQueueState}
@@ -31,7 +31,7 @@ start_of config from = if from == 0 then stays_of config else blind_of config
 -- The hall answered the lines of the entry. The front end of the entry's token was heard of, and keeps the stays that the lines entered
 pub record TakesLines (w : StayState) (entry : List ℕ) (reply_queue : ReplyQueueState) (u : StayState) : Type 0 where
   pub hall : HallApplies w.hall entry reply_queue u.hall
-  pub kept : u.kept ≡ kept_after_all (token_of entry) w.entries (map (heard (token_of entry) w.entries) w.kept) reply_queue.left
+  pub kept : u.kept ≡ kept_behind (token_of entry) w.entries w.kept reply_queue.left
   pub entries : u.entries ≡ next_count w.entries
   pub gathered : u.gathered ≡ None
   pub blind : u.blind ≡ false

@@ -1,20 +1,20 @@
 -- since when nothing was heard of the front ends that keep stays, and which stays are to end
-use Rattle.std.specs.Prelude.{ℕ, Bool, true, false, ◌==◌, ◌&&◌, ◌-◌, nat_eq, ltb, if◌then◌else◌, List, [], ◌∷◌, filter, map}
+use Rattle.std.specs.Prelude.{ℕ, Bool, ◌==◌, ◌&&◌, ◌-◌, nat_eq, ltb, if◌then◌else◌, List, [], ◌∷◌, filter, map}
 use Rattle.std.specs.List.{list_any}
 use Rattle.hall_log.specs.Kept.{is_token}
-use Rattle.hall_log.specs.declared.kept_stay.KeptStay.{KeptStay}
+use Rattle.hall_log.specs.declared.front_end_stay.FrontEndStay.{FrontEndStay}
 use Rattle.hall_log.specs.declared.watches.Watch.{Watch}
 
 -- one stay, kept by one front end, of which no entry was applied between
-abbrev pub is_same_stay : KeptStay → KeptStay → Bool
+abbrev pub is_same_stay : FrontEndStay → FrontEndStay → Bool
 is_same_stay stay other = (stay.identity == other.identity) && ((stay.last == other.last) && is_token stay.token other.token)
 
 -- the first tick in a row at which a stay was so
-abbrev pub since_of : List Watch → KeptStay → ℕ → ℕ
+abbrev pub since_of : List Watch → FrontEndStay → ℕ → ℕ
 since_of [] stay tick = tick
 since_of (w ∷ ws) stay tick = if is_same_stay w.stay stay then w.since else since_of ws stay tick
 
-abbrev pub watched : ℕ → List Watch → KeptStay → Watch
+abbrev pub watched : ℕ → List Watch → FrontEndStay → Watch
 watched tick watches stay = record { stay = stay; since = since_of watches stay tick }
 
 -- A stay is to end: one that the front end of this token keeps if it is among those that nobody keeps there any more, and else once nothing

@@ -3,7 +3,7 @@
 ghost use Rattle.std.specs.Prelude.{◌≡◌, ◌++◌, IfOk, IfSome, OnOk};
 ghost use Rattle.hall_log.specs.Tellings.{HasToldAlone, IsTelling, first_entry, last_entry, more_entry, stay_text, stay_texts};
 
-use crate::kept_stay::{KeptStay, token_of};
+use crate::front_end_stay::{FrontEndStay, token_of};
 use crate::log_fault::LogFault;
 use crate::log_hall::LogHall;
 use crate::log_persister::{push_count, put_head};
@@ -112,7 +112,7 @@ fn put_lines(
 }
 
 // Appends a stay in 64 bytes.
-fn push_stay(entry: &mut Vec<u8>, stay: &KeptStay) -> Result<(), AllocError>
+fn push_stay(entry: &mut Vec<u8>, stay: &FrontEndStay) -> Result<(), AllocError>
     ensures { OnOk result (entry.new.items ≡ entry.old.items ++ stay_text stay.now) }
 {
     push_count(entry, 16, stay.identity)?;
@@ -122,7 +122,7 @@ fn push_stay(entry: &mut Vec<u8>, stay: &KeptStay) -> Result<(), AllocError>
 }
 
 // Appends stays.
-fn push_stays(entry: &mut Vec<u8>, kept: &[KeptStay]) -> Result<(), AllocError>
+fn push_stays(entry: &mut Vec<u8>, kept: &[FrontEndStay]) -> Result<(), AllocError>
     ensures { OnOk result (entry.new.items ≡ entry.old.items ++ stay_texts kept.now) }
 {
     for stay in kept {
@@ -165,7 +165,7 @@ fn put_last(
     count: u64,
     before: &[u8; 49],
     entries: u64,
-    kept: &[KeptStay],
+    kept: &[FrontEndStay],
 ) -> Result<(), AllocError>
     ensures { OnOk result (entry.new.items ≡ last_entry token.now count before.now entries kept.now) }
 {
@@ -242,7 +242,7 @@ impl Compaction {
     }
 
     // Reads the log to its end.
-    #[tactic(auto, using(crate::proofs::Moves::told_self, crate::proofs::Moves::told_same))]
+    #[tactic(auto, using(crate::proofs::Moves::told_same))]
     fn read<S: Store, T: Pause>(
         &mut self,
         work: &mut Work,
@@ -250,8 +250,7 @@ impl Compaction {
         pause: &mut T,
         reply_queue: &mut ReplyQueue,
     ) -> Result<(), LogFault>
-        ensures told { HasToldAlone self.old.token S.stands log.old log.new }
-        ensures token { self.new.token ≡ self.old.token }
+        ensures told { HasToldAlone S.stands self.old.token self.new.token log.old log.new }
     {
         match log.read(READ_ENTRIES, reply_queue) {
             Ok(true) => {}
@@ -273,15 +272,14 @@ impl Compaction {
     }
 
     // Offers the entry for the next place, and for no other. Tells whether it stands there.
-    #[tactic(auto, using(crate::proofs::Moves::told_self))]
+    #[tactic(auto, using(crate::proofs::Moves::told_one))]
     fn offer<S: Store>(
         &mut self,
         log: &mut LogHall<S>,
         reply_queue: &mut ReplyQueue,
     ) -> Result<bool, LogFault>
         requires { IsTelling self.old.token self.old.entry.items }
-        ensures told { HasToldAlone self.old.token S.stands log.old log.new }
-        ensures token { self.new.token ≡ self.old.token }
+        ensures told { HasToldAlone S.stands self.old.token self.new.token log.old log.new }
     {
         self.count = self.count.wrapping_add(1);
         match log.offer(&self.entry, reply_queue) {
@@ -302,8 +300,7 @@ impl Compaction {
         log: &mut LogHall<S>,
         reply_queue: &mut ReplyQueue,
     ) -> Result<(), LogFault>
-        ensures told { HasToldAlone self.old.token S.stands log.old log.new }
-        ensures token { self.new.token ≡ self.old.token }
+        ensures told { HasToldAlone S.stands self.old.token self.new.token log.old log.new }
     {
         let Ok(()) = put_first(&mut self.entry, &self.token, self.count) else {
             return Err(LogFault::Memory);
@@ -345,15 +342,14 @@ impl Compaction {
     }
 
     // Offers an entry of the events of the new hall.
-    #[tactic(auto, using(crate::proofs::Moves::told_self))]
+    #[tactic(auto, using(crate::proofs::Moves::told_self, crate::proofs::Moves::told_by))]
     fn tell<S: Store>(
         &mut self,
         work: &mut Work,
         log: &mut LogHall<S>,
         reply_queue: &mut ReplyQueue,
     ) -> Result<(), LogFault>
-        ensures told { HasToldAlone self.old.token S.stands log.old log.new }
-        ensures token { self.new.token ≡ self.old.token }
+        ensures told { HasToldAlone S.stands self.old.token self.new.token log.old log.new }
     {
         work.stage = Stage::Read;
         let told = match self.put_told(work, log) {
@@ -379,8 +375,7 @@ impl Compaction {
         log: &mut LogHall<S>,
         reply_queue: &mut ReplyQueue,
     ) -> Result<(), LogFault>
-        ensures told { HasToldAlone self.old.token S.stands log.old log.new }
-        ensures token { self.new.token ≡ self.old.token }
+        ensures told { HasToldAlone S.stands self.old.token self.new.token log.old log.new }
     {
         work.stage = Stage::Read;
         let Some(before) = log.under_way() else {
@@ -411,8 +406,7 @@ impl Compaction {
         pause: &mut T,
         reply_queue: &mut ReplyQueue,
     ) -> Result<(), LogFault>
-        ensures told { HasToldAlone self.old.token S.stands log.old log.new }
-        ensures token { self.new.token ≡ self.old.token }
+        ensures told { HasToldAlone S.stands self.old.token self.new.token log.old log.new }
     {
         match work.stage {
             Stage::Read => self.read(work, log, pause, reply_queue),
@@ -436,15 +430,14 @@ impl Compaction {
     /// # Errors
     ///
     /// Those behind which nothing more is served (`LogFault::of_cause`), and `Memory` if an allocation failed.
-    #[tactic(auto, using(crate::proofs::Moves::told_self))]
+    #[tactic(auto, using(crate::proofs::Moves::told_self, crate::proofs::Moves::told_then))]
     pub(crate) fn compact<S: Store, T: Pause>(
         &mut self,
         log: &mut LogHall<S>,
         pause: &mut T,
         reply_queue: &mut ReplyQueue,
     ) -> Result<(), LogFault>
-        ensures told { HasToldAlone self.old.token S.stands log.old log.new }
-        ensures token { self.new.token ≡ self.old.token }
+        ensures told { HasToldAlone S.stands self.old.token self.new.token log.old log.new }
     {
         if log.hall().len() < self.mindful {
             return Ok(());

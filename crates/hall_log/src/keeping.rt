@@ -2,10 +2,10 @@
 
 ghost use Rattle.std.specs.Prelude.{◌≡◌, OnOk, [], map};
 ghost use Rattle.hall_log.specs.Batches.{next_count};
-ghost use Rattle.hall_log.specs.Kept.{heard, kept_after, kept_after_all, with_keeper, without};
+ghost use Rattle.hall_log.specs.Kept.{heard, kept_after, kept_behind, with_keeper, without};
 ghost use Rattle.hall_log.specs.Said.{said_by};
 
-use crate::kept_stay::{KeptStay, enters, leaves};
+use crate::front_end_stay::{FrontEndStay, enters, leaves};
 use crate::note::{Asked, Note};
 use commands::Event;
 use std::alloc::{AllocError, Global};
@@ -13,12 +13,12 @@ use std::alloc::{AllocError, Global};
 /// The stays in the pool, each with the front end that keeps it, and how many entries were applied.
 #[derive(Drop)]
 pub(crate) struct Keeping {
-    pub(crate) kept: Vec<KeptStay>,
+    pub(crate) kept: Vec<FrontEndStay>,
     pub(crate) entries: u64,
 }
 
 /// An entry of a front end was applied behind so many others.
-fn hear_all(kept: &mut [KeptStay], token: &[u8; 32], place: u64)
+fn hear_all(kept: &mut [FrontEndStay], token: &[u8; 32], place: u64)
     ensures { kept.new ≡ map (heard token.now place) kept.old }
 {
     for stay in kept.iter_mut() {
@@ -52,7 +52,7 @@ impl Keeping {
         ensures entries { self.new.entries ≡ self.old.entries }
     {
         self.forget(id);
-        let stay = KeptStay {
+        let stay = FrontEndStay {
             identity: id,
             token: *token,
             last: self.entries,
@@ -94,7 +94,7 @@ impl Keeping {
 
     /// Notes an entry of this front end, and what was said to its requests.
     pub(crate) fn learn(&mut self, token: &[u8; 32], notes: &[Note]) -> Result<(), AllocError>
-        ensures kept { OnOk result (self.new.kept.items ≡ kept_after_all token.now self.old.entries (map (heard token.now self.old.entries) self.old.kept.items) (map said_by notes.now)) }
+        ensures kept { OnOk result (self.new.kept.items ≡ kept_behind token.now self.old.entries self.old.kept.items (map said_by notes.now)) }
         ensures entries { OnOk result (self.new.entries ≡ next_count self.old.entries) }
     {
         hear_all(&mut self.kept, token, self.entries);

@@ -21,7 +21,7 @@ ghost use Rattle.hall_log.specs.StayState.{StayState};
 ghost use Rattle.hall_log.specs.Silence.{IsAmong, Look, WasSo, after_looks};
 ghost use Rattle.hall_log.specs.Tellings.{AreStays, IsReadBack};
 ghost use Rattle.hall_log.specs.declared.gathering.Gathering.{Gathering};
-ghost use Rattle.hall_log.specs.declared.kept_stay.KeptStay.{KeptStay};
+ghost use Rattle.hall_log.specs.declared.front_end_stay.FrontEndStay.{FrontEndStay};
 ghost use Rattle.hall_log.specs.declared.marks.Mark.TheVariants.{Ordinary};
 ghost use Rattle.hall_log.specs.declared.watches.Watch.{Watch};
 
@@ -72,7 +72,7 @@ pub fn law_of_compactions()
 /// A law, which runs nothing: the entries of a compaction that a front end offers (`Tellings.antt`) are read as what they
 /// tell, each right behind the one that it names, and so who keeps each stay.
 pub fn law_of_tellings()
-    ensures { (token : List ℕ) (count : ℕ) (part : Gathering) (lines : List ℕ) (entries : ℕ) (kept : List KeptStay) → length token ≡ 32 →
+    ensures { (token : List ℕ) (count : ℕ) (part : Gathering) (lines : List ℕ) (entries : ℕ) (kept : List FrontEndStay) → length token ≡ 32 →
         length part.head ≡ 49 → entries < 2 ^ 64 → length kept < 2 ^ 64 → AreStays kept → IsReadBack token count part lines entries kept }
 {}
 
@@ -86,13 +86,14 @@ pub fn law_of_starts()
     law_of_agreement::<StayMachine>();
 }
 
-/// A law, which runs nothing: where a watch is what looks at the log came to, one after another, the log told the same of its stay at each look from its tick on.
+/// A law, which runs nothing, of a watch that looks at the log came to, one after another: from its tick on the log told the same of its stay at each
+/// look.
 pub fn law_of_silence()
     ensures { (looks : List Look) (w : Watch) → IsAmong w (after_looks looks) → WasSo w looks }
 {}
 
-/// A law, which runs nothing, of what a turn of the loop (`event_server::iterate`) is over a queue of replies that was prefetched of a log and was used up: it is a
-/// turn over the hall of the log, at the place of an entry of just its lines.
+/// A law, which runs nothing, of a turn of the loop (`event_server::iterate`) over a queue of replies that was prefetched of a log and was used up: it
+/// is a turn over the hall of the log, at the place of an entry of just its lines.
 pub fn law_of_log_hosting<C, K, S: Store>()
     ensures { (on : Seating C) (s : S) (config : Config) (from place : ℕ) (lines : List ℕ) (reply_queue u : ReplyQueueState)
         (r : ReplicaState StayState) (k l : K) (seats after : List (Option C)) →

@@ -40,9 +40,9 @@
 #![tactic(auto)]
 
 mod compaction;
+pub mod front_end_stay;
 mod gathering;
 mod keeping;
-pub mod kept_stay;
 mod lasting;
 pub mod laws;
 pub mod log_fault;
@@ -60,7 +60,7 @@ pub mod stay_machine;
 pub mod tallying;
 pub mod watches;
 
-pub use kept_stay::KeptStay;
+pub use front_end_stay::FrontEndStay;
 pub use laws::{
     law_of_batches, law_of_compactions, law_of_halls, law_of_keepers, law_of_log_hosting,
     law_of_silence, law_of_starts, law_of_tellings,

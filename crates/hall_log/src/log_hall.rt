@@ -12,7 +12,7 @@ ghost use Rattle.hall_log.specs.Hosted.{HasMovedOn, IsAtEnd};
 ghost use Rattle.hall_log.specs.Said.{reply_queue_of};
 ghost use Rattle.hall_log.specs.Stays.{StayApplies, hall_part, start_of};
 
-use crate::kept_stay::KeptStay;
+use crate::front_end_stay::FrontEndStay;
 use crate::reply_queue::ReplyQueue;
 use crate::stay_machine::StayMachine;
 use commands::Config;
@@ -106,7 +106,7 @@ impl<S: Store> LogHall<S> {
     }
 
     /// The stays in its pool, each with the front end that keeps it.
-    pub fn kept(&self) -> &[KeptStay]
+    pub fn kept(&self) -> &[FrontEndStay]
         ensures { result.now ≡ self.now.stays.machine.kept }
     {
         self.replica.machine().kept()
@@ -196,13 +196,10 @@ impl<S: Store> LogHall<S> {
     pub fn serve(&mut self, batch: &[u8], reply_queue: &mut ReplyQueue) -> Result<(), ServeFault>
         ensures due { OnOk result (IsDueFrom StayApplies (S.stands self.new.store) self.new.from (start_of self.new.config self.new.from) batch.now
             reply_queue.new self.new.stays) }
-        ensures later { self.new.replica.poisoned ≡ false → (self.old.replica.poisoned ≡ false) × (self.old.replica.place ≤ self.new.replica.place) }
         ensures at_last { OnOk result ((self.old.replica.poisoned ≡ false) × (self.old.replica.place < self.new.replica.place)) }
         ensures unanswered { OnErr result (reply_queue.new ≡ reply_queue_of []) }
         ensures busy { result ≡ Err (Unknown Busy) → (self.old.replica.place + 333333 ≤ self.new.replica.place) ⊎ Contradicts S.stands S.lacks }
-        ensures keeps { Keeps (S.stands self.old.store) (S.stands self.new.store) }
-        ensures config { self.new.config ≡ self.old.config }
-        ensures from { self.new.from ≡ self.old.from }
+        ensures moved { HasMovedOn S.stands self.old self.new }
         ensures part { self.new.replica ≡ hall_part self.new.stays }
     {
         law_of_following::<StayMachine, S>();
@@ -212,10 +209,7 @@ impl<S: Store> LogHall<S> {
     /// Applies what stands in the log, up to so many entries; tells how many they were (`Replica::catch_up`).
     pub fn catch_up(&mut self, most: u64, reply_queue: &mut ReplyQueue) -> Result<u64, Cause>
         ensures unanswered { reply_queue.new ≡ reply_queue_of [] }
-        ensures keeps { Keeps (S.stands self.old.store) (S.stands self.new.store) }
-        ensures config { self.new.config ≡ self.old.config }
-        ensures from { self.new.from ≡ self.old.from }
-        ensures later { self.new.replica.poisoned ≡ false → (self.old.replica.poisoned ≡ false) × (self.old.replica.place ≤ self.new.replica.place) }
+        ensures moved { HasMovedOn S.stands self.old self.new }
         ensures count { IfOk result (λ n. self.new.replica.place ≡ self.old.replica.place + n) }
         ensures stopped { IfOk result (λ n. n < most → IsAtEnd (S.lacks self.new.store) self.new.replica.place) }
     {
@@ -229,9 +223,6 @@ impl<S: Store> LogHall<S> {
         ensures moved { HasMovedOn S.stands self.old self.new }
         ensures unanswered { reply_queue.new ≡ reply_queue_of [] }
         ensures same { Same (S.stands self.old.store) (S.stands self.new.store) }
-        ensures config { self.new.config ≡ self.old.config }
-        ensures from { self.new.from ≡ self.old.from }
-        ensures later { self.new.replica.poisoned ≡ false → (self.old.replica.poisoned ≡ false) × (self.old.replica.place ≤ self.new.replica.place) }
     {
         law_of_following::<StayMachine, S>();
         let passed = self.replica.catch_up(&mut self.store, most, reply_queue)?;
@@ -248,9 +239,6 @@ impl<S: Store> LogHall<S> {
         reply_queue: &mut ReplyQueue,
     ) -> Result<Step, Cause>
         ensures adds { Adds (S.stands self.old.store) self.old.stays.place batch.now (S.stands self.new.store) }
-        ensures config { self.new.config ≡ self.old.config }
-        ensures from { self.new.from ≡ self.old.from }
-        ensures later { self.new.replica.poisoned ≡ false → (self.old.replica.poisoned ≡ false) × (self.old.replica.place ≤ self.new.replica.place) }
         ensures moved { HasMovedOn S.stands self.old self.new }
         ensures stood { result ≡ Ok Answered → S.stands self.new.store self.old.stays.place batch.now }
     {

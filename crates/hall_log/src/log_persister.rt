@@ -1,16 +1,15 @@
 //! Serves the clients of one front end over a log.
 
-ghost use Rattle.std.specs.Prelude.{◌≡◌, ◌≢◌, ◌↔◌, ◌==◌, ◌+◌, ◌-◌, ◌++◌, ◌≤◌, ◌<◌, ◌⊎◌, ℕ, [], true, false, ltb, map, Ok, Err, OnOk, IfOk, All};
+ghost use Rattle.std.specs.Prelude.{◌≡◌, ◌≢◌, ◌↔◌, ◌==◌, ◌+◌, ◌-◌, ◌++◌, ◌<◌, ◌⊎◌, ℕ, [], true, false, ltb, map, Ok, Err, OnOk, IfOk, All};
 ghost use Rattle.std.specs.List.{list_any};
 ghost use Rattle.std.specs.String.{string_bytes};
 ghost use Rattle.commands.specs.Config.{gives_names};
-ghost use Rattle.replicated_log.specs.Places.{Adds, Keeps, Same};
+ghost use Rattle.replicated_log.specs.Places.{Keeps, Same};
 ghost use Rattle.hall_log.specs.Batches.{batch_by, batch_of, head_of, hex_digit, hex_digits, next_count, told_of};
-ghost use Rattle.hall_log.specs.Decided.{HasLooked, IsDecided, ended_of, next_read};
+ghost use Rattle.hall_log.specs.Decided.{AddsBatch, HasLooked, IsDecided, next_read, release_lines};
 ghost use Rattle.hall_log.specs.Entries.{first_line_of};
-ghost use Rattle.hall_log.specs.Hosted.{HasGoneOn, IsAtEnd, IsPrefetchedBy, IsServed};
+ghost use Rattle.hall_log.specs.Hosted.{HasGoneOn, HasMovedOn, IsAtEnd, IsPrefetchedBy, IsServed};
 ghost use Rattle.hall_log.specs.Pauses.{IsSpent};
-ghost use Rattle.hall_log.specs.Releases.{lines_of};
 ghost use Rattle.hall_log.specs.Said.{reply_queue_of};
 ghost use Rattle.hall_log.specs.Watched.{watched};
 
@@ -294,11 +293,11 @@ impl<S: Store, T: Pause> LogPersister<S, T> {
     }
 
     // Applies all that stands in the log, as soon as the store answers.
+    #[tactic(auto, using(crate::proofs::Moves::moved_then))]
     fn apply_all(&mut self) -> Result<(), LogFault>
         ensures other { result ≢ Err LogFault.Token }
-        ensures keeps { Keeps (S.stands self.old.log.store) (S.stands self.new.log.store) }
+        ensures moved { HasMovedOn S.stands self.old.log self.new.log }
         ensures all { OnOk result (IsAtEnd (S.lacks self.new.log.store) self.new.log.replica.place) }
-        ensures config { self.new.log.config ≡ self.old.log.config }
     {
         let mut reply_queue = ReplyQueue::new(self.alloc);
         self.pause.begin();
@@ -317,17 +316,15 @@ impl<S: Store, T: Pause> LogPersister<S, T> {
     }
 
     // Has the batch come to stand in the log, as soon as the store answers.
+    #[tactic(auto, using(crate::proofs::Moves::moved_same, crate::proofs::Moves::moved_then))]
     fn serve_batch(&mut self, reply_queue: &mut ReplyQueue) -> Result<Prefetch, LogFault>
-        ensures prefetched { result ≡ Ok Prefetch.Known →
-            IsServed (S.stands self.new.log.store) self.new.log.config self.new.log.from self.old.log.replica.place self.old.batch.items reply_queue.new self.new.log.stays }
+        ensures prefetched { result ≡ Ok Prefetch.Known → IsServed S.stands self.old.log self.new.log self.old.batch.items reply_queue.new }
         ensures lost { result ≢ Ok Prefetch.Known → reply_queue.new ≡ reply_queue_of [] }
         ensures patient { result ≡ Ok Prefetch.Lost → IsSpent T.is_over T.waited self.new.pause }
-        ensures keeps { Keeps (S.stands self.old.log.store) (S.stands self.new.log.store) }
-        ensures config { self.new.log.config ≡ self.old.log.config }
+        ensures moved { HasMovedOn S.stands self.old.log self.new.log }
         ensures head { (self.new.count ≡ self.old.count) × (self.new.token ≡ self.old.token) }
         ensures sent { result ≡ Ok Prefetch.Known → T.tells self.old.pause self.new.sessions.sent }
         ensures well { result ≡ Ok Prefetch.Known → self.new.log.replica.poisoned ≡ false }
-        ensures later { self.new.log.replica.poisoned ≡ false → (self.old.log.replica.poisoned ≡ false) × (self.old.log.replica.place ≤ self.new.log.replica.place) }
     {
         let now = self.pause.seconds();
         reply_queue.clear();
@@ -397,8 +394,8 @@ impl<S: Store, T: Pause> LogPersister<S, T> {
 
     // The lines by which the stays end that are to end now, where all of the log was read.
     fn decide(&mut self, left: &[u64]) -> Result<Vec<u8>, AllocError>
-        ensures lines { IfOk result (λ lines. lines.items ≡ lines_of self.new.log.stays.machine.hall (ended_of self.old.token left.now self.old.sessions.grace
-            self.new.sessions.reads self.old.sessions.watches.watches.items self.new.log.stays.machine.kept)) }
+        ensures lines { IfOk result (λ lines. lines.items ≡ release_lines self.old.token left.now self.old.sessions.grace self.new.sessions.reads
+            self.old.sessions.watches.watches.items self.new.log.stays.machine) }
         ensures looked { OnOk result (self.new.sessions.watches.watches.items ≡
             map (watched self.new.sessions.reads self.old.sessions.watches.watches.items) self.new.log.stays.machine.kept) }
         ensures counted { OnOk result (self.new.sessions.reads ≡ next_read self.old.sessions.reads) }
@@ -409,11 +406,11 @@ impl<S: Store, T: Pause> LogPersister<S, T> {
     }
 
     // Offers an entry of these lines for the next place, once.
+    #[tactic(auto, using(crate::proofs::Moves::moved_same, crate::proofs::Moves::moved_then))]
     fn offer(&mut self, lines: &[u8], reply_queue: &mut ReplyQueue) -> Result<(), LogFault>
-        ensures adds { Adds (S.stands self.old.log.store) self.old.log.stays.place (batch_of self.old.token self.new.count lines.now) (S.stands self.new.log.store) }
+        ensures adds { AddsBatch S.stands self.old.log self.old.token self.new.count lines.now self.new.log }
         ensures counted { (self.new.count ≡ self.old.count) ⊎ (self.new.count ≡ next_count self.old.count) }
-        ensures config { self.new.log.config ≡ self.old.log.config }
-        ensures later { self.new.log.replica.poisoned ≡ false → (self.old.log.replica.poisoned ≡ false) × (self.old.log.replica.place ≤ self.new.log.replica.place) }
+        ensures moved { HasMovedOn S.stands self.old.log self.new.log }
         ensures looked { (self.new.sessions.watches ≡ self.old.sessions.watches) × (self.new.sessions.reads ≡ self.old.sessions.reads) }
         ensures sent { (self.new.sessions.sent ≡ self.old.sessions.sent) ⊎ (T.tells self.old.pause self.new.sessions.sent × S.stands self.new.log.store
             self.old.log.stays.place (batch_of self.old.token self.new.count lines.now)) }
@@ -439,15 +436,15 @@ impl<S: Store, T: Pause> LogPersister<S, T> {
     }
 
     // Ends the stays that are to end now, where all of the log was read.
+    #[tactic(auto, using(crate::proofs::Moves::moved_same, crate::proofs::Moves::moved_then))]
     fn end_due(&mut self, reply_queue: &mut ReplyQueue, left: &[u64]) -> Result<(), LogFault>
-        ensures released { Same (S.stands self.old.log.store) (S.stands self.new.log.store) ⊎ Adds (S.stands self.old.log.store) self.old.log.stays.place
-            (batch_of self.old.token self.new.count (lines_of self.old.log.stays.machine.hall (ended_of self.old.token left.now self.old.sessions.grace
-            self.new.sessions.reads self.old.sessions.watches.watches.items self.old.log.stays.machine.kept))) (S.stands self.new.log.store) }
+        ensures released { Same (S.stands self.old.log.store) (S.stands self.new.log.store) ⊎ AddsBatch S.stands self.old.log self.old.token self.new.count
+            (release_lines self.old.token left.now self.old.sessions.grace self.new.sessions.reads self.old.sessions.watches.watches.items
+            self.old.log.stays.machine) self.new.log }
         ensures looked { OnOk result ((self.new.sessions.reads ≡ next_read self.old.sessions.reads) × (self.new.sessions.watches.watches.items ≡
             map (watched self.new.sessions.reads self.old.sessions.watches.watches.items) self.old.log.stays.machine.kept)) }
         ensures counted { (self.new.count ≡ self.old.count) ⊎ (self.new.count ≡ next_count self.old.count) }
-        ensures config { self.new.log.config ≡ self.old.log.config }
-        ensures later { self.new.log.replica.poisoned ≡ false → (self.old.log.replica.poisoned ≡ false) × (self.old.log.replica.place ≤ self.new.log.replica.place) }
+        ensures moved { HasMovedOn S.stands self.old.log self.new.log }
         ensures unreported { OnOk result (reply_queue.new ≡ reply_queue_of []) }
     {
         reply_queue.clear();
@@ -473,8 +470,7 @@ impl<S: Store, T: Pause> LogPersister<S, T> {
     ///
     /// Those behind which nothing more is served (`LogFault::of_cause`), and `Memory` if an allocation failed.
     pub fn end_stays(&mut self, reply_queue: &mut ReplyQueue, left: &[u64]) -> Result<(), LogFault>
-        ensures gone_on { OnOk result (HasGoneOn (S.stands self.old.log.store) (S.stands self.new.log.store) self.old.log.config self.new.log.config
-            self.old.count self.new.count self.old.log.replica self.new.log.replica reply_queue.new) }
+        ensures gone_on { OnOk result (HasGoneOn S.stands self.old.log self.new.log self.old.count self.new.count reply_queue.new) }
         ensures released { Same (S.stands self.old.log.store) (S.stands self.new.log.store) ⊎ IsDecided S.lacks (S.stands self.old.log.store)
             (S.stands self.new.log.store) self.new.log.config self.old.token self.new.count left.now self.old.sessions.grace self.new.sessions.reads
             self.old.sessions.watches.watches.items }
@@ -502,9 +498,9 @@ impl<S: Store, T: Pause> Persist<ReplyQueue> for LogPersister<S, T> {
 
     ghost persists = { λ k w l u. IsUsedUp k w l u };
 
-    ghost prefetches = { λ k w lines l u. IsPrefetchedBy (S.stands l.log.store) l.log.config l.log.from k.log.replica.place k.reads k.token k.count l.count lines u l.log.stays };
+    ghost prefetches = { λ k w lines l u. IsPrefetchedBy S.stands k.log l.log k.reads k.token k.count l.count lines u };
 
-    ghost waits = { λ k w l u. HasGoneOn (S.stands k.log.store) (S.stands l.log.store) k.log.config l.log.config k.count l.count k.log.replica l.log.replica u };
+    ghost waits = { λ k w l u. HasGoneOn S.stands k.log l.log k.count l.count u };
 
     ghost use Rattle.desk.specs.Held.{slots_of};
     ghost use Rattle.hall.specs.Halls.{desk_of};
@@ -538,10 +534,9 @@ impl<S: Store, T: Pause> Persist<ReplyQueue> for LogPersister<S, T> {
     }
 
     fn prefetch(&mut self, reply_queue: &mut ReplyQueue, lines: &[u8]) -> Result<Prefetch, LogFault>
-        ensures known { result ≡ Ok Prefetch.Known → IsPrefetchedBy (S.stands self.new.log.store) self.new.log.config self.new.log.from self.old.log.replica.place
-            self.old.reads self.old.token self.old.count self.new.count lines.now reply_queue.new self.new.log.stays }
-        ensures lost { result ≡ Ok Prefetch.Lost → HasGoneOn (S.stands self.old.log.store) (S.stands self.new.log.store)
-            self.old.log.config self.new.log.config self.old.count self.new.count self.old.log.replica self.new.log.replica reply_queue.new }
+        ensures known { result ≡ Ok Prefetch.Known →
+            IsPrefetchedBy S.stands self.old.log self.new.log self.old.reads self.old.token self.old.count self.new.count lines.now reply_queue.new }
+        ensures lost { result ≡ Ok Prefetch.Lost → HasGoneOn S.stands self.old.log self.new.log self.old.count self.new.count reply_queue.new }
 
         // Whatever comes of a batch, no other has its count, nor another token.
         ensures counted { self.new.count ≡ next_count self.old.count }

@@ -1,11 +1,12 @@
 //! A hall to which the entries of a log are applied.
 
-ghost use Rattle.std.specs.Prelude.{◌≡◌, ◌⊎◌, ◌↔◌, ◌+◌, ◌<◌, [], false, IfErr, IfOk, OnOk, Err, slice_get};
+ghost use Rattle.std.specs.Prelude.{◌≡◌, ◌⊎◌, ◌↔◌, ◌+◌, ◌<◌, [], false, IfErr, IfOk, OnOk, Err};
 ghost use Rattle.commands.specs.Config.{gives_names};
 ghost use Rattle.hall.specs.Halls.{hall_of};
-ghost use Rattle.hall_log.specs.Entries.{HallApplies, TakesBytes, behind_first_line, is_there, reads_of};
+ghost use Rattle.hall_log.specs.Entries.{HallApplies, TakesBytes, behind_first_line, reads_of};
 ghost use Rattle.hall_log.specs.Said.{NotingSays, reply_queue_of};
 
+use crate::marks::is_there;
 use crate::noting::Noting;
 use crate::reply_queue::ReplyQueue;
 use commands::Config;
@@ -53,16 +54,6 @@ fn behind_first_line(entry: &[u8]) -> &[u8]
         }
     }
     rest
-}
-
-/// Whether this byte stands at a place of an entry.
-fn is_there(entry: &[u8], place: usize, byte: u8) -> bool
-    ensures { result ≡ is_there (slice_get entry.now place) byte }
-{
-    match entry.get(place) {
-        Some(found) => *found == byte,
-        None => false,
-    }
 }
 
 /// Whether the history stores the reads of an entry, as its first line says.

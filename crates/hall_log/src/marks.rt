@@ -1,10 +1,11 @@
 //! The first lines of the entries of a compaction, as they are read.
 
 ghost use Rattle.std.specs.Prelude.{◌≡◌, ◌<◌, ◌++◌, drop, take, true, slice_get, IfOk, OnOk};
-ghost use Rattle.hall_log.specs.Marks.{digit_value, entries_in, head_at, is_byte, kept_in, kind_by, mark_of, number_of, stay_in, stays_in};
+ghost use Rattle.hall_log.specs.Entries.{is_there};
+ghost use Rattle.hall_log.specs.Marks.{digit_value, entries_in, head_at, kept_in, kind_by, mark_of, number_of, stay_in, stays_in};
 ghost use Rattle.hall_log.specs.declared.marks.Mark.TheVariants.{Ordinary};
 
-use crate::kept_stay::KeptStay;
+use crate::front_end_stay::FrontEndStay;
 use std::alloc::{AllocError, Global};
 
 /// How many bytes a token, a space and a count have.
@@ -40,9 +41,9 @@ pub enum Mark {
     Ends,
 }
 
-// Whether this byte stands at a place.
-fn is_byte(entry: &[u8], at: usize, byte: u8) -> bool
-    ensures { result ≡ is_byte (slice_get entry.now at) byte }
+/// Returns true if and only if this byte stands at a place of an entry.
+pub(crate) fn is_there(entry: &[u8], at: usize, byte: u8) -> bool
+    ensures { result ≡ is_there (slice_get entry.now at) byte }
 {
     match entry.get(at) {
         Some(found) => *found == byte,
@@ -54,13 +55,13 @@ fn is_byte(entry: &[u8], at: usize, byte: u8) -> bool
 fn kind_of(entry: &[u8]) -> Mark
     ensures { result ≡ kind_by (slice_get entry.now 50) }
 {
-    if is_byte(entry, 50, b'c') {
+    if is_there(entry, 50, b'c') {
         return Mark::Begins;
     }
-    if is_byte(entry, 50, b'm') {
+    if is_there(entry, 50, b'm') {
         return Mark::GoesOn;
     }
-    if is_byte(entry, 50, b'e') {
+    if is_there(entry, 50, b'e') {
         return Mark::Ends;
     }
     Mark::Ordinary
@@ -71,7 +72,7 @@ fn kind_of(entry: &[u8]) -> Mark
 pub fn mark_of(entry: &[u8]) -> Mark
     ensures { result ≡ mark_of entry.now }
 {
-    if is_byte(entry, 49, b' ') {
+    if is_there(entry, 49, b' ') {
         return kind_of(entry);
     }
     Mark::Ordinary
@@ -129,7 +130,7 @@ fn number_at(entry: &[u8], at: usize) -> Result<u64, AllocError>
 }
 
 // The stay that 64 bytes say.
-fn stay_in(bytes: &[u8]) -> Result<KeptStay, AllocError>
+fn stay_in(bytes: &[u8]) -> Result<FrontEndStay, AllocError>
     ensures { IfOk result (λ stay. stay ≡ stay_in bytes.now) }
 {
     if bytes.len() < STAY {
@@ -137,7 +138,7 @@ fn stay_in(bytes: &[u8]) -> Result<KeptStay, AllocError>
     }
     let mut token = [0u8; 32];
     token.copy_from_slice(&bytes[32..STAY]);
-    Ok(KeptStay {
+    Ok(FrontEndStay {
         identity: number_of(&bytes[..16]),
         token,
         last: number_of(&bytes[16..32]),
@@ -145,7 +146,7 @@ fn stay_in(bytes: &[u8]) -> Result<KeptStay, AllocError>
 }
 
 // Appends so many stays that bytes say.
-fn push_stays(kept: &mut Vec<KeptStay>, count: u64, bytes: &[u8]) -> Result<(), AllocError>
+fn push_stays(kept: &mut Vec<FrontEndStay>, count: u64, bytes: &[u8]) -> Result<(), AllocError>
     ensures { OnOk result (kept.new.items ≡ kept.old.items ++ stays_in count bytes.now) }
 {
     if count == 0 {
@@ -164,7 +165,7 @@ fn push_stays(kept: &mut Vec<KeptStay>, count: u64, bytes: &[u8]) -> Result<(), 
 /// # Errors
 ///
 /// `AllocError`: the entry is too short, or an allocation failed.
-pub(crate) fn kept_in(alloc: Global, entry: &[u8]) -> Result<Vec<KeptStay>, AllocError>
+pub(crate) fn kept_in(alloc: Global, entry: &[u8]) -> Result<Vec<FrontEndStay>, AllocError>
     ensures { IfOk result (λ kept. kept.items ≡ kept_in entry.now) }
 {
     let count = number_at(entry, COUNT)?;

@@ -4,7 +4,7 @@ ghost use Rattle.std.specs.Prelude.{◌≡◌, ◌-◌, ◌&&◌, leb, ltb, map,
 ghost use Rattle.hall_log.specs.Decided.{ended_of, next_read};
 ghost use Rattle.hall_log.specs.Watched.{keeps_one, watched};
 
-use crate::kept_stay::KeptStay;
+use crate::front_end_stay::FrontEndStay;
 use crate::watches::Watches;
 use std::alloc::{AllocError, Global};
 
@@ -50,7 +50,7 @@ impl Sessions {
     pub(crate) fn ended(
         &mut self,
         token: &[u8; 32],
-        kept: &[KeptStay],
+        kept: &[FrontEndStay],
         left: &[u64],
     ) -> Result<Vec<u64>, AllocError>
         ensures due { IfOk result (λ ended. ended.items ≡

@@ -6,11 +6,11 @@ ghost use Rattle.hall.specs.Compactions.{IsCompacted};
 ghost use Rattle.hall.specs.Halls.{hall_of};
 ghost use Rattle.hall_log.specs.Marks.{mark_of, next_in};
 ghost use Rattle.hall_log.specs.Said.{reply_queue_of};
-ghost use Rattle.hall_log.specs.Stays.{EndsFrom, Gathers, GoesOnFrom, ReadsLast, ReadsPart, StayApplies, TakesIfKnown, TakesLines, TellsTheSame, blind_of, stays_of, told_by};
+ghost use Rattle.hall_log.specs.Stays.{EndsFrom, GoesOnFrom, ReadsPart, StayApplies, TakesIfKnown, TakesLines, TellsTheSame, blind_of, stays_of, told_by};
 
+use crate::front_end_stay::{FrontEndStay, are_same, token_of};
 use crate::gathering::Gathering;
 use crate::keeping::Keeping;
-use crate::kept_stay::{KeptStay, are_same, token_of};
 use crate::machine::HallMachine;
 use crate::marks::{BEFORE, Mark, entries_in, head_at, kept_in, mark_of};
 use crate::reply_queue::ReplyQueue;
@@ -52,6 +52,24 @@ impl Model for StayMachine {
 }
 
 impl StayMachine {
+    // Makes a machine of this config with no event, blind or not.
+    fn at_start(alloc: Global, config: Config, blind: bool) -> Result<StayMachine, Refusal>
+        ensures opened { IfOk result (λ m. m ≡ record (stays_of config) { blind = blind }) }
+        ensures out_of_range { result ≡ Err Refusal.OutOfRange ↔ (gives_names config.world ≡ false) }
+        ensures only { IfErr result (λ why. (why ≡ Refusal.NoMemory) ⊎ (why ≡ Refusal.OutOfRange)) }
+    {
+        let halls = HallMachine::new(alloc, config)?;
+        Ok(StayMachine {
+            alloc,
+            halls,
+            keeping: Keeping::new(alloc),
+            gathered: None,
+            blind,
+            differs: false,
+            compactions: 0,
+        })
+    }
+
     /// Makes a hall of this config with no event.
     ///
     /// # Errors
@@ -62,16 +80,7 @@ impl StayMachine {
         ensures out_of_range { result ≡ Err Refusal.OutOfRange ↔ (gives_names config.world ≡ false) }
         ensures only { IfErr result (λ why. (why ≡ Refusal.NoMemory) ⊎ (why ≡ Refusal.OutOfRange)) }
     {
-        let halls = HallMachine::new(alloc, config)?;
-        Ok(StayMachine {
-            alloc,
-            halls,
-            keeping: Keeping::new(alloc),
-            gathered: None,
-            blind: false,
-            differs: false,
-            compactions: 0,
-        })
+        StayMachine::at_start(alloc, config, false)
     }
 
     /// Makes a blind machine of this config.
@@ -82,16 +91,7 @@ impl StayMachine {
     pub fn blind(alloc: Global, config: Config) -> Result<StayMachine, Refusal>
         ensures opened { IfOk result (λ m. m ≡ blind_of config) }
     {
-        let halls = HallMachine::new(alloc, config)?;
-        Ok(StayMachine {
-            alloc,
-            halls,
-            keeping: Keeping::new(alloc),
-            gathered: None,
-            blind: true,
-            differs: false,
-            compactions: 0,
-        })
+        StayMachine::at_start(alloc, config, true)
     }
 
     /// Returns the hall.
@@ -102,7 +102,7 @@ impl StayMachine {
     }
 
     /// Returns the stays in the pool, each with the front end that keeps it.
-    pub fn kept(&self) -> &[KeptStay]
+    pub fn kept(&self) -> &[FrontEndStay]
         ensures { result.now ≡ self.now.kept }
     {
         &self.keeping.kept
@@ -211,7 +211,7 @@ impl StayMachine {
     }
 
     // Returns true only if a compaction tells the same hall, the same stays and the same count.
-    fn tells_the_same(&self, part: &Gathering, kept: &[KeptStay], entries: u64) -> bool
+    fn tells_the_same(&self, part: &Gathering, kept: &[FrontEndStay], entries: u64) -> bool
         ensures hall { result ≡ true → IsCompacted self.now.hall part.now.halls }
         ensures kept { result ≡ true → kept.now ≡ self.now.kept }
         ensures entries { result ≡ true → entries ≡ self.now.entries }
@@ -226,7 +226,7 @@ impl StayMachine {
     }
 
     // Returns true only if a compaction tells the same, or nothing is known with which to compare it.
-    fn agrees(&self, part: &Gathering, kept: &[KeptStay], entries: u64) -> bool
+    fn agrees(&self, part: &Gathering, kept: &[FrontEndStay], entries: u64) -> bool
         ensures hall { result ≡ true → self.now.blind ≡ false → IsCompacted self.now.hall part.now.halls }
         ensures kept { result ≡ true → self.now.blind ≡ false → kept.now ≡ self.now.kept }
         ensures entries { result ≡ true → self.now.blind ≡ false → entries ≡ self.now.entries }

@@ -3,14 +3,14 @@
 ghost use Rattle.std.specs.Prelude.{◌≡◌, OnOk, OnErr, IfOk, map, []};
 ghost use Rattle.hall_log.specs.Watched.{due_of, is_due, is_same_stay, keeps_one, since_of, watched};
 
-use crate::kept_stay::KeptStay;
+use crate::front_end_stay::FrontEndStay;
 use std::alloc::{AllocError, Global};
 
 /// A stay, and the first of the ticks in a row at which the log told the same of it: nothing was heard of its front end since.
 #[derive(Clone, Copy, Debug, Drop)]
 pub struct Watch {
     /// The stay.
-    pub stay: KeptStay,
+    pub stay: FrontEndStay,
     /// The tick.
     pub since: u64,
 }
@@ -23,14 +23,14 @@ pub(crate) struct Watches {
 }
 
 // Whether one stay is kept by one front end, of which no entry was applied between.
-fn is_same_stay(stay: &KeptStay, other: &KeptStay) -> bool
+fn is_same_stay(stay: &FrontEndStay, other: &FrontEndStay) -> bool
     ensures { result ≡ is_same_stay stay.now other.now }
 {
     stay.identity == other.identity && stay.last == other.last && stay.token == other.token
 }
 
 // The first tick in a row at which a stay was so.
-fn since_of(watches: &[Watch], stay: &KeptStay, tick: u64) -> u64
+fn since_of(watches: &[Watch], stay: &FrontEndStay, tick: u64) -> u64
     ensures { result ≡ since_of watches.now stay.now tick }
 {
     for watch in watches {
@@ -71,7 +71,7 @@ impl Watches {
     /// # Errors
     ///
     /// `AllocError`: an allocation failed. Nothing has changed.
-    pub(crate) fn look(&mut self, kept: &[KeptStay], tick: u64) -> Result<(), AllocError>
+    pub(crate) fn look(&mut self, kept: &[FrontEndStay], tick: u64) -> Result<(), AllocError>
         ensures looked { OnOk result (self.new.watches.items ≡ map (watched tick self.old.watches.items) kept.now) }
         ensures unchanged { OnErr result (self.new.watches.items ≡ self.old.watches.items) }
     {

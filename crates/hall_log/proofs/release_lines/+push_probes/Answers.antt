@@ -1,5 +1,5 @@
 -- One line more stands before the others.
-use Rattle.std.proofs.Common.{rules, ◌≡◌, ◌≤◌, ◌∙◌, ◌-◌, ◌++◌, zero, suc, List, ℕ, ap, sym, append_assoc, arith}
+use Rattle.std.proofs.Common.{rules, ◌≡◌, ◌≤◌, ◌∙◌, ◌-◌, ◌++◌, zero, suc, List, ℕ, ap, append_assoc, arith}
 use Rattle.std.proofs.lemmas.Result.{on_ok_weaker}
 use Rattle.hall_log.specs.Releases.{probe_lines}
 use Rattle.hall_log.proofs.release_lines.+push_probes.Goals as goal

@@ -1,4 +1,4 @@
-use Rattle.std.proofs.Common.{rules, ◌≡◌, ◌==◌, not}
+use Rattle.std.proofs.Common.{rules, ◌==◌, not}
 use Rattle.std.proofs.lemmas.Fn.{filter_same}
 use Rattle.hall_log.proofs.keeping.Keeping.forget.Goals as goal
 

@@ -1,5 +1,5 @@
 -- All entries that the store has were applied.
-use Rattle.std.proofs.Common.{rules, ◌≡◌, ◌<◌, subst}
+use Rattle.std.proofs.Common.{rules, ◌<◌, subst}
 use Rattle.hall_log.specs.Decided.{HasRead}
 use Rattle.hall_log.specs.FollowState.{FollowState}
 use Rattle.hall_log.specs.Stays.{start_of}

@@ -6,12 +6,13 @@ use Rattle.hall_log.specs.Entries.{behind_first_line}
 use Rattle.hall_log.specs.Marks.{mark_of}
 use Rattle.hall_log.specs.declared.marks.Mark.TheVariants.{Ordinary}
 use Rattle.hall_log.proofs.Heads.{waited_more}
+use Rattle.hall_log.proofs.Moves.{moved_then}
 use Rattle.hall_log.proofs.log_persister.LogPersister.serve_batch.Goals as goal
 
 pub returns-in_default-clause-prefetched : goal.returns-in_default-clause-prefetched
 returns-in_default-clause-prefetched g c = λ known.
     let last = c.in_default.ensures.at_last in
-    let before = (c.loop-tries.invariant.later last.0).1 in
+    let before = (c.loop-tries.invariant.moved.later last.0).1 in
     let ordinary : mark_of c.args.self.now.batch.items ≡ Ordinary = ap mark_of (sym c.deref.ensures.value) ∙ c.is_ordinary.ensures (search rules) in
     let batch = c.deref-in-loop-tries.ensures.value ∙ ap (λ b. b.items) c.loop-tries.invariant.batch in
     let place : c.serve.new.self.replica.place ≡ c.serve.new.self.stays.place = ap (λ (r : ReplicaState HallState). r.place) c.serve.ensures.part in
@@ -31,10 +32,8 @@ pub loop-tries-preserved : goal.loop-tries-preserved
 loop-tries-preserved g c = record {
   batch = c.loop-tries.invariant.batch;
   head = c.loop-tries.invariant.head;
-  later = λ well. let more = c.serve.ensures.later well in let before = c.loop-tries.invariant.later more.0 in let p = more.1 in let q = before.1 in (before.0, omega (arith, q, p));
   silent = c.in-Err.ensures.unanswered;
-  keeps = λ place entry stood. c.serve.ensures.keeps place entry (c.loop-tries.invariant.keeps place entry stood);
-  config = c.serve.ensures.config ∙ c.loop-tries.invariant.config;
+  moved = moved_then g.S.Store.stands c.args.self.now.log c.loop-tries.self.log c.serve.new.self c.loop-tries.invariant.moved c.serve.ensures.moved;
   waited = waited_more g.T.Pause.waited c.loop-tries._tries c.loop-tries.self.pause c.again.new.self c.loop-tries.invariant.waited (c.again.ensures.waited (search rules));
 }
 

@@ -1,9 +1,9 @@
 -- What was prefetched is the batch of these lines, behind a first line of its own.
-use Rattle.std.proofs.Common.{rules, ◌≡◌, ◌<◌, ◌∙◌, ℕ, ap, sym, arith}
-use Rattle.hall.specs.declared.reads.Reads.{Reads}
-use Rattle.hall_log.specs.Batches.{batch_by, next_count}
+use Rattle.std.proofs.Common.{rules, ◌≡◌, ◌∙◌, ℕ, ap, sym, arith}
+use Rattle.hall_log.specs.Batches.{batch_by}
 use Rattle.hall_log.specs.Entries.{behind_first_line, reads_of}
 use Rattle.hall_log.proofs.Heads.{behind_batch, told_reads}
+use Rattle.hall_log.proofs.Moves.{moved_then}
 use Rattle.hall_log.proofs.log_persister.LogPersisterPersistReplyQueue.prefetch.Goals as goal
 
 pub returns-clause-known : goal.returns-clause-known
@@ -14,7 +14,7 @@ returns-clause-known g c = λ known.
     let served = c.serve_batch.ensures.prefetched known in
     let reads = c.args.self.now.reads in
     let moved = c.in_ok-compact.ensures.told.moved in
-    let well = c.serve_batch.ensures.later (c.serve_batch.ensures.well known) in
+    let well = c.serve_batch.ensures.moved.later (c.serve_batch.ensures.well known) in
     let text : c.put_batch.new.batch.items ≡ batch_by reads token count lines = c.in-Ok.ensures ∙ ap (λ (n : ℕ). batch_by reads token n lines) (sym c.serve_batch.ensures.head.0) in
     let batch_is : served.prefetched.batch ≡ batch_by reads token count lines = served.batch_is ∙ text in
     record {
@@ -32,13 +32,8 @@ returns-clause-known g c = λ known.
     }
 
 pub returns-clause-lost : goal.returns-clause-lost
-returns-clause-lost g c = λ lost.
-    let moved = c.in_ok-compact.ensures.told.moved in
-    let e = c.serve_batch.ensures in
-    record {
-      keeps = λ place entry stood. e.keeps place entry (moved.keeps place entry stood);
-      config_is = e.config ∙ moved.config;
-      counts = search rules;
-      later = λ well. let two = e.later well in let one = moved.later two.0 in (one.0, (let p = one.1 in let q = two.1 in omega (arith, p, q)));
-      unreported = search rules;
-    }
+returns-clause-lost g c = λ lost. record {
+  moved = moved_then g.S.Store.stands c.args.self.now.log c.compact.new.log c.serve_batch.new.self.log c.in_ok-compact.ensures.told.moved c.serve_batch.ensures.moved;
+  counts = search rules;
+  unreported = search rules;
+}

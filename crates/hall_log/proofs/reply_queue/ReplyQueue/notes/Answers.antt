@@ -4,7 +4,6 @@ use Rattle.std.proofs.lemmas.List.{drop-map, take_all}
 use Rattle.hall_log.specs.Said.{said_by}
 use Rattle.hall_log.specs.ReplyQueueState.{ReplyQueueState}
 use Rattle.hall_log.specs.declared.note.Note.{Note}
-use Rattle.hall_log.proofs.Notes.{none_behind}
 use Rattle.hall_log.proofs.reply_queue.ReplyQueue.notes.Goals as goal
 
 left_notes : (notes : List Note) (next : ℕ) → map said_by (take (length notes - next) (drop next notes)) ≡ drop next (map said_by notes)

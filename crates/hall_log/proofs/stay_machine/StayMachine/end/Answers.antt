@@ -1,5 +1,5 @@
 -- The last part of a compaction was read.
-use Rattle.std.proofs.Common.{◌≡◌, Some, Option, Result, Ok, Err, OnOk, false, ap, subst, sym, ◌∙◌}
+use Rattle.std.proofs.Common.{◌≡◌, Some, Option, Result, Ok, Err, OnOk, ap, subst, sym, ◌∙◌}
 use Rattle.hall_log.specs.Stays.{EndsFrom, TellsTheSame}
 use Rattle.hall_log.specs.StayState.{StayState}
 use Rattle.hall_log.specs.declared.gathering.Gathering.{Gathering}

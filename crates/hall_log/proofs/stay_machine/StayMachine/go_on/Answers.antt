@@ -1,5 +1,5 @@
 -- One more part of a compaction was read.
-use Rattle.std.proofs.Common.{◌≡◌, Some, Option, refl, sym, ap, subst, ◌∙◌}
+use Rattle.std.proofs.Common.{Some, Option, refl, sym, ap, subst, ◌∙◌}
 use Rattle.hall_log.specs.Marks.{next_in}
 use Rattle.hall_log.specs.Stays.{GoesOnFrom}
 use Rattle.hall_log.specs.StayState.{StayState}

@@ -12,7 +12,7 @@ pub const TOKEN: usize = 32;
 
 /// A stay in the pool, and which front end keeps it.
 #[derive(Clone, Copy, Debug, Drop)]
-pub struct KeptStay {
+pub struct FrontEndStay {
     /// The identity that stays.
     pub identity: u64,
     /// The token of the front end at which `enter` was said of it last, and was answered `ok` or `refused 9`.
@@ -21,7 +21,7 @@ pub struct KeptStay {
     pub last: u64,
 }
 
-impl KeptStay {
+impl FrontEndStay {
     /// An entry of a front end was applied behind so many others.
     pub(crate) fn hear(&mut self, token: &[u8; 32], place: u64)
         ensures { self.new ≡ heard token.now place self.old }
@@ -44,7 +44,7 @@ pub(crate) fn token_of(entry: &[u8]) -> [u8; 32]
 }
 
 // Returns true only if two stays are the same.
-fn is_same(stay: &KeptStay, other: &KeptStay) -> bool
+fn is_same(stay: &FrontEndStay, other: &FrontEndStay) -> bool
     ensures { result ≡ true → stay.now ≡ other.now }
 {
     if stay.token != other.token {
@@ -57,7 +57,7 @@ fn is_same(stay: &KeptStay, other: &KeptStay) -> bool
 }
 
 /// Returns true only if two lists of stays are the same.
-pub(crate) fn are_same(kept: &[KeptStay], other: &[KeptStay]) -> bool
+pub(crate) fn are_same(kept: &[FrontEndStay], other: &[FrontEndStay]) -> bool
     ensures { result ≡ true → kept.now ≡ other.now }
 {
     if kept.len() != other.len() {
