@@ -24,7 +24,7 @@ module _ {P R V O : Type 0} (program : ProgramSteps P R V O) (law : WordLaw P R 
   pub begins : (size : Size) (number : ℕ) (u : P) (me : Me ℕ (SeatView P O)) → 1 ≤ size.most → law.MayStart size → number < size.most → u ≡ law.start size (own number) → me ≡ (lone_view size (unbegun number), []) → Stands program law {S = ℕ} size number 0 u [] me
   begins size number u me some may in_range is fresh =
       let new = sound.fresh size may in
-      let once = sound.takes size (law.machine.first (law.start_of size)) [] new.holds (own number) None (λ z. omega arith) (new.nobody (own number)) tt (omega arith) in
+      let once = sound.takes size (law.machine.first (law.start_of size)) [] new.holds (own number) None (λ z. omega arith) (omega arith) (new.nobody (own number)) tt (omega arith) in
       let few = sound.few_written size once.w once.r once.holds (own number) in
       let one = once.own_written in
       record {
@@ -65,7 +65,7 @@ module _ {P R V O : Type 0} (program : ProgramSteps P R V O) (law : WordLaw P R 
         let v : Participant P = record { identity = own number; program = u; ended = ends note } in
         let few_begun = count_to-le (λ n. is_some (law.self h.w (own n))) size.most in
         let counted = h.counted in
-        let once = sound.takes size h.w h.r h.holds (own number) (Some v) (λ z. omega arith) stands_so.participant_is still (omega arith) in
+        let once = sound.takes size h.w h.r h.holds (own number) (Some v) (λ z. omega arith) (let low = stands_so.in_range in omega arith) stands_so.participant_is still (omega arith) in
         let bound = sound.few_written size once.w once.r once.holds (own number) in
         let one = once.own_written in
         let made = stands_so.written_are in

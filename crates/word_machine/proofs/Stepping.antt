@@ -160,7 +160,7 @@ module _ {P R V O : Type 0} (program : ProgramSteps P R V O) (law : WordLaw P R 
         let shown = h.shown seat (lone_view size (here [])) e in
         let mine : IsStand law size state.words h.out h.w h.r h.seat_of seat size (here []) = shown.stands.0 in
         let left_room = room_left size number h.w h.r participant mine.participant_is mine.in_range h.counted in
-        let once = sound.takes size h.w h.r h.holds (own number) participant (λ z. omega arith) mine.participant_is goes left_room in
+        let once = sound.takes size h.w h.r h.holds (own number) participant (λ z. omega arith) (let low = mine.in_range in omega arith) mine.participant_is goes left_room in
         let more_begun = once.begun in
         let begun : ℕ = begun_in once.r in
         let value : V = value_in law size (law.is_word x) state.words found in
@@ -326,7 +326,7 @@ module _ {P R V O : Type 0} (program : ProgramSteps P R V O) (law : WordLaw P R 
           let now : ℕ → Bool = turned.0 in
           let by = turned.1 in
           let left_room = room_left size number h.w h.r participant mine.participant_is mine.in_range h.counted in
-          let once = sound.takes size h.w h.r h.holds (own number) participant (λ z. omega arith) mine.participant_is goes left_room in
+          let once = sound.takes size h.w h.r h.holds (own number) participant (λ z. omega arith) (let low = mine.in_range in omega arith) mine.participant_is goes left_room in
           let more_begun = once.begun in
           let begun : ℕ = begun_in once.r in
           let after : SeatView P O = lone_view size (written_on program law size more begun before) in

@@ -119,11 +119,11 @@ module _ {P O : Type 0} (program : ProgramSteps P ℕ ℕ O) (local : LocalMachi
           begun = once.begun ∙ ap (λ (n : ℕ). begun_in r + n) more;
         }
 
-    takes_here : (size : Size) (w : local.State) (r : List (Call local.X)) → IsReached local size w r → (p : ℕ) (o : Option (Participant P)) → p ≢ 0 → local.self w p ≡ o → GoesOn o →
+    takes_here : (size : Size) (w : local.State) (r : List (Call local.X)) → IsReached local size w r → (p : ℕ) (o : Option (Participant P)) → p ≢ 0 → p ≤ size.most → local.self w p ≡ o → GoesOn o →
         begun_in r + one_more o ≤ size.most → IsOnce program law size w r p o (program_at program law size p o)
-    takes_here size w r h p None some is goes room =
+    takes_here size w r h p None some low is goes room =
         once_here size w r h p None (local.start p) (sound.begins size.most p (omega arith) h.may) refl (sound.takes size.most w r h.after p None some is goes room)
-    takes_here size w r h p (Some v) some is goes room =
+    takes_here size w r h p (Some v) some low is goes room =
         once_here size w r h p (Some v) v.program (sound.own size.most w r h.after p v is goes) refl (sound.takes size.most w r h.after p (Some v) some is goes room)
 
     fresh_here : (size : Size) → local.MayStart size.most → IsFresh program law size

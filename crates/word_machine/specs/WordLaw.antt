@@ -140,7 +140,7 @@ module _ {P R V O : Type 0} (program : ProgramSteps P R V O) (law : WordLaw P R 
   pub record IsSound : Type 0 where
     pub after : (size : Size) (w : law.State) (r : List (Call law.X)) → law.Holds size w r → Reaches law.machine (law.start_of size) w r
     pub fresh : (size : Size) → law.MayStart size → IsFresh size
-    pub takes : (size : Size) (w : law.State) (r : List (Call law.X)) → law.Holds size w r → (p : ℕ) (o : Option (Participant P)) → p ≢ 0 → law.self w p ≡ o → GoesOn o →
+    pub takes : (size : Size) (w : law.State) (r : List (Call law.X)) → law.Holds size w r → (p : ℕ) (o : Option (Participant P)) → p ≢ 0 → p ≤ size.most → law.self w p ≡ o → GoesOn o →
         begun_in r + one_more o ≤ size.most → IsOnce size w r p o (program_at size p o)
     pub few : (size : Size) (w : law.State) (r : List (Call law.X)) → law.Holds size w r → (p : ℕ) → steps_of p r ≤ law.bound size
     pub few_written : (size : Size) (w : law.State) (r : List (Call law.X)) → law.Holds size w r → (p : ℕ) → law.written p r ≤ size.limit

@@ -1,5 +1,5 @@
 -- the reads that a collect makes of segments that nobody wrote
-use Rattle.std.proofs.Common.{◌≡◌, ◌≢◌, ℕ, zero, suc, ◌+◌, ◌%◌, ◌<◌, ◌≤◌, ◌⊎◌, nat_lt, nat_le, true, false, List, ◌++◌, length, slice_index, Option, Some, None, inl, inr, refl, sym, ap, ◌∙◌, arith}
+use Rattle.std.proofs.Common.{◌≡◌, ◌≢◌, ℕ, zero, suc, ◌+◌, ◌%◌, ◌<◌, ◌≤◌, ◌⊎◌, nat_lt, nat_le, true, false, List, [], ◌++◌, length, slice_index, Option, Some, None, inl, inr, refl, sym, ap, subst, ◌∙◌, arith}
 use Rattle.std.proofs.lemmas.List.{get_or_append_left}
 use Rattle.std.proofs.lemmas.Bool.Decides.{nat_tests}
 use Rattle.step_memory.specs.declared.access.Access.TheVariants.{Read}
@@ -23,8 +23,9 @@ use Rattle.word_machine.specs.declared.size.Size.{Size}
 use Rattle.word_machine.specs.WordLaw.{skipped, GoesAhead, IsAfterHead}
 use Rattle.word_names.specs.NameMachine.{Naming, naming_steps, names_law, reads_in, ahead_in, reads_ahead}
 use Rattle.word_names.specs.Renamers.{note_of}
-use Rattle.word_names.specs.Spelling.{record_in, value_in}
-use Rattle.word_names.specs.Spelled.{record_read}
+use Rattle.word_names.specs.Spelling.{seat_in, number_in, count_in, record_in, value_in}
+use Rattle.word_names.specs.Small.{AreMet, met_after}
+use Rattle.word_names.specs.Spelled.{record_read, small_head}
 
 -- a collect is under way
 abbrev pub IsReading : Pending → Type 0
@@ -125,7 +126,11 @@ goes_ahead size x = record {
 
 -- such a record with this view
 abbrev pub headed : List ℕ → List (ℕ × ℕ) → Record
-headed head view = record { identity = slice_index head 1; value = slice_index head 2; number = slice_index head 3 % 4294967296; view = view }
+headed head view = record { identity = seat_in (slice_index head 0); value = number_in (slice_index head 0); number = count_in (slice_index head 0); view = view }
+
+-- a scan that notes it has met small ones
+pub met_small : (s new : Scan GridWalk) (head : List ℕ) → AreMet s.sightings → new ≡ met s s.walk.at (headed head []) → AreMet new.sightings
+met_small s new head h is = subst (λ (z : Scan GridWalk). AreMet z.sightings) (sym is) (met_after s s.walk.at (headed head []) h (small_head (slice_index head 0)))
 
 -- a read of a record that is noted, which is not the last of its collect
 on_noted : (s : Scan GridWalk) (walk : GridWalk) (r : Record) → is_second_change s s.walk.at r ≡ false → s.walk.at + 1 < s.walk.most
@@ -135,15 +140,14 @@ on_noted s walk r once l =
     let not_over : nat_le s.walk.most (s.walk.at + 1) ≡ false = grind (arith, nat_tests) in
     rw (once, more, not_over) (refl, refl)
 
--- the first words of a record say what the program makes of it, if its segment is not the last of its collect, and shows no second change
-pub head_read : (x : Naming) (head : List ℕ) → length head ≡ 4 → slice_index head 0 ≢ 0 → slice_index head 0 ≢ 100 → 0 < reads_ahead x
+-- the first word of a record says what the program makes of it, if its segment is not the last of its collect, and shows no second change
+pub head_read : (x : Naming) (head : List ℕ) → length head ≡ 1 → slice_index head 0 ≢ 0 → slice_index head 0 ≢ 100 → 0 < reads_ahead x
     → (s : Scan GridWalk) → ((view : List (ℕ × ℕ)) → s ≡ met x.client.scan x.client.scan.walk.at (headed head view)) → ((view : List (ℕ × ℕ)) → is_second_change x.client.scan x.client.scan.walk.at (headed head view) ≡ false)
     → IsAfterHead naming_steps names_law x head (with_scan x (scan_to s (x.client.scan.walk.at + 1)))
 head_read x head long a b some s is once rest =
-    let same = λ (i : ℕ) (l : i < length head). get_or_append_left head rest 0 i l in
-    let first = same 0 (omega arith) in
+    let first = get_or_append_left head rest 0 0 (omega arith) in
     let view = (record_in (head ++ rest)).view in
-    let r : record_in (head ++ rest) ≡ headed head view = (λ i. record { identity = same 1 (omega arith) i; value = same 2 (omega arith) i; number = same 3 (omega arith) i % 4294967296; view = view }) in
+    let r : record_in (head ++ rest) ≡ headed head view = (λ i. record { identity = seat_in (first i); value = number_in (first i); number = count_in (first i); view = view }) in
     let value : Contents (Some (headed head view)) ≡ value_in (head ++ rest) = record_read (head ++ rest) (λ e. a (sym first ∙ e)) (λ e. b (sym first ∙ e)) (headed head view) (sym r) in
     let reading = reading_of x.client.pending x.client.scan.walk 0 some in
     let low = reading.1 in

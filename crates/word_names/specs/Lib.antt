@@ -1,5 +1,6 @@
 pub mod Renamers
 pub mod NameMachine
+pub mod Small
 pub mod Spelling
 pub mod Spelled
 pub mod Good

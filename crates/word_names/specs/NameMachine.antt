@@ -1,5 +1,5 @@
 -- the renaming machine over a grid, as a machine of programs over words and records
-use Rattle.std.specs.Prelude.{◌≡◌, ℕ, ◌+◌, ◌-◌, ◌*◌, ◌<◌, ◌≤◌, ◌==◌, ◌⊎◌, Bool, true, false, if◌then◌else◌, is_some, List, [], ◌∷◌, length, Option, Some, None, Result, Ok, Err}
+use Rattle.std.specs.Prelude.{◌≡◌, ℕ, ◌+◌, ◌-◌, ◌*◌, ◌<◌, ◌≤◌, ◌==◌, nat_lt, ◌⊎◌, Bool, true, false, if◌then◌else◌, is_some, List, [], ◌∷◌, length, Option, Some, None, Result, Ok, Err}
 use Rattle.step_memory.specs.declared.participant.Participant.{Participant}
 use Rattle.step_memory.specs.declared.refusal.Refusal.{Refusal}
 use Rattle.step_memory.specs.Calls.{Call, outcome_in, first_of, steps_of, begun_in}
@@ -111,9 +111,16 @@ proposals_of p (h ∷ r) = proposals_by p h + proposals_of p r
 abbrev pub first_walk : Size → GridWalk
 first_walk size = record { at = 0; most = segments_for size.most }
 
+-- each participant has an identity of one of sixteen seats
+abbrev pub seat_for : ℕ → ℕ
+seat_for p = if nat_lt p 1 then 1 else if nat_lt 16 p then 1 else p
+
 -- the program of an identity that begins
+abbrev pub naming_at_seat : Size → ℕ → Naming
+naming_at_seat size p = record { identity = p; limit = size.limit; client = client_at grid_place p (grid_walker 0 p) (first_walk size); round = first_round false }
+
 abbrev pub naming_from : Size → ℕ → Naming
-naming_from size p = record { identity = p; limit = size.limit; client = client_at grid_place p (grid_walker 0 p) (first_walk size); round = first_round false }
+naming_from size p = naming_at_seat size (seat_for p)
 
 -- the walk of a scan under way reads one of the segments next
 abbrev pub IsScanning : Size → Walking → Type 0
@@ -203,10 +210,10 @@ names_law = record {
   of_word = Word;
   to_word = word_in;
   first = Contents None;
-  length = 132;
+  length = 5;
   encode = spelled_by;
   decode = value_in;
   Fits = Fits;
   ahead = reads_ahead;
-  head = 4;
+  head = 1;
 }

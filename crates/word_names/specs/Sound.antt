@@ -1,6 +1,6 @@
 -- what is proved of the renaming machine over a grid, as one of programs over words and records
-use Rattle.std.proofs.Common.{◌≡◌, ◌≢◌, ◌==◌, ℕ, zero, suc, ◌+◌, ◌-◌, ◌*◌, ◌^◌, ◌<◌, ◌≤◌, inl, inr, Bool, true, false, cond, is_some, List, [], ◌∷◌, ◌++◌, replicate, slice_index_or, Option, Some, None, Ok, refl, sym, ap, subst, ◌∙◌, arith, option_map}
-use Rattle.std.proofs.lemmas.Bool.Decides.{eqb_tells}
+use Rattle.std.proofs.Common.{◌≡◌, ◌≢◌, ◌==◌, nat_lt, ℕ, zero, suc, ◌+◌, ◌-◌, ◌*◌, ◌^◌, ◌<◌, ◌≤◌, inl, inr, Bool, true, false, cond, is_some, List, [], ◌∷◌, ◌++◌, replicate, slice_index_or, Option, Some, None, Ok, refl, sym, ap, subst, ◌∙◌, arith, option_map}
+use Rattle.std.proofs.lemmas.Bool.Decides.{eqb_tells, nat_tests}
 use Rattle.std.proofs.lemmas.Nat.{mul-le}
 use Rattle.step_memory.specs.declared.access.Access.{Access}
 use Rattle.step_memory.specs.declared.access.Answer.{Answer}
@@ -30,7 +30,7 @@ use Rattle.rename_core.specs.Round.{stage_refusal, first_round}
 use Rattle.word_machine.specs.declared.size.Size.{Size}
 use Rattle.word_machine.specs.WordLaw.{IsSound, IsOnce, IsFresh, IsOwnAccess, GoesOn, one_more, answer_in, program_at, moved}
 use Rattle.word_names.specs.Renamers.{note_of, resumed_on}
-use Rattle.word_names.specs.NameMachine.{World, Walking, Naming, MayStart, IsKnown, IsRegister, names_machine, names_law, naming_steps, naming_of, naming_at, naming_from, start_of, place_for, outcome_of, outcome_by, is_proposal, proposals_of, proposals_by}
+use Rattle.word_names.specs.NameMachine.{World, Walking, Naming, MayStart, IsKnown, IsRegister, names_machine, names_law, naming_steps, naming_of, naming_at, naming_at_seat, seat_for, start_of, place_for, outcome_of, outcome_by, is_proposal, proposals_of, proposals_by}
 use Rattle.word_names.specs.Spelled.{spelled, long}
 use Rattle.word_names.specs.Ahead.{goes_ahead}
 use Rattle.word_names.specs.Stepping.{ends_so, step, follow, new, call, known_step}
@@ -128,10 +128,10 @@ module _ (size : Size) (w : World) (r : List (Call StepReply)) (h : IsKnown size
   first_once : IsOnce naming_steps names_law size start (r ++ began ∷ []) p (Some (record { identity = p; program = record { identity = p; limit = w.limit; client = beginning.c size w r h p some none room; round = first_round false }; ended = false })) (record { identity = p; limit = w.limit; client = beginning.c size w r h p some none room; round = first_round false })
   first_once = once size start (r ++ began ∷ []) (beginning.known_begun size w r h p some none room) p (beginner p (beginning.c size w r h p some none room)) (beginner p (first_round false)) (beginning.client_own size w r h p some none room) (beginning.round_own size w r h p some none room) refl
 
-  program_is : record { identity = p; limit = w.limit; client = beginning.c size w r h p some none room; round = first_round false } ≡ naming_from size p
+  program_is : record { identity = p; limit = w.limit; client = beginning.c size w r h p some none room; round = first_round false } ≡ naming_at_seat size p
   program_is = (λ i. record { identity = p; limit = h.limit i; client = beginning.client_is size w r h p some none room i; round = first_round false })
 
-  pub begins_once : IsOnce naming_steps names_law size w r p None (naming_from size p)
+  pub begins_once : IsOnce naming_steps names_law size w r p None (naming_at_seat size p)
   begins_once =
       let o = first_once in
       let other = beginning.others size w r h p some none room in
@@ -152,9 +152,14 @@ module _ (size : Size) (w : World) (r : List (Call StepReply)) (h : IsKnown size
         begun = (let push = begun_in-push r began in let more = o.begun in omega arith);
       })
 
-takes : (size : Size) (w : World) (r : List (Call StepReply)) → IsKnown size w r → (p : ℕ) (o : Option (Participant Naming)) → p ≢ 0 → naming_of w p ≡ o → GoesOn o → begun_in r + one_more o ≤ size.most → IsOnce naming_steps names_law size w r p o (program_at naming_steps names_law size p o)
-takes size w r h p None some is goes room = begins_once size w r h p some is room
-takes size w r h p (Some y) some is goes room =
+-- an identity of a seat
+seated : (p : ℕ) → p ≢ 0 → p ≤ 16 → seat_for p ≡ p
+seated zero some low = absurd (some refl)
+seated (suc p) some low = let least : nat_lt (suc p) 1 ≡ false = grind (arith, nat_tests) in let most : nat_lt 16 (suc p) ≡ false = grind (arith, nat_tests) in rw (least, most) refl
+
+takes : (size : Size) (w : World) (r : List (Call StepReply)) → IsKnown size w r → (p : ℕ) (o : Option (Participant Naming)) → p ≢ 0 → p ≤ size.most → naming_of w p ≡ o → GoesOn o → begun_in r + one_more o ≤ size.most → IsOnce naming_steps names_law size w r p o (program_at naming_steps names_law size p o)
+takes size w r h p None some low is goes room = subst (IsOnce naming_steps names_law size w r p None) (ap (naming_at_seat size) (sym (seated p some (let few = h.may.few in omega arith)))) (begins_once size w r h p some is room)
+takes size w r h p (Some y) some low is goes room =
     let f = found w p y is in
     subst (λ (z : Participant Naming). IsOnce naming_steps names_law size w r p (Some z) z.program) (sym f.is) (once size w r h p f.v f.u f.here f.round (not_over (stage_refusal f.u.program.stage) (sym (ap (λ (z : Participant Naming). z.ended) f.is) ∙ goes)))
 
@@ -206,7 +211,7 @@ apart size (Door r) (Segment y) a b e = absurd (omega arith)
 apart size (Segment x) (Door s) a b e = absurd (omega arith)
 apart size (Segment x) (Segment y) a b e = ap Segment (omega arith)
 
-small : (size : Size) → MayStart size → size.most * (size.most + 1) + segments_for size.most + size.most * size.limit * 132 < 2 ^ 32
+small : (size : Size) → MayStart size → size.most * (size.most + 1) + segments_for size.most + size.most * size.limit * 5 < 2 ^ 32
 small size may =
     let few = may.few in
     let high = may.high in

@@ -1,6 +1,6 @@
 //! The registers of a grid with segments as words and records, and how words spell what stands in them.
 
-ghost use Rattle.std.specs.Prelude.{◌≡◌, ◌≤◌, ◌<◌, ◌+◌, ◌*◌, ℕ, List, [], length, slice_index, if◌then◌else◌, not, true, false, IfSome, None, Some};
+ghost use Rattle.std.specs.Prelude.{◌≡◌, ◌≤◌, ◌<◌, ◌+◌, ◌*◌, ◌/◌, ℕ, List, [], ◌∷◌, length, slice_index, if◌then◌else◌, not, true, false, IfSome, None, Some};
 ghost use Rattle.std.proofs.Common.{get_or};
 ghost use Rattle.word_machine.specs.declared.size.Size.{Size};
 ghost use Rattle.snapshot_places.specs.declared.grid_register.GridValue.TheVariants.{Contents, Word};
@@ -12,10 +12,11 @@ ghost use Rattle.snapshot_places.specs.Grid.{grid_place};
 ghost use Rattle.word_machine.specs.NextAccess.{IsNext, IsLong, IsWordAt};
 ghost use Rattle.word_names.specs.Seats.{place_or_first};
 ghost use Rattle.word_names.specs.Direct.{access_told, word_access_of};
-ghost use Rattle.word_names.specs.Ahead.{IsReading};
 ghost use Rattle.word_names.specs.Taken.{seen_by, seen_note};
 ghost use Rattle.word_names.specs.NameMachine.{names_law, naming_steps, place_for, naming_from, reads_in, reads_ahead, MayStart};
-ghost use Rattle.word_names.specs.Spelling.{record_word, pairs_in, pairs_of, value_in};
+ghost use Rattle.word_names.specs.Spelling.{code_of, four_codes, record_word, digit, pairs_in, pairs_of, value_in};
+ghost use Rattle.word_names.specs.Ahead.{IsReading, headed};
+ghost use Rattle.snapshot_core.specs.Scan.{met, is_second_change};
 ghost use Rattle.word_names.specs.Sound.{names_sound};
 
 use crate::namer::{Doing, Namer, meet};
@@ -26,9 +27,9 @@ use splitter_grid::{Door, Walker};
 use step_memory::{Access, Answer, Note, Place, StepProgram, View};
 use word_machine::{Size, WordAccess, WordProgram};
 
-/// How many words spell a record at most: what kind of value it is and how long its view, identity, value and number, and the view's
-/// pairs of an identity and a value.
-const RECORD_WORDS: usize = 132;
+/// How many words spell a record at most: what kind of value it is, how long its view, its identity, value and number in one, and
+/// four pairs of its view in each of the others.
+const RECORD_WORDS: usize = 5;
 
 /// The first word of what is no record but the word of a door.
 const DOOR_WORD: u64 = 100;
@@ -40,62 +41,108 @@ fn of_pairs(pairs: &[(u64, u64)], at: usize) -> (u64, u64)
     if at < pairs.len() { pairs[at] } else { (0, 0) }
 }
 
-/// How many words spell a record of this number with this view.
-fn words_with(view: &View, _number: u32) -> usize
-    ensures count { result ≡ 4 + 2 * length view.now }
-    ensures small { _number < 4294967296 }
-    ensures rising { IsRising view.now }
-    ensures few { length view.now ≤ 64 }
+/// Sixteen bits for a pair: four for its seat, and eight for its number.
+fn spell_pair(pair: (u64, u64)) -> u64
+    ensures code { result ≡ code_of pair }
+    ensures low { result < 65536 }
 {
-    4 + 2 * view.pairs().len()
+    (pair.0 % 16 + 15) % 16 + 256 * (pair.1 % 256)
+}
+
+/// Four pairs in a word, from this one on.
+fn spell_pairs(pairs: &[(u64, u64)], at: usize) -> u64
+    requires { at < 4000 }
+    ensures { result ≡ four_codes pairs.now at }
+{
+    spell_pair(of_pairs(pairs, at))
+        + 65_536 * spell_pair(of_pairs(pairs, at + 1))
+        + 4_294_967_296 * spell_pair(of_pairs(pairs, at + 2))
+        + 281_474_976_710_656 * spell_pair(of_pairs(pairs, at + 3))
+}
+
+/// How many words spell a record of this number and value with this view.
+fn words_with(view: &View, _number: u32, _value: u8) -> usize
+    ensures count { result ≡ 1 + (length view.now + 3) / 4 }
+    ensures small { _number < 4294967296 }
+    ensures low { _value < 256 }
+    ensures rising { IsRising view.now }
+{
+    1 + (view.pairs().len() + 3) / 4
 }
 
 /// One of the words that spell the record of an identity, a value, a number and a view.
-fn spell_record(identity: u64, value: u64, number: u32, view: &View, at: usize) -> u64
-    ensures { result ≡ record_word (record { identity = identity; value = value; number = number; view = view.now }) at }
+fn spell_record(identity: u64, value: u8, number: u32, view: &View, at: usize) -> u64
+    ensures word { at < 1000 → result ≡ record_word (record { identity = identity; value = value; number = number; view = view.now }) at }
+    ensures few { length view.now ≤ 64 }
 {
     let pairs = view.pairs();
     if at == 0 {
-        pairs.len() as u64 + 1
-    } else if at == 1 {
-        identity
-    } else if at == 2 {
-        value
-    } else if at == 3 {
-        number as u64
-    } else if at % 2 == 0 {
-        of_pairs(pairs, (at - 4) / 2).0
+        128 + pairs.len() as u64
+            + 256 * ((identity % 16 + 15) % 16)
+            + 65_536 * (value as u64 % 256)
+            + 16_777_216 * number as u64
+    } else if at < 1000 {
+        spell_pairs(pairs, 4 * (at - 1))
     } else {
-        of_pairs(pairs, (at - 4) / 2).1
+        0
     }
 }
 
 /// How many pairs a record has of which this is the first word.
-fn pairs_spelled(word: u64) -> usize
-    requires { 1 ≤ word }
-    ensures count { result ≡ pairs_of word }
-    ensures few { result ≤ 64 }
+fn pairs_spelled(head: u64) -> usize
+    ensures count { result ≡ pairs_of head }
+    ensures few { result ≤ 16 }
 {
-    if word - 1 < 64 {
-        (word - 1) as usize
+    if head % 128 < 16 {
+        (head % 128) as usize
     } else {
-        64
+        16
     }
+}
+
+/// The sixteen bits of a pair in a word.
+fn code_in(word: u64, at: usize) -> u64
+    ensures { result ≡ digit word at }
+{
+    let high = if at == 0 {
+        word
+    } else if at == 1 {
+        word / 65_536
+    } else if at == 2 {
+        word / 4_294_967_296
+    } else {
+        word / 281_474_976_710_656
+    };
+    high % 65_536
 }
 
 /// The view of so many pairs that words spell.
 fn read_view(words: &[u64], pairs: usize) -> View
-    requires long { length words.now ≡ 132 }
-    requires few { pairs ≤ 64 }
+    requires long { length words.now ≡ 5 }
+    requires few { pairs ≤ 16 }
     ensures { result ≡ pairs_in words.now 0 pairs }
 {
     let mut view = View::new();
     let mut at = pairs;
     while 0 < at {
         at -= 1;
-        view.insert(words[4 + 2 * at], words[5 + 2 * at]);
+        let code = code_in(words[1 + at / 4], at % 4);
+        view.insert(code % 16 + 1, code / 256);
     }
     view
+}
+
+/// Notes a record with this first word in the segment that a scan reads. False where it shows the segment's second change: then
+/// nothing has changed. Each record that a scan meets comes by here, so it is no call of its own.
+#[inline(always)]
+fn meet_head(scan: &mut Scan<GridWalk>, head: u64) -> bool
+    ensures after { (view : List (ℕ × ℕ)) → scan.new ≡ met scan.old scan.old.walk.at (headed (head ∷ []) view) }
+    ensures answer { (view : List (ℕ × ℕ)) → result ≡ not (is_second_change scan.old scan.old.walk.at (headed (head ∷ []) view)) }
+{
+    let identity = head / 256 % 16 + 1;
+    let value = head / 65_536 % 256;
+    let number = (head / 16_777_216 % 4_294_967_296) as u32;
+    meet(scan, identity, value, number)
 }
 
 /// How many segments a walk reads before its last.
@@ -143,8 +190,7 @@ impl Namer {
     /// Takes the view that these words of a record spell, with which its scan has ended.
     fn borrow(&mut self, words: &[u64]) -> Note<Option<u64>>
         requires reading { IsReading self.old.client.pending }
-        requires long { length words.now ≡ 132 }
-        requires some { 1 ≤ slice_index words.now 0 }
+        requires long { length words.now ≡ 5 }
         ensures after { self.new ≡ seen_by self.old self.old.client.pending (pairs_in words.now 0 (pairs_of (slice_index words.now 0))) }
         ensures note { result ≡ seen_note self.old self.old.client.pending (pairs_in words.now 0 (pairs_of (slice_index words.now 0))) }
     {
@@ -204,7 +250,7 @@ impl WordProgram for Namer {
         ensures { IsLong naming_steps names_law self.now result }
     {
         match self.doing {
-            Doing::Write(_) => words_with(&self.view, self.updates),
+            Doing::Write(value) => words_with(&self.view, self.updates, value),
             Doing::Nothing => 0,
             Doing::Placing => 0,
             Doing::Scanning => 0,
@@ -254,7 +300,7 @@ impl WordProgram for Namer {
     }
 
     fn take_words(&mut self, words: &[u64]) -> Note<Option<u64>>
-        requires { length words.now ≡ 132 }
+        requires { length words.now ≡ 5 }
         ensures after { self.new ≡ naming_steps.resumed self.old (Value (value_in words.now)) }
         ensures note { result ≡ naming_steps.note self.old (Value (value_in words.now)) }
     {
@@ -267,8 +313,7 @@ impl WordProgram for Namer {
         if !self.is_reading() {
             return self.take_done();
         }
-        let number = (words[3] % 4_294_967_296) as u32;
-        if meet(&mut self.scan, words[1], words[2], number) {
+        if meet_head(&mut self.scan, words[0]) {
             return self.scan_on();
         }
         self.borrow(words)
@@ -303,6 +348,12 @@ impl WordProgram for Namer {
         requires { MayStart size }
         ensures { result ≡ naming_from size identity }
     {
+        // A machine has sixteen seats at most.
+        let identity = if identity < 1 || 16 < identity {
+            1
+        } else {
+            identity
+        };
         let walker = GridWalker {
             walker: Walker::new(identity, Door::corner()),
         };
@@ -357,11 +408,11 @@ impl WordProgram for Namer {
     }
 
     fn head() -> usize {
-        4
+        1
     }
 
     fn read_head(&mut self, head: &[u64]) -> bool
-        requires { length head.now ≡ 4 }
+        requires { length head.now ≡ 1 }
         ensures after { result ≡ true → IsAfterHead naming_steps names_law self.old head.now self.new }
         ensures kept { result ≡ false → self.new ≡ self.old }
     {
@@ -370,8 +421,7 @@ impl WordProgram for Namer {
             return false;
         }
         let walk = self.scan.walk;
-        let number = (head[3] % 4_294_967_296) as u32;
-        if !meet(&mut self.scan, head[1], head[2], number) {
+        if !meet_head(&mut self.scan, head[0]) {
             return false;
         }
         self.scan.walk.at = walk.at + 1;

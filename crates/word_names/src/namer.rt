@@ -9,6 +9,8 @@ ghost use Rattle.snapshot_places.specs.Grid.{grid_walks};
 ghost use Rattle.word_names.specs.NameMachine.{naming_steps};
 ghost use Rattle.word_names.specs.Direct.{proposing, walked, looking, decided_on, decided_note};
 ghost use Rattle.word_names.specs.Ahead.{IsReading};
+ghost use Rattle.word_names.specs.Small.{AreSmall};
+ghost use Rattle.proposal_rounds.specs.Proposals.{next_proposal};
 
 use rename_core::proposal::is_taken;
 use rename_core::{Round, Stage, next_proposal};
@@ -27,9 +29,9 @@ pub enum Doing {
     /// To scan.
     Scanning,
     /// To scan, and then to write this value.
-    Update(u64),
+    Update(u8),
     /// To write this value, with the view that it has scanned.
-    Write(u64),
+    Write(u8),
 }
 
 /// A participant, as contracts see a `Renamer`. Its view stands in one place, so no view is moved or cleared where it goes on to do
@@ -51,10 +53,13 @@ pub struct Namer {
 impl Model for Namer {
     ghost use Rattle.word_names.specs.NameMachine.{Naming};
     ghost use Rattle.word_names.specs.Namers.{naming_with};
+    ghost use Rattle.word_names.specs.Small.{IsSeat, AreSmall, AreMet};
 
     ghost Value = { Naming };
 
     ghost view = { λ n. naming_with n.identity n.limit n.walker n.walk n.updates n.doing n.view n.scan n.round };
+
+    ghost invariant = { λ n. IsSeat n.identity × AreSmall n.view × AreMet n.scan.sightings };
 }
 
 /// Notes a record of this identity, value and number in the segment that a scan reads. False where it shows the segment's second
@@ -107,6 +112,15 @@ fn pass(scan: &mut Scan<GridWalk>, walk: GridWalk) -> bool
     false
 }
 
+/// What an identity proposes next after a view.
+fn next_number(view: &View, identity: u64) -> u8
+    ensures { result ≡ next_proposal identity view.now }
+{
+    // Shows how many pairs there are at most.
+    let _pairs = view.pairs();
+    next_proposal(view, identity) as u8
+}
+
 impl Namer {
     /// Whether it reads segments.
     pub(crate) fn is_reading(&self) -> bool
@@ -122,10 +136,10 @@ impl Namer {
     }
 
     /// Proposes a number.
-    fn propose(&mut self, number: u64)
+    fn propose(&mut self, number: u8)
         ensures { self.new ≡ proposing self.old number }
     {
-        self.round.stage = Stage::Proposing(number);
+        self.round.stage = Stage::Proposing(number as u64);
         if self.updates < MOST_UPDATES {
             self.updates += 1;
             self.doing = Doing::Update(number);
@@ -181,8 +195,7 @@ impl Namer {
             self.doing = Doing::Nothing;
             return Note::Ended(None);
         }
-        let number = next_proposal(view, self.identity);
-        self.propose(number);
+        self.propose(next_number(view, self.identity));
         Note::Quiet
     }
 

@@ -8,8 +8,11 @@ use std::sync::atomic::AtomicU64;
 /// The most seats.
 const MOST: usize = 16;
 
-/// How many words of a record come before its view.
-const HEAD: usize = 4;
+/// How many pairs of a view stand in a word.
+const PAIRS: usize = 4;
+
+/// How many words a record has: one, and those of its view.
+const LENGTH: usize = 1 + MOST / PAIRS;
 
 #[derive(Default)]
 struct Door {
@@ -17,9 +20,9 @@ struct Door {
     is_taken: AtomicU64,
 }
 
-/// What a seat proposes: how many pairs its view has plus one, its identity, its number, how many records it has written, with this
-/// one, and the pairs of the view.
-struct Record([AtomicU64; HEAD + 2 * MOST]);
+/// What a seat proposes. The first word has how many pairs its view has, its identity, its number, and how many records it has
+/// written, with this one; each of the others four pairs of the view.
+struct Record([AtomicU64; LENGTH]);
 
 impl Default for Record {
     fn default() -> Record {
@@ -177,9 +180,10 @@ impl<A: Accesses> Renaming<'_, A> {
         let view = self.scan();
         let index = self.seat * self.words.limit + round;
         let record = &self.words.records[index].0;
-        let head = [view.len as u64 + 1, identity, number, round as u64 + 1];
-        for (word, value) in record.iter().zip(head.into_iter().chain(view.pairs().iter().flat_map(|pair| [pair.0, pair.1]))) {
-            self.by.store(word, value);
+        self.by.store(&record[0], 128 + view.len as u64 + ((identity - 1) << 8) + (number << 16) + ((round as u64 + 1) << 24));
+        for (word, pairs) in record[1..].iter().zip(view.pairs().chunks(PAIRS)) {
+            let codes = pairs.iter().rev().fold(0, |word, pair| (word << 16) + (pair.0 - 1) + (pair.1 << 8));
+            self.by.store(word, codes);
         }
         self.by.store(&self.words.segments[door], index as u64 + 1);
     }
@@ -203,11 +207,12 @@ impl<A: Accesses> Renaming<'_, A> {
                 continue;
             };
             let record = &self.words.records[index as usize].0;
-            let [len, identity, number, written] = from_fn(|at| self.by.load(&record[at]));
+            let head = self.by.load(&record[0]);
+            let (identity, number, written) = ((head >> 8) % 16 + 1, (head >> 16) % 256, (head >> 24) % (1 << 32));
             let (met, is_known) = known.of(place);
             let changes = !is_first && met.written != written;
             if changes && met.has_changed {
-                return Some(self.borrowed(record, len as usize - 1));
+                return Some(self.borrowed(record, head as usize % 128));
             }
             let has_changed = is_known && met.has_changed || changes;
             *met = Met { segment: place, identity, number, written, has_changed };
@@ -217,10 +222,14 @@ impl<A: Accesses> Renaming<'_, A> {
     }
 
     /// The view that stands in a record.
-    fn borrowed(&self, record: &[AtomicU64; HEAD + 2 * MOST], len: usize) -> View {
+    fn borrowed(&self, record: &[AtomicU64; LENGTH], len: usize) -> View {
         let mut view = View { len, ..View::default() };
-        for (at, pair) in view.pairs[..len].iter_mut().enumerate() {
-            *pair = (self.by.load(&record[HEAD + 2 * at]), self.by.load(&record[HEAD + 2 * at + 1]));
+        for (pairs, word) in view.pairs[..len].chunks_mut(PAIRS).zip(&record[1..]) {
+            let codes = self.by.load(word);
+            for (at, pair) in pairs.iter_mut().enumerate() {
+                let code = (codes >> (16 * at)) % (1 << 16);
+                *pair = (code % 16 + 1, code >> 8);
+            }
         }
         view
     }

@@ -1,13 +1,24 @@
-use Rattle.std.proofs.Common.{◌≡◌, Bool, if◌then◌else◌, Some, None, List, [], ℕ, ap, ◌∙◌}
+use Rattle.std.proofs.Common.{◌≡◌, Bool, if◌then◌else◌, Some, None, List, [], ℕ, ap, sym, subst, ◌∙◌}
 use Rattle.step_memory.specs.declared.access.Answer.TheVariants.{Value}
+use Rattle.snapshot_core.specs.declared.scan.Scan.{Scan}
 use Rattle.snapshot_core.specs.Sightings.{shown_by}
+use Rattle.snapshot_places.specs.declared.grid_walk.GridWalk.{GridWalk}
 use Rattle.snapshot_places.specs.declared.grid_register.GridValue.TheVariants.{Contents}
 use Rattle.word_names.specs.Direct.{decided_on}
 use Rattle.word_names.specs.NameMachine.{Naming, naming_steps}
 use Rattle.word_names.specs.Namers.{naming_with, pending_with}
 use Rattle.word_names.specs.Ahead.{with_scan}
+use Rattle.word_names.specs.Small.{AreSmall, AreMet, met_passed, small_shown}
 use Rattle.word_names.specs.Taken.{seen_pass}
 use Rattle.word_names.proofs.namer.Namer.scan_on.Goals as goal
+
+pub invariant_of-self : goal.invariant_of-self
+invariant_of-self c = (c.self.invariant.0, c.self.invariant.1, subst (λ (s : Scan GridWalk). AreMet s.sightings) (sym c.pass.ensures.after) (met_passed c.self.inside.scan c.self.inside.walk c.self.invariant.2))
+
+pub invariant_of-self-in-Update : goal.invariant_of-self-in-Update
+invariant_of-self-in-Update c =
+    let all : AreMet c.pass.new.scan.sightings = subst (λ (s : Scan GridWalk). AreMet s.sightings) (sym c.pass.ensures.after) (met_passed c.self.inside.scan c.self.inside.walk c.self.invariant.2) in
+    (c.self.invariant.0, subst AreSmall (sym c.view-self-inside.ensures) (small_shown [] c.pass.new.scan.sightings tt all), all)
 
 pub returns-in-Scanning-clause-after : goal.returns-in-Scanning-clause-after
 returns-in-Scanning-clause-after c =
