@@ -213,11 +213,12 @@ impl<R: Files<File = File> + Clock + Drop> Disk for FileDisk<R> {
         Ok(())
     }
 
-    /// Fails if the file was deleted, moved or cut short in the meantime. It measures the sync and that look.
+    /// Fails if the file was deleted, moved or cut short in the meantime. It measures that look and the sync.
+    // It looks first: after a sync, which waits for the disk, a call that walks a path finds the caches cold.
     fn sync(&mut self) -> Result<(), DiskFault> {
         let begun = Instant::now(&self.files);
-        File::sync_data(&self.file)?;
         self.look()?;
+        File::sync_data(&self.file)?;
         self.note_sync(begun);
         Ok(())
     }
