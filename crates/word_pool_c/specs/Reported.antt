@@ -1,8 +1,9 @@
 -- what the numbers say that cross to C
-use Rattle.std.specs.Prelude.{◌≡◌, ◌≤◌, ◌+◌, ℕ, IsSomeAnd, IfSome}
+use Rattle.std.specs.Prelude.{◌≡◌, ◌≤◌, ◌+◌, ℕ, IsSome, IsSomeAnd, IfSome, None}
 use Rattle.std.specs.Arc.{arc_value}
 use Rattle.word_pool_c.specs.Refused.{IsReceiptOf, MetAllInTime, WasSought}
 use Rattle.word_pool.specs.Pools.{CallId}
+use Rattle.word_machine.specs.declared.size.Size.{Size}
 use Rattle.word_pool_c.specs.Lines.{IsHeldInLine, IsTicketOf}
 use Rattle.word_pool_c.specs.Grids.{IsNextOf}
 use Rattle.word_pool_c.specs.Named.{IsNextTo, IsDueOrLost}
@@ -37,9 +38,24 @@ HasTicketOf h m = IsSomeAnd m.ticket (IsTicketOf h)
 abbrev pub DealtNext : GridMember → GridMember → GridMember → Type 0
 DealtNext before after other = IsSomeAnd before.dealer (λ d. IsSomeAnd after.dealer (λ e. IsSomeAnd other.seat (IsNextOf d e)))
 
+-- a member deals the seats of names of this size, and has no seat itself
+abbrev pub DealsSeats : Size → NamesMember → Type 0
+DealsSeats size m = ((arc_value m.names).size ≡ size) × IsSome m.dealer × (m.seat ≡ None) × (m.renamed ≡ None)
+
+-- a member has the same names, and the same seat or name in them, and deals seats if it did before
+abbrev pub KeepsSeat : NamesMember → NamesMember → Type 0
+KeepsSeat before after =
+    (arc_value after.names ≡ arc_value before.names) × (after.seat ≡ before.seat) × (after.renamed ≡ before.renamed)
+    × (IsSome before.dealer → IsSome after.dealer)
+
+-- a member has a seat of this identity, in the names of the one that deals them
+abbrev pub HasSeatOf : ℕ → NamesMember → NamesMember → Type 0
+HasSeatOf identity dealing m = (arc_value m.names ≡ arc_value dealing.names) × IsSomeAnd m.seat (λ s. s.identity ≡ identity)
+
 -- a member of names that deals their seats has dealt one more, the next, to this identity and this other
 abbrev pub DealtTo : ℕ → NamesMember → NamesMember → NamesMember → Type 0
-DealtTo identity before after other = IsSomeAnd before.dealer (λ d. IsSomeAnd after.dealer (λ e. IsSomeAnd other.seat (IsNextTo (arc_value before.names) identity d e)))
+DealtTo identity before after other =
+    IsSomeAnd before.dealer (λ d. IsSomeAnd after.dealer (λ e. IsSomeAnd other.seat (IsNextTo (arc_value before.names) identity d e)))
 
 -- where a member deals the seats, none was due to this identity, or one was dealt, and is lost
 abbrev pub DealtNone : ℕ → NamesMember → NamesMember → Type 0

@@ -3,7 +3,7 @@
 ghost use Rattle.std.specs.Prelude.{◌≡◌, ◌≢◌, ◌≤◌, IfNone, IfSome, IsSome, IsSomeAnd, None, Some, true, false};
 ghost use Rattle.std.specs.Arc.{arc_value};
 ghost use Rattle.word_pool_c.specs.Named.{IsReportedName};
-ghost use Rattle.word_pool_c.specs.Reported.{DealtNone, DealtTo};
+ghost use Rattle.word_pool_c.specs.Reported.{DealsSeats, DealtNone, DealtTo, HasSeatOf, KeepsSeat};
 ghost use Rattle.word_pool_c.specs.declared.names_member.NamesMember.{NamesMember};
 ghost use Rattle.word_names.specs.Seats.{IsSize};
 
@@ -16,8 +16,7 @@ use word_names::Names;
 
 fn open_names(alloc: Global, most: u64, limit: u64) -> Option<Box<NamesMember, Global>>
     ensures range { IsSome result → IsSize most limit }
-    ensures size { IfSome result (λ b. (arc_value b.value.names).size ≡ record { most = most; limit = limit }) }
-    ensures dealer { IfSome result (λ b. IsSome b.value.dealer × (b.value.seat ≡ None) × (b.value.renamed ≡ None)) }
+    ensures made { IfSome result (λ b. DealsSeats (record { most = most; limit = limit }) b.value) }
 {
     let Ok((names, dealer)) = Names::new(alloc, most, limit) else {
         return None;
@@ -49,7 +48,7 @@ pub extern "C" fn word_names_new(
     limit: u64,
 ) -> bool
     requires empty { handle.old.names ≡ None }
-    ensures made { result ≡ true → IsSomeAnd handle.new.names (λ m. ((arc_value m.names).size ≡ record { most = most; limit = limit }) × IsSome m.dealer × (m.seat ≡ None) × (m.renamed ≡ None)) }
+    ensures made { result ≡ true → IsSomeAnd handle.new.names (DealsSeats (record { most = most; limit = limit })) }
     ensures range { result ≡ true → IsSize most limit }
     ensures none { result ≡ false → handle.new.names ≡ None }
 {
@@ -63,10 +62,8 @@ pub extern "C" fn word_names_new(
 }
 
 fn second(alloc: Global, first: &mut NamesMember, identity: u64) -> Option<Box<NamesMember, Global>>
-    ensures names { arc_value first.new.names ≡ arc_value first.old.names }
-    ensures same { (first.new.seat ≡ first.old.seat) × (first.new.renamed ≡ first.old.renamed) }
-    ensures kept { IsSome first.old.dealer → IsSome first.new.dealer }
-    ensures ours { IfSome result (λ b. (arc_value b.value.names ≡ arc_value first.old.names) × IsSomeAnd b.value.seat (λ s. s.identity ≡ identity)) }
+    ensures kept { KeepsSeat first.old first.new }
+    ensures ours { IfSome result (λ b. HasSeatOf identity first.old b.value) }
     ensures dealt { IfSome result (λ b. DealtTo identity first.old first.new b.value) }
     ensures due { IfNone result (DealtNone identity first.old first.new) }
 {
@@ -99,8 +96,8 @@ pub extern "C" fn word_names_join(
     ghost names: { NamesMember }
     requires held { handle.old.names ≡ Some names }
     requires empty { other.old.names ≡ None }
-    ensures held { IsSomeAnd handle.new.names (λ m. (arc_value m.names ≡ arc_value names.names) × (m.seat ≡ names.seat) × (m.renamed ≡ names.renamed) × (IsSome names.dealer → IsSome m.dealer)) }
-    ensures joined { result ≡ true → IsSomeAnd other.new.names (λ m. (arc_value m.names ≡ arc_value names.names) × IsSomeAnd m.seat (λ s. s.identity ≡ identity)) }
+    ensures held { IsSomeAnd handle.new.names (KeepsSeat names) }
+    ensures joined { result ≡ true → IsSomeAnd other.new.names (HasSeatOf identity names) }
     ensures dealt { result ≡ true → IsSomeAnd handle.new.names (λ m. IsSomeAnd other.new.names (DealtTo identity names m)) }
     ensures due { result ≡ false → IsSomeAnd handle.new.names (DealtNone identity names) }
     ensures none { result ≡ false → other.new.names ≡ None }

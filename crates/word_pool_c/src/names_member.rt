@@ -3,7 +3,7 @@
 ghost use Rattle.std.specs.Prelude.{◌≡◌, ◌≢◌, ◌≤◌, IfNone, IfSome, IsSome, IsSomeAnd, None};
 ghost use Rattle.std.specs.Arc.{arc_value};
 ghost use Rattle.std.proofs.Props.{props};
-ghost use Rattle.word_pool_c.specs.Named.{IsNextTo, IsReportedName};
+ghost use Rattle.word_pool_c.specs.Named.{DealsNext, IsReportedName};
 ghost use Rattle.word_names.specs.Seats.{no_deal};
 
 use std::alloc::Global;
@@ -30,7 +30,7 @@ impl NamesMember {
         ensures same { (self.new.seat ≡ self.old.seat) × (self.new.renamed ≡ self.old.renamed) }
         ensures ours { IfSome result (λ s. (s.names ≡ arc_value self.old.names) × (s.identity ≡ identity)) }
         ensures dealer { IsSome result → IsSome self.old.dealer }
-        ensures dealt { IfSome result (λ s. IsSomeAnd self.old.dealer (λ d. IsSomeAnd self.new.dealer (λ e. IsNextTo (arc_value self.old.names) identity d e s))) }
+        ensures dealt { IfSome result (DealsNext (arc_value self.old.names) identity self.old.dealer self.new.dealer) }
         ensures due { IfNone result (IfSome self.old.dealer (λ d. IsSome (no_deal d identity))) }
         ensures none { IfNone result (self.new.dealer ≡ self.old.dealer) }
         ensures kept { IsSome self.old.dealer → IsSome self.new.dealer }
