@@ -3,6 +3,7 @@
 ghost use Rattle.std.specs.Prelude.{◌≡◌, ◌<◌, ◌≤◌, ◌+◌, ◌++◌, ◌∷◌, [], List, IfOk, IsSome, true, false, take, length, ◌≢◌, ◌-◌};
 ghost use Rattle.step_memory.specs.declared.access.Access.TheVariants.{Read, Write};
 ghost use Rattle.step_memory.specs.declared.access.Answer.TheVariants as answer;
+ghost use Rattle.step_memory.specs.declared.note.Note.TheVariants.{Quiet};
 ghost use Rattle.word_machine.specs.SeatViews.{own, lone_view, undealt_from, unbegun, view_of, endings_of};
 ghost use Rattle.word_machine.specs.RunSteps.{Stands, StandsAfter, HasGot, HasStepped, HasComeOn, HasEnded, HasRead, HasFound, IsUnderRule, accesses_in, read_in};
 ghost use Rattle.word_machine.specs.declared.seat_view.Stand.{Stand};
@@ -23,6 +24,9 @@ use step_memory::Note;
 
 /// The most words of a record.
 const MOST_WORDS: usize = 132;
+
+/// So many words a record of most programs has at most.
+const FEW_WORDS: usize = 8;
 
 /// The most of its first words that say whether a program goes on.
 const MOST_HEAD: usize = 4;
@@ -226,6 +230,29 @@ impl<P: WordProgram, A: Allocator> Words<P, A> {
 }
 
 impl<P: WordProgram, A: Allocator> Words<P, A> {
+    /// Takes the record that was read last, if its first words say that the program goes on. Tells whether they did; where not,
+    /// nothing has changed.
+    #[inline(always)]
+    fn take_head(
+        &self,
+        seat: &mut Seat<u8, SeatView<P, P::Output>>,
+        program: &mut P,
+        slot: usize,
+    ) -> bool
+        requires ours { seat.old.table_id ≡ self.now.table }
+        requires read { HasRead P.law self.now.size slot seat.old.me }
+        ensures ours { seat.new.table_id ≡ self.now.table }
+        ensures same { seat.new.me ≡ seat.old.me }
+        ensures after { result ≡ true → program.new ≡ P.steps.resumed program.old (answer.Value (P.law.decode (read_in seat.old.me))) }
+        ensures quiet { result ≡ true → P.steps.note program.old (answer.Value (P.law.decode (read_in seat.old.me))) ≡ Quiet }
+        ensures kept { result ≡ false → program.new ≡ program.old }
+    {
+        let mut head = [0u64; MOST_HEAD];
+        let many = P::head();
+        self.recall_first(seat, slot, &mut head[..many]);
+        program.read_head(&head[..many])
+    }
+
     /// What the program makes of the record that was read last. A function of its own, since most registers are not written.
     #[inline(never)]
     fn take_written(
@@ -241,10 +268,7 @@ impl<P: WordProgram, A: Allocator> Words<P, A> {
         ensures after { program.new ≡ P.steps.resumed program.old (answer.Value (P.law.decode (read_in seat.old.me))) }
         ensures note { result ≡ P.steps.note program.old (answer.Value (P.law.decode (read_in seat.old.me))) }
     {
-        let mut head = [0u64; MOST_HEAD];
-        let many = P::head();
-        self.recall_first(seat, slot, &mut head[..many]);
-        if program.read_head(&head[..many]) {
+        if self.take_head(seat, program, slot) {
             return Note::Quiet;
         }
         self.take_whole(seat, program, slot)
@@ -254,6 +278,29 @@ impl<P: WordProgram, A: Allocator> Words<P, A> {
     /// program goes on.
     #[inline(never)]
     fn take_whole(
+        &self,
+        seat: &mut Seat<u8, SeatView<P, P::Output>>,
+        program: &mut P,
+        slot: usize,
+    ) -> Note<P::Output>
+        requires ours { seat.old.table_id ≡ self.now.table }
+        requires read { HasRead P.law self.now.size slot seat.old.me }
+        ensures ours { seat.new.table_id ≡ self.now.table }
+        ensures same { seat.new.me ≡ seat.old.me }
+        ensures after { program.new ≡ P.steps.resumed program.old (answer.Value (P.law.decode (read_in seat.old.me))) }
+        ensures note { result ≡ P.steps.note program.old (answer.Value (P.law.decode (read_in seat.old.me))) }
+    {
+        if FEW_WORDS < self.length {
+            return self.take_long(seat, program, slot);
+        }
+        let mut words = [0u64; FEW_WORDS];
+        self.recall_first(seat, slot, &mut words[..self.length]);
+        program.take_words(&words[..self.length])
+    }
+
+    /// The same, where a record may have many words: most programs have few, and need not clear room for so many.
+    #[inline(never)]
+    fn take_long(
         &self,
         seat: &mut Seat<u8, SeatView<P, P::Output>>,
         program: &mut P,
@@ -389,6 +436,7 @@ impl<P: WordProgram, A: Allocator> Words<P, A> {
 
     /// Reads of registers that nobody wrote, one after another, up to one that names a slot: the number of that one plus one;
     /// or 0 where there is none, and the program goes on by another access. Nothing is moved, and the program takes all at once.
+    #[inline(always)]
     fn read_ahead(
         &self,
         seat: &mut Seat<u8, SeatView<P, P::Output>>,
@@ -428,8 +476,41 @@ impl<P: WordProgram, A: Allocator> Words<P, A> {
         0
     }
 
-    /// Accesses of a program up to one that reads what was written, or another than a read ahead, and what the program makes of
-    /// its answer.
+    /// Reads ahead, and takes each record whose first words say that the program goes on, up to one that its first words do not
+    /// decide: the number of its slot plus one, and the program was not told it; or 0 where the program goes on by another access.
+    #[inline(always)]
+    fn take_ahead(
+        &self,
+        seat: &mut Seat<u8, SeatView<P, P::Output>>,
+        number: u64,
+        written: usize,
+        program: &mut P,
+        accesses: &mut u64,
+    ) -> u64
+        requires ours { seat.old.table_id ≡ self.now.table }
+        requires before { StandsAfter P.steps P.law self.now.size number written program.old accesses.old seat.old.me }
+        requires few { accesses.old ≤ P.law.bound self.now.size }
+        ensures ours { seat.new.table_id ≡ self.now.table }
+        ensures none { result ≡ 0 → StandsAfter P.steps P.law self.now.size number written program.new accesses.new seat.new.me }
+        ensures found { result ≢ 0 → HasFound P.steps P.law self.now.size number written (result - 1) program.new accesses.new seat.new.me }
+        ensures more { accesses.old ≤ accesses.new }
+    {
+        // Opens the words, so that the machine's bound is known to be small.
+        let _size = self.size;
+        loop {
+            let found = self.read_ahead(seat, number, written, program, accesses);
+            if found == 0 {
+                return 0;
+            }
+            if !self.take_head(seat, program, (found - 1) as usize) {
+                return found;
+            }
+            *accesses += 1;
+        }
+    }
+
+    /// Accesses of a program up to one that reads a record whose first words do not say that it goes on, or another than a read
+    /// ahead, and what the program makes of its answer.
     fn step_ahead(
         &self,
         seat: &mut Seat<u8, SeatView<P, P::Output>>,
@@ -449,9 +530,9 @@ impl<P: WordProgram, A: Allocator> Words<P, A> {
     {
         // Opens the words, so that the machine's bound is known to be small.
         let _size = self.size;
-        let found = self.read_ahead(seat, number, *written, program, accesses);
+        let found = self.take_ahead(seat, number, *written, program, accesses);
         if found != 0 {
-            let note = self.take_written(seat, program, (found - 1) as usize);
+            let note = self.take_whole(seat, program, (found - 1) as usize);
             *accesses += 1;
             return note;
         }
