@@ -1,5 +1,5 @@
 -- the reads that a collect makes of segments that nobody wrote
-use Rattle.std.proofs.Common.{◌≡◌, ◌≢◌, ℕ, zero, suc, ◌+◌, ◌%◌, ◌<◌, ◌≤◌, ◌⊎◌, nat_lt, nat_le, true, false, List, [], ◌++◌, length, slice_index, Option, Some, None, inl, inr, refl, sym, ap, subst, ◌∙◌, arith}
+use Rattle.std.proofs.Common.{◌≡◌, ◌≢◌, ℕ, zero, suc, ◌+◌, ◌<◌, ◌≤◌, ◌⊎◌, nat_lt, nat_le, true, false, cond, List, ◌++◌, length, slice_index, Option, Some, None, inl, inr, refl, sym, ap, ◌∙◌, arith}
 use Rattle.std.proofs.lemmas.List.{get_or_append_left}
 use Rattle.std.proofs.lemmas.Bool.Decides.{nat_tests}
 use Rattle.step_memory.specs.declared.access.Access.TheVariants.{Read}
@@ -10,7 +10,7 @@ use Rattle.snapshot_core.specs.declared.client.Pending.{Pending}
 use Rattle.snapshot_core.specs.declared.client.Pending.TheVariants.{Nothing, Placing as OnWay, Scan as Scans, Update, Write as Writing}
 use Rattle.snapshot_core.specs.declared.scan.Scan.{Scan}
 use Rattle.step_memory.specs.declared.record.Record.{Record}
-use Rattle.snapshot_core.specs.Scan.{met, is_second_change, scan_after, scan_view}
+use Rattle.snapshot_core.specs.Scan.{met, met_anew, is_second_change, scan_after, scan_view}
 use Rattle.snapshot_core.specs.Client.{note_after}
 use Rattle.snapshot_core.specs.SnapWorld.{reported}
 use Rattle.rename_core.specs.Round.{followed}
@@ -24,8 +24,7 @@ use Rattle.word_machine.specs.WordLaw.{skipped, GoesAhead, IsAfterHead}
 use Rattle.word_names.specs.NameMachine.{Naming, naming_steps, names_law, reads_in, ahead_in, reads_ahead}
 use Rattle.word_names.specs.Renamers.{note_of}
 use Rattle.word_names.specs.Spelling.{seat_in, number_in, count_in, record_in, value_in}
-use Rattle.word_names.specs.Small.{AreMet, met_after}
-use Rattle.word_names.specs.Spelled.{record_read, small_head}
+use Rattle.word_names.specs.Spelled.{record_read}
 
 -- a collect is under way
 abbrev pub IsReading : Pending → Type 0
@@ -101,6 +100,14 @@ pub walk_fits : (p : Pending) (k : GridWalk) (n : ℕ) → n ≤ ahead_in p k �
 walk_fits p k zero l = inl refl
 walk_fits p k (suc n) l = let low = (reading_of p k n (omega arith)).1 in inr (omega arith)
 
+-- no more reads are ahead than a walk makes before its last
+pub ahead_low : (p : Pending) (k : GridWalk) → ahead_in p k ≤ reads_in k
+ahead_low Nothing k = omega arith
+ahead_low OnWay k = omega arith
+ahead_low Scans k = omega arith
+ahead_low (Update n) k = omega arith
+ahead_low (Writing n view) k = omega arith
+
 -- a read is ahead only before the end of a walk
 pub some_ahead : (x : Naming) → 0 < reads_ahead x → x.client.scan.walk.at + 1 < x.client.scan.walk.most
 some_ahead x some = let low = (reading_of x.client.pending x.client.scan.walk 0 some).1 in omega arith
@@ -128,9 +135,9 @@ goes_ahead size x = record {
 abbrev pub headed : List ℕ → List (ℕ × ℕ) → Record
 headed head view = record { identity = seat_in (slice_index head 0); value = number_in (slice_index head 0); number = count_in (slice_index head 0); view = view }
 
--- a scan that notes it has met small ones
-pub met_small : (s new : Scan GridWalk) (head : List ℕ) → AreMet s.sightings → new ≡ met s s.walk.at (headed head []) → AreMet new.sightings
-met_small s new head h is = subst (λ (z : Scan GridWalk). AreMet z.sightings) (sym is) (met_after s s.walk.at (headed head []) h (small_head (slice_index head 0)))
+-- to note a record moves no walk
+pub met_walk : (s : Scan GridWalk) (place : ℕ) (r : Record) → (met s place r).walk ≡ s.walk
+met_walk s place r = elim (is_second_change s place r) as (λ b. (cond b s (met_anew s place r)).walk ≡ s.walk) [ true ↦ refl | false ↦ refl ]
 
 -- a read of a record that is noted, which is not the last of its collect
 on_noted : (s : Scan GridWalk) (walk : GridWalk) (r : Record) → is_second_change s s.walk.at r ≡ false → s.walk.at + 1 < s.walk.most

@@ -17,3 +17,4 @@ pub mod Direct
 pub mod NameLaw
 pub mod Taken
 pub mod Namers
+pub mod Sights

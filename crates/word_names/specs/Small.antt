@@ -1,17 +1,11 @@
 -- pairs of a seat and a number, which are few bits each
-use Rattle.std.proofs.Common.{◌≡◌, ℕ, zero, suc, ◌+◌, ◌<◌, ◌≤◌, ◌==◌, ◌||◌, nat_lt, nat_le, Bool, true, false, cond, not, is_some, if◌then◌else◌, List, [], ◌∷◌, length, map, get_or, Option, Some, None, arith}
+use Rattle.std.proofs.Common.{ℕ, zero, suc, ◌+◌, ◌<◌, ◌≤◌, ◌==◌, ◌||◌, nat_lt, nat_le, Bool, true, false, cond, is_some, List, [], ◌∷◌, length, map, get_or, Option, Some, None, arith}
 use Rattle.std.proofs.lemmas.List.Sums.{count_by-le-length}
 use Rattle.proposal_rounds.specs.Proposals.{free_up_to, least_with, next_proposal, is_taken, rank}
-use Rattle.step_memory.specs.declared.record.Record.{Record}
 use Rattle.step_memory.specs.View.{inserted, IsAbove, IsRising}
-use Rattle.snapshot_core.specs.declared.scan.Scan.{Scan}
 use Rattle.snapshot_core.specs.declared.sightings.Met.{Met}
 use Rattle.snapshot_core.specs.declared.sightings.Sighting.{Sighting}
-use Rattle.snapshot_core.specs.Scan.{met, met_anew, is_second_change, is_clean, next_collect, ended_collect, scan_after, sighting_after}
 use Rattle.snapshot_core.specs.Sightings.{carried_over, index_of, noted, shown_by, shown_with, with_sighting}
-use Rattle.snapshot_places.specs.declared.grid_register.GridValue.TheVariants.{Contents}
-use Rattle.snapshot_places.specs.declared.grid_walk.GridWalk.{GridWalk}
-use Rattle.snapshot_places.specs.Grid.{grid_walks, next_place}
 
 -- an identity of one of sixteen seats
 abbrev pub IsSeat : ℕ → Type 0
@@ -71,26 +65,13 @@ met_with : (new : Sighting) (ss : List Sighting) → AreMet ss → IsMet new.now
 met_with new [] h k = (k, tt)
 met_with new (s ∷ ss) h k = elim (s.place == new.place) as (λ b. AreMet (cond b (new ∷ ss) (s ∷ with_sighting new ss))) [ true ↦ (k, h.1) | false ↦ (h.0, met_with new ss h.1 k) ]
 
-met_noted : (new : Sighting) (ss : List Sighting) → AreMet ss → IsMet new.now → AreMet (noted new ss)
+-- a list that notes a small record has met small ones
+pub met_noted : (new : Sighting) (ss : List Sighting) → AreMet ss → IsMet new.now → AreMet (noted new ss)
 met_noted new ss h k = elim (is_some (index_of new.place ss) || nat_lt (length ss) 64) as (λ b. AreMet (cond b (with_sighting new ss) ss)) [ true ↦ met_with new ss h k | false ↦ h ]
 
-met_carried : (ss : List Sighting) → AreMet (map carried_over ss)
+pub met_carried : (ss : List Sighting) → AreMet (map carried_over ss)
 met_carried [] = tt
 met_carried (s ∷ ss) = (tt, met_carried ss)
-
--- a scan that notes a small record has met small ones
-pub met_after : (s : Scan GridWalk) (place : ℕ) (r : Record) → AreMet s.sightings → IsSmall (r.identity, r.value) → AreMet (met s place r).sightings
-met_after s place r h k = elim (is_second_change s place r) as (λ b. AreMet (cond b s (met_anew s place r)).sightings) [ true ↦ h | false ↦ met_noted (sighting_after s place r) s.sightings h k ]
-
-ended_met : (s : Scan GridWalk) (walk : GridWalk) → AreMet s.sightings → AreMet (ended_collect s walk).sightings
-ended_met s walk h = elim (is_clean s) as (λ b. AreMet (cond b s (next_collect s walk)).sightings) [ true ↦ h | false ↦ met_carried s.sightings ]
-
--- and so has one that passes a segment with no record
-pub met_passed : (s : Scan GridWalk) (walk : GridWalk) → AreMet s.sightings → AreMet (scan_after grid_walks s (Contents None) walk).sightings
-met_passed s walk h = elim (grid_walks.is_over s.walk (Contents None)) as (λ b. AreMet (cond b (ended_collect (record s { walk = grid_walks.resumed s.walk (Contents None) }) walk) (record s { walk = grid_walks.resumed s.walk (Contents None) })).sightings) [
-  | true ↦ ended_met (record s { walk = grid_walks.resumed s.walk (Contents None) }) walk h
-  | false ↦ h
-]
 
 least_low : (taken : ℕ → Bool) (r n : ℕ) → least_with taken r n ≤ n
 least_low taken r zero = omega arith

@@ -1,6 +1,6 @@
 -- how words spell what stands in the registers of a grid with segments. A door's word says itself. A record is spelled by at most five
 -- words: what it is and how long its view, its identity, value and number in one, and then four pairs of its view in each
-use Rattle.std.specs.Prelude.{ℕ, zero, suc, ◌+◌, ◌-◌, ◌*◌, ◌/◌, ◌%◌, ◌<◌, ◌≤◌, ◌==◌, nat_lt, if◌then◌else◌, List, [], length, slice_index, Option, Some, None}
+use Rattle.std.specs.Prelude.{ℕ, zero, suc, ◌+◌, ◌-◌, ◌*◌, ◌/◌, ◌%◌, ◌<◌, ◌==◌, nat_lt, if◌then◌else◌, List, [], length, slice_index, Option, Some, None}
 use Rattle.std.proofs.Common.{get_or}
 use Rattle.step_memory.specs.declared.record.Record.{Record}
 use Rattle.step_memory.specs.View.{inserted, IsRising}

@@ -19,10 +19,11 @@ ghost use Rattle.word_names.specs.Ahead.{IsReading, headed};
 ghost use Rattle.snapshot_core.specs.Scan.{met, is_second_change};
 ghost use Rattle.word_names.specs.Sound.{names_sound};
 
-use crate::namer::{Doing, Namer, meet};
+use crate::collect::Collect;
+use crate::namer::{Doing, Namer};
 use rename_core::Round;
-use snapshot_core::{PlaceWalker, Scan};
-use snapshot_places::{GridRegister, GridValue, GridWalk, GridWalker};
+use snapshot_core::PlaceWalker;
+use snapshot_places::{GridRegister, GridValue, GridWalker};
 use splitter_grid::{Door, Walker};
 use step_memory::{Access, Answer, Note, Place, StepProgram, View};
 use word_machine::{Size, WordAccess, WordProgram};
@@ -133,27 +134,16 @@ fn read_view(words: &[u64], pairs: usize) -> View
 }
 
 /// Notes a record with this first word in the segment that a scan reads. False where it shows the segment's second change: then
-/// nothing has changed. Each record that a scan meets comes by here, so it is no call of its own.
+/// nothing has changed. Each record that a scan meets comes by here, so neither this nor what it calls is a call of its own.
 #[inline(always)]
-fn meet_head(scan: &mut Scan<GridWalk>, head: u64) -> bool
+fn meet_head(scan: &mut Collect, head: u64) -> bool
     ensures after { (view : List (ℕ × ℕ)) → scan.new ≡ met scan.old scan.old.walk.at (headed (head ∷ []) view) }
     ensures answer { (view : List (ℕ × ℕ)) → result ≡ not (is_second_change scan.old scan.old.walk.at (headed (head ∷ []) view)) }
 {
-    let identity = head / 256 % 16 + 1;
-    let value = head / 65_536 % 256;
+    let identity = (head / 256 % 16 + 1) as u8;
+    let value = (head / 65_536 % 256) as u8;
     let number = (head / 16_777_216 % 4_294_967_296) as u32;
-    meet(scan, identity, value, number)
-}
-
-/// How many segments a walk reads before its last.
-fn count_ahead(walk: GridWalk) -> usize
-    ensures { result ≤ reads_in walk }
-{
-    if walk.most <= walk.at {
-        return 0;
-    }
-    let left = walk.most - walk.at - 1;
-    if left < 1000 { left as usize } else { 0 }
+    scan.meet(identity, value, number)
 }
 
 /// The access of a walk through doors, as one of words.
@@ -178,7 +168,7 @@ impl Namer {
             Doing::Nothing => WordAccess::Nothing,
             Doing::Placing => door_access(self.walker.walker.next()),
             Doing::Scanning | Doing::Update(_) => {
-                WordAccess::Look(GridRegister::Segment(self.scan.walk.at))
+                WordAccess::Look(GridRegister::Segment(self.scan.place()))
             }
             Doing::Write(_) => match self.walker.place() {
                 Some(place) => WordAccess::Publish(GridRegister::Segment(place)),
@@ -357,20 +347,17 @@ impl WordProgram for Namer {
         let walker = GridWalker {
             walker: Walker::new(identity, Door::corner()),
         };
-        let walk = GridWalk {
-            at: 0,
-            most: (size.most * (size.most + 1) / 2) as Place,
-        };
+        let segments = (size.most * (size.most + 1) / 2) as u8;
         Namer {
             identity,
             limit: size.limit,
             walker,
-            walk,
+            segments,
             updates: 0,
             doing: Doing::Placing,
             round: Round::first(false),
             view: View::new(),
-            scan: Scan::new(walk),
+            scan: Collect::new(segments),
         }
     }
 
@@ -382,7 +369,7 @@ impl WordProgram for Namer {
         ensures { IfSome result (λ register. naming_steps.next self.now ≡ Read register) }
     {
         if self.is_reading() {
-            Some(GridRegister::Segment(self.scan.walk.at))
+            Some(GridRegister::Segment(self.scan.place()))
         } else {
             None
         }
@@ -392,7 +379,7 @@ impl WordProgram for Namer {
         ensures { result ≤ reads_ahead self.now }
     {
         match self.doing {
-            Doing::Scanning | Doing::Update(_) => count_ahead(self.scan.walk),
+            Doing::Scanning | Doing::Update(_) => self.scan.ahead(),
             Doing::Nothing => 0,
             Doing::Placing => 0,
             Doing::Write(_) => 0,
@@ -403,8 +390,7 @@ impl WordProgram for Namer {
         requires { count ≤ reads_ahead self.old }
         ensures { self.new ≡ skipped naming_steps (Contents None) self.old count }
     {
-        let walk = self.scan.walk;
-        self.scan.walk.at = walk.at + count as Place;
+        self.scan.skip(count);
     }
 
     fn head() -> usize {
@@ -420,11 +406,10 @@ impl WordProgram for Namer {
         if head[0] == 0 || head[0] == DOOR_WORD || ahead == 0 {
             return false;
         }
-        let walk = self.scan.walk;
         if !meet_head(&mut self.scan, head[0]) {
             return false;
         }
-        self.scan.walk.at = walk.at + 1;
+        self.scan.skip(1);
         true
     }
 

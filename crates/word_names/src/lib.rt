@@ -23,11 +23,14 @@
 //! ```
 #![tactic(auto)]
 
+pub mod collect;
 pub mod grid_words;
 pub mod namer;
 pub mod names;
 pub mod renamer;
 pub mod seats;
+pub mod seen;
+pub mod sighted;
 
 pub use namer::Namer;
 pub use names::Names;

@@ -1,21 +1,18 @@
 //! One participant over a grid, as the program that threads run.
 
-ghost use Rattle.std.specs.Prelude.{◌≡◌, ◌≤◌, ◌+◌, ℕ, List, [], if◌then◌else◌, not, true, false, None, Some};
+ghost use Rattle.std.specs.Prelude.{◌≡◌, true, false, None};
 ghost use Rattle.step_memory.specs.declared.access.Answer.TheVariants.{Value};
-ghost use Rattle.snapshot_core.specs.Scan.{scan_after, scan_view, is_second_change, met};
-ghost use Rattle.snapshot_core.specs.Sightings.{shown_by};
 ghost use Rattle.snapshot_places.specs.declared.grid_register.GridValue.TheVariants.{Contents};
-ghost use Rattle.snapshot_places.specs.Grid.{grid_walks};
 ghost use Rattle.word_names.specs.NameMachine.{naming_steps};
 ghost use Rattle.word_names.specs.Direct.{proposing, walked, looking, decided_on, decided_note};
 ghost use Rattle.word_names.specs.Ahead.{IsReading};
-ghost use Rattle.word_names.specs.Small.{AreSmall};
 ghost use Rattle.proposal_rounds.specs.Proposals.{next_proposal};
 
+use crate::collect::Collect;
 use rename_core::proposal::is_taken;
 use rename_core::{Round, Stage, next_proposal};
-use snapshot_core::{MOST_UPDATES, Met, Scan, Sighting};
-use snapshot_places::{GridWalk, GridWalker};
+use snapshot_core::MOST_UPDATES;
+use snapshot_places::GridWalker;
 use std::marker::Model;
 use step_memory::{Answer, Note, StepProgram, View};
 
@@ -41,75 +38,27 @@ pub struct Namer {
     pub(crate) identity: u64,
     pub(crate) limit: u64,
     pub(crate) walker: GridWalker,
-    pub(crate) walk: GridWalk,
+    // How many segments a scan reads.
+    pub(crate) segments: u8,
     pub(crate) updates: u32,
     pub(crate) doing: Doing,
     pub(crate) round: Round,
     // It says something only where it is to be written.
     pub(crate) view: View,
-    pub(crate) scan: Scan<GridWalk>,
+    pub(crate) scan: Collect,
 }
 
 impl Model for Namer {
     ghost use Rattle.word_names.specs.NameMachine.{Naming};
     ghost use Rattle.word_names.specs.Namers.{naming_with};
-    ghost use Rattle.word_names.specs.Small.{IsSeat, AreSmall, AreMet};
+    ghost use Rattle.word_names.specs.Sights.{walk_over};
+    ghost use Rattle.word_names.specs.Small.{IsSeat, AreSmall};
 
     ghost Value = { Naming };
 
-    ghost view = { λ n. naming_with n.identity n.limit n.walker n.walk n.updates n.doing n.view n.scan n.round };
+    ghost view = { λ n. naming_with n.identity n.limit n.walker (walk_over n.segments) n.updates n.doing n.view n.scan n.round };
 
-    ghost invariant = { λ n. IsSeat n.identity × AreSmall n.view × AreMet n.scan.sightings };
-}
-
-/// Notes a record of this identity, value and number in the segment that a scan reads. False where it shows the segment's second
-/// change: then nothing has changed.
-pub(crate) fn meet(scan: &mut Scan<GridWalk>, identity: u64, value: u64, number: u32) -> bool
-    ensures after { (view : List (ℕ × ℕ)) → scan.new ≡ met scan.old scan.old.walk.at (record { identity = identity; value = value; number = number; view = view }) }
-    ensures answer { (view : List (ℕ × ℕ)) → result ≡ not (is_second_change scan.old scan.old.walk.at (record { identity = identity; value = value; number = number; view = view })) }
-{
-    let place = scan.walk.at;
-    let at = scan.sightings.find(place);
-    let known = scan.sightings.get(place, at);
-    let differs = !scan.is_first && known.before != number;
-    if differs && known.changed {
-        return false;
-    }
-    scan.differs = scan.differs || differs;
-    let sighting = Sighting {
-        place,
-        before: known.before,
-        now: Some(Met {
-            identity,
-            value,
-            number,
-        }),
-        changed: known.changed || differs,
-    };
-    scan.sightings.put(at, sighting);
-    true
-}
-
-/// Goes on from a segment that was noted, or had no record. True where the scan has ended: what the collect met is its view. Where the
-/// collect has ended, and not the scan, another begins, which takes this walk.
-fn pass(scan: &mut Scan<GridWalk>, walk: GridWalk) -> bool
-    ensures after { scan.new ≡ scan_after grid_walks scan.old (Contents None) walk }
-    ensures view { scan_view grid_walks scan.old (Contents None) ≡ (if result then Some (shown_by [] scan.new.sightings) else None) }
-{
-    if scan.walk.at < scan.walk.most {
-        scan.walk.at += 1;
-    }
-    if scan.walk.at < scan.walk.most {
-        return false;
-    }
-    if !scan.is_first && !scan.differs {
-        return true;
-    }
-    scan.walk = walk;
-    scan.is_first = false;
-    scan.differs = false;
-    scan.sightings.carry_over();
-    false
+    ghost invariant = { λ n. IsSeat n.identity × AreSmall n.view };
 }
 
 /// What an identity proposes next after a view.
@@ -143,7 +92,7 @@ impl Namer {
         if self.updates < MOST_UPDATES {
             self.updates += 1;
             self.doing = Doing::Update(number);
-            self.scan.restart(self.walk);
+            self.scan.restart(self.segments);
         } else {
             self.doing = Doing::Nothing;
         }
@@ -177,7 +126,7 @@ impl Namer {
         self.round.proposal = number;
         self.round.stage = Stage::Looking;
         self.doing = Doing::Scanning;
-        self.scan.restart(self.walk);
+        self.scan.restart(self.segments);
     }
 
     /// Takes its proposal as its name, or proposes another, by what the others propose.
@@ -206,17 +155,17 @@ impl Namer {
         ensures after { self.new ≡ naming_steps.resumed self.old (Value (Contents None)) }
         ensures note { result ≡ naming_steps.note self.old (Value (Contents None)) }
     {
-        if !pass(&mut self.scan, self.walk) {
+        if !self.scan.pass(self.segments) {
             return Note::Quiet;
         }
         match self.doing {
             Doing::Update(value) => {
-                self.view = self.scan.sightings.view();
+                self.view = self.scan.view();
                 self.doing = Doing::Write(value);
                 Note::Quiet
             }
             Doing::Scanning => {
-                let view = self.scan.sightings.view();
+                let view = self.scan.view();
                 self.decide(&view)
             }
             Doing::Nothing => Note::Quiet,

@@ -1,4 +1,4 @@
-use Rattle.std.proofs.Common.{◌<◌, arith}
+use Rattle.std.proofs.Common.{arith}
 use Rattle.word_names.specs.Small.{next_low}
 use Rattle.word_names.proofs.namer.next_number.Goals as goal
 

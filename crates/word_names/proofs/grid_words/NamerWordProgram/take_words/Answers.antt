@@ -2,21 +2,16 @@ use Rattle.std.proofs.Common.{◌≡◌, [], ap, sym, subst, ◌∙◌, arith}
 use Rattle.step_memory.specs.declared.access.Answer.TheVariants.{Value}
 use Rattle.word_names.specs.NameMachine.{Naming, naming_steps}
 use Rattle.word_names.specs.Namers.{naming_with}
+use Rattle.word_names.specs.Sights.{walk_over}
 use Rattle.word_names.specs.Spelling.{value_in}
-use Rattle.word_names.specs.Ahead.{IsReading, met_small}
+use Rattle.word_names.specs.Ahead.{IsReading}
 use Rattle.word_names.specs.Taken.{words_noted, words_borrowed}
 use Rattle.word_names.proofs.grid_words.NamerWordProgram.take_words.Goals as goal
-
-pub invariant_of-self : goal.invariant_of-self
-invariant_of-self c = (c.self.invariant.0, c.self.invariant.1, met_small c.self.inside.scan c.meet_head.new.scan c.args.words.now c.self.invariant.2 (c.meet_head.ensures.after []))
-
-pub invariant_of-self-else-meet_head : goal.invariant_of-self-else-meet_head
-invariant_of-self-else-meet_head c = (c.self.invariant.0, c.self.invariant.1, met_small c.self.inside.scan c.meet_head.new.scan c.args.words.now c.self.invariant.2 (c.meet_head.ensures.after []))
 
 pub returns-then-meet_head-clause-after : goal.returns-then-meet_head-clause-after
 returns-then-meet_head-clause-after c =
     let n = c.self.inside in
-    let x : Naming = naming_with n.identity n.limit n.walker n.walk n.updates n.doing n.view n.scan n.round in
+    let x : Naming = naming_with n.identity n.limit n.walker (walk_over n.segments) n.updates n.doing n.view n.scan n.round in
     let reading : IsReading x.client.pending = subst (λ (y : Naming). IsReading y.client.pending) (sym c.self.view_is) (c.is_reading.ensures.yes c.if-not-is_reading.false) in
     c.scan_on.ensures.after
     ∙ (words_noted x c.args.words.now (λ e. absurd (let other = c.if-words-eq0.false in omega arith)) (λ e. absurd (let other = c.if-words-eq-DOOR_WORD.false in omega arith)) reading c.meet_head.new.scan c.meet_head.ensures.after (λ view. sym c.if-meet_head.true ∙ c.meet_head.ensures.answer view)).0
@@ -25,7 +20,7 @@ returns-then-meet_head-clause-after c =
 pub returns-then-meet_head-clause-note : goal.returns-then-meet_head-clause-note
 returns-then-meet_head-clause-note c =
     let n = c.self.inside in
-    let x : Naming = naming_with n.identity n.limit n.walker n.walk n.updates n.doing n.view n.scan n.round in
+    let x : Naming = naming_with n.identity n.limit n.walker (walk_over n.segments) n.updates n.doing n.view n.scan n.round in
     let reading : IsReading x.client.pending = subst (λ (y : Naming). IsReading y.client.pending) (sym c.self.view_is) (c.is_reading.ensures.yes c.if-not-is_reading.false) in
     c.scan_on.ensures.note
     ∙ (words_noted x c.args.words.now (λ e. absurd (let other = c.if-words-eq0.false in omega arith)) (λ e. absurd (let other = c.if-words-eq-DOOR_WORD.false in omega arith)) reading c.meet_head.new.scan c.meet_head.ensures.after (λ view. sym c.if-meet_head.true ∙ c.meet_head.ensures.answer view)).1
@@ -34,7 +29,7 @@ returns-then-meet_head-clause-note c =
 pub returns-clause-after : goal.returns-clause-after
 returns-clause-after c =
     let n = c.self.inside in
-    let x : Naming = naming_with n.identity n.limit n.walker n.walk n.updates n.doing n.view n.scan n.round in
+    let x : Naming = naming_with n.identity n.limit n.walker (walk_over n.segments) n.updates n.doing n.view n.scan n.round in
     let reading : IsReading x.client.pending = subst (λ (y : Naming). IsReading y.client.pending) (sym c.self.view_is) (c.is_reading.ensures.yes c.if-not-is_reading.false) in
     c.borrow.ensures.after
     ∙ (words_borrowed x c.args.words.now (λ e. absurd (let other = c.if-words-eq0.false in omega arith)) (λ e. absurd (let other = c.if-words-eq-DOOR_WORD.false in omega arith)) reading c.meet_head.new.scan c.meet_head.ensures.after (λ view. sym c.if-meet_head.false ∙ c.meet_head.ensures.answer view)).0
@@ -43,7 +38,7 @@ returns-clause-after c =
 pub returns-clause-note : goal.returns-clause-note
 returns-clause-note c =
     let n = c.self.inside in
-    let x : Naming = naming_with n.identity n.limit n.walker n.walk n.updates n.doing n.view n.scan n.round in
+    let x : Naming = naming_with n.identity n.limit n.walker (walk_over n.segments) n.updates n.doing n.view n.scan n.round in
     let reading : IsReading x.client.pending = subst (λ (y : Naming). IsReading y.client.pending) (sym c.self.view_is) (c.is_reading.ensures.yes c.if-not-is_reading.false) in
     c.borrow.ensures.note
     ∙ (words_borrowed x c.args.words.now (λ e. absurd (let other = c.if-words-eq0.false in omega arith)) (λ e. absurd (let other = c.if-words-eq-DOOR_WORD.false in omega arith)) reading c.meet_head.new.scan c.meet_head.ensures.after (λ view. sym c.if-meet_head.false ∙ c.meet_head.ensures.answer view)).1
