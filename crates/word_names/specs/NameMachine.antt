@@ -111,7 +111,7 @@ proposals_of p (h ∷ r) = proposals_by p h + proposals_of p r
 abbrev pub first_walk : Size → GridWalk
 first_walk size = record { at = 0; most = segments_for size.most }
 
--- each participant has an identity of one of sixteen seats
+-- an identity from 1 to 16 is its own seat's; any other counts as 1
 abbrev pub seat_for : ℕ → ℕ
 seat_for p = if nat_lt p 1 then 1 else if nat_lt 16 p then 1 else p
 

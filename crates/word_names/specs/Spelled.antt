@@ -78,9 +78,6 @@ pub small_pairs : (words : List ℕ) (at n : ℕ) → AreSmall (pairs_in words a
 small_pairs words at zero = tt
 small_pairs words at (suc n) = small_inserted (pairs_in words (at + 1) n) (pair_at words at) (small_pairs words (at + 1) n) (small_pair words at)
 
-pub small_head : (head : ℕ) → IsSmall (seat_in head, number_in head)
-small_head head = ((omega arith, omega arith), omega arith)
-
 -- what the first word of a record says
 module _ (len x y n : ℕ) where
   abbrev head : ℕ

@@ -13,7 +13,7 @@ ghost use Rattle.word_machine.specs.NextAccess.{IsNext, IsLong, IsWordAt};
 ghost use Rattle.word_names.specs.Seats.{place_or_first};
 ghost use Rattle.word_names.specs.Direct.{access_told, word_access_of};
 ghost use Rattle.word_names.specs.Taken.{seen_by, seen_note};
-ghost use Rattle.word_names.specs.NameMachine.{names_law, naming_steps, place_for, naming_from, reads_in, reads_ahead, MayStart};
+ghost use Rattle.word_names.specs.NameMachine.{names_law, naming_steps, place_for, naming_from, reads_ahead, MayStart};
 ghost use Rattle.word_names.specs.Spelling.{code_of, four_codes, record_word, digit, pairs_in, pairs_of, value_in};
 ghost use Rattle.word_names.specs.Ahead.{IsReading, headed};
 ghost use Rattle.snapshot_core.specs.Scan.{met, is_second_change};
@@ -338,7 +338,7 @@ impl WordProgram for Namer {
         requires { MayStart size }
         ensures { result ≡ naming_from size identity }
     {
-        // A machine has sixteen seats at most.
+        // A machine has sixteen seats at most. An identity other than 1 to 16 counts as 1.
         let identity = if identity < 1 || 16 < identity {
             1
         } else {
