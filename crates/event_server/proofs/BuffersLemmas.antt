@@ -13,7 +13,7 @@ use Rattle.player.proofs.ProgressLemmas.{after_bytes-append}
 use Rattle.player.specs.declared.form.TheConstants.{TURN_ROOM}
 use Rattle.event_server.specs.Asking.{MayAsk}
 use Rattle.event_server.specs.declared.buffers.TheConstants.{UNSENT_ROOM}
-use Rattle.event_server.specs.ConnectionBuffers.{IsFull, Takes, TakesEnd, TakesFirst, TakesPeeked, TakesOf, after_taken}
+use Rattle.event_server.specs.ConnectionBuffers.{goes_on_in_line, IsFull, Takes, TakesEnd, TakesFirst, TakesPeeked, TakesOf, after_taken}
 
 -- there is no room for a reply, or what waits may ask who holds numbers
 pub full_or_asks : (s : BuffersState) → (UNSENT_ROOM < length s.outbox + TURN_ROOM) ⊎ MayAsk s.inbox → IsFull s ⊎ MayAsk s.inbox
@@ -44,30 +44,31 @@ consumes_more left left' (Ok n) part rest some fits consumes = (subst (λ (l : L
 consumes_more left left' (Err why) part rest some fits consumes = consumes
 
 -- nothing is taken
-abbrev nothing_taken : (came : List ℕ) (s s' : BuffersState) → s'.responder ≡ s.responder → s'.ended ≡ s.ended → (s'.broken ≡ false → (s'.inbox ≡ s.inbox ++ came) × (s'.outbox ≡ s.outbox) × (s.broken ≡ false)) → Takes [] came false s s'
-nothing_taken came s s' responder ended kept = record {
+abbrev nothing_taken : (came : List ℕ) (s s' : BuffersState) → s'.responder ≡ s.responder → s'.ended ≡ s.ended → s'.in_line ≡ s.in_line → (s'.broken ≡ false → (s'.inbox ≡ s.inbox ++ came) × (s'.outbox ≡ s.outbox) × (s.broken ≡ false)) → Takes [] came false s s'
+nothing_taken came s s' responder ended in_line kept = record {
   taken = [];
   rest = s.inbox ++ came;
   parts = refl;
   goes_on = λ before p spoke. rw (append-nil before) (subst (λ (t : ResponderState). Spoke before t p) (sym responder) spoke);
   kind_is = ap (λ (t : ResponderState). t.kind) responder;
   ended_is = ended ∙ or_false s.ended;
+  in_line_is = in_line;
   kept = λ h. let k = kept h in (k.0, k.1 ∙ sym (append-nil s.outbox), k.2);
 }
 
 -- and nothing came
-abbrev pub takes_none : (left left' : Option (List ℕ)) (s s' : BuffersState) → Consumes left left' [] → s'.responder ≡ s.responder → s'.ended ≡ s.ended → (s'.broken ≡ false → (s'.inbox ≡ s.inbox) × (s'.outbox ≡ s.outbox) × (s.broken ≡ false)) → TakesOf [] left s left' s'
-takes_none left left' s s' none responder ended kept = record {
+abbrev pub takes_none : (left left' : Option (List ℕ)) (s s' : BuffersState) → Consumes left left' [] → s'.responder ≡ s.responder → s'.ended ≡ s.ended → s'.in_line ≡ s.in_line → (s'.broken ≡ false → (s'.inbox ≡ s.inbox) × (s'.outbox ≡ s.outbox) × (s.broken ≡ false)) → TakesOf [] left s left' s'
+takes_none left left' s s' none responder ended in_line kept = record {
   came = [];
   ends = false;
   few = omega arith;
   gave = none;
   at_end = λ h. absurd cc;
-  takes = nothing_taken [] s s' responder ended (λ h. let k = kept h in (k.0 ∙ sym (append-nil s.inbox), k.1, k.2));
+  takes = nothing_taken [] s s' responder ended in_line (λ h. let k = kept h in (k.0 ∙ sym (append-nil s.inbox), k.1, k.2));
 }
 
 abbrev pub takes_idle : (left left' : Option (List ℕ)) (s : BuffersState) → Consumes left left' [] → TakesOf [] left s left' s
-takes_idle left left' s none = takes_none left left' s s none refl refl (λ h. (refl, refl, h))
+takes_idle left left' s none = takes_none left left' s s none refl refl refl (λ h. (refl, refl, h))
 
 -- these bytes came
 pub takes_some : (turns : List Turn) (left left' : Option (List ℕ)) (came : List ℕ) (s s' : BuffersState) → length came ≤ 65536 → Consumes left left' came → Takes turns came false s s' → TakesOf turns left s left' s'
@@ -84,7 +85,7 @@ takes_last turns left left' s s' gave end (inr t) = takes_some turns left left' 
 
 -- where what came cannot wait it is at fault
 abbrev pub takes_refused : (came : List ℕ) (s s' : BuffersState) → s' ≡ record s { broken = true } → Takes [] came false s s'
-takes_refused came s s' is = nothing_taken came s s' (ap (λ (q : BuffersState). q.responder) is) (ap (λ (q : BuffersState). q.ended) is) (λ h. let t : true ≡ false = sym (ap (λ (q : BuffersState). q.broken) is) ∙ h in absurd cc)
+takes_refused came s s' is = nothing_taken came s s' (ap (λ (q : BuffersState). q.responder) is) (ap (λ (q : BuffersState). q.ended) is) (ap (λ (q : BuffersState). q.in_line) is) (λ h. let t : true ≡ false = sym (ap (λ (q : BuffersState). q.broken) is) ∙ h in absurd cc)
 
 -- of the first bytes some
 pub cut_first : (n k : ℕ) (xs : List ℕ) → n ≤ length (take k xs) → take n (take k xs) ≡ take n xs
@@ -92,9 +93,9 @@ cut_first n k xs le = sym (ap (λ l. take n l) (sym (take-append-drop k xs)) ∙
 
 module _ {T : Type 0} (may : T → Request → ShownReply → T → Type 0) (w u : T) (s s' : BuffersState) (t t' : ResponderState) (out out' : List ℕ) (t_is : t ≡ s.responder) (t'_is : t' ≡ s'.responder) (none : out ≡ []) where
   -- what its talker, once t and now t', took of what waited then
-  abbrev took : (came taken rest : List ℕ) (ends : Bool) → Says may turn_reply w t out u t' out' (after_taken t.kind taken ends) → t'.kind ≡ t.kind → s.inbox ++ came ≡ taken ++ rest → s'.inbox ≡ rest → s'.ended ≡ (s.ended || ends) →
+  abbrev took : (came taken rest : List ℕ) (ends : Bool) → Says may turn_reply w t out u t' out' (after_taken t.kind taken ends) → t'.kind ≡ t.kind → s.inbox ++ came ≡ taken ++ rest → s'.inbox ≡ rest → s'.ended ≡ (s.ended || ends) → s'.in_line ≡ goes_on_in_line s.in_line taken →
       (s'.broken ≡ false → (s'.outbox ≡ s.outbox ++ out') × (s.broken ≡ false)) → (turns : List Turn) × Runs may w turns u × Takes turns came ends s s'
-  took came taken rest ends says kind parts inbox ended kept =
+  took came taken rest ends says kind parts inbox ended in_line kept =
       let said : Says may turn_reply w s.responder out u s'.responder out' (after_taken s.responder.kind taken ends) =
       subst (λ (x : ResponderState). Says may turn_reply w s.responder out u x out' (after_taken s.responder.kind taken ends)) t'_is
       (subst (λ (x : ResponderState). Says may turn_reply w x out u t' out' (after_taken x.kind taken ends)) t_is says) in (
@@ -107,29 +108,30 @@ module _ {T : Type 0} (may : T → Request → ShownReply → T → Type 0) (w u
           goes_on = λ before p spoke. said.1.goes_on before p spoke tt;
           kind_is = sym (ap (λ (x : ResponderState). x.kind) t'_is) ∙ kind ∙ ap (λ (x : ResponderState). x.kind) t_is;
           ended_is = ended;
+          in_line_is = in_line;
           kept = λ h. let k = kept h in (inbox, k.0 ∙ ap (λ l. s.outbox ++ l) (said.1.text_is ∙ ap (λ l. l ++ replies_of said.0) none), k.1);
         },
       )
 
   -- of all that waited
   pub takes_said : (came all : List ℕ) (n : ℕ) → all ≡ s.inbox ++ came → Says may turn_reply w t out u t' out' (λ p. after_bytes t.kind p (take n all)) →
-      t'.kind ≡ t.kind → s'.inbox ≡ drop n all → s'.ended ≡ s.ended → (s'.broken ≡ false → (s'.outbox ≡ s.outbox ++ out') × (s.broken ≡ false)) → (turns : List Turn) × Runs may w turns u × Takes turns came false s s'
-  takes_said came all n all_is says kind inbox ended kept = took came (take n all) (drop n all) false says kind (sym all_is ∙ sym (take-append-drop n all)) inbox (ended ∙ or_false s.ended) kept
+      t'.kind ≡ t.kind → s'.inbox ≡ drop n all → s'.ended ≡ s.ended → s'.in_line ≡ goes_on_in_line s.in_line (take n all) → (s'.broken ≡ false → (s'.outbox ≡ s.outbox ++ out') × (s.broken ≡ false)) → (turns : List Turn) × Runs may w turns u × Takes turns came false s s'
+  takes_said came all n all_is says kind inbox ended in_line kept = took came (take n all) (drop n all) false says kind (sym all_is ∙ sym (take-append-drop n all)) inbox (ended ∙ or_false s.ended) in_line kept
 
   -- of the first of that
   pub takes_first : (count few n : ℕ) → Says may turn_reply w t out u t' out' (λ p. after_bytes t.kind p (take n s.inbox)) → n ≤ length (take few s.inbox) → take few s.inbox ≡ take count s.inbox →
-      t'.kind ≡ t.kind → s'.inbox ≡ drop n s.inbox → s'.ended ≡ s.ended → (s'.broken ≡ false → (s'.outbox ≡ s.outbox ++ out') × (s.broken ≡ false)) → (turns : List Turn) × Runs may w turns u × TakesFirst turns count s s'
-  takes_first count few n says le same kind inbox ended kept =
-      let all = took [] (take n s.inbox) (drop n s.inbox) false says kind (append-nil s.inbox ∙ sym (take-append-drop n s.inbox)) inbox (ended ∙ or_false s.ended) kept in (
+      t'.kind ≡ t.kind → s'.inbox ≡ drop n s.inbox → s'.ended ≡ s.ended → s'.in_line ≡ goes_on_in_line s.in_line (take n s.inbox) → (s'.broken ≡ false → (s'.outbox ≡ s.outbox ++ out') × (s.broken ≡ false)) → (turns : List Turn) × Runs may w turns u × TakesFirst turns count s s'
+  takes_first count few n says le same kind inbox ended in_line kept =
+      let all = took [] (take n s.inbox) (drop n s.inbox) false says kind (append-nil s.inbox ∙ sym (take-append-drop n s.inbox)) inbox (ended ∙ or_false s.ended) in_line kept in (
         all.0,
         all.1,
         record { takes = all.2; rest = drop n (take few s.inbox); within = ap (λ l. l ++ drop n (take few s.inbox)) (sym (cut_first n few s.inbox le)) ∙ take-append-drop n (take few s.inbox) ∙ same },
       )
 
   -- and of the end, before which nothing waited
-  pub takes_end : s.inbox ≡ [] → Says may turn_reply w t out u t' out' (after_end t.kind) → t'.kind ≡ t.kind → s'.inbox ≡ s.inbox → s'.ended ≡ true → (s'.broken ≡ false → (s'.outbox ≡ s.outbox ++ out') × (s.broken ≡ false)) →
+  pub takes_end : s.inbox ≡ [] → Says may turn_reply w t out u t' out' (after_end t.kind) → t'.kind ≡ t.kind → s'.inbox ≡ s.inbox → s'.ended ≡ true → s'.in_line ≡ s.in_line → (s'.broken ≡ false → (s'.outbox ≡ s.outbox ++ out') × (s.broken ≡ false)) →
       (turns : List Turn) × Runs may w turns u × Takes turns [] true s s'
-  takes_end empty says kind inbox ended kept = took [] [] [] true says kind (ap (λ l. l ++ []) empty) (inbox ∙ empty) (ended ∙ or_true s.ended) kept
+  takes_end empty says kind inbox ended in_line kept = took [] [] [] true says kind (ap (λ l. l ++ []) empty) (inbox ∙ empty) (ended ∙ or_true s.ended) in_line kept
 
 taken_after : (kind : WorldKind) (p : Progress) (xs ys : List ℕ) (ends : Bool) → after_taken kind ys ends (after_taken kind xs false p) ≡ after_taken kind (xs ++ ys) ends p
 taken_after kind p xs ys true = ap (after_end kind) (sym (after_bytes-append kind p xs ys))
@@ -149,7 +151,7 @@ takes_the_end turns left left' s s' gave end empty t = record {
 -- nothing comes
 pub takes_no_end : (left left' : Option (List ℕ)) (s s' : BuffersState) → Consumes left left' [] → s' ≡ record s { broken = s'.broken } → (s'.broken ≡ false → s.broken ≡ false) → TakesEnd [] left s left' s'
 takes_no_end left left' s s' gave is whole = record {
-  takes = takes_none left left' s s' gave (ap (λ (q : BuffersState). q.responder) is) (ap (λ (q : BuffersState). q.ended) is) (λ h. (ap (λ (q : BuffersState). q.inbox) is, ap (λ (q : BuffersState). q.outbox) is, whole h));
+  takes = takes_none left left' s s' gave (ap (λ (q : BuffersState). q.responder) is) (ap (λ (q : BuffersState). q.ended) is) (ap (λ (q : BuffersState). q.in_line) is) (λ h. (ap (λ (q : BuffersState). q.inbox) is, ap (λ (q : BuffersState). q.outbox) is, whole h));
   none = refl;
 }
 
@@ -201,6 +203,7 @@ peeked_end peek left left' s m s' ts us ends first whole empty end =
               (t.goes_on (before ++ ts) (after_taken s.responder.kind a.taken false p) (a.goes_on before p spoke)))));
           kind_is = t.kind_is ∙ a.kind_is;
           ended_is = t.ended_is ∙ ap (λ e. e || end.takes.ends) (a.ended_is ∙ sym (or_false s.ended));
+          in_line_is = t.in_line_is ∙ ap (λ l. goes_on_in_line m.in_line l) end.none ∙ a.in_line_is;
           kept = λ h.
               let l = t.kept h in
               (l.0, l.1 ∙ ap (λ x. x ++ replies_of us) k.1 ∙ append_assoc s.outbox (replies_of ts) (replies_of us) ∙ ap (λ x. s.outbox ++ x) (sym (flat_map-append turn_reply ts us)), k.2);

@@ -6,15 +6,44 @@ use Rattle.std.proofs.KnownBytes.{Consumes-nil, Consumes-trans}
 use Rattle.event_server.specs.Seats.{NoneSent, Seating, SeatTakes}
 use Rattle.event_server.specs.Gathering.{GathersOf, SeatGathers, Gathered}
 
--- these bytes came, and wait where it is at no fault
-pub gathers : (left left' : Option (List ℕ)) (came : List ℕ) (s s' : BuffersState) → Consumes left left' came → s'.responder ≡ s.responder → s'.outbox ≡ s.outbox → s'.ended ≡ s.ended →
-    (s'.broken ≡ false → (s'.inbox ≡ s.inbox ++ came) × (s.broken ≡ false)) → GathersOf left s left' s'
-gathers left left' came s s' gave responder outbox ended kept = record { came = came; gave = gave; responder_is = responder; outbox_is = outbox; ended_is = ended; kept = kept }
+-- nothing came, and it may be at fault now
+pub gathers_kept : (left left' : Option (List ℕ)) (s s' : BuffersState) → Consumes left left' [] → s' ≡ record s { broken = s'.broken } → (s'.broken ≡ false → s.broken ≡ false) → GathersOf left s left' s'
+gathers_kept left left' s s' gave is whole = record {
+  came = [];
+  gave = gave;
+  responder_is = ap (λ (q : BuffersState). q.responder) is;
+  outbox_is = ap (λ (q : BuffersState). q.outbox) is;
+  ended_is = ap (λ (q : BuffersState). q.ended) is;
+  in_line_is = ap (λ (q : BuffersState). q.in_line) is;
+  kept = λ h. (ap (λ (q : BuffersState). q.inbox) is ∙ sym (append-nil s.inbox), whole h);
+}
 
--- nothing came
-pub gathers_none : (left left' : Option (List ℕ)) (s s' : BuffersState) → Consumes left left' [] → s'.responder ≡ s.responder → s'.outbox ≡ s.outbox → s'.ended ≡ s.ended →
-    (s'.broken ≡ false → (s'.inbox ≡ s.inbox) × (s.broken ≡ false)) → GathersOf left s left' s'
-gathers_none left left' s s' gave responder outbox ended kept = gathers left left' [] s s' gave responder outbox ended (λ h. let k = kept h in (k.0 ∙ sym (append-nil s.inbox), k.1))
+pub gathers_none : (left left' : Option (List ℕ)) (s : BuffersState) → Consumes left left' [] → GathersOf left s left' s
+gathers_none left left' s gave = gathers_kept left left' s s gave refl (λ h. h)
+
+-- these bytes came, and wait
+pub gathers_some : (left left' : Option (List ℕ)) (came : List ℕ) (s s' : BuffersState) → Consumes left left' came → s' ≡ record s { inbox = s.inbox ++ came } → GathersOf left s left' s'
+gathers_some left left' came s s' gave is = record {
+  came = came;
+  gave = gave;
+  responder_is = ap (λ (q : BuffersState). q.responder) is;
+  outbox_is = ap (λ (q : BuffersState). q.outbox) is;
+  ended_is = ap (λ (q : BuffersState). q.ended) is;
+  in_line_is = ap (λ (q : BuffersState). q.in_line) is;
+  kept = λ h. (ap (λ (q : BuffersState). q.inbox) is, sym (ap (λ (q : BuffersState). q.broken) is) ∙ h);
+}
+
+-- or cannot wait, so that it is at fault
+pub gathers_refused : (left left' : Option (List ℕ)) (came : List ℕ) (s s' : BuffersState) → Consumes left left' came → s' ≡ record s { broken = true } → GathersOf left s left' s'
+gathers_refused left left' came s s' gave is = record {
+  came = came;
+  gave = gave;
+  responder_is = ap (λ (q : BuffersState). q.responder) is;
+  outbox_is = ap (λ (q : BuffersState). q.outbox) is;
+  ended_is = ap (λ (q : BuffersState). q.ended) is;
+  in_line_is = ap (λ (q : BuffersState). q.in_line) is;
+  kept = λ h. absurd (let bad : true ≡ false = sym (ap (λ (q : BuffersState). q.broken) is) ∙ h in cc);
+}
 
 pub gathers_more : (left mid left' : Option (List ℕ)) (s m s' : BuffersState) → GathersOf left s mid m → GathersOf mid m left' s' → GathersOf left s left' s'
 gathers_more left mid left' s m s' a b = record {
@@ -23,6 +52,7 @@ gathers_more left mid left' s m s' a b = record {
   responder_is = b.responder_is ∙ a.responder_is;
   outbox_is = b.outbox_is ∙ a.outbox_is;
   ended_is = b.ended_is ∙ a.ended_is;
+  in_line_is = b.in_line_is ∙ a.in_line_is;
   kept = λ h.
       let k = b.kept h in
       let l = a.kept k.1 in
@@ -32,7 +62,7 @@ gathers_more left mid left' s m s' a b = record {
 module _ {C : Type 0} (on : Seating C) where
   seat_gathers_none : (x : Option C) → SeatGathers on x x
   seat_gathers_none None = tt
-  seat_gathers_none (Some c) = (gathers_none (on.left c) (on.left c) (on.buffers c) (on.buffers c) (Consumes-nil (on.left c)) refl refl refl (λ h. (refl, h)), refl)
+  seat_gathers_none (Some c) = (gathers_none (on.left c) (on.left c) (on.buffers c) (Consumes-nil (on.left c)), refl)
 
   seat_gathers_more : (x y z : Option C) → SeatGathers on x y → SeatGathers on y z → SeatGathers on x z
   seat_gathers_more None None None a b = tt
@@ -70,8 +100,11 @@ module _ {C : Type 0} (on : Seating C) where
     many = length-set seats key (Some is);
   }
 
-  some_is : (c d : C) → Some c ≡ Some d → c ≡ d
-  some_is c d e = cc
+  -- one connection may be at fault where it sits, and nothing else changes
+  pub kept_at : (key : ℕ) (seats : List (Option C)) (was is : C) → key < length seats → get_or seats key None ≡ Some was → on.left is ≡ on.left was → on.gone is ≡ on.gone was →
+      on.buffers is ≡ record (on.buffers was) { broken = (on.buffers is).broken } → ((on.buffers is).broken ≡ false → (on.buffers was).broken ≡ false) → Gathered on seats (set seats key (Some is))
+  kept_at key seats was is below there left gone buffers whole =
+      gathered_at key seats was is below there (gathers_kept (on.left was) (on.left is) (on.buffers was) (on.buffers is) (rw left (Consumes-nil (on.left was))) buffers whole) gone
 
 no_line : (kind : WorldKind) (long : Bool) → requests kind (behind long []) ≡ []
 no_line kind true = refl

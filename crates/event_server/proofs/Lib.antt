@@ -11,3 +11,4 @@ mod AttendedLemmas
 pub mod ReleaseLemmas
 mod LosingLemmas
 mod TakingLemmas
+mod WaitingLemmas

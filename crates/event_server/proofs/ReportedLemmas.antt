@@ -38,6 +38,52 @@ last n i j keys lt at other =
       | inr not ↦ (j, omega (arith, lt, not), at)
     ]
 
+module _ {C : Type 0} (Became : Option C → Option C → Type 0) (keys : List ℕ) (seats : List (Option C)) where
+  -- so far, where each seat that was called became so, and nothing changed at the others
+  pub record CalledSo (n : ℕ) (seats' : List (Option C)) : Type 0 where
+    pub each : (i : ℕ) → IsFirst n keys i → Became (get_or seats i None) (get_or seats' i None)
+    pub same : (i : ℕ) → IsFirst n keys i ⊎ (get_or seats' i None ≡ get_or seats i None)
+
+  pub called_none : CalledSo 0 seats
+  called_none = record {
+    each = λ i first. absurd (let lt = first.1 in omega (arith, lt));
+    same = λ i. inr refl;
+  }
+
+  -- one more became so, and one that was called before is still so
+  pub called_on : (n : ℕ) (seats' seats'' : List (Option C)) → CalledSo n seats' →
+      ((x : Option C) → Became x (get_or seats' (get_or keys n 0) None) → Became x (get_or seats'' (get_or keys n 0) None)) →
+      Became (get_or seats' (get_or keys n 0) None) (get_or seats'' (get_or keys n 0) None) →
+      ((i : ℕ) → (i ≡ get_or keys n 0 → ⊥) → get_or seats'' i None ≡ get_or seats' i None) → CalledSo (n + 1) seats''
+  called_on n seats' seats'' so still one others =
+      let key = get_or keys n 0 in
+      record {
+        each = λ i first. elim (cases_eq i key) as (λ _. Became (get_or seats i None) (get_or seats'' i None)) [
+          | inl same ↦ subst (λ (k : ℕ). Became (get_or seats k None) (get_or seats'' k None)) (sym same)
+              (elim (so.same key) as (λ _. Became (get_or seats key None) (get_or seats'' key None)) [
+                | inl before ↦ still (get_or seats key None) (so.each key before)
+                | inr is ↦ subst (λ (x : Option C). Became x (get_or seats'' key None)) is one
+              ])
+          | inr other ↦ subst (λ (x : Option C). Became (get_or seats i None) x) (sym (others i other)) (so.each i (last n i first.0 keys first.1 first.2 other))
+        ];
+        same = λ i. elim (cases_eq i key) as (λ _. IsFirst (n + 1) keys i ⊎ (get_or seats'' i None ≡ get_or seats i None)) [
+          | inl same ↦ inl (n, omega arith, sym same)
+          | inr other ↦ elim (so.same i) as (λ _. IsFirst (n + 1) keys i ⊎ (get_or seats'' i None ≡ get_or seats i None)) [
+            | inl before ↦ inl (later n i keys before)
+            | inr is ↦ inr (others i other ∙ is)
+          ]
+        ];
+      }
+
+  pub called_all : (n : ℕ) (seats' : List (Option C)) → length keys ≤ n → CalledSo n seats' → (i : ℕ) → IsAmong i keys → Became (get_or seats i None) (get_or seats' i None)
+  called_all n seats' le so i among = so.each i (among.0, (let lt = among.1 in omega (arith, lt, le)), among.2)
+
+  pub called_others : (n : ℕ) (seats' : List (Option C)) → n ≤ length keys → CalledSo n seats' → (i : ℕ) → (IsAmong i keys → ⊥) → get_or seats' i None ≡ get_or seats i None
+  called_others n seats' le so i none = elim (so.same i) as (λ _. get_or seats' i None ≡ get_or seats i None) [
+    | inl first ↦ absurd (none (first.0, (let lt = first.1 in omega (arith, lt, le)), first.2))
+    | inr is ↦ is
+  ]
+
 module _ {C : Type 0} (on : Seating C) (peek : C → Option Peek) (Due : C → Type 0) where
   module _ (kind : WorldKind) (keys : List ℕ) where
     -- so far
@@ -107,53 +153,23 @@ module _ {C : Type 0} (on : Seating C) (peek : C → Option Peek) (Due : C → T
       ];
     }
 
+  still_broken : (x y : Option C) → SeatGathers on x y → SeatBroken on x → SeatBroken on y
+  still_broken None y g b = absurd b
+  still_broken (Some c) None g b = absurd g
+  still_broken (Some c) (Some d) g b = broken_or (on.buffers d).broken refl
+    where
+      broken_or : (t : Bool) → (on.buffers d).broken ≡ t → (on.buffers d).broken ≡ true
+      broken_or true is = is
+      broken_or false is = (let whole = (g.0.kept is).1 in let e : true ≡ false = sym b ∙ whole in absurd cc)
+
+  -- whose lines are in the batch is at fault
+  abbrev pub SeatGivesUp : Option C → Option C → Type 0
+  SeatGivesUp x y = SeatAsks peek x → SeatBroken on y
+
+  pub gives_up_still : (x y z : Option C) → SeatGathers on y z → SeatGivesUp x y → SeatGivesUp x z
+  gives_up_still x y z gathers up asks = still_broken y z gathers (up asks)
+
   module _ (keys : List ℕ) (seats : List (Option C)) where
-    -- so far, of those that are given up
-    pub record GivingUp (n : ℕ) (seats' : List (Option C)) : Type 0 where
-      pub given : (i : ℕ) → IsFirst n keys i → SeatAsks peek (get_or seats i None) → SeatBroken on (get_or seats' i None)
-      pub same : (i : ℕ) → IsFirst n keys i ⊎ (get_or seats' i None ≡ get_or seats i None)
-
-    pub giving_none : GivingUp 0 seats
-    giving_none = record {
-      given = λ i first asks. absurd (let lt = first.1 in omega (arith, lt));
-      same = λ i. inr refl;
-    }
-
-    still_broken : (x y : Option C) → SeatGathers on x y → SeatBroken on x → SeatBroken on y
-    still_broken None y g b = absurd b
-    still_broken (Some c) None g b = absurd g
-    still_broken (Some c) (Some d) g b = broken_or (on.buffers d).broken refl
-      where
-        broken_or : (t : Bool) → (on.buffers d).broken ≡ t → (on.buffers d).broken ≡ true
-        broken_or true is = is
-        broken_or false is = (let whole = (g.0.kept is).1 in let e : true ≡ false = sym b ∙ whole in absurd cc)
-
-    pub giving_on : (n : ℕ) (seats' seats'' : List (Option C)) → GivingUp n seats' → Gathered on seats' seats'' →
-        (SeatAsks peek (get_or seats' (get_or keys n 0) None) → SeatBroken on (get_or seats'' (get_or keys n 0) None)) →
-        ((i : ℕ) → (i ≡ get_or keys n 0 → ⊥) → get_or seats'' i None ≡ get_or seats' i None) → GivingUp (n + 1) seats''
-    giving_on n seats' seats'' so gathered reported others =
-        let key = get_or keys n 0 in
-        record {
-          given = λ i first asks. elim (cases_eq i key) as (λ _. SeatBroken on (get_or seats'' i None)) [
-            | inl same ↦ elim (so.same i) as (λ _. SeatBroken on (get_or seats'' i None)) [
-              | inl before ↦ still_broken (get_or seats' i None) (get_or seats'' i None) (gathered.each i) (so.given i before asks)
-              | inr is ↦ subst (λ (k : ℕ). SeatBroken on (get_or seats'' k None)) (sym same)
-                  (reported (subst (λ (k : ℕ). SeatAsks peek (get_or seats' k None)) same (subst (λ (x : Option C). SeatAsks peek x) (sym is) asks)))
-            ]
-            | inr other ↦ subst (λ (x : Option C). SeatBroken on x) (sym (others i other)) (so.given i (last n i first.0 keys first.1 first.2 other) asks)
-          ];
-          same = λ i. elim (cases_eq i key) as (λ _. IsFirst (n + 1) keys i ⊎ (get_or seats'' i None ≡ get_or seats i None)) [
-            | inl same ↦ inl (n, omega arith, sym same)
-            | inr other ↦ elim (so.same i) as (λ _. IsFirst (n + 1) keys i ⊎ (get_or seats'' i None ≡ get_or seats i None)) [
-              | inl before ↦ inl (later n i keys before)
-              | inr is ↦ inr (others i other ∙ is)
-            ]
-          ];
-        }
-
-    pub giving_all : (n : ℕ) (seats' : List (Option C)) → length keys ≤ n → GivingUp n seats' → (i : ℕ) → IsAmong i keys → SeatAsks peek (get_or seats i None) → SeatBroken on (get_or seats' i None)
-    giving_all n seats' le so i among = so.given i (among.0, (let lt = among.1 in omega (arith, lt, le)), among.2)
-
     -- so far, of those that take their turns
     abbrev pub Taking : ℕ → TurnLog → List (Option C) → Type 0
     Taking n log seats' = (i : ℕ) → (turns_of i log ≡ []) ⊎ (IsFirst n keys i × SeatTakesPeeked on peek Due (turns_of i log) (get_or seats i None) (get_or seats' i None))

@@ -44,6 +44,7 @@ pub record AnswersQuery (slots : SlotsState ℕ) (s s' : BuffersState) : Type 0 
   pub asks : IsQueryOf s.inbox query count
   pub responder_is : s'.responder ≡ s.responder
   pub ended_is : s'.ended ≡ s.ended
+  pub in_line_is : s'.in_line ≡ s.in_line
   pub inbox_is : s'.inbox ≡ drop count s.inbox
   pub kept : s'.broken ≡ false → (s'.outbox ≡ s.outbox ++ held_text slots query) × (s.broken ≡ false)
 

@@ -1,5 +1,5 @@
 -- what a connection takes and sends in a turn of the loop
-use Rattle.std.specs.Prelude.{◌≡◌, ◌⊎◌, ◌+◌, ◌<◌, ◌≤◌, ℕ, ◌++◌, ◌||◌, ◌&&◌, ◌==◌, if◌then◌else◌, List, [], Bool, true, false, length, take, Option}
+use Rattle.std.specs.Prelude.{◌≡◌, ◌⊎◌, ◌+◌, ◌-◌, ◌<◌, ◌≤◌, ℕ, ◌++◌, ◌||◌, ◌&&◌, ◌==◌, not, if◌then◌else◌, List, [], get_or, Bool, true, false, length, take, Option}
 use Rattle.std.specs.Io.KnownBytes.{Appends, Consumes, IsAtEnd}
 use Rattle.commands.specs.declared.kind.WorldKind.{WorldKind}
 use Rattle.commands.specs.Replies.{ShownReply}
@@ -23,10 +23,15 @@ pub record AreNewBuffers (kind : WorldKind) (s : BuffersState) : Type 0 where
   pub outbox : s.outbox ≡ []
   pub ended : s.ended ≡ false
   pub broken : s.broken ≡ false
+  pub in_line : s.in_line ≡ false
 
 -- where a transcript stands once these bytes are taken, and then the end where it came
 abbrev pub after_taken : WorldKind → List ℕ → Bool → Progress → Progress
 after_taken kind taken ends p = if ends then after_end kind (after_bytes kind p taken) else after_bytes kind p taken
+
+-- whether a line was begun, and not ended, once these bytes were taken
+abbrev pub goes_on_in_line : Bool → List ℕ → Bool
+goes_on_in_line in_line bytes = if length bytes == 0 then in_line else not (get_or bytes (length bytes - 1) 0 == 10)
 
 -- behind what waited to be taken these bytes came, and the end where it says so. A prefix of all that is taken, by these turns; the
 -- rest waits, and so do the replies to them, behind those that waited to be sent, but where it is at fault
@@ -37,6 +42,7 @@ pub record Takes (turns : List Turn) (came : List ℕ) (ends : Bool) (s s' : Buf
   pub goes_on : (before : List Turn) (p : Progress) → Spoke before s.responder p → Spoke (before ++ turns) s'.responder (after_taken s.responder.kind taken ends p)
   pub kind_is : s'.responder.kind ≡ s.responder.kind
   pub ended_is : s'.ended ≡ (s.ended || ends)
+  pub in_line_is : s'.in_line ≡ goes_on_in_line s.in_line taken
   pub kept : s'.broken ≡ false → (s'.inbox ≡ rest) × (s'.outbox ≡ s.outbox ++ replies_of turns) × (s.broken ≡ false)
 
 -- the same, where the bytes came of a stream that had so much left: at most 64 KiB, and the end only where it had no more
@@ -98,4 +104,5 @@ pub record SendsTo (gone : Option (List ℕ)) (s : BuffersState) (gone' : Option
   pub responder_is : s'.responder ≡ s.responder
   pub inbox_is : s'.inbox ≡ s.inbox
   pub ended_is : s'.ended ≡ s.ended
+  pub in_line_is : s'.in_line ≡ s.in_line
   pub whole : s'.broken ≡ false → s.broken ≡ false

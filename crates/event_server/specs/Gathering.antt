@@ -22,6 +22,7 @@ pub record GathersOf (left : Option (List ℕ)) (s : BuffersState) (left' : Opti
   pub responder_is : s'.responder ≡ s.responder
   pub outbox_is : s'.outbox ≡ s.outbox
   pub ended_is : s'.ended ≡ s.ended
+  pub in_line_is : s'.in_line ≡ s.in_line
   pub kept : s'.broken ≡ false → (s'.inbox ≡ s.inbox ++ came) × (s.broken ≡ false)
 
 -- how many of the seats a turn called

@@ -12,3 +12,4 @@ pub mod AttendingProofs
 pub mod Releasing
 pub mod Losing
 pub mod Taking
+pub mod Waiting

@@ -13,7 +13,9 @@ use Rattle.player.specs.Turns.{Turn}
 use Rattle.player.specs.Turns.Turn.{Answered}
 use Rattle.event_server.specs.Asking.{IsTakingOf}
 use Rattle.event_server.specs.BuffersState.{BuffersState}
+use Rattle.event_server.specs.Reported.{IsAmong}
 use Rattle.event_server.specs.Seats.{RepliesSent, Seating}
+use Rattle.event_server.specs.Waiting.{given_up}
 
 -- behind this reply `probe` is said: `enter` was accepted, or a `probe` missed
 abbrev pub wants_probe : {V : Type 0} → Reply V → Bool
@@ -63,12 +65,26 @@ pub record TakesNumber (ahead : Bool) (turns : List Turn) (s s' : BuffersState) 
   pub says : SaysTaking ahead identity turns answer
   pub responder_is : s'.responder ≡ s.responder
   pub ended_is : s'.ended ≡ s.ended
+  pub in_line_is : s'.in_line ≡ s.in_line
   pub inbox_is : s'.inbox ≡ drop count s.inbox
   pub kept : s'.broken ≡ false → (s'.outbox ≡ s.outbox ++ reply_text answer) × (s.broken ≡ false)
 
 -- it does, or nothing is said and nothing changes
 abbrev pub MayTakeNumber : Bool → List Turn → BuffersState → BuffersState → Type 0
 MayTakeNumber ahead turns s s' = ((turns ≡ []) × (s' ≡ s)) ⊎ TakesNumber ahead turns s s'
+
+module _ {C : Type 0} (on : Seating C) where
+  -- a connection that takes a number is at fault, and nothing else changes; an empty seat stays empty
+  abbrev pub SeatGivenUp : Option C → Option C → Type 0
+  SeatGivenUp None None = Unit {0}
+  SeatGivenUp None (Some c) = ⊥
+  SeatGivenUp (Some c) None = ⊥
+  SeatGivenUp (Some c) (Some d) = (on.buffers d ≡ given_up (on.buffers c)) × (on.left d ≡ on.left c) × (on.gone d ≡ on.gone c)
+
+  -- so of each of these seats, and nothing changes at the others
+  pub record TakingsGivenUp (keys : List ℕ) (seats seats' : List (Option C)) : Type 0 where
+    pub each : (i : ℕ) → IsAmong i keys → SeatGivenUp (get_or seats i None) (get_or seats' i None)
+    pub others : (i : ℕ) → (IsAmong i keys → ⊥) → get_or seats' i None ≡ get_or seats i None
 
 module _ {C : Type 0} (on : Seating C) (ahead : Bool) where
   -- by these turns a connection may take a number, and nothing is read or sent; an empty seat stays empty

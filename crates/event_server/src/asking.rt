@@ -5,6 +5,7 @@ ghost use Rattle.command_lines.specs.Lines.{has_no_lf};
 ghost use Rattle.held_lines.specs.declared.query.HeldQuery.{HeldQuery};
 ghost use Rattle.held_lines.specs.declared.query.TheConstants.{QUERY_MAX};
 ghost use Rattle.event_server.specs.Asking.{IsPrefixOf, IsQueryOf, IsTakingOf, MayAsk, taking_of};
+ghost use Rattle.event_server.specs.Waiting.{begins, first_query, first_taking, is_prefix_of};
 
 use command_lines::words::{is_word, number};
 use held_lines::{HeldQuery, QUERY_MAX, held_query};
@@ -24,7 +25,8 @@ const INSIDE: u8 = b'k';
 
 /// What the first line of these bytes asks, where it asks who holds numbers, and how many bytes it has with its LF.
 pub(crate) fn first_query(bytes: &[u8]) -> Option<(HeldQuery, usize)>
-    ensures { IfSome result (λ r. IsQueryOf bytes.now r.0 r.1) }
+    ensures exact { result ≡ first_query bytes.now }
+    ensures asks { IfSome result (λ r. IsQueryOf bytes.now r.0 r.1) }
 {
     let end = memchr(LF, bytes)?;
     let query = held_query(&bytes[..end])?;
@@ -44,7 +46,8 @@ pub(crate) fn taking_of(line: &[u8]) -> Option<u64>
 
 /// For which identity the first line of these bytes takes a number, where it takes one, and how many bytes it has with its LF.
 pub(crate) fn first_taking(bytes: &[u8]) -> Option<(u64, usize)>
-    ensures { IfSome result (λ r. IsTakingOf bytes.now r.0 r.1) }
+    ensures exact { result ≡ first_taking bytes.now }
+    ensures asks { IfSome result (λ r. IsTakingOf bytes.now r.0 r.1) }
 {
     let end = memchr(LF, bytes)?;
     let identity = taking_of(&bytes[..end])?;
@@ -58,7 +61,8 @@ pub(crate) fn is_own(line: &[u8]) -> bool {
 
 // Whether the first of these bytes is that of a line that the server answers by itself.
 fn begins(bytes: &[u8]) -> bool
-    ensures { result ≡ true → (get_or bytes.now 0 0 ≡ 104) ⊎ (get_or bytes.now 0 0 ≡ 116) }
+    ensures exact { result ≡ begins bytes.now }
+    ensures letter { result ≡ true → (get_or bytes.now 0 0 ≡ 104) ⊎ (get_or bytes.now 0 0 ≡ 116) }
 {
     match bytes {
         [first, ..] => *first == ASKS || *first == TAKES,
@@ -68,7 +72,7 @@ fn begins(bytes: &[u8]) -> bool
 
 // Whether no line ends in these bytes.
 fn lacks_end(bytes: &[u8]) -> bool
-    ensures { result ≡ true → has_no_lf bytes.now ≡ true }
+    ensures { result ≡ has_no_lf bytes.now }
 {
     match memchr(LF, bytes) {
         Some(_) => false,
@@ -78,7 +82,8 @@ fn lacks_end(bytes: &[u8]) -> bool
 
 /// Whether these bytes are the beginning of a line that may ask who holds numbers, or take one, with no LF.
 pub(crate) fn is_prefix_of(bytes: &[u8]) -> bool
-    ensures { result ≡ true → IsPrefixOf bytes.now }
+    ensures exact { result ≡ is_prefix_of bytes.now }
+    ensures prefix { result ≡ true → IsPrefixOf bytes.now }
 {
     begins(bytes) && bytes.len() <= QUERY_MAX && lacks_end(bytes)
 }

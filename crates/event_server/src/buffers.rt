@@ -1,13 +1,14 @@
 //! A connection without its stream.
 
-ghost use Rattle.std.specs.Prelude.{◌≡◌, ◌↔◌, ◌+◌, ◌<◌, ◌≤◌, ◌++◌, true, false, ◌⊎◌, List, [], length, drop, take, Some, IfOk, IfSome, IsTrue};
+ghost use Rattle.std.specs.Prelude.{◌≡◌, ◌&&◌, ◌↔◌, ◌+◌, ◌<◌, ◌≤◌, ◌++◌, true, false, ◌⊎◌, List, [], length, drop, take, Some, IfOk, IfSome, IsTrue};
 ghost use Rattle.player.specs.Knows.{Knows};
 ghost use Rattle.player.specs.Runs.{Runs};
 ghost use Rattle.player.specs.Turns.{Turn};
 ghost use Rattle.player.specs.declared.form.TheConstants.{TURN_ROOM};
 ghost use Rattle.held_lines.specs.declared.query.TheConstants.{QUERY_MAX};
 ghost use Rattle.event_server.specs.Asking.{IsPrefixOf, IsQueryOf, IsTakingOf, MayAsk};
-ghost use Rattle.event_server.specs.ConnectionBuffers.{IsFull, AreNewBuffers, Takes, TakesFirst};
+ghost use Rattle.event_server.specs.ConnectionBuffers.{goes_on_in_line, IsFull, AreNewBuffers, Takes, TakesFirst};
+ghost use Rattle.event_server.specs.Waiting.{has_room, is_at_line, is_prefix_of, waiting_query, waiting_taking, waits_for_more};
 
 use crate::asking::{before_query, first_query, first_taking, is_prefix_of};
 use commands::WorldKind;
@@ -45,7 +46,7 @@ impl<A: Allocator> Model for Buffers<A> {
 
     ghost Value = { BuffersState };
 
-    ghost view = { λ w. record { responder = w.responder; inbox = w.inbox.items; outbox = w.outbox.items; ended = w.ended; broken = w.broken } };
+    ghost view = { λ w. record { responder = w.responder; inbox = w.inbox.items; outbox = w.outbox.items; ended = w.ended; broken = w.broken; in_line = w.in_line } };
 
     ghost invariant = { λ w. (length w.inbox.items ≤ 65536) × (length w.outbox.items ≤ 65536) };
 }
@@ -144,12 +145,14 @@ impl<A: Allocator> Buffers<A> {
         ensures count { IsTrue result → self.now.responder.summary.lines ≤ MOST_LINES }
         ensures full { result ≡ false → IsFull self.now }
         ensures none { self.now.outbox ≡ [] → self.now.responder.summary.lines ≤ MOST_LINES → IsTrue result }
+        ensures exact { result ≡ has_room self.now }
     {
         self.outbox.len() <= UNSENT_ROOM - TURN_ROOM && self.responder.summary().lines <= MOST_LINES
     }
 
     /// Whether nothing waits but the beginning of a line that may ask who holds numbers, or take one: then more of it is to come.
     pub fn waits_for_more(&self) -> bool
+        ensures exact { result ≡ waits_for_more self.now }
         ensures none { result ≡ true → 0 < length self.now.inbox → MayAsk self.now.inbox }
         ensures few { result ≡ true → length self.now.inbox ≤ QUERY_MAX }
         ensures most { length self.now.inbox ≤ UNSENT_ROOM }
@@ -157,18 +160,27 @@ impl<A: Allocator> Buffers<A> {
         self.inbox.is_empty() || self.is_begun()
     }
 
+    // Whether what waits begins with a line, and lines are still answered.
+    fn is_at_line(&self) -> bool
+        ensures { result ≡ is_at_line self.now }
+    {
+        !self.in_line && !self.is_over()
+    }
+
     // Whether the beginning of a line waits that may ask who holds numbers, or take one.
     fn is_begun(&self) -> bool
-        ensures { result ≡ true → IsPrefixOf self.now.inbox }
+        ensures exact { result ≡ (is_at_line self.now && is_prefix_of self.now.inbox) }
+        ensures prefix { result ≡ true → IsPrefixOf self.now.inbox }
     {
-        !self.in_line && !self.is_over() && is_prefix_of(&self.inbox)
+        self.is_at_line() && is_prefix_of(&self.inbox)
     }
 
     /// What is asked by the line that waits first, where that asks who holds numbers, and how many bytes the line has with its LF.
     pub fn query(&self) -> Option<(HeldQuery, usize)>
-        ensures { IfSome result (λ r. IsQueryOf self.now.inbox r.0 r.1) }
+        ensures exact { result ≡ waiting_query self.now }
+        ensures asks { IfSome result (λ r. IsQueryOf self.now.inbox r.0 r.1) }
     {
-        if self.in_line || self.is_over() {
+        if !self.is_at_line() {
             return None;
         }
         first_query(&self.inbox)
@@ -176,9 +188,10 @@ impl<A: Allocator> Buffers<A> {
 
     /// For which identity the line that waits first takes a number, where it takes one, and how many bytes the line has with its LF.
     pub fn taking(&self) -> Option<(u64, usize)>
-        ensures { IfSome result (λ r. IsTakingOf self.now.inbox r.0 r.1) }
+        ensures exact { result ≡ waiting_taking self.now }
+        ensures asks { IfSome result (λ r. IsTakingOf self.now.inbox r.0 r.1) }
     {
-        if self.in_line || self.is_over() {
+        if !self.is_at_line() {
             return None;
         }
         first_taking(&self.inbox)
@@ -189,7 +202,7 @@ impl<A: Allocator> Buffers<A> {
     pub fn answer<B: Allocator>(&mut self, count: usize, replies: &mut Replies<B>)
         requires inside { count ≤ length self.old.inbox }
         requires room { length self.old.outbox + length replies.old ≤ UNSENT_ROOM }
-        ensures same { (self.new.responder ≡ self.old.responder) × (self.new.ended ≡ self.old.ended) }
+        ensures same { (self.new.responder ≡ self.old.responder) × (self.new.ended ≡ self.old.ended) × (self.new.in_line ≡ self.old.in_line) }
         ensures taken { self.new.inbox ≡ drop count self.old.inbox }
         ensures held { self.new.broken ≡ false → (self.new.outbox ≡ self.old.outbox ++ replies.old) × (self.old.broken ≡ false) }
         ensures empty { replies.new ≡ [] }
@@ -212,7 +225,7 @@ impl<A: Allocator> Buffers<A> {
     // So many of the bytes that waited were taken.
     fn note_taken(&mut self, count: usize)
         requires { count ≤ length self.old.inbox }
-        ensures { self.new ≡ record self.old { inbox = drop count self.old.inbox } }
+        ensures { self.new ≡ record self.old { inbox = drop count self.old.inbox; in_line = goes_on_in_line self.old.in_line (take count self.old.inbox) } }
     {
         if 0 < count {
             self.in_line = self.inbox[count - 1] != LF;
@@ -316,7 +329,7 @@ impl<A: Allocator> Buffers<A> {
     // Replies wait to be sent.
     fn hold<B: Allocator>(&mut self, replies: &mut Replies<B>)
         requires { length self.old.outbox + length replies.old ≤ UNSENT_ROOM }
-        ensures same { (self.new.responder ≡ self.old.responder) × (self.new.inbox ≡ self.old.inbox) × (self.new.ended ≡ self.old.ended) }
+        ensures same { (self.new.responder ≡ self.old.responder) × (self.new.inbox ≡ self.old.inbox) × (self.new.ended ≡ self.old.ended) × (self.new.in_line ≡ self.old.in_line) }
         ensures held { self.new.broken ≡ false → (self.new.outbox ≡ self.old.outbox ++ replies.old) × (self.old.broken ≡ false) }
         ensures empty { replies.new ≡ [] }
     {

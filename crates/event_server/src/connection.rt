@@ -15,6 +15,7 @@ ghost use Rattle.event_server.specs.Asking.{MayAnswer, MayAsk};
 ghost use Rattle.event_server.specs.ConnectionBuffers.{is_done, CanSend, CanTake, HasTakenAll, SomeTaken, Takes, TakesEnd, TakesPeeked, SendsTo};
 ghost use Rattle.event_server.specs.Gathering.{GathersOf};
 ghost use Rattle.event_server.specs.Taking.{MayTakeNumber};
+ghost use Rattle.event_server.specs.Waiting.{given_up, may_take, taken_for};
 ghost use Rattle.event_server.specs.declared.shared.TheConstants.{READ_ROOM};
 ghost use Rattle.event_server.specs.declared.buffers.TheConstants.{UNSENT_ROOM, MOST_LINES};
 
@@ -150,6 +151,7 @@ impl<S: Stream, A: Allocator> Connection<S, A> {
         ensures whole { IsTrue result → self.now.buffers.broken ≡ false }
         ensures reply { IsTrue result → length self.now.buffers.outbox + TURN_ROOM ≤ UNSENT_ROOM }
         ensures count { IsTrue result → self.now.buffers.responder.summary.lines ≤ MOST_LINES }
+        ensures exact { result ≡ may_take self.now.buffers }
     {
         !self.buffers.is_broken() && !self.buffers.is_ended() && self.buffers.has_room()
     }
@@ -489,7 +491,9 @@ impl<S: Stream, A: Allocator> Connection<S, A> {
     }
 
     /// For which identity the line that waits first takes a number, where it takes one and there is room for the answer.
-    pub fn taking(&self) -> Option<u64> {
+    pub fn taking(&self) -> Option<u64>
+        ensures { result ≡ taken_for self.now.buffers }
+    {
         if !self.may_take() {
             return None;
         }
@@ -501,9 +505,7 @@ impl<S: Stream, A: Allocator> Connection<S, A> {
 
     /// Where it takes a number, the lines of that went to the persister, and what they are answered is not known: then it is at fault.
     pub fn give_up_taking(&mut self)
-        ensures buffers { self.new.buffers ≡ record self.old.buffers { broken = self.new.buffers.broken } }
-        ensures whole { self.new.buffers.broken ≡ false → self.old.buffers.broken ≡ false }
-        ensures stream { self.new.stream ≡ self.old.stream }
+        ensures { self.new ≡ record self.old { buffers = given_up self.old.buffers } }
     {
         if self.taking().is_some() {
             self.buffers.fail();

@@ -486,7 +486,7 @@ impl Hosting {
         if !shared.waits {
             return Ok(());
         }
-        match self.take_of(rt, service, persister, shared, count) {
+        match self.take_numbers_of(rt, service, persister, shared, count) {
             Ok(taken) => {
                 self.note_lost(taken);
                 Ok(())
@@ -496,7 +496,7 @@ impl Hosting {
     }
 
     // Takes numbers for those of the first of the seats that are ready who say `take`, where any do.
-    fn take_of<R, D: Service<R>, K: Persist<D>>(
+    fn take_numbers_of<R, D: Service<R>, K: Persist<D>>(
         &mut self,
         rt: &R,
         service: &mut Attended<D>,

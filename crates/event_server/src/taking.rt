@@ -1,6 +1,6 @@
 //! Lines that take a number, after a turn of the loop: `take ID` is `enter ID`, and `probe ID` as often as it takes.
 
-ghost use Rattle.std.specs.Prelude.{◌≡◌, ◌⊎◌, ◌≤◌, ℕ, List, [], map, length, true, false, OnOk, OnErr};
+ghost use Rattle.std.specs.Prelude.{◌≡◌, ◌⊎◌, ◌≤◌, ℕ, List, [], None, get_or, map, length, take, true, false, IfOk, OnOk, OnErr};
 ghost use Rattle.bit_allocator.specs.declared.pool.TheConstants.{MOST_NUMBERS};
 ghost use Rattle.commands.specs.Replies.{ShownReply, with_view};
 ghost use Rattle.commands.specs.Requests.{Request};
@@ -9,11 +9,11 @@ ghost use Rattle.player.specs.Runs.{Runs};
 ghost use Rattle.player.specs.Shared.{TurnLog};
 ghost use Rattle.player.specs.Turns.{Turn};
 ghost use Rattle.event_server.specs.Attending.{Hears, acts_in, acts_of, number_at};
-ghost use Rattle.event_server.specs.Gathering.{Gathered};
+ghost use Rattle.event_server.specs.Gathering.{Gathered, count_of};
 ghost use Rattle.event_server.specs.Losing.{lost_acts};
 ghost use Rattle.event_server.specs.Seats.{seats_of, NoneSent};
 ghost use Rattle.event_server.specs.SharedBuffers.{AreShared};
-ghost use Rattle.event_server.specs.Taking.{IsTaking, NumbersTaken, SaysTaking, SeatTook, TakingsKept, TakingsPrefetched, probed, wants_probe};
+ghost use Rattle.event_server.specs.Taking.{IsTaking, NumbersTaken, SaysTaking, SeatGivenUp, SeatTook, TakingsGivenUp, TakingsKept, TakingsPrefetched, probed, wants_probe};
 
 use crate::attended::Attended;
 use crate::connection::{Connection, Stage};
@@ -293,7 +293,9 @@ fn gather_takings<S: Stream, A: Allocator, B: Allocator>(
 
 // The connection of a seat is at fault, where there is one that takes a number.
 fn give_up_taking_at<S: Stream, A: Allocator>(seats: &mut [Option<Connection<S, A>>], key: usize)
-    ensures { Gathered (seats_of S.left S.gone) seats.old seats.new }
+    ensures gathered { Gathered (seats_of S.left S.gone) seats.old seats.new }
+    ensures given { SeatGivenUp (seats_of S.left S.gone) (get_or seats.old key None) (get_or seats.new key None) }
+    ensures others { (i : ℕ) → (i ≡ key → ⊥) → get_or seats.new i None ≡ get_or seats.old i None }
 {
     if key < seats.len() {
         if let Some(connection) = &mut seats[key] {
@@ -307,7 +309,8 @@ fn give_up_takings<S: Stream, A: Allocator>(
     seats: &mut [Option<Connection<S, A>>],
     called: &[usize],
 )
-    ensures { Gathered (seats_of S.left S.gone) seats.old seats.new }
+    ensures gathered { Gathered (seats_of S.left S.gone) seats.old seats.new }
+    ensures given { TakingsGivenUp (seats_of S.left S.gone) called.now seats.old seats.new }
 {
     for key in called {
         give_up_taking_at(seats, *key);
@@ -337,10 +340,12 @@ pub fn prefetch_takings<R, D: Service<R>, K: Persist<D>, S: Stream, A: Allocator
     ensures served { (count : ℕ) → result ≡ Ok (Called.Served count) → (turned : TakingsPrefetched (seats_of S.left S.gone) true D.may K.prefetches K.persists
         persister.old service.old.service seats.old batch.new.lines.items persister.new service.new.service seats.new) ×
         Hears (acts_in (number_at numbers.now) turned.turn.log) service.old service.new }
-    ensures unserved { (count : ℕ) → result ≡ Ok (Called.Unserved count) → Gathered (seats_of S.left S.gone) seats.old seats.new }
+    ensures unserved { (count : ℕ) → result ≡ Ok (Called.Unserved count) → Gathered (seats_of S.left S.gone) seats.old seats.new ×
+        TakingsGivenUp (seats_of S.left S.gone) (take count called.now) seats.old seats.new }
     ensures lost { (count : ℕ) → result ≡ Ok (Called.Unserved count) → K.waits persister.old service.old.service persister.new service.new.service ×
         Hears (lost_acts batch.new.kind service.old.stays (whole_lines batch.new.lines.items)) service.old service.new }
     ensures unsent { OnErr result (NoneSent (seats_of S.left S.gone) seats.old seats.new) }
+    ensures few { IfOk result (λ called_of. count_of called_of ≤ length called.now) }
     ensures room { AreShared shared.new }
 {
     let seen = gather_takings(batch, &mut shared.replies, seats, called);

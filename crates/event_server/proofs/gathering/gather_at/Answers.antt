@@ -13,7 +13,7 @@ returns-in_default-stage-clause-gathered g c =
     let was = c.in-Some.connection in
     let left = g.S.Stream.left was.stream in
     gathered_at (seats_of g.S.Stream.left g.S.Stream.gone) c.args.key c.args.seats.now was was below
-    (get_or_default c.args.seats.now c.args.key None c.index-seats-key.result below ∙ c.in-Some.is) (gathers_none left left was.buffers was.buffers (Consumes-nil left) refl refl refl (λ h. (refl, h))) refl
+    (get_or_default c.args.seats.now c.args.key None c.index-seats-key.result below ∙ c.in-Some.is) (gathers_none left left was.buffers (Consumes-nil left)) refl
 
 pub returns-in-Queued-clause-gathered : goal.returns-in-Queued-clause-gathered
 returns-in-Queued-clause-gathered g c =

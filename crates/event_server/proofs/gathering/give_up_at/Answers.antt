@@ -3,7 +3,7 @@ use Rattle.std.proofs.lemmas.List.{set-get_or, get_or_past}
 use Rattle.std.proofs.Common.{◌≡◌, ◌∙◌, [], Some, None, ap, subst, sym, get_or, refl}
 use Rattle.event_server.proofs.Common.{get_or_default, get_or-set_same, get_or-set_other, Consumes, Consumes-nil, SeatAsks, SeatBroken, SeatIs, seats_of, BuffersState, Gathered}
 use Rattle.event_server.specs.declared.connection.Stage.TheVariants as stage
-use Rattle.event_server.proofs.GatherLemmas.{gathered_at, gathers_none, gathered_none}
+use Rattle.event_server.proofs.GatherLemmas.{gathered_none, kept_at}
 use Rattle.event_server.proofs.gathering.give_up_at.Goals as goal
 
 pub returns-in-Some : goal.returns-in-Some
@@ -12,14 +12,10 @@ returns-in-Some g c =
     let below = c.if-key-seats.true in
     let was = c.in-Some.connection in
     let is = c.give_up.new.self in
-    let buffers = c.give_up.ensures.buffers in
     let there = get_or_default c.args.seats.now c.args.key None c.index-seats-key.result below ∙ c.in-Some.is in
-    let none : Consumes (g.S.Stream.left was.stream) (g.S.Stream.left is.stream) [] = rw c.give_up.ensures.stream (Consumes-nil (g.S.Stream.left was.stream)) in
     record {
-      gathered = gathered_at on c.args.key c.args.seats.now was is below there
-          (gathers_none (g.S.Stream.left was.stream) (g.S.Stream.left is.stream) was.buffers is.buffers none (ap (λ (q : BuffersState). q.responder) buffers) (ap (λ (q : BuffersState). q.outbox) buffers) (ap (λ (q : BuffersState). q.ended) buffers)
-          (λ h. (ap (λ (q : BuffersState). q.inbox) buffers, c.give_up.ensures.whole h)))
-          (ap (λ s. g.S.Stream.gone s) c.give_up.ensures.stream);
+      gathered = kept_at on c.args.key c.args.seats.now was is below there (ap (λ s. g.S.Stream.left s) c.give_up.ensures.stream) (ap (λ s. g.S.Stream.gone s) c.give_up.ensures.stream)
+          c.give_up.ensures.buffers c.give_up.ensures.whole;
       reported = λ asks. subst (λ x. SeatBroken on x) (sym (get_or-set_same c.args.seats.now c.args.key (Some is) None below)) (c.give_up.ensures.reported (subst (λ x. SeatAsks (λ q. q.peek) x) there asks));
       rests = subst (λ x. SeatIs (λ q. q.stage ≡ stage.Idle) x) (sym (get_or-set_same c.args.seats.now c.args.key (Some is) None below)) c.give_up.ensures.stage;
       others = λ i other. get_or-set_other c.args.seats.now c.args.key i (Some is) None other;

@@ -1,8 +1,10 @@
 use borrow.Author.Rules.{scaled_Fits}
-use Rattle.std.proofs.lemmas.List.{set-get_or}
-use Rattle.std.proofs.Common.{◌∙◌, [], None, ap, subst, sym}
-use Rattle.event_server.proofs.Common.{get_or_default, Consumes, Consumes-nil, seats_of, BuffersState, Gathered}
-use Rattle.event_server.proofs.GatherLemmas.{gathered_at, gathers_none, gathered_none}
+use Rattle.std.proofs.lemmas.List.{set-get_or, get_or_past}
+use Rattle.std.proofs.Common.{◌≡◌, ◌∙◌, None, Some, ap, get_or, refl, subst, sym}
+use Rattle.event_server.proofs.Common.{get_or_default, get_or-set_same, get_or-set_other, seats_of, BuffersState, Gathered}
+use Rattle.event_server.proofs.GatherLemmas.{gathered_none, kept_at}
+use Rattle.event_server.proofs.WaitingLemmas.{given_whole}
+use Rattle.event_server.specs.Taking.{SeatGivenUp}
 use Rattle.event_server.proofs.taking.give_up_taking_at.Goals as goal
 
 pub returns-in-Some : goal.returns-in-Some
@@ -11,13 +13,18 @@ returns-in-Some g c =
     let below = c.if-key-seats.true in
     let was = c.in-Some.connection in
     let is = c.give_up_taking.new.self in
-    let buffers = c.give_up_taking.ensures.buffers in
+    let up = c.give_up_taking.ensures in
+    let left = ap (λ s. g.S.Stream.left s.stream) up in
+    let gone = ap (λ s. g.S.Stream.gone s.stream) up in
+    let buffers = ap (λ s. s.buffers) up in
     let there = get_or_default c.args.seats.now c.args.key None c.index-seats-key.result below ∙ c.in-Some.is in
-    let none : Consumes (g.S.Stream.left was.stream) (g.S.Stream.left is.stream) [] = rw c.give_up_taking.ensures.stream (Consumes-nil (g.S.Stream.left was.stream)) in
-    gathered_at on c.args.key c.args.seats.now was is below there
-    (gathers_none (g.S.Stream.left was.stream) (g.S.Stream.left is.stream) was.buffers is.buffers none (ap (λ (q : BuffersState). q.responder) buffers) (ap (λ (q : BuffersState). q.outbox) buffers) (ap (λ (q : BuffersState). q.ended) buffers)
-    (λ h. (ap (λ (q : BuffersState). q.inbox) buffers, c.give_up_taking.ensures.whole h)))
-    (ap (λ s. g.S.Stream.gone s) c.give_up_taking.ensures.stream)
+    record {
+      gathered = kept_at on c.args.key c.args.seats.now was is below there left gone
+          (buffers ∙ ap (λ b. (let r : BuffersState = record was.buffers { broken = b } in r)) (sym (ap (λ (q : BuffersState). q.broken) buffers)))
+          (λ whole. given_whole was.buffers (sym (ap (λ (q : BuffersState). q.broken) buffers) ∙ whole));
+      given = rw (there, get_or-set_same c.args.seats.now c.args.key (Some is) None below) (buffers, left, gone);
+      others = λ i other. get_or-set_other c.args.seats.now c.args.key i (Some is) None other;
+    }
 
 pub offset_bounds-seats-key : goal.offset_bounds-seats-key
 offset_bounds-seats-key g c = scaled_Fits _ _ _ c.if-key-seats.true c.well_formed.0.1
@@ -26,9 +33,21 @@ pub bounds-seats-key : goal.bounds-seats-key
 bounds-seats-key g c = c.if-key-seats.true
 
 pub returns-else-key-seats : goal.returns-else-key-seats
-returns-else-key-seats g c = gathered_none (seats_of g.S.Stream.left g.S.Stream.gone) c.args.seats.now
+returns-else-key-seats g c =
+    let on = seats_of g.S.Stream.left g.S.Stream.gone in
+    record {
+      gathered = gathered_none on c.args.seats.now;
+      given = subst (λ x. SeatGivenUp on x x) (sym (get_or_past c.args.seats.now c.args.key None c.if-key-seats.false)) tt;
+      others = λ i other. refl;
+    }
 
 pub returns-in_default : goal.returns-in_default
 returns-in_default g c =
-    subst (λ x. Gathered (seats_of g.S.Stream.left g.S.Stream.gone) c.args.seats.now x) (sym (set-get_or c.args.seats.now c.args.key c.index-seats-key.result))
-    (gathered_none (seats_of g.S.Stream.left g.S.Stream.gone) c.args.seats.now)
+    let on = seats_of g.S.Stream.left g.S.Stream.gone in
+    let back = set-get_or c.args.seats.now c.args.key c.index-seats-key.result in
+    let there = get_or_default c.args.seats.now c.args.key None c.index-seats-key.result c.if-key-seats.true ∙ c.in_default.is in
+    record {
+      gathered = subst (λ x. Gathered on c.args.seats.now x) (sym back) (gathered_none on c.args.seats.now);
+      given = subst (λ l. SeatGivenUp on (get_or c.args.seats.now c.args.key None) (get_or l c.args.key None)) (sym back) (subst (λ x. SeatGivenUp on x x) (sym there) tt);
+      others = λ i other. ap (λ x. get_or x i None) back;
+    }

@@ -1,5 +1,10 @@
 use Rattle.event_server.proofs.Common.{Gathered, seats_of}
+use Rattle.event_server.proofs.ReportedLemmas.{CalledSo}
+use Rattle.event_server.specs.Taking.{SeatGivenUp}
 use Rattle.event_server.proofs.taking.give_up_takings.Given as goal
 
 abbrev pub invariant-loop-key : goal.invariant-loop-key
-invariant-loop-key g l = Gathered (seats_of g.S.Stream.left g.S.Stream.gone) l.fn.seats l.seats
+invariant-loop-key g l = record {
+  gathered : Gathered (seats_of g.S.Stream.left g.S.Stream.gone) l.fn.seats l.seats;
+  given : CalledSo (SeatGivenUp (seats_of g.S.Stream.left g.S.Stream.gone)) l.called l.fn.seats l.key-index l.seats;
+}

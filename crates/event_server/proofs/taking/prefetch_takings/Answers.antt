@@ -1,5 +1,7 @@
 use Rattle.std.proofs.lemmas.List.{length-take-le}
-use Rattle.std.proofs.Common.{Ok, ap, refl, subst, sym}
+use Rattle.std.proofs.Common.{◌≡◌, ℕ, Ok, ap, refl, subst, sym, take}
+use Rattle.event_server.proofs.Common.{seats_of}
+use Rattle.event_server.specs.Taking.{TakingsGivenUp}
 use Rattle.event_server.proofs.AttendedLemmas.{hears_about}
 use Rattle.event_server.proofs.LosingLemmas.{lost_whole}
 use Rattle.event_server.proofs.taking.prefetch_takings.Goals as goal
@@ -16,6 +18,11 @@ returns-in-Lost-clause-lost g c = λ count same. (
   subst (λ d. g.K.Persist.waits c.args.persister.now c.args.service.now.service c.prefetch.new.persister d) (sym c.note_lost.ensures.same) (c.in_ok-prefetch.ensures.lost (ap Ok c.in-Lost.is)),
   lost_whole c.args.service.now c.note_lost.new.service c.prefetch.new.service _ _ _ _ refl c.deref.ensures.value c.note_lost.ensures.hears,
 )
+
+pub returns-in-Lost-clause-unserved : goal.returns-in-Lost-clause-unserved
+returns-in-Lost-clause-unserved g c = λ count same.
+    let n : c.gather_takings-seen.result ≡ count = cc in
+    (c.give_up_takings.ensures.gathered, subst (λ (k : ℕ). TakingsGivenUp (seats_of g.S.Stream.left g.S.Stream.gone) (take k c.args.called.now) c.args.seats.now c.give_up_takings.new.seats) n c.give_up_takings.ensures.given)
 
 pub slice_bounds-few-end : goal.slice_bounds-few-end
 slice_bounds-few-end g c = sym (length-take-le c.gather_takings-seen.result c.args.called.now c.gather_takings-seen.ensures.few)

@@ -4,6 +4,7 @@ use Rattle.player.specs.Progress.{after_bytes}
 use Rattle.player.specs.Says.{Says}
 use Rattle.player.specs.Texts.{turn_reply}
 use Rattle.event_server.specs.BuffersState.{BuffersState}
+use Rattle.event_server.specs.ConnectionBuffers.{goes_on_in_line}
 use Rattle.event_server.proofs.BuffersLemmas.{cut_first, takes_first}
 use Rattle.event_server.proofs.buffers.Buffers.take_first.Goals as goal
 
@@ -27,6 +28,8 @@ returns-clause-takes g c =
     (subst (λ (l : List ℕ). Says g.D.Service.may turn_reply c.args.service.now c.self.inside.responder c.args.replies.now c.take_some-used.new.service c.take_some-used.new.self c.take_some-used.new.out (λ p. after_bytes c.self.inside.responder.kind p l)) cut c.take_some-used.ensures.says)
     le count c.take_some-used.ensures.kept
     (ap (λ (q : BuffersState). q.inbox) is ∙ ap (λ l. drop n l) (same.1 ∙ ap (λ (q : BuffersState). q.inbox) was)) (ap (λ (q : BuffersState). q.ended) is ∙ same.2 ∙ ap (λ (q : BuffersState). q.ended) was)
+    (ap (λ (q : BuffersState). q.in_line) is ∙ ap (λ l. goes_on_in_line c.hold.new.self.in_line (take n l)) (same.1 ∙ ap (λ (q : BuffersState). q.inbox) was)
+    ∙ ap (λ b. goes_on_in_line b (take n s.inbox)) (same.3 ∙ ap (λ (q : BuffersState). q.in_line) was))
     (λ h.
     let held = c.hold.ensures.held (sym (ap (λ (q : BuffersState). q.broken) is) ∙ h) in
     (ap (λ (q : BuffersState). q.outbox) is ∙ held.0 ∙ ap (λ l. l ++ c.take_some-used.new.out) (ap (λ (q : BuffersState). q.outbox) was), sym (ap (λ (q : BuffersState). q.broken) was) ∙ held.1))

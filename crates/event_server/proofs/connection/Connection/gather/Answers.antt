@@ -2,7 +2,7 @@ use Rattle.std.proofs.Common.{◌≡◌, ◌∙◌, ◌++◌, ap, arith, drop, f
 use Rattle.std.proofs.lemmas.List.{take_at}
 use Rattle.event_server.proofs.Common.{append-nil, Consumes-nil, Peek, BuffersState}
 use Rattle.event_server.specs.Reported.{asks_of}
-use Rattle.event_server.proofs.GatherLemmas.{gathers_more, gathers_none, none_seen}
+use Rattle.event_server.proofs.GatherLemmas.{gathers_kept, gathers_more, gathers_none, none_seen}
 use Rattle.event_server.proofs.connection.Connection.gather.Goals as goal
 use Rattle.event_server.proofs.connection.Connection.gather.Goals.{in-Some, in-None, After-self-1}
 
@@ -34,7 +34,7 @@ returns-then-not-may_take g c =
     let b = begins g (goal.at.returns-then-not-may_take g c).After-self-1 in
     let none = none_seen c.args.kind buffers (Some c.match-self.peek) b.bytes b.ends in
     record {
-      gathers = gathers_none left left buffers buffers (Consumes-nil left) refl refl refl (λ h. (refl, h));
+      gathers = gathers_none left left buffers (Consumes-nil left);
       unsent = refl;
       stage = refl;
       reported = rw none (sym (append-nil c.args.batch.now.items));
@@ -68,9 +68,7 @@ returns-then-not-is_broken g c =
     let mid = g.S.Stream.left c.gather_bytes.new.self.stream in
     let m = c.gather_bytes.new.self.buffers in
     let s' = c.peek_over.new.self.buffers in
-    let w = c.peek_over.ensures.buffers in
-    let peeked = gathers_none mid mid m s' (Consumes-nil mid) (ap (λ (q : BuffersState). q.responder) w) (ap (λ (q : BuffersState). q.outbox) w) (ap (λ (q : BuffersState). q.ended) w)
-    (λ h. (ap (λ (q : BuffersState). q.inbox) w, c.peek_over.ensures.whole h)) in
+    let peeked = gathers_kept mid mid m s' (Consumes-nil mid) c.peek_over.ensures.buffers c.peek_over.ensures.whole in
     record {
       gathers = rw c.peek_over.ensures.stream (gathers_more left mid mid c.args.self.now.buffers m s' c.gather_bytes.ensures.gathers peeked);
       unsent = ap (λ s. g.S.Stream.gone s) c.peek_over.ensures.stream ∙ c.gather_bytes.ensures.unsent;

@@ -3,7 +3,7 @@ use Rattle.event_server.proofs.Common.{Consumes, Consumes-nil}
 use Rattle.std.proofs.lemmas.List.{take-append-le}
 use Rattle.event_server.specs.Gathering.{GathersOf}
 use Rattle.event_server.specs.BuffersState.{BuffersState}
-use Rattle.event_server.proofs.GatherLemmas.{gathers, gathers_none}
+use Rattle.event_server.proofs.GatherLemmas.{gathers_kept, gathers_none, gathers_refused, gathers_some}
 use Rattle.event_server.proofs.BuffersLemmas.{consumes_kept}
 use Rattle.event_server.proofs.connection.Connection.gather_bytes.Goals as goal
 
@@ -11,9 +11,7 @@ pub returns-in-Err-clause-gathers : goal.returns-in-Err-clause-gathers
 returns-in-Err-clause-gathers g c =
     let left = g.S.Stream.left c.args.self.now.stream in
     let left' = g.S.Stream.left c.read_some.new.self in
-    let is = c.note_fault.ensures.buffers in
-    gathers_none left left' c.args.self.now.buffers c.note_fault.new.buffers (consumes_kept left left' c.in-Err.ensures.bytes) (ap (λ (q : BuffersState). q.responder) is) (ap (λ (q : BuffersState). q.outbox) is) (ap (λ (q : BuffersState). q.ended) is)
-    (λ h. (ap (λ (q : BuffersState). q.inbox) is, c.note_fault.ensures.whole h))
+    gathers_kept left left' c.args.self.now.buffers c.note_fault.new.buffers (consumes_kept left left' c.in-Err.ensures.bytes) c.note_fault.ensures.buffers c.note_fault.ensures.whole
 
 pub returns-in-Err-clause-peek : goal.returns-in-Err-clause-peek
 returns-in-Err-clause-peek g c = (refl, refl, refl, refl)
@@ -35,7 +33,7 @@ returns-then-not-self g c =
     let left = g.S.Stream.left c.args.self.now.stream in
     let buffers = c.args.self.now.buffers in
     record {
-      gathers = gathers_none left left buffers buffers (Consumes-nil left) refl refl refl (λ h. (refl, h));
+      gathers = gathers_none left left buffers (Consumes-nil left);
       unsent = refl;
       stage = refl;
       peek = (refl, refl, refl, refl);
@@ -47,7 +45,7 @@ returns-in-Ok-eq0-clause-gathers g c =
     let left' = g.S.Stream.left c.read_some.new.self in
     let buffers = c.args.self.now.buffers in
     let none : Consumes left left' [] = subst (λ (n : ℕ). Consumes left left' (take n c.read_some.new.buf)) c.in-Ok-eq0.field-0-test c.in-Ok-eq0.ensures.bytes.0 in
-    rw c.note_end.ensures.same (gathers_none left left' buffers buffers none refl refl refl (λ h. (refl, h)))
+    rw c.note_end.ensures.same (gathers_none left left' buffers none)
 
 pub returns-in-Ok-eq0-clause-unsent : goal.returns-in-Ok-eq0-clause-unsent
 returns-in-Ok-eq0-clause-unsent g c = ap (λ s. g.S.Stream.gone s.stream) c.note_end.ensures.same ∙ c.read_some.ensures.same
@@ -69,12 +67,7 @@ returns-after-self-clause-gathers g c =
     let buf = c.read_some.new.buf in
     let came = take c.in-Ok.count buf in
     elim c.add.result as (λ b. c.add.result ≡ b → GathersOf left buffers left' c.add.new.self) [
-      | true ↦ λ is.
-          let a = c.add.ensures.added is in
-          gathers left left' came buffers c.add.new.self c.in-Ok.ensures.bytes.0 (ap (λ (q : BuffersState). q.responder) a) (ap (λ (q : BuffersState). q.outbox) a) (ap (λ (q : BuffersState). q.ended) a)
-          (λ h. (ap (λ (q : BuffersState). q.inbox) a ∙ ap (λ l. buffers.inbox ++ l) (take-append-le c.in-Ok.count buf _ c.in-Ok.ensures.bound.0), sym (ap (λ (q : BuffersState). q.broken) a) ∙ h))
-      | false ↦ λ is.
-          let a = c.add.ensures.refused is in
-          gathers left left' came buffers c.add.new.self c.in-Ok.ensures.bytes.0 (ap (λ (q : BuffersState). q.responder) a) (ap (λ (q : BuffersState). q.outbox) a) (ap (λ (q : BuffersState). q.ended) a)
-          (λ h. absurd (let bad : true ≡ false = sym (ap (λ (q : BuffersState). q.broken) a) ∙ h in cc))
+      | true ↦ λ is. gathers_some left left' came buffers c.add.new.self c.in-Ok.ensures.bytes.0
+          (c.add.ensures.added is ∙ ap (λ l. (let r : BuffersState = record buffers { inbox = buffers.inbox ++ l } in r)) (take-append-le c.in-Ok.count buf _ c.in-Ok.ensures.bound.0))
+      | false ↦ λ is. gathers_refused left left' came buffers c.add.new.self c.in-Ok.ensures.bytes.0 (c.add.ensures.refused is)
     ] refl

@@ -23,7 +23,7 @@ returns-in-Err-clause-takes g c =
     let is = c.note_fault.ensures.buffers in (
       [],
       refl,
-      takes_none left left' c.args.self.now.buffers c.note_fault.new.buffers (consumes_kept left left' c.in-Err.ensures.bytes) (ap (λ (q : BuffersState). q.responder) is) (ap (λ (q : BuffersState). q.ended) is)
+      takes_none left left' c.args.self.now.buffers c.note_fault.new.buffers (consumes_kept left left' c.in-Err.ensures.bytes) (ap (λ (q : BuffersState). q.responder) is) (ap (λ (q : BuffersState). q.ended) is) (ap (λ (q : BuffersState). q.in_line) is)
           (λ h. (ap (λ (q : BuffersState). q.inbox) is, ap (λ (q : BuffersState). q.outbox) is, c.note_fault.ensures.whole h)),
     )
 

@@ -1,7 +1,7 @@
 -- That numbers were taken is what a server does to its service and its persister.
 use Rattle.std.proofs.Common.{true, false}
 use Rattle.event_server.proofs.TakingLemmas.{served_prefetch, served_takings}
-use Rattle.event_server.proofs.hosting.Hosting.take_of.Goals as goal
+use Rattle.event_server.proofs.hosting.Hosting.take_numbers_of.Goals as goal
 
 pub returns-in_ok-serve_takings-in-None-clause-served : goal.returns-in_ok-serve_takings-in-None-clause-served
 returns-in_ok-serve_takings-in-None-clause-served g c =
