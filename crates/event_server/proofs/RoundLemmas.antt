@@ -1,5 +1,5 @@
 -- what a server does, one thing after another
-use Rattle.std.proofs.Common.{◌≡◌, ◌⊎◌, inl, inr, ℕ, List, [], ◌∷◌, ◌++◌, Option, Result, Ok, Err, IfOk, OnErr, OnOk, is_ok, true, take, refl, subst}
+use Rattle.std.proofs.Common.{◌≡◌, ◌⊎◌, inl, inr, ℕ, List, [], ◌∷◌, ◌++◌, Option, Result, Ok, Err, IsErr, IfOk, OnErr, OnOk, is_ok, true, take, refl, subst}
 use Rattle.event_server.proofs.Common.{Request, ShownReply, Peek, WorldKind}
 use Rattle.player.specs.Shared.{all_turns}
 use Rattle.event_server.specs.Gathering.{PrefetchedIteration}
@@ -23,6 +23,15 @@ ok_then (Err fault) P Q f is = tt
 pub always_wrong : {T E : Type 0} (result : Result T E) (P : Type 0) → P → OnErr result P
 always_wrong (Ok done) P is = tt
 always_wrong (Err fault) P is = is
+
+-- where it went wrong nothing is owed of what it gave
+pub owes_none : {T E : Type 0} (result : Result T E) (P : T → Type 0) → IsErr result → IfOk result P
+owes_none (Ok done) P wrong = absurd (cc)
+owes_none (Err fault) P wrong = tt
+
+pub gave_none : {T E : Type 0} (result : Result T E) (done : T) → IsErr result → result ≡ Ok done → ⊥
+gave_none (Ok done) other wrong is = cc
+gave_none (Err fault) other wrong is = cc
 
 -- of what a call gave where it went well, the first part
 pub turned_alone : {E : Type 0} (result : Result ℕ E) (S : ℕ → Type 0) (H : (n : ℕ) → S n → Type 0) → IfOk result (λ n. (turned : S n) × H n turned) → IfOk result S

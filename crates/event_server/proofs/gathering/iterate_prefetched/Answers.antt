@@ -1,8 +1,9 @@
 use Rattle.std.proofs.lemmas.List.{length-take-le}
-use Rattle.std.proofs.Common.{◌≡◌, Ok, ap, subst, sym, take}
+use Rattle.std.proofs.Common.{◌≡◌, [], None, Ok, ap, get_or, subst, sym, take}
 use Rattle.event_server.specs.declared.connection.Stage.TheVariants as stage
 use Rattle.event_server.specs.Seats.{NoneSent, seats_of}
-use Rattle.event_server.proofs.RoundLemmas.{always_wrong}
+use Rattle.event_server.proofs.RoundLemmas.{always_wrong, gave_none, owes_none}
+use Rattle.event_server.proofs.SeatLemmas.{seat_rests}
 use Rattle.event_server.proofs.GatherLemmas.{gathered_more, none_sent_peeked}
 use Rattle.event_server.proofs.ReportedLemmas.{reported_broken, taken_reported}
 use Rattle.event_server.proofs.AttendedLemmas.{hears_about}
@@ -52,9 +53,71 @@ returns-in-Lost-clause-lost g c = λ called same. (
   lost_whole c.args.service.now c.note_lost.new.service c.prefetch.new.service _ _ _ _ c.gather-peeked.ensures.kind c.deref.ensures.value c.note_lost.ensures.hears,
 )
 
-pub returns-in_err-persist-in-Known-clause-unsent : goal.returns-in_err-persist-in-Known-clause-unsent
-returns-in_err-persist-in-Known-clause-unsent g c =
-    let k = c.take_peeked.ensures.taken in
+pub returns-in_ok-persist-in-Known-clause-unserved : goal.returns-in_ok-persist-in-Known-clause-unserved
+returns-in_ok-persist-in-Known-clause-unserved g c = λ called same. absurd (cc)
+
+pub returns-in_ok-persist-in-Known-clause-lost : goal.returns-in_ok-persist-in-Known-clause-lost
+returns-in_ok-persist-in-Known-clause-lost g c = λ called same. absurd (cc)
+
+pub returns-in_ok-persist-in-Known-clause-unsent : goal.returns-in_ok-persist-in-Known-clause-unsent
+returns-in_ok-persist-in-Known-clause-unsent g c = tt
+
+pub returns-in_ok-persist-in-Known-clause-called : goal.returns-in_ok-persist-in-Known-clause-called
+returns-in_ok-persist-in-Known-clause-called g c = c.gather-peeked.ensures.peeked
+
+pub returns-in_ok-persist-in-Known-clause-room : goal.returns-in_ok-persist-in-Known-clause-room
+returns-in_ok-persist-in-Known-clause-room g c = c.take_peeked.ensures.room
+
+pub returns-in-Lost-clause-served : goal.returns-in-Lost-clause-served
+returns-in-Lost-clause-served g c = λ called same. absurd (cc)
+
+pub returns-in-Lost-clause-unsent : goal.returns-in-Lost-clause-unsent
+returns-in-Lost-clause-unsent g c = tt
+
+pub returns-in-Lost-clause-called : goal.returns-in-Lost-clause-called
+returns-in-Lost-clause-called g c = c.gather-peeked.ensures.peeked
+
+pub returns-in-Lost-clause-rest : goal.returns-in-Lost-clause-rest
+returns-in-Lost-clause-rest g c = c.give_up.ensures.rest
+
+pub returns-in-Lost-clause-room : goal.returns-in-Lost-clause-room
+returns-in-Lost-clause-room g c = c.gather-peeked.ensures.room
+
+pub gather-peeked-requires : goal.gather-peeked-requires
+gather-peeked-requires g c = c.requires.room
+
+pub take_peeked-requires : goal.take_peeked-requires
+take_peeked-requires g c = record { knows = c.requires.knows; room = c.gather-peeked.ensures.room }
+
+pub returns-in_err-persist-in-Known : goal.returns-in_err-persist-in-Known
+returns-in_err-persist-in-Known g c =
     let on = seats_of g.S.Stream.left g.S.Stream.gone in
-    always_wrong c.from_residual-in_err-persist-in-Known.result (NoneSent on c.args.seats.now c.take_peeked.new.seats)
-    (none_sent_peeked on k.0 c.args.seats.now c.gather-peeked.new.seats c.take_peeked.new.seats c.gather-peeked.ensures.gathered k.1.each)
+    let k = c.take_peeked.ensures.taken in
+    let result = c.from_residual-in_err-persist-in-Known.result in
+    let wrong = c.from_residual-in_err-persist-in-Known.ensures.0 in
+    record {
+      served = λ called same. absurd (gave_none result _ wrong same);
+      unserved = λ called same. absurd (gave_none result _ wrong same);
+      lost = λ called same. absurd (gave_none result _ wrong same);
+      unsent = always_wrong result (NoneSent on c.args.seats.now c.take_peeked.new.seats)
+          (none_sent_peeked on k.0 c.args.seats.now c.gather-peeked.new.seats c.take_peeked.new.seats c.gather-peeked.ensures.gathered k.1.each);
+      called = owes_none result _ wrong;
+      rest = owes_none result _ wrong;
+      room = c.take_peeked.ensures.room;
+    }
+
+pub returns-in_err-prefetch : goal.returns-in_err-prefetch
+returns-in_err-prefetch g c =
+    let on = seats_of g.S.Stream.left g.S.Stream.gone in
+    let result = c.from_residual.result in
+    let wrong = c.from_residual.ensures.0 in
+    record {
+      served = λ called same. absurd (gave_none result _ wrong same);
+      unserved = λ called same. absurd (gave_none result _ wrong same);
+      lost = λ called same. absurd (gave_none result _ wrong same);
+      unsent = always_wrong result (NoneSent on c.args.seats.now c.gather-peeked.new.seats)
+          (none_sent_peeked on [] c.args.seats.now c.gather-peeked.new.seats c.gather-peeked.new.seats c.gather-peeked.ensures.gathered (λ i. seat_rests on (get_or c.gather-peeked.new.seats i None)));
+      called = owes_none result _ wrong;
+      rest = owes_none result _ wrong;
+      room = c.gather-peeked.ensures.room;
+    }
