@@ -1,8 +1,8 @@
 -- seats that are called, one after another
-use Rattle.std.proofs.Common.{◌≡◌, ◌⊎◌, inl, inr, ℕ, ◌+◌, ◌<◌, ◌≤◌, List, length, take, get_or, Option, Some, None, refl, sym, subst, ◌∙◌, arith}
+use Rattle.std.proofs.Common.{◌≡◌, ◌⊎◌, inl, inr, ℕ, zero, suc, ◌+◌, ◌<◌, ◌≤◌, List, length, take, get_or, Option, Some, None, refl, sym, subst, ◌∙◌, arith}
 use Rattle.std.proofs.lemmas.List.{get_or-take, length-take-le}
 use Rattle.event_server.proofs.Common.{cases_eq, SeatIs, EachIs}
-use Rattle.event_server.specs.Seats.{Seating, Served}
+use Rattle.event_server.specs.Seats.{CallsSome, Seating, Served}
 use Rattle.event_server.specs.ConnectionBuffers.{HasTakenAll}
 use Rattle.event_server.proofs.ReportedLemmas.{IsFirst, last}
 use Rattle.event_server.specs.declared.connection.Stage.{Stage}
@@ -17,6 +17,17 @@ pub rests_else : (s : Stage) → (s ≡ stage.Queued → ⊥) → (s ≡ stage.T
 rests_else stage.Idle due taken = refl
 rests_else stage.Queued due taken = absurd (due refl)
 rests_else stage.Taken due taken = absurd (taken refl)
+
+positive : (n : ℕ) → (n ≡ 0 → ⊥) → 0 < n
+positive zero not = absurd (not refl)
+positive (suc n) not = omega arith
+
+-- where no more are called, since something is so that is not before the first is called; and where all are
+pub calls_some : (ready : List ℕ) (n : ℕ) → n ≤ length ready → (n ≡ 0 → ⊥) → CallsSome ready n
+calls_some ready n le not = (le, λ some. positive n not)
+
+pub calls_all : (ready : List ℕ) (n : ℕ) → n ≤ length ready → length ready ≤ n → CallsSome ready n
+calls_all ready n le all = (le, λ some. omega (arith, all, some))
 
 module _ {C : Type 0} where
   pub seat_weakens : (P Q : C → Type 0) → ((c : C) → P c → Q c) → (x : Option C) → SeatIs P x → SeatIs Q x

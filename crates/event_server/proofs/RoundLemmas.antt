@@ -29,6 +29,10 @@ pub owes_none : {T E : Type 0} (result : Result T E) (P : T → Type 0) → IsEr
 owes_none (Ok done) P wrong = absurd (cc)
 owes_none (Err fault) P wrong = tt
 
+pub owes_nothing : {T E : Type 0} (result : Result T E) (P : Type 0) → IsErr result → OnOk result P
+owes_nothing (Ok done) P wrong = absurd (cc)
+owes_nothing (Err fault) P wrong = tt
+
 pub gave_none : {T E : Type 0} (result : Result T E) (done : T) → IsErr result → result ≡ Ok done → ⊥
 gave_none (Ok done) other wrong is = cc
 gave_none (Err fault) other wrong is = cc

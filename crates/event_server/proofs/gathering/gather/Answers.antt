@@ -1,7 +1,8 @@
 use borrow.Author.Rules.{scaled_Fits}
-use Rattle.std.proofs.Common.{◌≡◌, ◌+◌, ◌∙◌, ◌++◌, inl, inr, [], ap, refl, subst, sym, arith, get_or}
+use Rattle.std.proofs.Common.{◌≡◌, ◌+◌, ◌∙◌, ◌++◌, true, false, inl, inr, [], ap, refl, subst, sym, arith, get_or}
 use Rattle.event_server.proofs.Common.{WorldKind, with_ends, tagged, SeatPeeked, seats_of, SeatLines, all_lines}
 use Rattle.event_server.specs.declared.connection.Stage.TheVariants as stage
+use Rattle.event_server.proofs.CallLemmas.{calls_all, calls_some}
 use Rattle.event_server.proofs.GatherLemmas.{gathered_none, gathered_more}
 use Rattle.event_server.proofs.ReportedLemmas.{Telling, telling_none, telling_idle, telling_more, telling_all, reported_behind}
 use Rattle.event_server.proofs.gathering.gather.Goals as goal
@@ -92,3 +93,11 @@ overflow_add-peeked g c = omega (arith, c.loop-peeked-test.true, c.well_formed.1
 
 pub loop-peeked-smaller : goal.loop-peeked-smaller
 loop-peeked-smaller g c = omega (arith, c.loop-peeked-test.true)
+
+pub returns-else-has_room-clause-peeked : goal.returns-else-has_room-clause-peeked
+returns-else-has_room-clause-peeked g c =
+    let i = c.loop-peeked.invariant in
+    calls_some c.args.ready.now c.loop-peeked.peeked i.inside (λ none. (let has : false ≡ true = c.if-has_room.ensures.first (i.first none) in absurd cc))
+
+pub returns-after-loop-peeked-clause-peeked : goal.returns-after-loop-peeked-clause-peeked
+returns-after-loop-peeked-clause-peeked g c = calls_all c.args.ready.now c.loop-peeked.peeked c.loop-peeked.invariant.inside c.loop-peeked-test.false

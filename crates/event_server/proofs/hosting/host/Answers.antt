@@ -1,5 +1,5 @@
 use Rattle.std.proofs.Common.{◌++◌, []}
-use Rattle.event_server.proofs.RoundLemmas.{always, served_none, served_then}
+use Rattle.event_server.proofs.RoundLemmas.{always, owes_nothing, served_none, served_then}
 use Rattle.event_server.specs.Rounds.{WasServed}
 use contract.BorrowLft.{⊑_meet, ⊑_refl, ⊑_static}
 use Rattle.event_server.proofs.hosting.host.Goals.{in-None, in-Some+in_ok-go_round+then-is_over}
@@ -36,3 +36,18 @@ returns g c =
       | in-None w ↦ rw (w.persister-is, w.service-is) c.loop.invariant.served
       | in-Some+in_ok-go_round+then-is_over w ↦ rw (w.persister-is, w.service-is) (served_then may prefetches persists waits _ _ _ _ _ _ c.loop.invariant.served w.in_ok-go_round.ensures.served)
     ])
+
+pub go_round-requires : goal.go_round-requires
+go_round-requires g c = record { knows = c.requires; room = c.loop.invariant.room }
+
+pub returns-in_err-shared : goal.returns-in_err-shared
+returns-in_err-shared g c = owes_nothing c.from_residual.result _ c.from_residual.ensures.0
+
+pub returns-in_err-hosting : goal.returns-in_err-hosting
+returns-in_err-hosting g c = owes_nothing c.from_residual-in_err-hosting.result _ c.from_residual-in_err-hosting.ensures.0
+
+pub returns-in_err-tell_listening : goal.returns-in_err-tell_listening
+returns-in_err-tell_listening g c = owes_nothing c.from_residual-in_err-tell_listening.result _ c.from_residual-in_err-tell_listening.ensures.0
+
+pub returns-in_err-go_round : goal.returns-in_err-go_round
+returns-in_err-go_round g c = owes_nothing c.from_residual-in_err-go_round.result _ c.from_residual-in_err-go_round.ensures.0

@@ -1,12 +1,13 @@
 use borrow.Author.Rules.{scaled_Fits}
-use Rattle.std.proofs.Common.{◌≡◌, inl, inr, ℕ, ◌++◌, [], refl, subst, get_or, take, arith}
+use Rattle.std.proofs.Common.{◌≡◌, ◌∙◌, true, false, sym, inl, inr, ℕ, ◌++◌, [], refl, subst, get_or, take, arith}
 use Rattle.event_server.proofs.Common.{TurnLog, tagged, seats_of}
 use Rattle.event_server.specs.declared.connection.Stage.TheVariants as stage
 use Rattle.event_server.proofs.SeatLemmas.{Going, going_none, going_on}
-use Rattle.event_server.proofs.CallLemmas.{first_none, first_on, first_called, same_on, same_served}
+use Rattle.event_server.proofs.CallLemmas.{calls_all, calls_some, first_none, first_on, first_called, same_on, same_served}
 use Rattle.event_server.specs.ConnectionBuffers.{HasTakenAll}
 use Rattle.event_server.specs.Attending.{Hears, acts_in, acts_of, number_at}
 use Rattle.event_server.proofs.AttendedLemmas.{hears_none, hears_on}
+use Rattle.event_server.proofs.turns.take_turns.Goals.{then-called-eq0, else-called-eq0}
 use Rattle.event_server.proofs.turns.take_turns.Goals as goal
 
 pub loop-called-init : goal.loop-called-init
@@ -80,3 +81,13 @@ pub returns-after-loop-called-clause-done : goal.returns-after-loop-called-claus
 returns-after-loop-called-clause-done g c =
     let i = c.loop-called.invariant in
     first_called (λ x. x.stage ≡ stage.Queued → ⊥) c.loop-called.called c.args.ready.now c.loop-called.seats i.inside i.done
+
+pub returns-else-not-is_full-clause-called : goal.returns-else-not-is_full-clause-called
+returns-else-not-is_full-clause-called g c =
+    calls_some c.args.ready.now c.loop-called.called c.loop-called.invariant.inside (elim c.if-called-eq0.branch as (λ _. c.loop-called.called ≡ 0 → ⊥) [
+      | then-called-eq0 w ↦ λ none. (let full : true ≡ false = sym w.value-is ∙ c.if-not-is_full.false in absurd cc)
+      | else-called-eq0 w ↦ λ none. w.if-called-eq0.false none
+    ])
+
+pub returns-after-loop-called-clause-called : goal.returns-after-loop-called-clause-called
+returns-after-loop-called-clause-called g c = calls_all c.args.ready.now c.loop-called.called c.loop-called.invariant.inside c.loop-called-test.false
