@@ -51,6 +51,23 @@ impl FileNumber {
     }
 }
 
+/// When a folder was changed last: an entry made, moved or removed in it, or the folder itself moved.
+#[derive(Clone, Copy, Debug, Drop, PartialEq, Eq)]
+struct FolderStamp {
+    seconds: i64,
+    nanoseconds: i64,
+}
+
+impl FolderStamp {
+    /// The stamp of the folder of which this is reported.
+    fn of(reported: &Metadata) -> FolderStamp {
+        FolderStamp {
+            seconds: reported.ctime(),
+            nanoseconds: reported.ctime_nsec(),
+        }
+    }
+}
+
 /// A file of the system as a disk. It is written at its end alone, and locked as long as it is open.
 #[derive(Drop)]
 pub struct FileDisk<R> {
@@ -60,6 +77,10 @@ pub struct FileDisk<R> {
     file: File,
     /// The number of that file.
     number: FileNumber,
+    /// The folder of the path, as it was when the file was opened.
+    folder: File,
+    /// The folder's stamp before the last look by the path, which found the file; `None` before the first.
+    looked_at: Option<FolderStamp>,
     /// How many bytes it has by what was written.
     len: u64,
     /// How often all bytes were replaced.
@@ -166,12 +187,15 @@ impl<R: Files<File = File> + AllocGlobal + Copy> FileDisk<R> {
         let _ = opened(rt, path)?;
         let path = fs::canonicalize(rt, path)?.into_string();
         let file = locked(rt, &path)?;
+        let folder = File::open(rt, folder_of(&path))?;
         let held = File::metadata(&file)?;
         Ok(FileDisk {
             files: *rt,
             path,
             file,
             number: FileNumber::of(&held),
+            folder,
+            looked_at: None,
             len: held.len(),
             replacings: 0,
             times: DurationHistogram::new(),
@@ -187,6 +211,22 @@ impl<R: Files<File = File> + Drop> FileDisk<R> {
 }
 
 impl<R: Files<File = File> + Clock + Drop> FileDisk<R> {
+    /// Looks by the path if the folder was changed since that was last done, and else at the file's length alone: no file leaves its
+    /// name while its folder stays as it was. That takes a third of the time. A folder further up that is moved is not noticed so.
+    fn look_again(&mut self) -> Result<(), DiskFault> {
+        let stamp = FolderStamp::of(&File::metadata(&self.folder)?);
+        if self.looked_at != Some(stamp) {
+            self.look()?;
+            self.looked_at = Some(stamp);
+            return Ok(());
+        }
+        if self.file.seek(SeekFrom::End(0))? == self.len {
+            Ok(())
+        } else {
+            Err(DiskFault::Moved)
+        }
+    }
+
     /// Notes a sync that was begun then. Where the clock fails, none is noted.
     fn note_sync(&mut self, begun: io::Result<Instant>) {
         if let Ok(begun) = begun {
@@ -214,10 +254,9 @@ impl<R: Files<File = File> + Clock + Drop> Disk for FileDisk<R> {
     }
 
     /// Fails if the file was deleted, moved or cut short in the meantime. It measures that look and the sync.
-    // It looks first: after a sync, which waits for the disk, a call that walks a path finds the caches cold.
     fn sync(&mut self) -> Result<(), DiskFault> {
         let begun = Instant::now(&self.files);
-        self.look()?;
+        self.look_again()?;
         File::sync_data(&self.file)?;
         self.note_sync(begun);
         Ok(())
