@@ -9,6 +9,7 @@ use Rattle.snapshot_core.specs.declared.sightings.Sighting.{Sighting}
 use Rattle.snapshot_core.specs.Sightings.{unknown, sighting_of, index_of, number_met, AreDistinct, with_sighting, noted, carried_over, shown_with, shown_by}
 use Rattle.word_names.specs.declared.sighted.Sighted.{Sighted}
 use Rattle.word_names.specs.Sights.{sight, carried, met_if}
+use Rattle.word_names.specs.Small.{AreUpTo}
 
 -- a segment is noted where its index says, and is noted there anew
 pub record IsNotedAt (place : ℕ) (ss : List Sighting) (i : ℕ) : Type 0 where
@@ -130,6 +131,41 @@ index_of-distinct (s ∷ ss) (suc i) d h l =
       | inl e ↦ absurd (let found : index_of s.place ss ≡ Some i = ap (λ p. index_of p ss) e.1 ∙ rest in let no : true ≡ false = rw found at h.0 in cc)
       | inr e ↦ rw (e.0, rest) (ap (λ (n : ℕ). Some n) (add-one i))
     ]
+
+-- a place above all is not noted
+pub not_above : (n place : ℕ) (ss : List Sighting) → n < place → AreUpTo n ss → index_of place ss ≡ None
+not_above n place [] l h = refl
+not_above n place (s ∷ ss) l h = elim (eqb_tells s.place place) [
+  | inl e ↦ absurd (let same = e.1 in let low = h.0 in omega arith)
+  | inr e ↦ rw (e.0, not_above n place ss l h.1) refl
+]
+
+pub upto_more : (n m : ℕ) (ss : List Sighting) → n ≤ m → AreUpTo n ss → AreUpTo m ss
+upto_more n m [] l h = tt
+upto_more n m (s ∷ ss) l h = let low = h.0 in (omega arith, upto_more n m ss l h.1)
+
+-- one that is noted anew leaves all places as they are, and one more is no higher than this
+upto_with : (n : ℕ) (new : Sighting) (ss : List Sighting) → new.place ≤ n → AreUpTo n ss → AreUpTo n (with_sighting new ss)
+upto_with n new [] l h = (l, tt)
+upto_with n new (s ∷ ss) l h = elim (s.place == new.place) as (λ b. AreUpTo n (cond b (new ∷ ss) (s ∷ with_sighting new ss))) [ true ↦ (l, h.1) | false ↦ (h.0, upto_with n new ss l h.1) ]
+
+pub upto_noted : (n : ℕ) (new : Sighting) (ss : List Sighting) → new.place ≤ n → AreUpTo n ss → AreUpTo n (noted new ss)
+upto_noted n new ss l h = elim (is_known ss new.place || nat_lt (length ss) 64) as (λ b. AreUpTo n (cond b (with_sighting new ss) ss)) [ true ↦ upto_with n new ss l h | false ↦ h ]
+
+known_low : (n : ℕ) (place : ℕ) (ss : List Sighting) (o : Option ℕ) → index_of place ss ≡ o → is_some o ≡ true → AreUpTo n ss → place ≤ n
+known_low n place [] o is some h = absurd (let none : is_some (index_of place []) ≡ true = ap is_some is ∙ some in cc)
+known_low n place (s ∷ ss) o is some h = elim (eqb_tells s.place place) [
+  | inl e ↦ (let same = e.1 in let low = h.0 in omega arith)
+  | inr e ↦ known_low n place ss (index_of place ss) refl (sym (known_there (index_of place ss)) ∙ (rw e.0 at (ap is_some is ∙ some))) h.1
+]
+
+-- a segment that is noted is no higher
+pub place_low : (n place : ℕ) (ss : List Sighting) (i : ℕ) → index_of place ss ≡ Some i → AreUpTo n ss → place ≤ n
+place_low n place ss i is h = known_low n place ss (Some i) is refl h
+
+pub upto_carried : (n : ℕ) (ss : List Sighting) → AreUpTo n ss → AreUpTo n (map carried_over ss)
+upto_carried n [] h = tt
+upto_carried n (s ∷ ss) h = (h.0, upto_carried n ss h.1)
 
 -- an entry that is carried over is what is known as the next collect begins
 number_if : (b : Bool) (m : Met) → (if b then m.number else 0) ≡ number_met (met_if b m)

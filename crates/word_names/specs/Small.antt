@@ -28,6 +28,11 @@ abbrev pub AreMet : List Sighting → Type 0
 AreMet [] = Unit {0}
 AreMet (s ∷ ss) = IsMet s.now × AreMet ss
 
+-- no place is above this one
+abbrev pub AreUpTo : ℕ → List Sighting → Type 0
+AreUpTo n [] = Unit {0}
+AreUpTo n (s ∷ ss) = (s.place ≤ n) × AreUpTo n ss
+
 pub small_at : (ps : List (ℕ × ℕ)) (j : ℕ) → j < length ps → AreSmall ps → IsSmall (get_or ps j (0, 0))
 small_at [] j l h = absurd (omega arith)
 small_at (p ∷ ps) zero l h = h.0

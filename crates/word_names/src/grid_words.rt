@@ -397,6 +397,8 @@ impl WordProgram for Namer {
         1
     }
 
+    // Each record that a scan meets comes by here.
+    #[inline(always)]
     fn read_head(&mut self, head: &[u64]) -> bool
         requires { length head.now ≡ 1 }
         ensures after { result ≡ true → IsAfterHead naming_steps names_law self.old head.now self.new }

@@ -18,6 +18,8 @@ pub struct Seen {
     // The index at which `find` looks first. It is after the entry that was put last, since each collect meets the segments in
     // one order.
     next: usize,
+    // No place is above it. So the first collect, which meets the segments by rising place, looks for none of them.
+    highest: u8,
 }
 
 impl Model for Seen {
@@ -25,14 +27,14 @@ impl Model for Seen {
     ghost use Rattle.snapshot_core.specs.declared.sightings.Sighting.{Sighting};
     ghost use Rattle.snapshot_core.specs.Sightings.{AreDistinct};
     ghost use Rattle.word_names.specs.Sights.{sight};
-    ghost use Rattle.word_names.specs.Small.{AreMet};
+    ghost use Rattle.word_names.specs.Small.{AreMet, AreUpTo};
 
     ghost Value = { List Sighting };
 
     ghost view = { λ s. map sight (take s.len s.entries) };
 
     ghost invariant = { λ s. (s.len ≤ 64) × (length s.entries ≡ 64) × AreDistinct (map sight (take s.len s.entries))
-        × AreMet (map sight (take s.len s.entries)) };
+        × AreMet (map sight (take s.len s.entries)) × AreUpTo s.highest (map sight (take s.len s.entries)) };
 }
 
 /// The index of the segment at a place. A function of its own, since most collects meet the segments in the order of the one
@@ -67,6 +69,7 @@ impl Seen {
             entries: [Sighted::unknown(0); 64],
             len: 0,
             next: 0,
+            highest: 0,
         }
     }
 
@@ -77,6 +80,9 @@ impl Seen {
     {
         if self.next < self.len && self.entries[self.next].place == place {
             return Some(self.next);
+        }
+        if self.highest < place {
+            return None;
         }
         find(&self.entries[..self.len], place)
     }
@@ -111,6 +117,9 @@ impl Seen {
                     self.entries[self.len] = sighted;
                     self.len += 1;
                     self.next = self.len;
+                    if self.highest < sighted.place {
+                        self.highest = sighted.place;
+                    }
                 }
             }
         }
@@ -122,6 +131,7 @@ impl Seen {
     {
         self.len = 0;
         self.next = 0;
+        self.highest = 0;
     }
 
     /// The view that the present collect met.
