@@ -3,7 +3,7 @@ use Rattle.std.proofs.Common.{◌≡◌, ◌⊎◌, inl, inr, ℕ, zero, suc, �
 use Rattle.event_server.proofs.Common.{WorldKind, ShownReply, Request, with_ends, Runs, TurnLog, turns_of, tagged, all-append, all-tagged, of-append, of-same, of-other, Turn, Seating, SeatIdle, TakesPeeked, Peek}
 use Rattle.std.proofs.lemmas.List.{append-nil, get_or-set_same, get_or-set_other, get_or-take, length-take-le}
 use Rattle.std.proofs.lemmas.Bool.{cases_eq, eq-eqb, ne_eqb, cases_Bool}
-use Rattle.event_server.specs.Gathering.{SeatGathers, Gathered, SeatAsks, SeatBroken, SeatPeeked, Reported, SeatTakesPeeked, SeatTurnPeeked, TakenPeeked, SeatReportedAndTakes}
+use Rattle.event_server.specs.Gathering.{SeatGathers, SeatAsks, SeatBroken, SeatPeeked, Reported, SeatTakesPeeked, SeatTurnPeeked, TakenPeeked, SeatReportedAndTakes}
 use Rattle.event_server.specs.Reported.{SeatLines, EndsWith, IsAmong, all_lines, asks_of, lines_of, requests_seen}
 use Rattle.event_server.proofs.PeekLemmas.{ends_append}
 use Rattle.event_server.proofs.SeatLemmas.{Going, seat_took}

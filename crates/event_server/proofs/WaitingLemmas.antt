@@ -1,13 +1,12 @@
 -- what waits first of a connection
-use Rattle.std.proofs.Common.{◌≡◌, ◌∙◌, ◌+◌, ◌-◌, ◌<◌, ◌≤◌, ◌||◌, ◌==◌, ℕ, Bool, true, false, not, if◌then◌else◌, List, [], ◌∷◌, ◌++◌, length, take, drop, get_or, Option, Some, None, is_some, refl, sym, ap, subst, arith}
-use Rattle.std.proofs.lemmas.List.{get_or-take, length-take-le}
+use Rattle.std.proofs.Common.{◌≡◌, ◌∙◌, ◌+◌, ◌-◌, ◌||◌, ℕ, Bool, true, false, not, List, [], ◌∷◌, ◌++◌, length, take, drop, Option, Some, None, is_some, refl, sym, ap, arith}
+use Rattle.std.proofs.lemmas.List.{length-take-le}
 use Rattle.std.proofs.lemmas.Bool.{eqb-true}
 use Rattle.memchr.specs.Find.{IsFirstByte, is_byte}
-use Rattle.command_lines.specs.Lines.{has_no_lf, whole_lines, whole_lines_from, rest_from}
+use Rattle.command_lines.specs.Lines.{has_no_lf, whole_lines}
 use Rattle.command_lines.specs.PieceProofs.{nowhere-lacks, parted_at}
 use Rattle.event_server.proofs.Common.{BuffersState}
 use Rattle.event_server.proofs.PeekLemmas.{no_lf_in, rest_none, whole_append, whole_none}
-use Rattle.event_server.specs.ConnectionBuffers.{goes_on_in_line}
 use Rattle.event_server.specs.Seats.{Seating}
 use Rattle.event_server.specs.Taking.{SeatGivenUp}
 use Rattle.event_server.specs.Waiting.{first_of, given_up, taken_for, with_count}

@@ -81,7 +81,7 @@ module _ {C : Type 0} (on : Seating C) where
   SeatGivenUp (Some c) None = ⊥
   SeatGivenUp (Some c) (Some d) = (on.buffers d ≡ given_up (on.buffers c)) × (on.left d ≡ on.left c) × (on.gone d ≡ on.gone c)
 
-  -- so of each of these seats, and nothing changes at the others
+  -- at each of these seats a connection that takes a number is at fault, and nothing else changes at any seat
   pub record TakingsGivenUp (keys : List ℕ) (seats seats' : List (Option C)) : Type 0 where
     pub each : (i : ℕ) → IsAmong i keys → SeatGivenUp (get_or seats i None) (get_or seats' i None)
     pub others : (i : ℕ) → (IsAmong i keys → ⊥) → get_or seats' i None ≡ get_or seats i None

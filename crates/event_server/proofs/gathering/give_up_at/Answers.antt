@@ -1,7 +1,7 @@
 use borrow.Author.Rules.{scaled_Fits}
 use Rattle.std.proofs.lemmas.List.{set-get_or, get_or_past}
-use Rattle.std.proofs.Common.{◌≡◌, ◌∙◌, [], Some, None, ap, subst, sym, get_or, refl}
-use Rattle.event_server.proofs.Common.{get_or_default, get_or-set_same, get_or-set_other, Consumes, Consumes-nil, SeatAsks, SeatBroken, SeatIs, seats_of, BuffersState, Gathered}
+use Rattle.std.proofs.Common.{◌≡◌, ◌∙◌, Some, None, ap, subst, sym, get_or, refl}
+use Rattle.event_server.proofs.Common.{get_or_default, get_or-set_same, get_or-set_other, SeatAsks, SeatBroken, SeatIs, seats_of, Gathered}
 use Rattle.event_server.specs.declared.connection.Stage.TheVariants as stage
 use Rattle.event_server.proofs.GatherLemmas.{gathered_none, kept_at}
 use Rattle.event_server.proofs.gathering.give_up_at.Goals as goal

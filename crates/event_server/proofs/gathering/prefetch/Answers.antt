@@ -1,4 +1,4 @@
-use Rattle.std.proofs.Common.{◌≡◌, ℕ, List, inr, subst}
+use Rattle.std.proofs.Common.{ℕ, List, inr, subst}
 use Rattle.event_server.proofs.gathering.prefetch.Goals as goal
 
 pub returns : goal.returns

@@ -1,6 +1,6 @@
 use borrow.Author.Rules.{scaled_Fits}
 use Rattle.std.proofs.lemmas.List.{set-get_or, get_or_past}
-use Rattle.std.proofs.Common.{◌≡◌, ◌∙◌, None, Some, ap, get_or, refl, subst, sym}
+use Rattle.std.proofs.Common.{◌∙◌, None, Some, ap, get_or, refl, subst, sym}
 use Rattle.event_server.proofs.Common.{get_or_default, get_or-set_same, get_or-set_other, seats_of, BuffersState, Gathered}
 use Rattle.event_server.proofs.GatherLemmas.{gathered_none, kept_at}
 use Rattle.event_server.proofs.WaitingLemmas.{given_whole}

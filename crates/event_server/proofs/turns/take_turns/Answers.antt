@@ -1,6 +1,6 @@
 use borrow.Author.Rules.{scaled_Fits}
 use Rattle.std.proofs.Common.{◌≡◌, ◌∙◌, true, false, sym, inl, inr, ℕ, ◌++◌, [], refl, subst, get_or, take, arith}
-use Rattle.event_server.proofs.Common.{TurnLog, tagged, seats_of}
+use Rattle.event_server.proofs.Common.{TurnLog, eq-eqb, tagged, seats_of}
 use Rattle.event_server.specs.declared.connection.Stage.TheVariants as stage
 use Rattle.event_server.proofs.SeatLemmas.{Going, going_none, going_on}
 use Rattle.event_server.proofs.CallLemmas.{calls_all, calls_some, first_none, first_on, first_called, same_on, same_served}
@@ -86,7 +86,7 @@ pub returns-else-not-is_full-clause-called : goal.returns-else-not-is_full-claus
 returns-else-not-is_full-clause-called g c =
     calls_some c.args.ready.now c.loop-called.called c.loop-called.invariant.inside (elim c.if-called-eq0.branch as (λ _. c.loop-called.called ≡ 0 → ⊥) [
       | then-called-eq0 w ↦ λ none. (let full : true ≡ false = sym w.value-is ∙ c.if-not-is_full.false in absurd cc)
-      | else-called-eq0 w ↦ λ none. w.if-called-eq0.false none
+      | else-called-eq0 w ↦ λ none. (let called : true ≡ false = sym (eq-eqb c.loop-called.called 0 none) ∙ w.if-called-eq0.false in absurd cc)
     ])
 
 pub returns-after-loop-called-clause-called : goal.returns-after-loop-called-clause-called

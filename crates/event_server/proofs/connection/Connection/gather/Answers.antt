@@ -1,6 +1,6 @@
 use Rattle.std.proofs.Common.{◌≡◌, ◌∙◌, ◌++◌, ap, arith, drop, false, length, refl, sym, take, Some, ℕ, List}
 use Rattle.std.proofs.lemmas.List.{take_at}
-use Rattle.event_server.proofs.Common.{append-nil, Consumes-nil, Peek, BuffersState}
+use Rattle.event_server.proofs.Common.{append-nil, Consumes-nil, Peek}
 use Rattle.event_server.specs.Reported.{asks_of}
 use Rattle.event_server.proofs.GatherLemmas.{gathers_kept, gathers_more, gathers_none, none_seen}
 use Rattle.event_server.proofs.connection.Connection.gather.Goals as goal

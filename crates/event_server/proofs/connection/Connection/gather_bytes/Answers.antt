@@ -1,4 +1,4 @@
-use Rattle.std.proofs.Common.{ap, refl, subst, sym, take, true, false, [], ℕ, ◌≡◌, ◌++◌, ◌∙◌}
+use Rattle.std.proofs.Common.{ap, refl, subst, take, true, false, [], ℕ, ◌≡◌, ◌++◌, ◌∙◌}
 use Rattle.event_server.proofs.Common.{Consumes, Consumes-nil}
 use Rattle.std.proofs.lemmas.List.{take-append-le}
 use Rattle.event_server.specs.Gathering.{GathersOf}
