@@ -85,8 +85,8 @@ returns-after-loop-called-clause-done g c =
 pub returns-else-not-is_full-clause-called : goal.returns-else-not-is_full-clause-called
 returns-else-not-is_full-clause-called g c =
     calls_some c.args.ready.now c.loop-called.called c.loop-called.invariant.inside (elim c.if-called-eq0.branch as (λ _. c.loop-called.called ≡ 0 → ⊥) [
-      | then-called-eq0 w ↦ λ none. (let full : true ≡ false = sym w.value-is ∙ c.if-not-is_full.false in absurd cc)
-      | else-called-eq0 w ↦ λ none. (let called : true ≡ false = sym (eq-eqb c.loop-called.called 0 none) ∙ w.if-called-eq0.false in absurd cc)
+      | then-called-eq0 w ↦ λ none. (let full : true ≡ false = sym (eq-eqb c.loop-called.called 0 none) ∙ sym w.value-is ∙ c.if-not-is_full.false in absurd cc)
+      | else-called-eq0 w ↦ w.if-called-eq0.false
     ])
 
 pub returns-after-loop-called-clause-called : goal.returns-after-loop-called-clause-called
