@@ -1,14 +1,17 @@
 -- what is known of segments, by their places, and how few bytes say it
-use Rattle.std.proofs.Common.{◌≡◌, ℕ, zero, suc, ◌+◌, ◌<◌, ◌≤◌, ◌==◌, Bool, true, false, cond, if◌then◌else◌, List, [], ◌∷◌, ◌++◌, Option, Some, None, inl, inr, length, get_or, set, map, take, drop, drop-cons, refl, sym, ap, subst, ◌∙◌, arith, add-one, option_map, is_some, nat_lt, ◌||◌, length-append, length-drop}
+use Rattle.std.proofs.Common.{◌≡◌, ℕ, zero, suc, ◌+◌, ◌<◌, ◌≤◌, ◌==◌, Bool, true, false, not, ◌&&◌, cond, if◌then◌else◌, List, [], ◌∷◌, ◌++◌, Option, Some, None, inl, inr, length, get_or, set, map, take, drop, drop-cons, refl, sym, ap, subst, ◌∙◌, arith, add-one, option_map, is_some, nat_lt, ◌||◌, length-append, length-drop}
 use Rattle.std.proofs.lemmas.Bool.Decides.{Decides-eqb, eqb_tells}
 use Rattle.std.proofs.lemmas.List.{length-map, length-take-le, take_at, get_or-map, get_or-take, map-set, map-append, take_more_set, at_drop_all}
 use Rattle.std.proofs.Math.Seq.{take-set-lt}
+use Rattle.std.specs.List.{list_any}
+use Rattle.step_memory.specs.View.{inserted}
 use Rattle.step_memory.proofs.ViewLemmas.{length-inserted}
+use Rattle.proposal_rounds.specs.Proposals.{is_taken}
 use Rattle.snapshot_core.specs.declared.sightings.Met.{Met}
 use Rattle.snapshot_core.specs.declared.sightings.Sighting.{Sighting}
 use Rattle.snapshot_core.specs.Sightings.{unknown, sighting_of, index_of, number_met, AreDistinct, with_sighting, noted, carried_over, shown_with, shown_by}
 use Rattle.word_names.specs.declared.sighted.Sighted.{Sighted}
-use Rattle.word_names.specs.Sights.{sight, carried, met_if}
+use Rattle.word_names.specs.Sights.{sight, carried, met_if, is_of_other}
 use Rattle.word_names.specs.Small.{AreUpTo}
 
 -- a segment is noted where its index says, and is noted there anew
@@ -232,3 +235,30 @@ put_last ss len new inside room none =
     ap (map sight) (take_more_set ss len new inside)
     ∙ map-append sight (take len ss) (new ∷ [])
     ∙ sym (noted-none (sight new) (map sight (take len ss)) none (omega arith))
+
+-- a value that no other was met with is taken in no view of them
+none_of_two : (a b : Bool) → (a || b) ≡ false → (a ≡ false) × (b ≡ false)
+none_of_two false b h = (refl, h)
+none_of_two true b h = absurd (cc)
+
+abbrev is_other : ℕ → ℕ → ℕ × ℕ → Bool
+is_other id n pair = not (pair.0 == id) && (pair.1 == n)
+
+taken_inserted : (id n : ℕ) (view : List (ℕ × ℕ)) (new : ℕ × ℕ) → is_taken id view n ≡ false → is_other id n new ≡ false → is_taken id (inserted view new) n ≡ false
+taken_inserted id n [] new h k = rw k refl
+taken_inserted id n (p ∷ ps) new h k =
+    let two = none_of_two (is_other id n p) (is_taken id ps n) h in
+    elim (nat_lt new.0 p.0) as (λ b. is_taken id (cond b (new ∷ p ∷ ps) (cond (p.0 == new.0) (new ∷ ps) (p ∷ inserted ps new))) n ≡ false) [
+      | true ↦ rw k h
+      | false ↦ elim (p.0 == new.0) as (λ b. is_taken id (cond b (new ∷ ps) (p ∷ inserted ps new)) n ≡ false) [ true ↦ rw k two.1 | false ↦ rw two.0 (taken_inserted id n ps new two.1 k) ]
+    ]
+
+taken_if : (id n : ℕ) (view : List (ℕ × ℕ)) (b : Bool) (m : Met) → is_taken id view n ≡ false → (b && is_other id n (m.identity, m.value)) ≡ false → is_taken id (shown_with view (met_if b m)) n ≡ false
+taken_if id n view false m h k = h
+taken_if id n view true m h k = taken_inserted id n view (m.identity, m.value) h k
+
+pub not_taken : (id n : ℕ) (view : List (ℕ × ℕ)) (ss : List Sighted) → is_taken id view n ≡ false → list_any (is_of_other id n) ss ≡ false → is_taken id (shown_by view (map sight ss)) n ≡ false
+not_taken id n view [] h k = h
+not_taken id n view (s ∷ ss) h k =
+    let two = none_of_two (is_of_other id n s) (list_any (is_of_other id n) ss) k in
+    not_taken id n (shown_with view (sight s).now) ss (taken_if id n view s.is_met (record { identity = s.identity; value = s.value; number = s.number }) h two.0) two.1

@@ -16,7 +16,8 @@ use Rattle.snapshot_places.specs.declared.grid_register.GridValue.{GridValue}
 use Rattle.snapshot_places.specs.declared.grid_register.GridValue.TheVariants.{Word, Contents}
 use Rattle.snapshot_places.specs.declared.grid_walk.GridWalk.{GridWalk}
 use Rattle.snapshot_places.specs.Grid.{grid_place, door_access}
-use Rattle.rename_core.specs.declared.round.Stage.TheVariants.{Proposing}
+use Rattle.proposal_rounds.specs.Proposals.{is_taken}
+use Rattle.rename_core.specs.declared.round.Stage.TheVariants.{Proposing, Settled}
 use Rattle.rename_core.specs.declared.round.Wish.TheVariants as wish
 use Rattle.rename_core.specs.Locality.{wished}
 use Rattle.rename_core.specs.Round.{at_stage, written_round, decided}
@@ -129,3 +130,8 @@ decided_on x view = record { identity = x.identity; limit = x.limit; client = wi
 
 abbrev pub decided_note : Naming → List (ℕ × ℕ) → Note (Option ℕ)
 decided_note x view = note_of (decided x.round x.identity view x.limit).reply
+
+-- where no other proposes its number it takes that as its name
+pub settled_on : (x : Naming) (view : List (ℕ × ℕ)) → is_taken x.identity view x.round.proposal ≡ false
+    → (decided_on x view ≡ record { identity = x.identity; limit = x.limit; client = with_pending x.client Nothing; round = at_stage x.round Settled }) × (decided_note x view ≡ Ended (Some x.round.proposal))
+settled_on x view none = (rw none refl, rw none refl)

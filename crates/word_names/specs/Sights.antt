@@ -1,5 +1,5 @@
 -- what a scan knows of segments, in few bytes
-use Rattle.std.specs.Prelude.{ℕ, Bool, true, false, if◌then◌else◌, List, Option, Some, None}
+use Rattle.std.specs.Prelude.{ℕ, Bool, true, false, not, ◌&&◌, ◌==◌, if◌then◌else◌, List, Option, Some, None}
 use Rattle.step_memory.specs.declared.record.Record.{Record}
 use Rattle.snapshot_core.specs.declared.sightings.Met.{Met}
 use Rattle.snapshot_core.specs.declared.sightings.Sighting.{Sighting}
@@ -21,6 +21,10 @@ met_if false m = None
 -- what is known of its segment
 abbrev pub sight : Sighted → Sighting
 sight s = record { place = s.place; before = s.before; now = met_if s.is_met (record { identity = s.identity; value = s.value; number = s.number }); changed = s.has_changed }
+
+-- it was met with this value, of another identity
+abbrev pub is_of_other : ℕ → ℕ → Sighted → Bool
+is_of_other identity value s = s.is_met && (not (s.identity == identity) && (s.value == value))
 
 -- as the next collect begins
 abbrev pub carried : Sighted → Sighted

@@ -1,5 +1,5 @@
 -- what the program makes of a read of a segment
-use Rattle.std.proofs.Common.{◌≡◌, ◌≢◌, ℕ, Bool, true, false, not, List, slice_index, Option, Some, None, refl, ap, ◌∙◌}
+use Rattle.std.proofs.Common.{◌≡◌, ◌≢◌, ℕ, Bool, true, false, not, List, slice_index, Option, Some, None, refl, sym, ap, ◌∙◌}
 use Rattle.step_memory.specs.declared.access.Answer.TheVariants.{Value, Done}
 use Rattle.step_memory.specs.declared.record.Record.{Record}
 use Rattle.step_memory.specs.declared.note.Note.{Note}
@@ -65,6 +65,9 @@ module _ (x : Naming) where
   pub seen_pass : (s : Scan GridWalk) (view : List (ℕ × ℕ)) → x.client.pending ≡ Scans → s ≡ scan_after grid_walks x.client.scan (Contents None) x.client.walk → scan_view grid_walks x.client.scan (Contents None) ≡ Some view
       → decided_on (with_scan x s) view ≡ naming_steps.resumed x (Value (Contents None))
   seen_pass s view is after shown = ap (λ (z : Scan GridWalk). decided_on (with_scan x z) view) after ∙ rw (is, shown) refl
+
+  pub seen_pass_note : (s : Scan GridWalk) (view : List (ℕ × ℕ)) → x.client.pending ≡ Scans → scan_view grid_walks x.client.scan (Contents None) ≡ Some view → decided_note (with_scan x s) view ≡ naming_steps.note x (Value (Contents None))
+  seen_pass_note s view is shown = rw is (ap (said x None) (sym shown))
 
   module _ (r : Record) where
     abbrev now : Scan GridWalk

@@ -1,6 +1,7 @@
 //! A scan of a grid's segments by the head of each record.
 
-ghost use Rattle.std.specs.Prelude.{◌≡◌, ◌≤◌, ◌+◌, ℕ, List, [], if◌then◌else◌, not, None, Some};
+ghost use Rattle.std.specs.Prelude.{◌≡◌, ◌≤◌, ◌+◌, ℕ, List, [], if◌then◌else◌, not, false, None, Some};
+ghost use Rattle.proposal_rounds.specs.Proposals.{is_taken};
 ghost use Rattle.snapshot_core.specs.Scan.{scan_from, scan_after, scan_view, is_second_change, met};
 ghost use Rattle.snapshot_core.specs.Sightings.{shown_by};
 ghost use Rattle.snapshot_places.specs.declared.grid_register.GridValue.TheVariants.{Contents};
@@ -143,6 +144,13 @@ impl Collect {
         self.differs = false;
         self.seen.carry_over();
         false
+    }
+
+    /// Whether the present collect met this value of another identity. If not, no other has it in the view.
+    pub(crate) fn shows_other(&self, identity: u64, value: u64) -> bool
+        ensures { result ≡ false → is_taken identity (shown_by [] self.now.sightings) value ≡ false }
+    {
+        self.seen.shows_other(identity, value)
     }
 
     /// The view that the present collect met.

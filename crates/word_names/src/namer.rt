@@ -1,12 +1,12 @@
 //! One participant over a grid, as the program that threads run.
 
-ghost use Rattle.std.specs.Prelude.{◌≡◌, true, false, None};
+ghost use Rattle.std.specs.Prelude.{◌≡◌, ℕ, List, true, false, None};
 ghost use Rattle.step_memory.specs.declared.access.Answer.TheVariants.{Value};
 ghost use Rattle.snapshot_places.specs.declared.grid_register.GridValue.TheVariants.{Contents};
 ghost use Rattle.word_names.specs.NameMachine.{naming_steps};
 ghost use Rattle.word_names.specs.Direct.{proposing, walked, looking, decided_on, decided_note};
 ghost use Rattle.word_names.specs.Ahead.{IsReading};
-ghost use Rattle.proposal_rounds.specs.Proposals.{next_proposal};
+ghost use Rattle.proposal_rounds.specs.Proposals.{is_taken as taken, next_proposal};
 
 use crate::collect::Collect;
 use rename_core::proposal::is_taken;
@@ -129,15 +129,23 @@ impl Namer {
         self.scan.restart(self.segments);
     }
 
+    /// Takes its proposal as its name, since no other proposes it.
+    fn settle(&mut self) -> Note<Option<u64>>
+        ensures after { (view : List (ℕ × ℕ)) → taken self.old.identity view self.old.round.proposal ≡ false → self.new ≡ decided_on self.old view }
+        ensures note { (view : List (ℕ × ℕ)) → taken self.old.identity view self.old.round.proposal ≡ false → result ≡ decided_note self.old view }
+    {
+        self.round.stage = Stage::Settled;
+        self.doing = Doing::Nothing;
+        Note::Ended(Some(self.round.proposal))
+    }
+
     /// Takes its proposal as its name, or proposes another, by what the others propose.
     pub(crate) fn decide(&mut self, view: &View) -> Note<Option<u64>>
         ensures after { self.new ≡ decided_on self.old view.now }
         ensures note { result ≡ decided_note self.old view.now }
     {
         if !is_taken(view, self.identity, self.round.proposal) {
-            self.round.stage = Stage::Settled;
-            self.doing = Doing::Nothing;
-            return Note::Ended(Some(self.round.proposal));
+            return self.settle();
         }
         if self.limit <= self.round.count {
             self.round.stage = Stage::Over;
@@ -165,6 +173,9 @@ impl Namer {
                 Note::Quiet
             }
             Doing::Scanning => {
+                if !self.scan.shows_other(self.identity, self.round.proposal) {
+                    return self.settle();
+                }
                 let view = self.scan.view();
                 self.decide(&view)
             }

@@ -1,8 +1,10 @@
 //! What a scan knows of the segments that it met.
 
-ghost use Rattle.std.specs.Prelude.{◌≡◌, [], map, length};
+ghost use Rattle.std.specs.Prelude.{◌≡◌, [], map, length, false};
+ghost use Rattle.std.specs.List.{list_any};
 ghost use Rattle.snapshot_core.specs.Sightings.{sighting_of, index_of, noted, carried_over, shown_by};
-ghost use Rattle.word_names.specs.Sights.{sight, carried};
+ghost use Rattle.proposal_rounds.specs.Proposals.{is_taken};
+ghost use Rattle.word_names.specs.Sights.{sight, carried, is_of_other};
 ghost use Rattle.word_names.specs.Small.{IsMet, AreSmall};
 
 use crate::sighted::Sighted;
@@ -58,6 +60,15 @@ fn carry_over_all(entries: &mut [Sighted])
     for entry in entries.iter_mut() {
         entry.carry_over();
     }
+}
+
+/// Whether any entry was met with this value, of another identity.
+fn any_of_other(entries: &[Sighted], identity: u64, value: u64) -> bool
+    ensures { result ≡ list_any (is_of_other identity value) entries.now }
+{
+    entries
+        .iter()
+        .any(|entry| entry.is_of_other(identity, value))
 }
 
 impl Seen {
@@ -132,6 +143,13 @@ impl Seen {
         self.len = 0;
         self.next = 0;
         self.highest = 0;
+    }
+
+    /// Whether the present collect met this value of another identity. If not, no other has it in the view.
+    pub(crate) fn shows_other(&self, identity: u64, value: u64) -> bool
+        ensures { result ≡ false → is_taken identity (shown_by [] self.now) value ≡ false }
+    {
+        any_of_other(&self.entries[..self.len], identity, value)
     }
 
     /// The view that the present collect met.

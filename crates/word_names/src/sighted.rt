@@ -2,7 +2,7 @@
 
 ghost use Rattle.std.specs.Prelude.{◌≡◌, ◌<◌, length};
 ghost use Rattle.snapshot_core.specs.Sightings.{unknown, shown_with};
-ghost use Rattle.word_names.specs.Sights.{sight, carried};
+ghost use Rattle.word_names.specs.Sights.{sight, carried, is_of_other};
 
 use step_memory::View;
 
@@ -48,6 +48,13 @@ impl Sighted {
     {
         self.before = if self.is_met { self.number } else { 0 };
         self.is_met = false;
+    }
+
+    /// Whether it was met with this value, of another identity.
+    pub(crate) fn is_of_other(&self, identity: u64, value: u64) -> bool
+        ensures { result ≡ is_of_other identity value self.now }
+    {
+        self.is_met && (self.identity as u64 != identity && self.value as u64 == value)
     }
 
     /// Puts what was met into a view.
