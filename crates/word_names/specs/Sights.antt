@@ -20,7 +20,12 @@ met_if false m = None
 
 -- what is known of its segment
 abbrev pub sight : Sighted → Sighting
-sight s = record { place = s.place; before = s.before; now = met_if s.is_met (record { identity = s.identity; value = s.value; number = s.number }); changed = s.has_changed }
+sight s = record {
+  place = s.place;
+  before = s.before;
+  now = met_if s.is_met (record { identity = s.identity; value = s.value; number = s.number });
+  changed = s.has_changed;
+}
 
 -- it was met with this value, of another identity
 abbrev pub is_of_other : ℕ → ℕ → Sighted → Bool
