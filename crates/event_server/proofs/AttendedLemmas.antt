@@ -13,13 +13,14 @@ use Rattle.stays.specs.Stays.{Act, after_act, after_acts}
 use Rattle.event_server.specs.declared.attended.Attended.{Attended}
 use Rattle.event_server.specs.Attending.{AttendedMay, Hears, acts_in, acts_of, acts_of_turn, gives_back, heard, keeps_by}
 use Rattle.event_server.specs.Releasing.{is_freed, is_missed, lacks_number}
+use Rattle.event_server.specs.Taking.{wants_probe}
 
--- what a reply tells of stays
+-- what a reply tells of stays, and of `probe`
 abbrev pub Tells : Type 0
-Tells = record { keeps : Bool; gives : Bool; freed : Bool; lacks : Bool; missed : Bool }
+Tells = record { keeps : Bool; gives : Bool; freed : Bool; lacks : Bool; missed : Bool; wants : Bool }
 
 abbrev pub tells : {V : Type 0} → Reply V → Tells
-tells r = record { keeps = keeps_by r; gives = gives_back r; freed = is_freed r; lacks = lacks_number r; missed = is_missed r }
+tells r = record { keeps = keeps_by r; gives = gives_back r; freed = is_freed r; lacks = lacks_number r; missed = is_missed r; wants = wants_probe r }
 
 -- it tells the same whatever view it shows
 pub shown : {V W : Type 0} (r : Reply V) (v : W) → tells (with_view r v) ≡ tells r

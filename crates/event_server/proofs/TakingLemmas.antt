@@ -3,7 +3,6 @@ use Rattle.std.proofs.Common.{◌≡◌, ◌⊎◌, ◌≤◌, ◌<◌, ◌+◌,
 use Rattle.bit_allocator.specs.declared.pool.TheConstants.{MOST_NUMBERS}
 use Rattle.commands.specs.declared.event.Event.TheVariants as event
 use Rattle.commands.specs.declared.reply.Reply.{Reply}
-use Rattle.commands.specs.declared.reply.Reply.TheVariants as reply
 use Rattle.commands.specs.Replies.{with_view}
 use Rattle.commands.specs.Requests.Request.{Take}
 use Rattle.event_server.proofs.Common.{append-nil, get_or-set_same, get_or-set_other, length-set, cases_eq, eq-eqb, ne_eqb, ShownReply, Request, Runs, runs-append, all-append, all-tagged, of-append, of-same, of-other, Turn}
@@ -13,27 +12,13 @@ use Rattle.event_server.specs.Rounds.Deed.{Prefetches, Serves}
 use Rattle.event_server.specs.declared.gathering.Called.{Called}
 use Rattle.event_server.specs.declared.gathering.Called.TheVariants as called
 use Rattle.event_server.specs.Seats.{Seating}
+use Rattle.event_server.proofs.AttendedLemmas.{Tells, shown}
 use Rattle.event_server.proofs.RoundLemmas.{served_waits}
 use Rattle.event_server.specs.Taking.{IsTaking, LeadTo, MayTakeNumber, NumbersTaken, SaysTaking, SeatTakesNumber, SeatTook, TakingsKept, TakingsPrefetched, entered, probed, wants_probe}
 
 -- whether `probe` is said behind a reply is the same whatever view it shows
 pub wants_shown : {V W : Type 0} (r : Reply V) (v : W) → wants_probe (with_view r v) ≡ wants_probe r
-wants_shown reply.Ok v = refl
-wants_shown reply.Quiet v = refl
-wants_shown reply.Stop v = refl
-wants_shown reply.Right v = refl
-wants_shown reply.Down v = refl
-wants_shown (reply.Place place) v = refl
-wants_shown (reply.Proposed number) v = refl
-wants_shown (reply.Saw old) v = refl
-wants_shown (reply.Named name old) v = refl
-wants_shown reply.Spent v = refl
-wants_shown reply.Missed v = refl
-wants_shown (reply.Got number) v = refl
-wants_shown (reply.Left number) v = refl
-wants_shown (reply.Value value) v = refl
-wants_shown (reply.Owner owner) v = refl
-wants_shown (reply.Refused why) v = refl
+wants_shown r v = ap (λ (t : Tells). t.wants) (shown r v)
 
 -- one reply more
 lead_more : (first : ShownReply) (more : List ShownReply) (last r : ShownReply) → LeadTo first more last → wants_probe last ≡ true → LeadTo first (more ++ r ∷ []) r
