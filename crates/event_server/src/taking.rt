@@ -184,7 +184,8 @@ pub fn serve_takings<R, D: Service<R>, K: Persist<D>, S: Stream, A: Allocator, B
     requires knows { (q : Request) → D.knows q ≡ true }
     requires room { AreShared shared.old }
     ensures turned { OnOk result ((turned : TakingsKept (seats_of S.left S.gone) ahead D.may K.persists
-        persister.old service.old.service seats.old persister.new service.new.service seats.new) × Hears (acts_in (number_at numbers.now) turned.log) service.old service.new) }
+        persister.old service.old.service seats.old persister.new service.new.service seats.new) ×
+        Hears (acts_in (number_at numbers.now) turned.log) service.old service.new) }
     ensures unsent { OnErr result (NoneSent (seats_of S.left S.gone) seats.old seats.new) }
     ensures room { AreShared shared.new }
 {

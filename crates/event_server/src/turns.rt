@@ -86,7 +86,8 @@ pub fn take_turns<R, D: Service<R>, K: Persist<D>, S: Stream, A: Allocator, B: A
 fn send_at<S: Stream, A: Allocator>(seats: &mut [Option<Connection<S, A>>], key: usize)
     ensures sent { (seats.new ≡ seats.old) ⊎
         SeatSent (seats_of S.left S.gone) (λ c. c.stage ≡ Stage.Taken) key seats.old seats.new }
-    ensures rests { SeatIs (λ c. c.stage ≡ Stage.Queued → ⊥) (get_or seats.old key None) → SeatIs (λ c. c.stage ≡ Stage.Idle) (get_or seats.new key None) }
+    ensures rests { SeatIs (λ c. c.stage ≡ Stage.Queued → ⊥) (get_or seats.old key None) →
+        SeatIs (λ c. c.stage ≡ Stage.Idle) (get_or seats.new key None) }
     ensures others { (i : ℕ) → (i ≡ key → ⊥) → get_or seats.new i None ≡ get_or seats.old i None }
 {
     if key < seats.len() {
@@ -127,8 +128,10 @@ pub fn iterate<R, D: Service<R>, K: Persist<D>, S: Stream, A: Allocator, B: Allo
 ) -> Result<usize, K::Fault>
     requires knows { (q : Request) → D.knows q ≡ true }
     requires room { AreShared shared.old }
-    ensures turned { IfOk result (λ called. (turned : ServedIteration (seats_of S.left S.gone) D.may K.persists (λ c. c.stage ≡ Stage.Queued) (take called ready.now)
-        persister.old service.old.service seats.old persister.new service.new.service seats.new) × Hears (acts_in (number_at numbers.now) turned.turn.log) service.old service.new) }
+    ensures turned { IfOk result (λ called.
+        (turned : ServedIteration (seats_of S.left S.gone) D.may K.persists (λ c. c.stage ≡ Stage.Queued) (take called ready.now)
+        persister.old service.old.service seats.old persister.new service.new.service seats.new) ×
+        Hears (acts_in (number_at numbers.now) turned.turn.log) service.old service.new) }
     ensures unsent { OnErr result (NoneSent (seats_of S.left S.gone) seats.old seats.new) }
     ensures called { IfOk result (λ called. CallsSome ready.now called) }
     ensures rest { IfOk result (λ called. EachIs (λ c. c.stage ≡ Stage.Idle) (take called ready.now) seats.new) }
