@@ -250,7 +250,8 @@ impl<A: Allocator> Buffers<A> {
         requires count { self.old.responder.summary.lines ≤ MOST_LINES }
         requires empty { replies.old ≡ [] }
         ensures takes { (turns : List Turn) × Runs D.may service.old turns service.new × Takes turns bytes.now false self.old self.new }
-        ensures full { self.new.broken ≡ false → 0 < length self.new.inbox → (UNSENT_ROOM < length self.new.outbox + TURN_ROOM) ⊎ MayAsk self.new.inbox }
+        ensures full { self.new.broken ≡ false → 0 < length self.new.inbox →
+            (UNSENT_ROOM < length self.new.outbox + TURN_ROOM) ⊎ MayAsk self.new.inbox }
         ensures empty { replies.new ≡ [] }
     {
         if !self.add(bytes) {
@@ -329,7 +330,8 @@ impl<A: Allocator> Buffers<A> {
     // Replies wait to be sent.
     fn hold<B: Allocator>(&mut self, replies: &mut Replies<B>)
         requires { length self.old.outbox + length replies.old ≤ UNSENT_ROOM }
-        ensures same { (self.new.responder ≡ self.old.responder) × (self.new.inbox ≡ self.old.inbox) × (self.new.ended ≡ self.old.ended) × (self.new.in_line ≡ self.old.in_line) }
+        ensures same { (self.new.responder ≡ self.old.responder) × (self.new.inbox ≡ self.old.inbox) ×
+            (self.new.ended ≡ self.old.ended) × (self.new.in_line ≡ self.old.in_line) }
         ensures held { self.new.broken ≡ false → (self.new.outbox ≡ self.old.outbox ++ replies.old) × (self.old.broken ≡ false) }
         ensures empty { replies.new ≡ [] }
     {

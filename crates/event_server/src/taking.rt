@@ -338,7 +338,8 @@ pub fn prefetch_takings<R, D: Service<R>, K: Persist<D>, S: Stream, A: Allocator
 ) -> Result<Called, K::Fault>
     requires knows { (q : Request) → D.knows q ≡ true }
     requires room { AreShared shared.old }
-    ensures served { (count : ℕ) → result ≡ Ok (Called.Served count) → (turned : TakingsPrefetched (seats_of S.left S.gone) true D.may K.prefetches K.persists
+    ensures served { (count : ℕ) → result ≡ Ok (Called.Served count) →
+        (turned : TakingsPrefetched (seats_of S.left S.gone) true D.may K.prefetches K.persists
         persister.old service.old.service seats.old batch.new.lines.items persister.new service.new.service seats.new) ×
         Hears (acts_in (number_at numbers.now) turned.turn.log) service.old service.new }
     ensures unserved { (count : ℕ) → result ≡ Ok (Called.Unserved count) → Gathered (seats_of S.left S.gone) seats.old seats.new ×
