@@ -13,7 +13,7 @@ const LIMIT: usize = 64;
 
 /// How many races there are of each kind in a turn, and how many turns.
 const RACES: usize = 200;
-const TURNS: usize = 7;
+const TURNS: usize = 11;
 
 /// What names one thread of a race. It is called once, and dropped when the time is taken.
 type Seat = Box<dyn FnMut() -> u64 + Send>;
@@ -127,22 +127,40 @@ fn median(mut times: Vec<u64>) -> u64 {
     times[times.len() / 2]
 }
 
-/// Prints a table: nanoseconds of wall time that a thread takes for a name, by how many threads race at once. Each kind races in turn,
-/// and the least median of the turns counts.
-pub fn names() {
-    const THREADS: [usize; 5] = [1, 2, 4, 8, 16];
-    let mut least = [[u64::MAX; THREADS.len()]; KINDS.len()];
-    for _ in 0..TURNS {
+/// How many threads race at once.
+const THREADS: [usize; 5] = [1, 2, 4, 8, 16];
+
+/// What a thread takes for a name: the median of each turn, by kind and by how many threads race.
+type Medians = [[[u64; TURNS]; THREADS.len()]; KINDS.len()];
+
+/// Each kind races in turn.
+fn medians() -> Medians {
+    let mut medians = [[[0; TURNS]; THREADS.len()]; KINDS.len()];
+    for turn in 0..TURNS {
         for (column, threads) in THREADS.iter().enumerate() {
             for (row, kind) in KINDS.iter().enumerate() {
-                least[row][column] = least[row][column].min(median(race(kind, *threads)));
+                medians[row][column][turn] = median(race(kind, *threads));
             }
         }
     }
+    medians
+}
+
+/// The median of one kind's times over another's of the same turns, so that both had the machine as it was then.
+fn ratio(over: &[u64; TURNS], under: &[u64; TURNS]) -> f64 {
+    let mut ratios: Vec<f64> = over.iter().zip(under).map(|(over, under)| *over as f64 / *under as f64).collect();
+    ratios.sort_by(f64::total_cmp);
+    ratios[TURNS / 2]
+}
+
+/// Prints a table: nanoseconds of wall time that a thread takes for a name, the least median of the turns, and the proved names' over
+/// plain words'.
+pub fn names() {
+    let medians = medians();
     println!("{:<32}{}", "nanoseconds a name", THREADS.map(|threads| format!("{threads:>8}")).concat());
-    for (kind, times) in KINDS.iter().zip(least) {
-        println!("{:<32}{}", kind.0, times.map(|time| format!("{time:>8}")).concat());
+    for (kind, times) in KINDS.iter().zip(&medians) {
+        println!("{:<32}{}", kind.0, times.map(|turns| format!("{:>8}", turns.iter().min().expect("there are turns"))).concat());
     }
-    let over = std::array::from_fn(|column| least[0][column] as f64 / least[1][column] as f64);
-    println!("{:<32}{}", "proved over plain", <[f64; 5]>::map(over, |ratio| format!("{ratio:>8.2}")).concat());
+    let over: [f64; THREADS.len()] = std::array::from_fn(|column| ratio(&medians[0][column], &medians[1][column]));
+    println!("{:<32}{}", "proved over plain", over.map(|ratio| format!("{ratio:>8.2}")).concat());
 }
