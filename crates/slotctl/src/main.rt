@@ -2,8 +2,8 @@
 //!
 //! `slotctl play --world splitter --m 2` reads commands from the standard input, one a line, and writes a reply to each to
 //! the standard output. `slotctl serve` answers the commands of connections over one hall, and `slotctl host` those of a hall
-//! that outlives it. What the words of the command line ask for is done by `program` of `program_work`, over any reader and
-//! writer, but to race, which is `race`, to serve, which is `serve` of `slot_server`, and to host, which is `host_hall` of `hall_host`. The status is 0
+//! that outlives it. What the words of the command line ask for is done by `program` of `tool_work`, over any reader and
+//! writer, but to race, which is `race`, to serve, which is `serve` of `service_lock::server`, and to host, which is `host_hall` of `service_host`. The status is 0
 //! where it was done and for help, 1 where a record is none of a run, 2 where the words are refused, and 3 at a fault or for
 //! an allocation failure; at 2 and 3, and where a page was asked for at 1, a text on the standard error says why.
 #![tactic(auto)]
@@ -12,17 +12,17 @@ ghost use Rattle.std.specs.Prelude.{◌≡◌};
 
 mod race;
 
-use hall::Reads;
-use hall_host::{HostFailure, HostPlan, Keeping, LogPlan, export_hall, host_hall, write_holders};
-use listeners::{ListenPlan, SocketPlan};
-use locked_world::Opened;
-use player::{Fault, Tried};
-use program_work::program::{program, report};
-use program_work::{
+use service_hall::Reads;
+use service_host::{HostFailure, HostPlan, Keeping, LogPlan, export_hall, host_hall, write_holders};
+use service_watch::listeners::{ListenPlan, SocketPlan};
+use service_lock::Opened;
+use text_player::{Fault, Tried};
+use tool_work::program::{program, report};
+use tool_work::{
     Endpoints, Failure, Holding, Hosting, Keeping as KeepingWords, LogWords, Misuse, Outcome,
     Serving, in_sight, may_take_long, refused,
 };
-use slot_server::{Plan, ServeFault, serve};
+use service_lock::server::{Plan, ServeFault, serve};
 use std::alloc::{AllocGlobal, Global};
 use std::env;
 use std::fmt::Display;

@@ -2,15 +2,15 @@
 
 ghost use Rattle.std.specs.Prelude.{◌≡◌, ◌<◌, ◌≤◌};
 
-use player::Fault;
-use program_work::Racing;
+use text_player::Fault;
+use tool_work::Racing;
 use rand_core::SeedableRng;
 use rand_core::utils::NextWord;
 use rand_pcg::Lcg64Xsh32;
 use std::alloc::{AllocError, Global};
 use std::io::Write;
 use std::thread::{self, Threads};
-use word_names::{Dealer, FreshSeat, Names};
+use words_names::{Dealer, FreshSeat, Names};
 
 /// The most proposals of a thread. Where one is spent, which no race has shown, its name is above the bound, and the race says so.
 const MOST_PROPOSALS: u64 = 64;

@@ -3,7 +3,7 @@
 use crate::front_tests::{draw_lines, drawn};
 use crate::persister_tests::reported;
 use crate::stay_doubles::{FrontEnd, Site, front_end};
-use hall::{Hall, is_same};
+use service_hall::{Hall, is_same};
 use std::alloc::Global;
 
 /// At how many events a compaction is due.

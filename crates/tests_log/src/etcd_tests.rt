@@ -1,8 +1,8 @@
 //! The store over etcd's gateway, by texts in place of members.
 
 use crate::log_doubles::Script;
-use etcd_log::EtcdStore;
-use replicated_log::{Put, Store, StoreFault};
+use service_log::etcd::EtcdStore;
+use service_log::{Put, Store, StoreFault};
 use std::alloc::{AllocError, Global};
 
 // The answer to a transaction that put its value.

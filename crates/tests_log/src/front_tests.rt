@@ -1,14 +1,14 @@
 //! Halls that follow one log, interleaved at each of their steps.
 
 ghost use Rattle.std.specs.Prelude.{◌<◌};
-ghost use Rattle.player.specs.Knows.{Knows};
+ghost use Rattle.text_player.specs.Knows.{Knows};
 
 use crate::log_doubles::Lossy;
-use commands::{Config, WorldKind};
-use hall::Hall;
-use hall_log::{HallMachine, ReplyQueue};
-use player::{Service, Tried, play_on};
-use replicated_log::{Cause, MemoryStore, Replica, Step, StoreFault};
+use model_asked::{Config, WorldKind};
+use service_hall::Hall;
+use service_follow::{HallMachine, ReplyQueue};
+use text_player::{Service, Tried, play_on};
+use service_log::{Cause, MemoryStore, Replica, Step, StoreFault};
 use std::alloc::{AllocError, Global};
 use tests_doubles::{FaultyReader, FaultyWriter};
 

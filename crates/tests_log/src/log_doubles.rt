@@ -2,9 +2,9 @@
 
 ghost use Rattle.std.specs.Prelude.{◌≡◌, ◌%◌, ◌∷◌, length, OnOk};
 
-use etcd_log::Dial;
-use hall_log::Pause;
-use replicated_log::{Machine, MemoryStore, Put, Store, StoreFault};
+use service_log::etcd::Dial;
+use service_follow::Pause;
+use service_log::{Machine, MemoryStore, Put, Store, StoreFault};
 use std::alloc::{AllocError, Global};
 use std::cell::{Cell, RefCell};
 use std::io;
@@ -76,7 +76,7 @@ impl Lossy {
 
 impl Store for Lossy {
     ghost use Rattle.std.specs.Prelude.{⊤, ◌≤◌, length};
-    ghost use Rattle.replicated_log.specs.Places.{stands_in};
+    ghost use Rattle.service_log.specs.Places.{stands_in};
 
     ghost stands = { λ s. stands_in s.store };
 

@@ -2,10 +2,10 @@
 
 use crate::front_tests::{answers, config};
 use crate::log_doubles::{Lossy, Tries};
-use event_server::{Persist, Prefetch};
-use hall::Reads;
-use hall_log::{LogFault, LogPersister, Pause, ReplyQueue};
-use replicated_log::{MemoryStore, Store, StoreFault};
+use service_loop::{Persist, Prefetch};
+use service_hall::Reads;
+use service_follow::{LogFault, LogPersister, Pause, ReplyQueue};
+use service_log::{MemoryStore, Store, StoreFault};
 use std::alloc::Global;
 
 /// How the log of a hall of the config begins.

@@ -1,7 +1,7 @@
 //! Replicas over a log in memory.
 
 use crate::log_doubles::{Lossy, Notebook};
-use replicated_log::{Cause, Group, MemoryStore, Replica, ServeFault, Step, StoreFault};
+use service_log::{Cause, Group, MemoryStore, Replica, ServeFault, Step, StoreFault};
 use std::alloc::{AllocError, Global};
 
 /// A machine to which nothing was applied.

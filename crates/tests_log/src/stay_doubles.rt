@@ -3,9 +3,9 @@
 use crate::front_tests::{answers, config};
 use crate::log_doubles::{HandClock, SharedLog};
 use crate::persister_tests::reported;
-use hall::Hall;
-use hall_log::{LogPersister, ReplyQueue};
-use replicated_log::{MemoryStore, Store};
+use service_hall::Hall;
+use service_follow::{LogPersister, ReplyQueue};
+use service_log::{MemoryStore, Store};
 use std::alloc::{AllocError, Global};
 use std::cell::{Cell, RefCell};
 

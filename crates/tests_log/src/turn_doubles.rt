@@ -1,16 +1,16 @@
 //! A stream, a service and its persister that watch what a turn does.
 
 ghost use Rattle.std.specs.Prelude.{None, true, ⊤, []};
-ghost use Rattle.commands.specs.declared.reply.Reply.TheVariants.{Ok as Accepted};
+ghost use Rattle.model_asked.specs.declared.reply.Reply.TheVariants.{Ok as Accepted};
 
-use commands::{Command, Event, Reply, WorldKind};
-use event_server::{Persist, Prefetch, Stream, Tally};
-use held_lines::HeldQuery;
-use player::{Replies, Service, parse_line};
+use model_asked::{Command, Event, Reply, WorldKind};
+use service_loop::{Persist, Prefetch, Stream, Tally};
+use text_lines::held::HeldQuery;
+use text_player::{Replies, Service, parse_line};
 use std::alloc::{Allocator, Global};
 use std::io;
 use std::io::{Error, ErrorKind};
-use step_memory::View;
+use model_steps::View;
 
 /// A stream that gives bytes in pieces, with a pause after each, and takes some at each write.
 #[derive(Drop)]

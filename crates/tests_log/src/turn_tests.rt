@@ -1,11 +1,11 @@
 //! Connections over a service that knows before what it is asked.
 
 use crate::turn_doubles::{Piped, Reported, Teller};
-use commands::WorldKind;
-use event_server::{
+use model_asked::WorldKind;
+use service_loop::{
     Attended, Batch, Buffers, Called, Connection, SharedBuffers, Stage, iterate_prefetched,
 };
-use stays::Stays;
+use model_pool::stays::Stays;
 use std::alloc::{AllocError, Global};
 use std::process::Abort;
 

@@ -1,5 +1,0 @@
-use Rattle.bit_allocator.proofs.PoolKeeps.{may_widen, pool_proved}
-use Rattle.bit_allocator.proofs.laws.law_of_pool_calls.Goals as goal
-
-pub returns : goal.returns
-returns c = record { machine = pool_proved; wider = may_widen }

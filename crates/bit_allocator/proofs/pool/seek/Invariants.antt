@@ -1,5 +1,0 @@
-use Rattle.bit_allocator.proofs.Seeking.{Missed}
-use Rattle.bit_allocator.proofs.pool.seek.Given as goal
-
-abbrev pub invariant-loop-bit : goal.invariant-loop-bit
-invariant-loop-bit g l = Missed l.size l.initial.bits l.bit l.bits

@@ -1,9 +1,0 @@
--- an invariant of every pool, after any calls
-use Rattle.std.specs.Prelude.{ℕ, ◌≤◌, List, All}
-use Rattle.bit_allocator.specs.declared.competitor.Competitor.{Competitor}
-use Rattle.bit_allocator.specs.Stay.{IsWithin}
-
-pub record IsSound (size : ℕ) (cs : List Competitor) : Type 0 where
-  pub first : 1 ≤ size
-  pub last : size ≤ 64
-  pub stays : All (λ c. IsWithin size c.stay) cs

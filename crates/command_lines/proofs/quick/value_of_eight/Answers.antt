@@ -1,5 +1,0 @@
-use Rattle.command_lines.proofs.EightDigits.{value_is}
-use Rattle.command_lines.proofs.quick.value_of_eight.Goals as goal
-
-pub returns : goal.returns
-returns c = value_is c.args.digits

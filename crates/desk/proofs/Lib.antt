@@ -1,7 +1,0 @@
-mod Common
-mod DeskKeeps
-mod NamesGiven
-mod NamedAlone
-pub mod NamedAmong
-mod Refusing
-pub mod DeskLaws

@@ -1,6 +1,0 @@
-mod Common
-mod ShortReplies
-mod ResultLemmas
-mod UnderWayLemmas
-mod ScheduleLemmas
-mod RunLemmas

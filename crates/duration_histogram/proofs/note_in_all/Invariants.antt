@@ -1,7 +1,0 @@
-use Rattle.std.proofs.Common.{◌≡◌, ◌++◌, take, drop, map}
-use Rattle.duration_histogram.specs.Histogram.{with_call}
-use Rattle.duration_histogram.proofs.note_in_all.Given as goal
-
--- the call is counted in the buckets so far
-abbrev pub invariant-loop-bucket : goal.invariant-loop-bucket
-invariant-loop-bucket l = l.buckets ≡ map (with_call l.micros) (take l.bucket-index l.initial.buckets) ++ drop l.bucket-index l.initial.buckets

@@ -1,4 +1,0 @@
-mod Behind
-mod KeyDigits
-mod Lasts
-mod Ranges

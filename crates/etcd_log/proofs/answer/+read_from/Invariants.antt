@@ -1,4 +1,0 @@
-use Rattle.etcd_log.proofs.answer.+read_from.Given as goal
-
-abbrev pub decreases-read_from : goal.decreases-read_from
-decreases-read_from l = l.most

@@ -1,8 +1,0 @@
-use Rattle.std.proofs.Common.{◌≤◌, length}
-use Rattle.etcd_log.proofs.exchange.receive.Given as goal
-
--- what was not read yet begins inside
-abbrev pub invariant-loop : goal.invariant-loop
-invariant-loop g l = record {
-  inside : l.from ≤ length l.input.items;
-}

@@ -1,5 +1,0 @@
-use Rattle.event_server.proofs.ReleaseLemmas.{releases_free}
-use Rattle.event_server.proofs.releasing.law_of_releases.Goals as goal
-
-pub returns : goal.returns
-returns g c = λ competes due w u released id tells_so among. releases_free g.D.Service.may competes tells_so due released.turns w.service u.service released.each released.run id among

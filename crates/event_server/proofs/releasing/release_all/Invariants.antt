@@ -1,7 +1,0 @@
-use Rattle.std.proofs.Common.{take}
-use Rattle.event_server.specs.Releasing.{Released}
-use Rattle.event_server.proofs.releasing.release_all.Given as goal
-
--- so many were released
-abbrev pub invariant-loop-identity : goal.invariant-loop-identity
-invariant-loop-identity g l = Released g.D.Service.may (take l.identity-index l.due) l.fn.service l.service

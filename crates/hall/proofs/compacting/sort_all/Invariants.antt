@@ -1,5 +1,0 @@
-use Rattle.hall.specs.Rebuilt.{IsSorted}
-use Rattle.hall.proofs.compacting.sort_all.Given as goal
-
-abbrev pub invariant-loop-place : goal.invariant-loop-place
-invariant-loop-place l = IsSorted l.hall l.place l.new l.old

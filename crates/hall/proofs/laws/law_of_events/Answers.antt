@@ -1,6 +1,0 @@
-use Rattle.hall.proofs.HallLaws.{goes_on}
-use Rattle.hall.proofs.Histories.{kept_refused, begins_ok, room_left}
-use Rattle.hall.proofs.laws.law_of_events.Goals as goal
-
-pub returns : goal.returns
-returns c = record { goes_on = goes_on; refused = kept_refused; begins = begins_ok; room = room_left }

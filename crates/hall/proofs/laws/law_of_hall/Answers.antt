@@ -1,5 +1,0 @@
-use Rattle.hall.proofs.Histories.{history_run}
-use Rattle.hall.proofs.laws.law_of_hall.Goals as goal
-
-pub returns : goal.returns
-returns c = record { run = history_run c.args.hall.now c.len.ensures.lawful }

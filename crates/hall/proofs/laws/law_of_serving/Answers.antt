@@ -1,5 +1,0 @@
-use Rattle.hall.proofs.Serves.{transcript, history}
-use Rattle.hall.proofs.laws.law_of_serving.Goals as goal
-
-pub returns : goal.returns
-returns c = record { transcript = transcript; history = history }

@@ -1,5 +1,0 @@
-use Rattle.hall.specs.Rebuilt.{GoesOn}
-use Rattle.hall.proofs.plan.fill.Given as goal
-
-abbrev pub invariant-loop : goal.invariant-loop
-invariant-loop l = GoesOn l.initial.new l.new

@@ -1,5 +1,0 @@
-use Rattle.hall.specs.Rebuilt.{GoesOn}
-use Rattle.hall.proofs.plan.hold_below.Given as goal
-
-abbrev pub invariant-loop-below : goal.invariant-loop-below
-invariant-loop-below l = GoesOn l.initial.new l.new

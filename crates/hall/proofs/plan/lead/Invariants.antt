@@ -1,5 +1,0 @@
-use Rattle.hall.specs.Rebuilt.{GoesOn}
-use Rattle.hall.proofs.plan.lead.Given as goal
-
-abbrev pub invariant-loop-competitor : goal.invariant-loop-competitor
-invariant-loop-competitor l = GoesOn l.initial.new l.new

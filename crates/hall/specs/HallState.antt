@@ -1,9 +1,0 @@
--- what a contract sees of a hall
-use Rattle.std.specs.Prelude.{List}
-use Rattle.commands.specs.declared.config.Config.{Config}
-use Rattle.commands.specs.declared.exchange.Exchange.{Exchange}
-
--- the config for which it was opened, and its accepted events with their replies
-pub record HallState : Type 0 where
-  pub config : Config
-  pub history : List Exchange

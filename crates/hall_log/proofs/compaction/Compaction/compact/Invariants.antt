@@ -1,6 +1,0 @@
-use Rattle.hall_log.specs.Tellings.{HasToldAlone}
-use Rattle.hall_log.proofs.compaction.Compaction.compact.Given as goal
-
--- the hall went on, and told nothing but compactions
-abbrev pub invariant-loop : goal.invariant-loop
-invariant-loop g l = HasToldAlone g.S.Store.stands l.fn.self.token l.self.token l.fn.log l.log

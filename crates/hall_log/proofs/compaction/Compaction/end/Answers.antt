@@ -1,8 +1,0 @@
--- The entry that ends is one of a compaction.
-use Rattle.std.proofs.Common.{rules, sym, subst}
-use Rattle.hall_log.specs.Tellings.{IsTelling}
-use Rattle.hall_log.proofs.Told.{last_told}
-use Rattle.hall_log.proofs.compaction.Compaction.end.Goals as goal
-
-pub offer-requires : goal.offer-requires
-offer-requires g c = subst (IsTelling c.args.self.now.token) (sym c.in-Ok.ensures) (last_told c.args.self.now.token c.args.self.now.count (search rules) _ _ _)

@@ -1,4 +1,0 @@
-use Rattle.hall_log.proofs.log_hall.LogHall.hint.Goals as goal
-
-pub invariant_of-self : goal.invariant_of-self
-invariant_of-self g c = c.law_of_following.ensures.still _ _ _ _ _ c.hint.ensures.same.keeps c.self.invariant

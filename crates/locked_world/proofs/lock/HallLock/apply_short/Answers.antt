@@ -1,4 +1,0 @@
-use Rattle.locked_world.proofs.lock.HallLock.apply_short.Goals as goal
-
-pub returns : goal.returns
-returns g c = c.apply.ensures.taken

@@ -1,0 +1,58 @@
+//! The configuration of a run.
+
+ghost use Rattle.std.specs.Prelude.{◌≡◌, ◌<◌, ◌↔◌, true, IfOk, IfErr, IsOk};
+ghost use Rattle.model_asked.specs.Ranges.{IsConfigRange};
+ghost use Rattle.model_asked.specs.rounds.Rounds.{most_proposals};
+
+use crate::kind::WorldKind;
+use model_steps::Refusal;
+
+/// The configuration of a run: its world and its sizes, each in its range.
+#[derive(Clone, Copy, Debug, Drop, PartialEq, Eq)]
+pub struct Config {
+    /// The world.
+    pub world: WorldKind,
+    /// The most participants: from 1 to 64 if the world is `Tree`, and from 1 to 16 otherwise.
+    pub m: u64,
+    /// The size of the pool, from 1 to 64.
+    pub k: u64,
+    /// The round limit, from 1 to 1,000,000.
+    pub limit: u64,
+    ghost in_range: { IsConfigRange world m k limit },
+}
+
+impl Config {
+    /// Makes a configuration of these values.
+    ///
+    /// # Errors
+    ///
+    /// `OutOfRange`: one of them is outside its range.
+    pub fn new(world: WorldKind, m: u64, k: u64, limit: u64) -> Result<Config, Refusal>
+        ensures ok { IfOk result (λ c. (c.world ≡ world) × (c.m ≡ m) × (c.k ≡ k) × (c.limit ≡ limit)) }
+        ensures range { IsOk result ↔ IsConfigRange world m k limit }
+        ensures only { IfErr result (λ r. r ≡ Refusal.OutOfRange) }
+    {
+        if m < 1 || world.most() < m || k < 1 || 64 < k || limit < 1 || 1_000_000 < limit {
+            return Err(Refusal::OutOfRange);
+        }
+        Ok(Config { world, m, k, limit })
+    }
+
+    /// Whether the round limit is above `3(5^m - 1)/4`, the most proposals that `m` participants make, all together.
+    ///
+    /// No participant can then use up its rounds. The bound is 3, 18, 93, 468, 2,343, 11,718, 58,593 and 292,968 for
+    /// `m` from 1 to 8. From `m = 9` on it is above every round limit.
+    pub fn cannot_spend(&self) -> bool
+        ensures { (result ≡ true) ↔ (most_proposals self.now.m < self.now.limit) }
+    {
+        let mut most = 0;
+        for begun in 0..self.m {
+            let _ = begun;
+            most = 5 * most + 3;
+            if self.limit <= most {
+                return false;
+            }
+        }
+        true
+    }
+}

@@ -1,0 +1,38 @@
+//! What is asked and answered: the vocabulary of all that is played.
+//!
+//! An *event* is an action of one participant, or the growth of the pool. A *command* is what a line asks for: an
+//! event, the identity that has a name, or the end. A *reply* is what is returned, a refusal among them. `Reply<View>`
+//! carries the view that it shows. `Reply<()>` takes a few bytes, and its view is kept beside it. An *exchange* is an
+//! event with its reply. A line that is no command is bad, for one of five reasons (`Bad`). A `Config` fixes a run: one
+//! of the worlds (`WorldKind`), and its sizes.
+//!
+//! Nothing here knows how a world answers.
+//!
+//! From `tests_model/src/renaming_tests.rt`:
+//!
+//! ```text
+//! fn cannot_spend(most: u64, limit: u64) -> Reported {
+//!     let config = Config::new(WorldKind::Rename, most, 4, limit)?;
+//!     Ok(config.cannot_spend())
+//! }
+//! ..
+//! same(&rt, 8, cannot_spend(9, 1_000_000), Ok(false));
+//! ```
+#![tactic(auto)]
+
+pub mod rounds;
+pub mod bad;
+pub mod command;
+pub mod config;
+pub mod event;
+pub mod exchange;
+pub mod kind;
+pub mod reply;
+
+pub use bad::Bad;
+pub use command::Command;
+pub use config::Config;
+pub use event::Event;
+pub use exchange::Exchange;
+pub use kind::{ANY_WORLD, WorldKind};
+pub use reply::Reply;

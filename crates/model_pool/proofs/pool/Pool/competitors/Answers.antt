@@ -1,0 +1,9 @@
+use Rattle.std.proofs.Common.{rules, ◌≡◌, sym, ap, ◌∙◌}
+use Rattle.model_pool.specs.Competitors.{identities}
+use Rattle.model_pool.proofs.PoolKeeps.{tied_after}
+use Rattle.model_pool.proofs.pool.Pool.competitors.Goals as goal
+
+pub returns-clause-law : goal.returns-clause-law
+returns-clause-law g c = λ size r a o is.
+    let value : c.as_slice.result.now ≡ c.args.self.now.competitors = search rules in
+    ap identities value ∙ sym (tied_after size c.args.self.now r o a is).competing

@@ -1,0 +1,14 @@
+use Rattle.std.proofs.Common.{rules, ◌≡◌}
+use Rattle.model_pool.proofs.slots_lemmas.Common.{number_answer, Left, SlotsState, Pooled, call_leads_on, slots, slots_next}
+use Rattle.model_pool.proofs.slots_lemmas.SlotsKeep.{slots_law}
+use Rattle.model_pool.proofs.slots.slots.Slots.leave.Goals as goal
+
+pub returns-clause-after : goal.returns-clause-after
+returns-clause-after g c =
+    let new : SlotsState g.row.T.Denot = record { pool = c.leave.new.self; values = c.self.inside.values.items } in
+    let state : new ≡ slots_next c.args.self.now (Pooled (Left c.args.id c.leave.result)) = search rules in
+    let reply : c.leave.result ≡ number_answer c.args.self.now.pool c.args.id = search rules in
+    call_leads_on slots c.args.self.now new (Pooled (Left c.args.id c.leave.result)) state reply
+
+pub returns-clause-law : goal.returns-clause-law
+returns-clause-law g c = slots_law _

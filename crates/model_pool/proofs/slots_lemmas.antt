@@ -1,0 +1,4 @@
+pub mod Common
+pub mod SlotLemmas
+pub mod SlotsKeep
+pub mod TokenLemmas

@@ -1,0 +1,15 @@
+pub mod Stay
+pub mod Competitors
+pub mod PoolState
+pub mod Widening
+pub mod Pool
+pub mod Locality
+pub mod Calls
+pub mod PoolObject
+pub mod Law
+pub mod Machine
+pub mod Acquired
+pub mod Roster
+pub mod Invariant
+pub mod slots
+pub mod stays

@@ -1,0 +1,47 @@
+-- slots as a machine
+use Rattle.std.specs.Prelude.{◌≡◌, ℕ, ◌≤◌, List, length}
+use Rattle.model_steps.specs.Runs.{AnswersAsDue}
+use Rattle.model_steps.specs.Machine.{Machine}
+use Rattle.model_pool.specs.Machine.{next, IsReply}
+use Rattle.model_pool.specs.Calls.{Call}
+use Rattle.model_pool.specs.Calls.Call.{Entered, Probed, Left, Widened}
+use Rattle.model_pool.specs.PoolState.{PoolState}
+use Rattle.model_pool.specs.Pool.{fresh_pool, number_answer}
+use Rattle.model_pool.specs.slots.SlotsState.{SlotsState}
+use Rattle.model_pool.specs.slots.SlotCalls.{SlotCall}
+use Rattle.model_pool.specs.slots.SlotCalls.SlotCall.{Pooled, Stored, Fetched, Extended}
+use Rattle.model_pool.specs.slots.SlotsObject.{SlotAnswers, slots_after, fresh_slots}
+use Rattle.model_pool.specs.slots.Law.{SlotsSpec}
+use Rattle.model_pool.specs.slots.Slots.{stored_reply, IsFetched, after_put, after_extend}
+
+-- the slots after a call
+abbrev pub slots_next : {T : Type 0} → SlotsState T → SlotCall T → SlotsState T
+slots_next s (Pooled h) = record s { pool = next s.pool h }
+slots_next s (Stored id value reply) = after_put s id value
+slots_next s (Fetched id reply) = s
+slots_next s (Extended more value reply) = after_extend s more value
+
+-- the reply is the one that a call of the pool alone gets. A widening is no such call, since new slots need a value
+abbrev pub IsPoolReply : PoolState → Call → Type 0
+IsPoolReply w (Entered id reply) = IsReply w (Entered id reply)
+IsPoolReply w (Probed id reply) = IsReply w (Probed id reply)
+IsPoolReply w (Left id reply) = IsReply w (Left id reply)
+IsPoolReply w (Widened more reply) = ⊥
+
+-- the reply is the one that the call gets
+abbrev pub IsSlotReply : {T : Type 0} → SlotsState T → SlotCall T → Type 0
+IsSlotReply s (Pooled h) = IsPoolReply s.pool h
+IsSlotReply s (Stored id value reply) = reply ≡ stored_reply (number_answer s.pool id)
+IsSlotReply s (Fetched id reply) = IsFetched s.values (number_answer s.pool id) reply
+IsSlotReply s (Extended more value reply) = IsReply s.pool (Widened more reply)
+
+-- slots over a new pool of from 1 to 64 numbers, with as many values, and what they keep
+abbrev pub slots : {T : Type 0} → Machine (ℕ × List T) (SlotsState T) (SlotCall T)
+slots = record {
+  MayStart = λ first. (1 ≤ first.0) × (first.0 ≤ 64) × (length first.1 ≡ first.0);
+  first = λ first. record { pool = fresh_pool first.0; values = first.1 };
+  next = slots_next;
+  IsReply = IsSlotReply;
+  Spec = λ first. SlotsSpec first.0 first.1;
+  RefusesAsDue = λ first. AnswersAsDue slots_after SlotAnswers (fresh_slots first.0 first.1);
+}

@@ -1,0 +1,3 @@
+pub mod GridContents
+pub mod GridLaw
+pub mod TreeLaw

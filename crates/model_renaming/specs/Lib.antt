@@ -1,0 +1,16 @@
+pub mod RenameObject
+pub mod Pace
+pub mod Alone
+pub mod Ends
+pub mod Law
+pub mod Round
+pub mod Reply
+pub mod RenameState
+pub mod RenameWorld
+pub mod Taken
+pub mod NamedPlaces
+pub mod Machine
+pub mod Locality
+pub mod Ample
+pub mod EmptyPlaces
+pub mod over

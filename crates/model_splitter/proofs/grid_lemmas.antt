@@ -1,0 +1,9 @@
+pub mod Common
+pub mod Numbers
+pub mod Diagonals
+pub mod DepthBound
+pub mod AgreeKept
+pub mod ConsistentKept
+pub mod GridLaw
+pub mod GridTied
+pub mod EnteredDoors

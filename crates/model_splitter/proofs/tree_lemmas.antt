@@ -1,0 +1,16 @@
+pub mod Common
+pub mod collects
+pub mod nodes
+pub mod TreeMemoryLemmas
+pub mod WorldCommon
+pub mod CallCases
+pub mod PlacesTied
+pub mod NodesMade
+pub mod StoreLemmas
+pub mod DueTied
+pub mod UnderWay
+pub mod CollectTied
+pub mod CollectSteps
+pub mod TreeProved
+pub mod CallsAsked
+pub mod OwnAccesses

@@ -1,0 +1,17 @@
+use Rattle.model_splitter.proofs.SplitterTied.{splitter_law, splitter_due, splitter_begins}
+use Rattle.model_splitter.proofs.world.SplitterWorld.begin.Goals as goal
+
+pub returns-clause-answer : goal.returns-clause-answer
+returns-clause-answer g c = rw c.self.view_is at c.begin.ensures.answer
+
+pub returns-clause-state : goal.returns-clause-state
+returns-clause-state g c = rw (c.self.view_is, c.new.ensures) at c.begin.ensures.after
+
+pub returns-clause-after : goal.returns-clause-after
+returns-clause-after g c = splitter_begins c.args.self.now c.begin.new.self c.args.id c.begin.result (returns-clause-state g c) (returns-clause-answer g c)
+
+pub returns-clause-law : goal.returns-clause-law
+returns-clause-law g c = splitter_law c.begin.new.self
+
+pub returns-clause-due : goal.returns-clause-due
+returns-clause-due g c = splitter_due c.begin.new.self

@@ -1,0 +1,36 @@
+-- a walk from door to door, each of which has a splitter: its note and its place, by the stage of the visit to its door
+-- (Moir and Anderson 1995)
+use Rattle.std.specs.Prelude.{ℕ, Option, Some, None}
+use Rattle.model_steps.specs.declared.note.Note.{Note}
+use Rattle.model_steps.specs.declared.note.Note.TheVariants.{Quiet, Ended}
+use Rattle.model_splitter.specs.declared.way.Way.TheVariants.{Stop, Right, Down}
+use Rattle.model_splitter.specs.declared.stage.Stage.{Stage}
+use Rattle.model_splitter.specs.declared.stage.Stage.TheVariants.{Outside, WroteX, SawClear, WroteY, Gone}
+
+-- the walk: at its door, with the visit there, or before the next door where that visit ended right or down
+abbrev pub gone_on : {W : Type 0} → (Stage → W) → W → W → Stage → W
+gone_on here right down Outside = here Outside
+gone_on here right down WroteX = here WroteX
+gone_on here right down SawClear = here SawClear
+gone_on here right down WroteY = here WroteY
+gone_on here right down (Gone Stop) = here (Gone Stop)
+gone_on here right down (Gone Right) = right
+gone_on here right down (Gone Down) = down
+
+-- what it says at door k: that it has ended there, once its visit stops
+abbrev pub note_at_door : ℕ → Stage → Note ℕ
+note_at_door k (Gone Stop) = Ended k
+note_at_door k s = Quiet
+
+-- the place that it has at door k
+abbrev pub place_at_door : ℕ → Stage → Option ℕ
+place_at_door k (Gone Stop) = Some k
+place_at_door k s = None
+
+-- the most accesses of a visit up to this stage
+abbrev pub accesses_at : Stage → ℕ
+accesses_at Outside = 0
+accesses_at WroteX = 1
+accesses_at SawClear = 2
+accesses_at WroteY = 3
+accesses_at (Gone way) = 4

@@ -1,5 +1,0 @@
-use Rattle.player.proofs.StandsLemmas.{stands_start}
-use Rattle.player.proofs.laws.law_of_fresh_players.Goals as goal
-
-pub returns : goal.returns
-returns g c = stands_start g.D.Service.may g.F.Form.text

@@ -1,5 +1,0 @@
-use Rattle.player.specs.SharedProofs.{shared_on}
-use Rattle.player.proofs.laws.law_of_sharing.Goals as goal
-
-pub returns : goal.returns
-returns g c = shared_on g.D.Service.may g.F.Form.text

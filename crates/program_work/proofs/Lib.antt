@@ -1,8 +1,0 @@
-mod Common
-mod ConfigLemmas
-mod AskLemmas
-mod HostLemmas
-mod ReadLemmas
-mod CheckLemmas
-mod MigrateLemmas
-mod ShowLemmas

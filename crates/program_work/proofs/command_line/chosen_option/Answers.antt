@@ -1,8 +1,0 @@
-use Rattle.std.proofs.Common.{ap, ◌∷◌, []}
-use Rattle.program_work.proofs.Common.{Rule}
-use Rattle.program_work.proofs.command_line.chosen_option.Goals as goal
-
-pub returns-clause-rule : goal.returns-clause-rule
-returns-clause-rule c =
-    let settings : Rule → Rule = λ r. record r { defaults = c.args.default.now ∷ [] } in
-    rw c.default_value.ensures (ap settings c.text_option.ensures.rule)

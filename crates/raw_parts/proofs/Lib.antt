@@ -1,8 +1,0 @@
-mod Common
-pub mod Views
-pub mod Numbered
-mod Accesses
-mod Dealing
-mod Meeting
-mod Visiting
-mod Claims

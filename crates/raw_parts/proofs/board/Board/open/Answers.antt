@@ -1,5 +1,0 @@
-use Rattle.raw_parts.proofs.Claims.{fresh_board}
-use Rattle.raw_parts.proofs.board.Board.open.Goals as goal
-
-pub of_words-requires : goal.of_words-requires
-of_words-requires g c = fresh_board c.args.names c.requires.1

@@ -1,7 +1,0 @@
-use Rattle.std.proofs.Common.{◌≡◌, ◌++◌, take}
-use Rattle.command_lines.specs.Replies.{pair_words}
-use Rattle.record_lines.proofs.compact.put_pairs.Given as goal
-
--- the pairs so far
-abbrev pub invariant-loop-pair : goal.invariant-loop-pair
-invariant-loop-pair l = l.out ≡ l.fn.out ++ pair_words (take l.pair-index l.pairs)

@@ -1,5 +1,0 @@
-use Rattle.rename_core.proofs.PlacesLaw.{fixed_lawful}
-use Rattle.rename_core.proofs.laws.fixed_rename_law.Goals as goal
-
-pub returns-clause-law : goal.returns-clause-law
-returns-clause-law g c = fixed_lawful c.args.world.now

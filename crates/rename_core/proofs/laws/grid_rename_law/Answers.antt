@@ -1,8 +1,0 @@
-use Rattle.rename_core.proofs.PlacesLaw.{grid_lawful, grid_begins_alike}
-use Rattle.rename_core.proofs.laws.grid_rename_law.Goals as goal
-
-pub returns-clause-law : goal.returns-clause-law
-returns-clause-law g c = grid_lawful c.args.world.now
-
-pub returns-clause-alike : goal.returns-clause-alike
-returns-clause-alike g c = grid_begins_alike

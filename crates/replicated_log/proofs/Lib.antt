@@ -1,5 +1,0 @@
-mod Chains
-pub mod Late
-mod LogPlaces
-mod Paces
-mod Shared

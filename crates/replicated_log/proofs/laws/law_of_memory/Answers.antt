@@ -1,6 +1,0 @@
--- Nothing stands behind the end.
-use Rattle.replicated_log.proofs.Shared.{never_both}
-use Rattle.replicated_log.proofs.laws.law_of_memory.Goals as goal
-
-pub returns : goal.returns
-returns c = λ both. never_both both.0 both.1 both.2.0 both.3 both.2.1

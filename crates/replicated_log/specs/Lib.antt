@@ -1,6 +1,0 @@
-pub mod Causes
-pub mod Groups
-pub mod GroupState
-pub mod Places
-pub mod ReplicaState
-pub mod Replicas

@@ -1,8 +1,0 @@
-mod Common
-mod Judging
-pub mod Following
-pub mod Runs
-mod records
-mod DeskRuns
-mod NarrowRuns
-mod LowPlaces

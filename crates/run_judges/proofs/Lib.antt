@@ -1,5 +1,0 @@
-mod Common
-pub mod Views
-mod seats
-mod Deciding
-mod StayLemmas

@@ -1,7 +1,0 @@
-use Rattle.std.proofs.Common.{refl}
-use Rattle.run_judges.proofs.StayLemmas.{entered}
-use Rattle.run_judges.proofs.stays.Stays.enter.Goals as goal
-
-pub returns : goal.returns
-returns c = λ o h none.
-    entered c.args.self.now (record { size = c.args.self.now.size; competitors = c.push.new.self; values = c.args.self.now.values }) o c.args.id h none c.in_ok-push.ensures.items refl refl

@@ -1,9 +1,0 @@
-use Rattle.std.proofs.Common.{refl, arith}
-use Rattle.run_judges.proofs.StayLemmas.{missed}
-use Rattle.run_judges.proofs.seats.People.{there}
-use Rattle.run_judges.proofs.stays.Stays.miss.Goals as goal
-
-pub returns : goal.returns
-returns c = λ o h none more.
-    missed c.args.self.now (record { size = c.args.self.now.size; competitors = c.put.new.participants; values = c.args.self.now.values }) o c.args.id c.in-Some.stay c.saturating_add.result h
-    (there c.args.id c.find.ensures c.deref.ensures.value c.in-Some.is) none (λ few. grind (arith, c.saturating_add.ensures, few)) refl refl more c.put.ensures

@@ -1,3 +1,0 @@
-mod Common
-mod PageLemmas
-mod TagLemmas

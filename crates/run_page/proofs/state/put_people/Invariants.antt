@@ -1,7 +1,0 @@
-use Rattle.std.proofs.Common.{◌≡◌, ◌++◌, take, flat_map}
-use Rattle.run_page.specs.State.{person}
-use Rattle.run_page.proofs.state.put_people.Given as goal
-
--- the participants so far
-abbrev pub invariant-loop-id : goal.invariant-loop-id
-invariant-loop-id l = l.out ≡ l.fn.out ++ flat_map (person l.form l.desk) (take l.id-index l.ids)

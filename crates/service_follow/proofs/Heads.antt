@@ -1,0 +1,142 @@
+-- first lines of batches
+use Rattle.std.proofs.Common.{◌≡◌, ◌≢◌, ◌&&◌, ◌≤◌, ◌<◌, ◌+◌, ◌-◌, ◌*◌, ◌/◌, ◌%◌, ◌^◌, ℕ, zero, suc, cond, Bool, if◌then◌else◌, inl, inr, subst, length, List, [], ◌∷◌, ◌++◌, refl, ap, sym, ◌∙◌, arith, append_assoc, length-append, add-one}
+use Rattle.std.specs.List.{All}
+use Rattle.std.proofs.lemmas.Bool.Decides.{eqb_tells, leb_tells}
+use Rattle.std.proofs.lemmas.List.Elements.{All-append, All-cons, All-nil}
+use Rattle.std.specs.Prelude.{slice_get}
+use Rattle.service_hall.specs.declared.reads.Reads.{Reads}
+use Rattle.service_hall.specs.declared.reads.Reads.TheVariants.{Logged, Plain}
+use Rattle.service_follow.specs.Batches.{batch_by, head_of, hex_digit, hex_digits, told_of}
+use Rattle.service_follow.specs.Entries.{behind_first_line, is_there, reads_of}
+use Rattle.service_follow.specs.Marks.{digit_value, number_of}
+use Rattle.service_follow.specs.Pauses.{HasWaited}
+
+-- no digit ends a line
+digit_plain : (d : ℕ) → hex_digit d ≢ 10
+digit_plain d = elim (leb_tells (suc d) 10) [ inl t ↦ rw t.0 (λ e. omega (arith, e)) | inr t ↦ rw t.0 (λ e. omega (arith, e)) ]
+
+digits_plain : (k n : ℕ) → All (λ b. b ≢ 10) (hex_digits k n)
+digits_plain zero n = let P : ℕ → Type 0 = λ b. b ≢ 10 in All-nil P
+digits_plain (suc k) n = let P : ℕ → Type 0 = λ b. b ≢ 10 in All-cons P (hex_digit (n % 16)) (hex_digits k (n / 16)) (digit_plain (n % 16)) (digits_plain k (n / 16))
+
+head_plain : (token : List ℕ) (count : ℕ) → All (λ b. b ≢ 10) token → All (λ b. b ≢ 10) (head_of token count)
+head_plain token count plain =
+    let P : ℕ → Type 0 = λ b. b ≢ 10 in
+    let space : 32 ≢ 10 = λ e. omega (arith, e) in
+    All-append P token (32 ∷ hex_digits 16 count) plain (All-cons P 32 (hex_digits 16 count) space (digits_plain 16 count))
+
+-- behind bytes of which none ends a line
+behind_head : (head lines : List ℕ) → All (λ b. b ≢ 10) head → behind_first_line (head ++ 10 ∷ lines) ≡ lines
+behind_head [] lines h = refl
+behind_head (b ∷ head) lines h =
+    let differ : b ≢ 10 = h 0 b (omega arith) in
+    let rest : behind_first_line (head ++ 10 ∷ lines) ≡ lines = behind_head head lines (λ k d within. h (suc k) d (omega (arith, within))) in
+    let P : Bool → Type 0 = λ t. cond t (head ++ 10 ∷ lines) (behind_first_line (head ++ 10 ∷ lines)) ≡ lines in
+    elim (eqb_tells b 10) [ inl e ↦ absurd (differ e.1) | inr e ↦ subst P (sym e.0) rest ]
+
+-- nor does what tells of reads
+told_plain : (reads : Reads) → All (λ b. b ≢ 10) (told_of reads)
+told_plain Logged = let P : ℕ → Type 0 = λ b. b ≢ 10 in All-nil P
+told_plain Plain =
+    let P : ℕ → Type 0 = λ b. b ≢ 10 in
+    let last : All P (110 ∷ []) = All-cons P 110 [] (λ e. omega (arith, e)) (All-nil P) in
+    let four : All P (97 ∷ 105 ∷ 110 ∷ []) = All-cons P 97 (105 ∷ 110 ∷ []) (λ e. omega (arith, e)) (All-cons P 105 (110 ∷ []) (λ e. omega (arith, e)) last) in
+    let two : All P (112 ∷ 108 ∷ 97 ∷ 105 ∷ 110 ∷ []) = All-cons P 112 (108 ∷ 97 ∷ 105 ∷ 110 ∷ []) (λ e. omega (arith, e)) (All-cons P 108 (97 ∷ 105 ∷ 110 ∷ []) (λ e. omega (arith, e)) four) in
+    All-cons P 32 (112 ∷ 108 ∷ 97 ∷ 105 ∷ 110 ∷ []) (λ e. omega (arith, e)) two
+
+pub behind_batch : (reads : Reads) (token : List ℕ) (count : ℕ) (lines : List ℕ) → All (λ b. b ≢ 10) token → behind_first_line (batch_by reads token count lines) ≡ lines
+behind_batch reads token count lines plain =
+    let P : ℕ → Type 0 = λ b. b ≢ 10 in
+    ap behind_first_line (sym (append_assoc (head_of token count) (told_of reads) (10 ∷ lines)))
+    ∙ behind_head (head_of token count ++ told_of reads) lines (All-append P (head_of token count) (told_of reads) (head_plain token count plain) (told_plain reads))
+
+-- ---- batches of two counts differ
+
+-- how many numbers so many digits say
+abbrev pub sixteens : ℕ → ℕ
+sixteens zero = 1
+sixteens (suc k) = 16 * sixteens k
+
+value_back : (d : ℕ) → d < 16 → digit_value (hex_digit d) ≡ d
+value_back d less = elim (leb_tells (suc d) 10) [
+  | inl t ↦
+      let digit : hex_digit d ≡ 48 + d = rw t.0 refl in
+      elim (leb_tells (suc (48 + d)) 58) [ inl s ↦ ap digit_value digit ∙ rw s.0 (omega arith) | inr s ↦ absurd (let a = t.1 in let b = s.1 in omega (arith, a, b)) ]
+  | inr t ↦
+      let digit : hex_digit d ≡ 87 + d = rw t.0 refl in
+      elim (leb_tells (suc (87 + d)) 58) [ inl s ↦ absurd (let a = t.1 in let b = s.1 in omega (arith, a, b)) | inr s ↦ ap digit_value digit ∙ rw s.0 (omega arith) ]
+]
+
+-- digits are read back
+pub digits_read : (k n : ℕ) → n < sixteens k → n < 2 ^ 64 → number_of (hex_digits k n) ≡ n
+digits_read zero n less fits = omega (arith, less)
+digits_read (suc k) n less fits =
+    let part : n / 16 < sixteens k = omega (arith, less) in
+    let small : n / 16 < 2 ^ 64 = omega (arith, fits) in
+    let low = value_back (n % 16) (omega arith) in
+    let rest = digits_read k (n / 16) part small in
+    rw (low, rest) (omega (arith, fits))
+
+pub digits_many : (k n : ℕ) → length (hex_digits k n) ≡ k
+digits_many zero n = refl
+digits_many (suc k) n = ap suc (digits_many k (n / 16))
+
+-- two lists of which the fronts are as long
+fronts : (xs us ys vs : List ℕ) → length xs ≡ length us → xs ++ ys ≡ us ++ vs → (xs ≡ us) × (ys ≡ vs)
+fronts [] [] ys vs long e = (refl, e)
+fronts [] (u ∷ us) ys vs long e = absurd (omega (arith, long))
+fronts (x ∷ xs) [] ys vs long e = absurd (omega (arith, long))
+fronts (x ∷ xs) (u ∷ us) ys vs long e =
+    let first : x ≡ u = cc e in
+    let rest = fronts xs us ys vs (omega (arith, long)) (cc e) in
+    (ap (λ (z : ℕ). z ∷ xs) first ∙ ap (λ (zs : List ℕ). u ∷ zs) rest.0, rest.1)
+
+pub head_long : (token : List ℕ) (count : ℕ) → length (head_of token count) ≡ length token + 17
+head_long token count = let a = length-append token (32 ∷ hex_digits 16 count) in let b = digits_many 16 count in omega (arith, a, b)
+
+-- what stands behind the count tells of the reads, and ends there
+same_told : (reads kind : Reads) (lines more : List ℕ) → told_of reads ++ 10 ∷ lines ≡ told_of kind ++ 10 ∷ more → (reads ≡ kind) × (lines ≡ more)
+same_told Logged Logged lines more e = (refl, cc e)
+same_told Plain Plain lines more e = (refl, cc e)
+same_told Logged Plain lines more e = absurd (let bad : ◌≡◌ {A = ℕ} 10 32 = cc e in omega (arith, bad))
+same_told Plain Logged lines more e = absurd (let bad : ◌≡◌ {A = ℕ} 32 10 = cc e in omega (arith, bad))
+
+pub same_batch : (reads kind : Reads) (token other : List ℕ) (c d : ℕ) (lines more : List ℕ) → length token ≡ length other → c < 2 ^ 64 → d < 2 ^ 64 →
+    batch_by reads token c lines ≡ batch_by kind other d more → (reads ≡ kind) × (token ≡ other) × (c ≡ d) × (lines ≡ more)
+same_batch reads kind token other c d lines more long first second e =
+    let a = head_long token c in
+    let b = head_long other d in
+    let parts = fronts (head_of token c) (head_of other d) (told_of reads ++ 10 ∷ lines) (told_of kind ++ 10 ∷ more) (omega (arith, a, b, long)) e in
+    let heads = fronts token other (32 ∷ hex_digits 16 c) (32 ∷ hex_digits 16 d) long parts.0 in
+    let digits : hex_digits 16 c ≡ hex_digits 16 d = cc (heads.1) in
+    let told = same_told reads kind lines more parts.1 in
+    (told.0, heads.0, sym (digits_read 16 c first first) ∙ (ap number_of digits ∙ digits_read 16 d second second), told.1)
+
+-- the byte at a place behind the first bytes of a list
+pub byte_behind : (xs ys : List ℕ) (n : ℕ) → slice_get (xs ++ ys) (length xs + n) ≡ slice_get ys n
+byte_behind [] ys n = ap (slice_get ys) (omega arith)
+byte_behind (x ∷ xs) ys n =
+    let same : length (x ∷ xs) + n ≡ suc (length xs + n) = omega arith in
+    ap (slice_get (x ∷ (xs ++ ys))) same ∙ byte_behind xs ys n
+
+-- an entry tells whether its reads are plain
+pub told_reads : (reads : Reads) (token : List ℕ) (count : ℕ) (lines : List ℕ) → length token ≡ 32 → reads_of (batch_by reads token count lines) ≡ reads
+told_reads reads token count lines long =
+    let head = head_of token count in
+    let behind = told_of reads ++ 10 ∷ lines in
+    let many : length head ≡ 49 = (let a = head_long token count in omega (arith, a, long)) in
+    let at : (n : ℕ) → slice_get (head ++ behind) (49 + n) ≡ slice_get behind n = subst (λ (k : ℕ). (n : ℕ) → slice_get (head ++ behind) (k + n) ≡ slice_get behind n) many (byte_behind head behind) in
+    rw (at 0, at 1) (by_kind reads) where
+      by_kind : (kind : Reads) → (if is_there (slice_get (told_of kind ++ 10 ∷ lines) 0) 32 && is_there (slice_get (told_of kind ++ 10 ∷ lines) 1) 112 then Plain else Logged) ≡ kind
+      by_kind Logged = refl
+      by_kind Plain = refl
+
+-- one digit more
+pub digits_more : (k n : ℕ) → 1 ≤ k → hex_digits k n ≡ hex_digit (n % 16) ∷ hex_digits (k - 1) (n / 16)
+digits_more zero n some = absurd (omega (arith, some))
+digits_more (suc k) n some = let e : suc k - 1 ≡ k = omega arith in ap (λ (j : ℕ). hex_digit (n % 16) ∷ hex_digits j (n / 16)) (sym e)
+
+-- ---- one wait more
+
+pub waited_more : {T : Type 0} (waited : T → T → Type 0) (times : ℕ) (before now : T) → HasWaited waited times before → waited before now → HasWaited waited (times + 1) now
+waited_more waited times before now so more = subst (λ (n : ℕ). HasWaited waited n now) (sym (add-one times)) (before, so, more)

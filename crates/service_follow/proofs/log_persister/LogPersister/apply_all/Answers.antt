@@ -1,0 +1,23 @@
+-- Fewer entries were applied than there are places, or all places are used.
+use Rattle.std.proofs.Common.{◌≡◌, ◌<◌, ℕ, ◌+◌, inl, inr, arith}
+use Rattle.std.proofs.lemmas.Bool.{cases_lt}
+use Rattle.service_follow.specs.Hosted.{IsAtEnd}
+use Rattle.service_follow.proofs.Moves.{moved_self, moved_then}
+use Rattle.service_follow.proofs.log_persister.LogPersister.apply_all.Goals as goal
+
+at_end : (lacks : ℕ → Type 0) (from n place : ℕ) → place ≡ from + n → (n < 10000000000000000 → IsAtEnd lacks place) → IsAtEnd lacks place
+at_end lacks from n place count stopped =
+    elim (cases_lt n 10000000000000000) [
+      | inl fewer ↦ stopped fewer
+      | inr all ↦ inl (omega (arith, count, all))
+    ]
+
+pub returns-in_default-clause-all : goal.returns-in_default-clause-all
+returns-in_default-clause-all g c =
+    at_end (g.S.Store.lacks c.catch_up.new.self.store) c.loop.self.log.replica.place c.in_default.field-0 c.catch_up.new.self.replica.place c.in_default.ensures.count c.in_default.ensures.stopped
+
+pub loop-init : goal.loop-init
+loop-init g c = moved_self g.S.Store.stands c.args.self.now.log
+
+pub loop-preserved : goal.loop-preserved
+loop-preserved g c = moved_then g.S.Store.stands c.args.self.now.log c.loop.self.log c.catch_up.new.self c.loop.invariant c.catch_up.ensures.moved

@@ -1,0 +1,603 @@
+//! Serves the clients of one front end over a log.
+
+ghost use Rattle.std.specs.Prelude.{◌≡◌, ◌≢◌, ◌↔◌, ◌==◌, ◌+◌, ◌-◌, ◌++◌, ◌<◌, ◌⊎◌, ℕ, [], true, false, ltb, map, Ok, Err, OnOk, IfOk, All};
+ghost use Rattle.std.specs.List.{list_any};
+ghost use Rattle.std.specs.String.{string_bytes};
+ghost use Rattle.model_asked.specs.Config.{gives_names};
+ghost use Rattle.service_log.specs.Places.{Keeps, Same};
+ghost use Rattle.service_follow.specs.Batches.{batch_by, batch_of, head_of, hex_digit, hex_digits, next_count, told_of};
+ghost use Rattle.service_follow.specs.Decided.{AddsBatch, HasLooked, IsDecided, next_read, release_lines};
+ghost use Rattle.service_follow.specs.Entries.{first_line_of};
+ghost use Rattle.service_follow.specs.Hosted.{HasGoneOn, HasMovedOn, IsAtEnd, IsPrefetchedBy, IsServed};
+ghost use Rattle.service_follow.specs.Pauses.{IsSpent};
+ghost use Rattle.service_follow.specs.Said.{reply_queue_of};
+ghost use Rattle.service_follow.specs.Watched.{watched};
+
+use crate::compaction::Compaction;
+use crate::lasting::Lasting;
+use crate::log_fault::LogFault;
+use crate::log_hall::LogHall;
+use crate::marks::is_ordinary;
+use crate::pause::Pause;
+use crate::release_lines::lines_of;
+use crate::reply_queue::ReplyQueue;
+use crate::sessions::Sessions;
+use crate::tallying::tally_of;
+use model_asked::Config;
+use service_loop::{Persist, Prefetch, Tally};
+use service_hall::{Hall, Reads};
+use text_lines::held::{HeldQuery, put_held};
+use text_player::Replies;
+use service_log::{Cause, MOST_BATCH, MOST_PLACES, ServeFault, Step, Store, StoreFault};
+use std::alloc::{AllocError, Allocator, Global};
+
+/// What ends a line.
+const LF: u8 = 10;
+
+/// How many bytes the first line of a batch has, at most: a token, a count, ` plain` and its LF.
+const HEAD: usize = 56;
+
+/// How often a store is asked for one batch, at most; a `Pause` ends it before.
+const MOST_TRIES: u32 = 1_000_000;
+
+/// What etcd says where its quota is used up.
+const NO_SPACE: &str = "etcdserver: mvcc: database space exceeded";
+
+/// What is said where a compaction told another hall than the entries before it.
+const DIFFERS: &str = "a compaction of the log tells another history";
+
+/// How many entries are applied at once where no client asks for anything.
+const TICK_ENTRIES: u64 = 10_000;
+
+/// Serves the clients of one front end over a log: what they ask for comes to stand in the log before it is answered.
+pub struct LogPersister<S: Store, T: Pause> {
+    alloc: Global,
+    log: LogHall<S>,
+    batch: Vec<u8>,
+    token: [u8; 32],
+    count: u64,
+    /// Whether the history stores reads of this front end.
+    reads: Reads,
+    pause: T,
+    /// Whether the store had no room for the last batch.
+    no_space: bool,
+    /// Whether the store answered when it was last asked.
+    answers: bool,
+    /// Who keeps stays.
+    sessions: Sessions,
+    /// The compactions that it offers.
+    compaction: Compaction,
+    /// How much of the history no compaction makes shorter.
+    lasting: Lasting,
+    ghost one_line: { All (λ b. b ≢ 10) token },
+}
+
+// By hand, so that a persister is taken apart here alone, and not wherever one is dropped.
+impl<S: Store + Drop, T: Pause + Drop> Drop for LogPersister<S, T> {
+    fn drop(self) {
+        let LogPersister {
+            alloc: _,
+            log: _,
+            batch: _,
+            token: _,
+            count: _,
+            reads: _,
+            pause: _,
+            no_space: _,
+            answers: _,
+            sessions: _,
+            compaction: _,
+            lasting: _,
+        } = self;
+    }
+}
+
+// A digit to the base of 16.
+fn hex_digit(digit: u8) -> u8
+    requires { digit < 16 }
+    ensures { result ≡ hex_digit digit }
+{
+    if digit < 10 {
+        b'0' + digit
+    } else {
+        b'a' + (digit - 10)
+    }
+}
+
+// Adds so many digits of a count to the base of 16, the lowest first.
+pub(crate) fn push_count(head: &mut Vec<u8>, digits: u32, count: u64) -> Result<(), AllocError>
+    ensures { OnOk result (head.new.items ≡ head.old.items ++ hex_digits digits count) }
+{
+    if digits == 0 {
+        return Ok(());
+    }
+    head.push(hex_digit((count % 16) as u8))?;
+    push_count(head, digits - 1, count / 16)
+}
+
+// Puts a first line without its end over a list: a token, a space and a count.
+pub(crate) fn put_head(head: &mut Vec<u8>, token: &[u8], count: u64) -> Result<(), AllocError>
+    ensures { OnOk result (head.new.items ≡ head_of token.now count) }
+{
+    head.clear();
+    head.extend_from_slice(token)?;
+    head.push(b' ')?;
+    push_count(head, 16, count)
+}
+
+// What the first line of a batch tells of its reads.
+fn told_of(reads: Reads) -> &'static [u8]
+    ensures { result.now ≡ told_of reads }
+{
+    match reads {
+        Reads::Logged => b"",
+        Reads::Plain => b" plain",
+    }
+}
+
+// Puts a batch of these lines over a list: a first line of a token, a count and whether its reads are plain, and then the lines.
+fn put_batch(
+    batch: &mut Vec<u8>,
+    reads: Reads,
+    token: &[u8],
+    count: u64,
+    lines: &[u8],
+) -> Result<(), AllocError>
+    ensures { OnOk result (batch.new.items ≡ batch_by reads token.now count lines.now) }
+{
+    put_head(batch, token, count)?;
+    batch.extend_from_slice(told_of(reads))?;
+    batch.push(LF)?;
+    batch.extend_from_slice(lines)?;
+    Ok(())
+}
+
+// The first entry of a log of halls of this config.
+fn first_line(alloc: Global, config: Config) -> Result<String, AllocError>
+    ensures { IfOk result (λ line. string_bytes line ≡ first_line_of config) }
+{
+    let world = config.world.name();
+    let m = config.m;
+    let k = config.k;
+    let limit = config.limit;
+    format!(in alloc; "beglushan hall 1 world {world} m {m} k {k} limit {limit}\n")
+}
+
+impl<S: Store + Drop, T: Pause + Drop> LogPersister<S, T> {
+    /// Opens the hall of a log. Where nothing stands in the log it begins with a line of the config, and else it has to begin with just that
+    /// line; then all that stands is applied: from the place on that is noted in the store, if a compaction that can be read whole stands
+    /// there or behind it, and else from the first entry on. The token, which no other front end has, is to have no end of a line in it.
+    pub fn open(
+        alloc: Global,
+        store: S,
+        pause: T,
+        config: Config,
+        token: [u8; 32],
+    ) -> Result<LogPersister<S, T>, LogFault>
+        ensures config { IfOk result (λ k. k.log.config ≡ config) }
+        ensures begins { IfOk result (λ k. S.stands k.log.store 0 (first_line_of config)) }
+        ensures all { IfOk result (λ k. IsAtEnd (S.lacks k.log.store) k.log.replica.place) }
+        ensures known { IfOk result (λ k. k.log.stays.machine.blind ≡ false) }
+        ensures token { result ≡ Err LogFault.Token ↔ (list_any (λ b. b == 10) token ≡ true) }
+        ensures named { OnOk result (gives_names config.world ≡ true) }
+    {
+        if token.contains(&LF) {
+            return Err(LogFault::Token);
+        }
+        let Ok(line) = first_line(alloc, config) else {
+            return Err(LogFault::Memory);
+        };
+        let log = LogHall::new(alloc, store, config)?;
+        let mut persister = LogPersister {
+            alloc,
+            log,
+            batch: Vec::new(alloc),
+            token,
+            count: 0,
+            reads: Reads::Logged,
+            pause,
+            no_space: false,
+            answers: true,
+            sessions: Sessions::new(alloc),
+            compaction: Compaction::new(alloc, token),
+            lasting: Lasting::new(),
+        };
+        match persister.start(line.as_bytes()) {
+            Ok(()) => Ok(persister),
+            Err(fault) => Err(fault),
+        }
+    }
+}
+
+impl<S: Store, T: Pause> LogPersister<S, T> {
+    /// The hall.
+    pub fn hall(&self) -> &Hall
+        ensures { result.now ≡ self.now.log.replica.machine }
+    {
+        self.log.hall()
+    }
+
+    /// How many entries of the log were applied.
+    pub fn len(&self) -> u64
+        ensures { result ≡ self.now.log.replica.place }
+    {
+        self.log.place()
+    }
+
+    // Has the log begin with a line, and applies all that stands in it. A function of its own, since what owns a persister takes it apart at each
+    // way out.
+    fn start(&mut self, line: &[u8]) -> Result<(), LogFault>
+        ensures other { result ≢ Err LogFault.Token }
+        ensures begins { OnOk result (S.stands self.new.log.store 0 line.now) }
+        ensures all { OnOk result (IsAtEnd (S.lacks self.new.log.store) self.new.log.replica.place) }
+        ensures known { OnOk result (self.new.log.stays.machine.blind ≡ false) }
+        ensures config { OnOk result (self.new.log.config ≡ self.old.log.config) }
+    {
+        self.begin(line)?;
+        self.apply_hinted()?;
+        self.apply_known()
+    }
+
+    // Applies all that stands in the log from the place on that is noted in the store, if one is.
+    fn apply_hinted(&mut self) -> Result<(), LogFault>
+        ensures other { result ≢ Err LogFault.Token }
+        ensures keeps { OnOk result (Keeps (S.stands self.old.log.store) (S.stands self.new.log.store)) }
+        ensures all { OnOk result (IsAtEnd (S.lacks self.new.log.store) self.new.log.replica.place) }
+        ensures config { OnOk result (self.new.log.config ≡ self.old.log.config) }
+    {
+        let place = self.log.hint().unwrap_or(0);
+        self.log.start_at(self.alloc, place)?;
+        self.apply_all()
+    }
+
+    // Applies all that stands in the log from the first entry on, if nothing is known of the hall.
+    fn apply_known(&mut self) -> Result<(), LogFault>
+        requires { IsAtEnd (S.lacks self.old.log.store) self.old.log.replica.place }
+        ensures other { result ≢ Err LogFault.Token }
+        ensures keeps { OnOk result (Keeps (S.stands self.old.log.store) (S.stands self.new.log.store)) }
+        ensures all { OnOk result (IsAtEnd (S.lacks self.new.log.store) self.new.log.replica.place) }
+        ensures known { OnOk result (self.new.log.stays.machine.blind ≡ false) }
+        ensures config { OnOk result (self.new.log.config ≡ self.old.log.config) }
+    {
+        if !self.log.is_blind() {
+            return Ok(());
+        }
+        self.log.start_at(self.alloc, 0)?;
+        self.apply_all()?;
+        if self.log.is_blind() {
+            return Err(LogFault::Astray);
+        }
+        Ok(())
+    }
+
+    // Has the log begin with a line, as soon as the store answers.
+    fn begin(&mut self, line: &[u8]) -> Result<(), LogFault>
+        ensures other { result ≢ Err LogFault.Token }
+        ensures begins { OnOk result (S.stands self.new.log.store 0 line.now) }
+        ensures config { self.new.log.config ≡ self.old.log.config }
+    {
+        self.pause.begin();
+        for _ in 0..MOST_TRIES {
+            match self.log.begin(line, &mut self.batch) {
+                Ok(true) => return Ok(()),
+                Ok(false) => return Err(LogFault::OtherConfig),
+                Err(StoreFault::Memory) => return Err(LogFault::Memory),
+                Err(fault) => {
+                    if !self.pause.again() {
+                        return Err(LogFault::Store(fault));
+                    }
+                }
+            }
+        }
+        Err(LogFault::Store(StoreFault::Lost))
+    }
+
+    // Applies all that stands in the log, as soon as the store answers.
+    #[tactic(auto, using(crate::proofs::Moves::moved_then))]
+    fn apply_all(&mut self) -> Result<(), LogFault>
+        ensures other { result ≢ Err LogFault.Token }
+        ensures moved { HasMovedOn S.stands self.old.log self.new.log }
+        ensures all { OnOk result (IsAtEnd (S.lacks self.new.log.store) self.new.log.replica.place) }
+    {
+        let mut reply_queue = ReplyQueue::new(self.alloc);
+        self.pause.begin();
+        for _ in 0..MOST_TRIES {
+            let Err(cause) = self.log.catch_up(MOST_PLACES, &mut reply_queue) else {
+                return Ok(());
+            };
+            if let Some(fault) = LogFault::of_cause(cause) {
+                return Err(fault);
+            }
+            if !self.pause.again() {
+                break;
+            }
+        }
+        Err(LogFault::Store(StoreFault::Lost))
+    }
+
+    // Has the batch come to stand in the log, as soon as the store answers.
+    #[tactic(auto, using(crate::proofs::Moves::moved_same, crate::proofs::Moves::moved_then))]
+    fn serve_batch(&mut self, reply_queue: &mut ReplyQueue) -> Result<Prefetch, LogFault>
+        ensures prefetched { result ≡ Ok Prefetch.Known → IsServed S.stands self.old.log self.new.log self.old.batch.items reply_queue.new }
+        ensures lost { result ≢ Ok Prefetch.Known → reply_queue.new ≡ reply_queue_of [] }
+        ensures patient { result ≡ Ok Prefetch.Lost → IsSpent T.is_over T.waited self.new.pause }
+        ensures moved { HasMovedOn S.stands self.old.log self.new.log }
+        ensures head { (self.new.count ≡ self.old.count) × (self.new.token ≡ self.old.token) }
+        ensures sent { result ≡ Ok Prefetch.Known → T.tells self.old.pause self.new.sessions.sent }
+        ensures well { result ≡ Ok Prefetch.Known → self.new.log.replica.poisoned ≡ false }
+    {
+        let now = self.pause.seconds();
+        reply_queue.clear();
+        if !is_ordinary(&self.batch) {
+            return Err(LogFault::Astray);
+        }
+        self.pause.begin();
+        for _tries in 0..MOST_TRIES {
+            let Err(fault) = self.log.serve(&self.batch, reply_queue) else {
+                if self.log.is_blind() {
+                    reply_queue.clear();
+                    return Err(LogFault::Astray);
+                }
+                self.no_space = false;
+                self.answers = true;
+                self.sessions.sent = now;
+                return Ok(Prefetch::Known);
+            };
+            self.no_space = fault == ServeFault::Unknown(Cause::Store(StoreFault::NoSpace));
+            if let Some(fault) = LogFault::of_serving(fault) {
+                return Err(fault);
+            }
+            if !self.pause.again() {
+                return Ok(Prefetch::Lost);
+            }
+        }
+        Ok(Prefetch::Lost)
+    }
+
+    /// Has the history store the reads of this front end from now on, or not. It stores them until this is called. Each entry tells it, so that
+    /// front ends of one log may differ in it.
+    pub fn choose_reads(&mut self, reads: Reads)
+        ensures reads { self.new.reads ≡ reads }
+        ensures same { (self.new.log ≡ self.old.log) × (self.new.count ≡ self.old.count) × (self.new.token ≡ self.old.token) }
+    {
+        self.reads = reads;
+    }
+
+    /// Has the next compaction that this front end offers be due at so many events. It is due at 450,001 until this is called.
+    pub fn compact_at(&mut self, events: usize)
+        ensures { (self.new.log ≡ self.old.log) × (self.new.count ≡ self.old.count) × (self.new.token ≡ self.old.token) × (self.new.reads ≡ self.old.reads) }
+    {
+        self.compaction.be_due_at(events);
+    }
+
+    /// For how many seconds a stay goes on that nobody keeps. It is 0 until this is called.
+    pub fn grant_grace(&mut self, seconds: u32)
+        ensures { self.new.sessions.grace ≡ seconds }
+    {
+        self.sessions.grace = seconds;
+    }
+
+    /// Returns true: other front ends share the stays in the pool, so that this persister ends them itself.
+    pub fn shares_stays(&self) -> bool
+        ensures { result ≡ true }
+    {
+        true
+    }
+
+    /// Returns true if and only if this front end may answer those who keep stays: it sent the last of its entries that stood less than 20
+    /// seconds ago. Others end its stays only later than that and the grace time.
+    pub fn may_answer_stays(&self) -> bool
+        ensures { (now : ℕ) × T.tells self.now.pause now × (result ≡ ltb (now - self.now.sessions.sent) 20) }
+    {
+        self.sessions.may_answer(self.pause.seconds())
+    }
+
+    // The lines by which the stays end that are to end now, where all of the log was read.
+    fn decide(&mut self, left: &[u64]) -> Result<Vec<u8>, AllocError>
+        ensures lines { IfOk result (λ lines. lines.items ≡ release_lines self.old.token left.now self.old.sessions.grace self.new.sessions.reads
+            self.old.sessions.watches.watches.items self.new.log.stays.machine) }
+        ensures looked { OnOk result (self.new.sessions.watches.watches.items ≡
+            map (watched self.new.sessions.reads self.old.sessions.watches.watches.items) self.new.log.stays.machine.kept) }
+        ensures counted { OnOk result (self.new.sessions.reads ≡ next_read self.old.sessions.reads) }
+        ensures same { (self.new.log ≡ self.old.log) × (self.new.count ≡ self.old.count) × (self.new.token ≡ self.old.token) }
+    {
+        let ended = self.sessions.ended(&self.token, self.log.kept(), left)?;
+        lines_of(self.alloc, self.log.hall(), &ended)
+    }
+
+    // Offers an entry of these lines for the next place, once.
+    #[tactic(auto, using(crate::proofs::Moves::moved_same, crate::proofs::Moves::moved_then))]
+    fn offer(&mut self, lines: &[u8], reply_queue: &mut ReplyQueue) -> Result<(), LogFault>
+        ensures adds { AddsBatch S.stands self.old.log self.old.token self.new.count lines.now self.new.log }
+        ensures counted { (self.new.count ≡ self.old.count) ⊎ (self.new.count ≡ next_count self.old.count) }
+        ensures moved { HasMovedOn S.stands self.old.log self.new.log }
+        ensures looked { (self.new.sessions.watches ≡ self.old.sessions.watches) × (self.new.sessions.reads ≡ self.old.sessions.reads) }
+        ensures sent { (self.new.sessions.sent ≡ self.old.sessions.sent) ⊎ (T.tells self.old.pause self.new.sessions.sent × S.stands self.new.log.store
+            self.old.log.stays.place (batch_of self.old.token self.new.count lines.now)) }
+        ensures token { self.new.token ≡ self.old.token }
+    {
+        let now = self.pause.seconds();
+        let count = self.count.wrapping_add(1);
+        let Ok(()) = put_batch(&mut self.batch, Reads::Logged, &self.token, count, lines) else {
+            return Err(LogFault::Memory);
+        };
+        self.count = count;
+        match self.log.offer(&self.batch, reply_queue) {
+            Ok(Step::Answered) => {
+                self.sessions.sent = now;
+                Ok(())
+            }
+            Ok(Step::Passed | Step::Nothing) => Ok(()),
+            Err(cause) => match LogFault::of_cause(cause) {
+                Some(fault) => Err(fault),
+                None => Ok(()),
+            },
+        }
+    }
+
+    // Ends the stays that are to end now, where all of the log was read.
+    #[tactic(auto, using(crate::proofs::Moves::moved_same, crate::proofs::Moves::moved_then))]
+    fn end_due(&mut self, reply_queue: &mut ReplyQueue, left: &[u64]) -> Result<(), LogFault>
+        ensures released { Same (S.stands self.old.log.store) (S.stands self.new.log.store) ⊎ AddsBatch S.stands self.old.log self.old.token self.new.count
+            (release_lines self.old.token left.now self.old.sessions.grace self.new.sessions.reads self.old.sessions.watches.watches.items
+            self.old.log.stays.machine) self.new.log }
+        ensures looked { OnOk result ((self.new.sessions.reads ≡ next_read self.old.sessions.reads) × (self.new.sessions.watches.watches.items ≡
+            map (watched self.new.sessions.reads self.old.sessions.watches.watches.items) self.old.log.stays.machine.kept)) }
+        ensures counted { (self.new.count ≡ self.old.count) ⊎ (self.new.count ≡ next_count self.old.count) }
+        ensures moved { HasMovedOn S.stands self.old.log self.new.log }
+        ensures unreported { OnOk result (reply_queue.new ≡ reply_queue_of []) }
+    {
+        reply_queue.clear();
+        let Ok(lines) = self.decide(left) else {
+            return Err(LogFault::Memory);
+        };
+        let now = self.pause.seconds();
+        if lines.is_empty() && !self.sessions.wants_heartbeat(&self.token, now) {
+            return Ok(());
+        }
+        let offered = self.offer(&lines, reply_queue);
+        reply_queue.clear();
+        offered
+    }
+
+    /// Ends stays in the pool by one entry at most: those of these identities, which nobody keeps at this front end any more, if it keeps them as
+    /// the log tells, and those of front ends of which nothing was heard for longer than they may answer, and the grace time. It is to be called
+    /// about once a second. Where this front end keeps a stay and had no entry for 5 seconds, it has an empty one.
+    ///
+    /// The entry is offered once, for the place up to which the log was read. Where another came first, it is not offered again.
+    ///
+    /// # Errors
+    ///
+    /// Those behind which nothing more is served (`LogFault::of_cause`), and `Memory` if an allocation failed.
+    pub fn end_stays(&mut self, reply_queue: &mut ReplyQueue, left: &[u64]) -> Result<(), LogFault>
+        ensures gone_on { OnOk result (HasGoneOn S.stands self.old.log self.new.log self.old.count self.new.count reply_queue.new) }
+        ensures released { Same (S.stands self.old.log.store) (S.stands self.new.log.store) ⊎ IsDecided S.lacks (S.stands self.old.log.store)
+            (S.stands self.new.log.store) self.new.log.config self.old.token self.new.count left.now self.old.sessions.grace self.new.sessions.reads
+            self.old.sessions.watches.watches.items }
+        ensures looked { OnOk result (((self.new.sessions.reads ≡ self.old.sessions.reads) × (self.new.sessions.watches ≡ self.old.sessions.watches)) ⊎
+            HasLooked S.lacks (S.stands self.old.log.store) self.new.log.config self.old.sessions.reads self.new.sessions.reads
+            self.old.sessions.watches.watches.items self.new.sessions.watches.watches.items) }
+    {
+        let read = self.log.read(TICK_ENTRIES, reply_queue);
+        self.answers = read.is_ok();
+        match read {
+            Ok(true) => self.end_due(reply_queue, left),
+            Ok(false) => Ok(()),
+            Err(cause) => match LogFault::of_cause(cause) {
+                Some(fault) => Err(fault),
+                None => Ok(()),
+            },
+        }
+    }
+}
+
+impl<S: Store, T: Pause> Persist<ReplyQueue> for LogPersister<S, T> {
+    ghost use Rattle.service_follow.specs.Hosted.{HasGoneOn, IsPrefetchedBy, IsUsedUp};
+
+    type Fault = LogFault;
+
+    ghost persists = { λ k w l u. IsUsedUp k w l u };
+
+    ghost prefetches = { λ k w lines l u. IsPrefetchedBy S.stands k.log l.log k.reads k.token k.count l.count lines u };
+
+    ghost waits = { λ k w l u. HasGoneOn S.stands k.log l.log k.count l.count u };
+
+    ghost use Rattle.text_worlds.specs.desk.Held.{slots_of};
+    ghost use Rattle.service_hall.specs.Halls.{desk_of};
+
+    ghost holds = { λ k w. slots_of (desk_of k.log.replica.machine) };
+
+    ghost shares = { λ k. true };
+
+    fn put_held<B: Allocator>(
+        &self,
+        _reply_queue: &ReplyQueue,
+        query: HeldQuery,
+        out: &mut Replies<B>,
+    ) {
+        put_held(self.log.hall().slots(), query, out);
+    }
+
+    fn is_full(&self, _reply_queue: &ReplyQueue) -> bool {
+        false
+    }
+
+    fn persist(&mut self, reply_queue: &mut ReplyQueue) -> Result<(), LogFault> {
+        if !reply_queue.is_used_up() {
+            return Err(LogFault::Astray);
+        }
+        Ok(())
+    }
+
+    fn most_prefetched(&self) -> Option<usize> {
+        Some(MOST_BATCH - HEAD)
+    }
+
+    fn prefetch(&mut self, reply_queue: &mut ReplyQueue, lines: &[u8]) -> Result<Prefetch, LogFault>
+        ensures known { result ≡ Ok Prefetch.Known →
+            IsPrefetchedBy S.stands self.old.log self.new.log self.old.reads self.old.token self.old.count self.new.count lines.now reply_queue.new }
+        ensures lost { result ≡ Ok Prefetch.Lost → HasGoneOn S.stands self.old.log self.new.log self.old.count self.new.count reply_queue.new }
+
+        // Whatever comes of a batch, no other has its count, nor another token.
+        ensures counted { self.new.count ≡ next_count self.old.count }
+        ensures patient { result ≡ Ok Prefetch.Lost → IsSpent T.is_over T.waited self.new.pause }
+        ensures token { self.new.token ≡ self.old.token }
+    {
+        self.count = self.count.wrapping_add(1);
+        self.compaction
+            .compact(&mut self.log, &mut self.pause, reply_queue)?;
+        let Ok(()) = put_batch(&mut self.batch, self.reads, &self.token, self.count, lines) else {
+            return Err(LogFault::Memory);
+        };
+        self.serve_batch(reply_queue)
+    }
+
+    fn tick(&mut self, reply_queue: &mut ReplyQueue) -> Result<(), LogFault> {
+        let caught_up = self.log.catch_up(TICK_ENTRIES, reply_queue);
+        self.lasting.look(self.log.hall());
+        self.answers = caught_up.is_ok();
+        let Err(cause) = caught_up else {
+            return Ok(());
+        };
+        match LogFault::of_cause(cause) {
+            Some(fault) => Err(fault),
+            None => Ok(()),
+        }
+    }
+
+    fn shares_stays(&self) -> bool {
+        LogPersister::shares_stays(self)
+    }
+
+    fn end_stays(&mut self, reply_queue: &mut ReplyQueue, due: &[u64]) -> Result<(), LogFault> {
+        LogPersister::end_stays(self, reply_queue, due)
+    }
+
+    fn has_stay(&self, _reply_queue: &ReplyQueue, identity: u64) -> bool {
+        self.log.hall().slots().pool().stay_of(identity).is_some()
+    }
+
+    fn may_answer_stays(&self) -> bool {
+        LogPersister::may_answer_stays(self)
+    }
+
+    fn trouble(&self) -> Option<&'static str> {
+        if self.log.differs() {
+            return Some(DIFFERS);
+        }
+        if self.no_space { Some(NO_SPACE) } else { None }
+    }
+
+    fn lasting_tenths(&self) -> u8 {
+        self.lasting.tenths()
+    }
+
+    fn tally(&self, _reply_queue: &ReplyQueue) -> Tally {
+        Tally {
+            log_place: Some(self.log.place()),
+            log_answers: Some(self.answers),
+            compactions: Some(self.log.compactions()),
+            ..tally_of(self.log.hall())
+        }
+    }
+}

@@ -1,0 +1,5 @@
+use Rattle.service_hall.proofs.Serves.{transcript, history}
+use Rattle.service_hall.proofs.laws.law_of_serving.Goals as goal
+
+pub returns : goal.returns
+returns c = record { transcript = transcript; history = history }

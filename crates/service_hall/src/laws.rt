@@ -1,0 +1,74 @@
+//! Laws of a hall, which run nothing.
+
+ghost use Rattle.std.specs.Prelude.{◌≡◌, ◌<◌, ◌++◌, [], ◌∷◌, ℕ, List, length, None, true, false};
+ghost use Rattle.model_asked.specs.Config.{gives_names};
+ghost use Rattle.model_asked.specs.Replies.{ShownReply, is_refusal};
+ghost use Rattle.model_asked.specs.declared.config.Config.{Config};
+ghost use Rattle.model_asked.specs.declared.event.Event.{Event};
+ghost use Rattle.model_asked.specs.declared.exchange.Exchange.{Exchange};
+ghost use Rattle.text_worlds.specs.desk.Desk.{desk_reply};
+ghost use Rattle.text_worlds.specs.desk.DeskRun.{IsDeskRunOf};
+ghost use Rattle.text_worlds.specs.IsTranscript.{IsTranscript};
+ghost use Rattle.text_player.specs.Runs.{Runs};
+ghost use Rattle.text_player.specs.Turns.{Turn, exchanges};
+ghost use Rattle.text_player.specs.Turns.Turn.{Answered};
+ghost use Rattle.service_hall.specs.GoesOn.{GoesOn};
+ghost use Rattle.service_hall.specs.Halls.{SatisfiesSpec, HallMay, desk_of, hall_of, hall_refusal};
+ghost use Rattle.service_hall.specs.HallState.{HallState};
+ghost use Rattle.service_hall.specs.Reading.{IsRead, Serves, is_plain, stored};
+ghost use Rattle.service_hall.specs.Serving.{HallServes, HasServed, accepted, wants_room, with_room};
+
+use crate::hall::Hall;
+use crate::reads::Reads;
+use model_asked::{Event, Reply};
+
+/// A law: the history of a hall is a run of the renaming object, the pool and the slots, each fresh at first.
+pub fn law_of_hall(hall: &Hall)
+    ensures run { IsDeskRunOf hall.now.config hall.now.history }
+{
+    let _ = hall.len();
+}
+
+/// A law of each event that a hall applies, and of its reply.
+///
+/// - An accepted event leaves a hall of the same config that satisfies the specification. Its history has gained the
+///   event with its reply, and nothing else.
+/// - A refused event leaves the hall as it was.
+/// - A participant begins with the reply `ok` alone.
+/// - If a hall refuses an event for no reason, its history has room for one more.
+pub fn law_of_events()
+    ensures goes_on { (h u : HallState) (e : Event) (r : ShownReply) → SatisfiesSpec h → HallMay h e r u → GoesOn h e r u }
+    ensures refused { (h u : HallState) (e : Event) (r : ShownReply) → SatisfiesSpec h → HallMay h e r u → is_refusal r ≡ true → u ≡ h }
+    ensures begins { (h u : HallState) (id : ℕ) (r : ShownReply) → HallMay h (Event.Begin id) r u → is_refusal r ≡ false → r ≡ Reply.Ok }
+    ensures room { (h : HallState) (e : Event) → hall_refusal h e ≡ None → length h.history < 1000000 }
+{}
+
+/// A law of a hall as a service.
+///
+/// - `transcript`: the turns from a hall with no event are a transcript of its config. Turns whose reply is `NoMemory`
+///   or `HistoryFull` are left out.
+/// - `history`: the history gains the accepted events with their replies.
+pub fn law_of_serving()
+    ensures transcript { (c : Config) → gives_names c.world ≡ true → (u : HallState) (ts : List Turn) → HasServed c ts u → IsTranscript c (with_room ts) }
+    ensures history { (h u : HallState) (ts : List Turn) → SatisfiesSpec h → Runs HallServes h ts u → u.history ≡ h.history ++ accepted (exchanges ts) }
+{}
+
+/// A law of a hall as a service whose reads are logged or plain (`Hall::serve_short`).
+///
+/// - `transcript`: the turns from a hall with no event are a transcript of its config, with all reads in it. Turns
+///   whose reply is `NoMemory` or `HistoryFull` are left out.
+/// - `without`: the turns without plain reads are those of a hall that stores reads, and lead to the same hall.
+/// - `history`: the history gains the accepted events with their replies, without plain reads.
+/// - `replies`: each plain read has the reply of the desk that the turns before it led to.
+/// - `alike`: a hall that stores a read returns the same reply, unless it is `NoMemory` or `HistoryFull`.
+pub fn law_of_reads()
+    ensures transcript { (reads : Reads) (c : Config) → gives_names c.world ≡ true → (u : HallState) (ts : List Turn) →
+        Runs (Serves reads) (hall_of c []) ts u → IsTranscript c (with_room ts) }
+    ensures without { (reads : Reads) (h u : HallState) (ts : List Turn) → Runs (Serves reads) h ts u → Runs HallServes h (stored reads ts) u }
+    ensures history { (reads : Reads) (h u : HallState) (ts : List Turn) → SatisfiesSpec h → Runs (Serves reads) h ts u →
+        u.history ≡ h.history ++ accepted (exchanges (stored reads ts)) }
+    ensures replies { (reads : Reads) (h u : HallState) (before behind : List Turn) (x : Exchange) → is_plain reads x.event ≡ true →
+        Runs (Serves reads) h (before ++ Answered x ∷ behind) u → IsRead reads h before x.event x.reply }
+    ensures alike { (h u : HallState) (id : ℕ) (r : ShownReply) → SatisfiesSpec h → HallMay h (Event.Get id) r u → wants_room r ≡ false →
+        r ≡ desk_reply (desk_of h) (Event.Get id) }
+{}

@@ -1,0 +1,87 @@
+//! Who holds numbers by the record of a hall.
+
+ghost use Rattle.std.specs.Prelude.{IfOk, IfSome, OnOk, ◌≡◌};
+ghost use Rattle.std.specs.Io.KnownBytes.{Appends};
+ghost use Rattle.text_lines.specs.held.Held.{held_text};
+ghost use Rattle.text_lines.specs.declared.held.query.HeldQuery.TheVariants.{All};
+ghost use Rattle.text_worlds.specs.desk.Held.{slots_of};
+ghost use Rattle.service_hall.specs.Halls.{desk_of};
+ghost use Rattle.service_host.specs.Holders.{IsOfHall, TellsHolders};
+
+use crate::failure::HostFailure;
+use model_asked::Config;
+use service_hall::Hall;
+use text_lines::held::{HeldQuery, put_held};
+use service_journal::opening::recovered;
+use text_player::{Replies, print_header};
+use text_records::read_header;
+use std::alloc::Global;
+use std::io::{Read, Write};
+
+/// What ends a line.
+const LF: u8 = 10;
+
+// All that a reader gives.
+fn read_all<R: Read>(alloc: Global, input: &mut R) -> Result<Vec<u8>, HostFailure>
+    ensures { IfOk result (λ bytes. IfSome (R.remaining input.old) (λ xs. bytes.items ≡ xs)) }
+{
+    let mut bytes = Vec::new(alloc);
+    match input.read_to_end(&mut bytes) {
+        Ok(_) => Ok(bytes),
+        Err(_) => Err(HostFailure::Input),
+    }
+}
+
+// The config that the first line of a record says.
+fn config_of(alloc: Global, bytes: &[u8]) -> Result<Config, HostFailure> {
+    let end = bytes.iter().position(|byte| *byte == LF).unwrap_or(0);
+    match read_header(alloc, &bytes[..end.min(bytes.len())]) {
+        Ok(Some(header)) => Ok(header.config),
+        Ok(None) => Err(HostFailure::BadRecord(1)),
+        Err(_) => Err(HostFailure::Memory),
+    }
+}
+
+// The hall whose record these bytes are, once a torn last line is cut.
+fn recorded_hall(alloc: Global, bytes: &[u8]) -> Result<Hall, HostFailure>
+    ensures { IfOk result (λ h. IsOfHall h bytes.now) }
+{
+    let config = config_of(alloc, bytes)?;
+    let mut header = Replies::new(alloc)?;
+    print_header(config, &mut header);
+    match recovered(alloc, config, header.as_slice(), bytes) {
+        Ok((hall, _)) => Ok(hall),
+        Err(fault) => Err(HostFailure::from(fault)),
+    }
+}
+
+// Writes who holds numbers in a hall.
+fn write_held<W: Write>(alloc: Global, hall: &Hall, output: &mut W) -> Result<(), HostFailure>
+    ensures { OnOk result (Appends (W.contents output.old) (W.contents output.new) (held_text (slots_of (desk_of hall.now)) All)) }
+{
+    let mut text = Replies::new(alloc)?;
+    put_held(hall.slots(), HeldQuery::All, &mut text);
+    match output.write_all(text.as_slice()) {
+        Ok(()) => Ok(()),
+        Err(_) => Err(HostFailure::Output),
+    }
+}
+
+/// Writes who holds numbers in the hall whose record a reader gives, as `held` is answered of that hall: a last line that was cut off is dropped,
+/// as at the opening of a journal.
+///
+/// # Errors
+///
+/// Nothing was written where it is another than `HostFailure::Output`: `Input` where the reader failed, `BadRecord`, `No` and the others of
+/// an opening (`OpenFault`) where what it gave is no record that a server writes, `Memory` where a growth was refused.
+pub fn write_holders<R: Read, W: Write>(
+    alloc: Global,
+    input: &mut R,
+    output: &mut W,
+) -> Result<(), HostFailure>
+    ensures { OnOk result (TellsHolders (R.remaining input.old) (W.contents output.old) (W.contents output.new)) }
+{
+    let bytes = read_all(alloc, input)?;
+    let hall = recorded_hall(alloc, &bytes)?;
+    write_held(alloc, &hall, output)
+}

@@ -1,0 +1,15 @@
+pub mod Rules
+pub mod KeptState
+pub mod KeptLogs
+pub mod Acts
+pub mod CallerState
+pub mod Configs
+pub mod Kepts
+pub mod Answers
+pub mod Marks
+pub mod KeptNames
+pub mod Words
+pub mod Renamed
+pub mod Serving
+pub mod ServingProofs
+pub mod server

@@ -1,0 +1,34 @@
+-- What stands at the places of a log that grows.
+use Rattle.std.proofs.Common.{◌≡◌, ◌<◌, ℕ, zero, suc, List, [], ◌∷◌, ◌++◌, length, ◌⊎◌, inl, inr, refl, arith}
+use Rattle.service_log.specs.Places.{Adds, IsTaken, stands_in}
+
+-- the entry that was added stands behind all others
+pub stands_last : (log : List (List ℕ)) (entry : List ℕ) → stands_in (log ++ entry ∷ []) (length log) entry
+stands_last [] entry = refl
+stands_last (first ∷ log) entry = stands_last log entry
+
+-- what stood stands
+pub stands_still : (log : List (List ℕ)) (added : List ℕ) (place : ℕ) (entry : List ℕ) → stands_in log place entry → stands_in (log ++ added ∷ []) place entry
+stands_still [] added place entry h = absurd cc
+stands_still (first ∷ log) added zero entry h = h
+stands_still (first ∷ log) added (suc place) entry h = stands_still log added place entry h
+
+-- and nothing else does
+pub stands_of_added : (log : List (List ℕ)) (added : List ℕ) (place : ℕ) (entry : List ℕ) → stands_in (log ++ added ∷ []) place entry → stands_in log place entry ⊎ ((place ≡ length log) × (entry ≡ added))
+stands_of_added [] added zero entry h = inr (refl, cc)
+stands_of_added [] added (suc place) entry h = absurd cc
+stands_of_added (first ∷ log) added zero entry h = inl h
+stands_of_added (first ∷ log) added (suc place) entry h =
+    elim (stands_of_added log added place entry h) [ inl old ↦ inl old | inr new ↦ inr (omega (arith, new.0), new.1) ]
+
+pub adds_last : (log : List (List ℕ)) (entry : List ℕ) → Adds (stands_in log) (length log) entry (stands_in (log ++ entry ∷ []))
+adds_last log entry = record {
+  keeps = stands_still log entry;
+  only = stands_of_added log entry;
+}
+
+-- something stands at each place before the end
+pub taken_below : (log : List (List ℕ)) (place : ℕ) → place < length log → IsTaken (stands_in log) place
+taken_below [] place within = absurd (omega (arith, within))
+taken_below (first ∷ log) zero within = (first, refl)
+taken_below (first ∷ log) (suc place) within = taken_below log place (omega (arith, within))

@@ -1,0 +1,4 @@
+pub mod Behind
+pub mod KeyDigits
+pub mod Lasts
+pub mod Ranges

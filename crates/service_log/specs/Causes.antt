@@ -1,0 +1,28 @@
+-- Why a batch was not answered.
+use Rattle.service_log.specs.declared.serve_fault.Cause.{Cause}
+use Rattle.service_log.specs.declared.serve_fault.Cause.TheVariants.{Memory, Poisoned, Full, Busy, Store}
+use Rattle.service_log.specs.declared.serve_fault.ServeFault.{ServeFault}
+use Rattle.service_log.specs.declared.serve_fault.ServeFault.TheVariants.{TooLong, Unknown}
+use Rattle.service_log.specs.declared.store_fault.StoreFault.{StoreFault}
+
+-- a fault of the store is one that it may tell
+abbrev pub MayCause : (StoreFault → Type 0) → Cause → Type 0
+MayCause fails (Store fault) = fails fault
+MayCause fails Memory = Unit {0}
+MayCause fails Poisoned = Unit {0}
+MayCause fails Full = Unit {0}
+MayCause fails Busy = Unit {0}
+
+abbrev pub MayFail : (StoreFault → Type 0) → ServeFault → Type 0
+MayFail fails TooLong = Unit {0}
+MayFail fails (Unknown cause) = MayCause fails cause
+
+-- a store in memory lacks memory, or has a place before which one is empty
+abbrev pub FailsInMemory : StoreFault → Type 0
+FailsInMemory StoreFault.Memory = Unit {0}
+FailsInMemory StoreFault.Gap = Unit {0}
+FailsInMemory StoreFault.Lost = ⊥
+FailsInMemory StoreFault.Wrong = ⊥
+FailsInMemory StoreFault.TooLong = ⊥
+FailsInMemory StoreFault.NoSpace = ⊥
+FailsInMemory StoreFault.WentBack = ⊥

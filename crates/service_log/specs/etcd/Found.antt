@@ -1,0 +1,49 @@
+-- What was read of an answer.
+use Rattle.std.specs.Prelude.{◌≡◌, ◌⊎◌, ℕ, zero, suc, ◌+◌, Bool, true, false, List, [], ◌∷◌, Option, Some, None, Ok}
+use Rattle.std.specs.declared.vec.Vec.{Vec}
+use Rattle.std.specs.declared.alloc.Global.{Global}
+use Rattle.json.specs.Json.{Json, document}
+use Rattle.base64.specs.Engines.{standard}
+use Rattle.base64.specs.GeneralPurpose.{decode_of, encode_of}
+use Rattle.service_log.specs.declared.store.Put.{Put}
+use Rattle.service_log.specs.declared.store.Put.TheVariants.{Written, Taken}
+use Rattle.service_log.specs.etcd.Answers.{get_said}
+use Rattle.service_log.specs.etcd.Keys.{key_of}
+
+abbrev pub is_written : Put → Bool
+is_written Written = true
+is_written Taken = false
+
+-- of an answer the entry of this index says that a value stands at the key, which in base64 is this; or there is no such entry
+abbrev pub SaysAt : Json → ℕ → List ℕ → Option (Vec ℕ Global) → Type 0
+SaysAt answer index key None = get_said index key answer ≡ Some None
+SaysAt answer index key (Some found) = (value : List ℕ) × (get_said index key answer ≡ Some (Some value)) × (decode_of standard value ≡ Ok found.items)
+
+-- and the key is that of a place under a prefix
+pub record SaysFound (answer : Json) (index : ℕ) (prefix : List ℕ) (place : ℕ) (found : Option (Vec ℕ Global)) : Type 0 where
+  pub key : List ℕ
+  pub says : SaysAt answer index key found
+  pub at : decode_of standard key ≡ Ok (key_of prefix place)
+
+-- the entry of this index is none of the place under the prefix, of another key or with a value that is no base64; or this is no answer
+abbrev pub IsUnread : Json → ℕ → List ℕ → ℕ → Type 0
+IsUnread answer index prefix place = (found : Option (Vec ℕ Global)) → SaysAt answer index (encode_of standard (key_of prefix place)) found → ⊥
+
+-- of so many entries from this index on, one for each place from this one on, one is so
+abbrev pub HasUnread : ℕ → Json → ℕ → List ℕ → ℕ → Type 0
+HasUnread zero answer index prefix place = ⊥
+HasUnread (suc most) answer index prefix place = IsUnread answer index prefix place ⊎ HasUnread most answer (index + 1) prefix (place + 1)
+
+-- an answer says from this index on, of so many entries at most, what stands at the places from this one on: these entries, and none behind
+-- them
+abbrev pub SaysFrom : ℕ → Json → ℕ → List ℕ → ℕ → List (Vec ℕ Global) → Type 0
+SaysFrom zero answer index prefix place [] = Unit {0}
+SaysFrom zero answer index prefix place (e ∷ es) = ⊥
+SaysFrom (suc most) answer index prefix place [] = SaysFound answer index prefix place None
+SaysFrom (suc most) answer index prefix place (e ∷ es) = SaysFound answer index prefix place (Some e) × SaysFrom most answer (index + 1) prefix (place + 1) es
+
+-- the same, of a text that is an answer, from its first entry on
+pub record SaysAll (most : ℕ) (text prefix : List ℕ) (place : ℕ) (found : List (Vec ℕ Global)) : Type 0 where
+  pub answer : Json
+  pub read : document text ≡ Some answer
+  pub says : SaysFrom most answer 0 prefix place found

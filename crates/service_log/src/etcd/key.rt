@@ -1,0 +1,79 @@
+//! The key of a place.
+
+ghost use Rattle.std.specs.Prelude.{◌≡◌, ◌<◌, ◌^◌, ◌++◌, ℕ, List, Ok, IfOk, OnOk, string_bytes};
+ghost use Rattle.base64.specs.Engines.{standard};
+ghost use Rattle.base64.specs.GeneralPurpose.{decode_of, encode_of};
+ghost use Rattle.service_log.specs.etcd.Keys.{digits, hint_key_of, key_of};
+
+use base64::engine::general_purpose::STANDARD;
+use std::alloc::{AllocError, Global};
+
+// Appends the last `count` decimal digits of a number.
+fn push_digits(text: &mut Vec<u8>, count: u32, number: u64) -> Result<(), AllocError>
+    ensures { OnOk result (text.new.items ≡ text.old.items ++ digits count number) }
+{
+    if count == 0 {
+        return Ok(());
+    }
+    push_digits(text, count - 1, number / 10)?;
+    match text.push(b'0' + (number % 10) as u8) {
+        Ok(()) => Ok(()),
+        Err(_) => Err(AllocError),
+    }
+}
+
+/// Returns the key of a place under a prefix: the prefix, and the place in 16 digits.
+///
+/// # Errors
+///
+/// `AllocError`: an allocation failed.
+pub fn key(alloc: Global, prefix: &str, place: u64) -> Result<Vec<u8>, AllocError>
+    ensures { IfOk result (λ key. key.items ≡ key_of prefix.now place) }
+{
+    let mut key = Vec::from_slice(alloc, prefix.as_bytes())?;
+    push_digits(&mut key, 16, place)?;
+    Ok(key)
+}
+
+/// Returns the key of a place under a prefix in base64, as etcd's gateway takes it.
+///
+/// # Errors
+///
+/// `AllocError`: an allocation failed.
+pub fn key64(alloc: Global, prefix: &str, place: u64) -> Result<String, AllocError>
+    ensures reads { IfOk result (λ text. decode_of standard (string_bytes text) ≡ Ok (key_of prefix.now place)) }
+    ensures text { IfOk result (λ text. string_bytes text ≡ encode_of standard (key_of prefix.now place)) }
+{
+    STANDARD.encode(alloc, &key(alloc, prefix, place)?)
+}
+
+/// Returns the place in 16 digits, as it is noted for a start.
+///
+/// # Errors
+///
+/// `AllocError`: an allocation failed.
+pub fn place_text(alloc: Global, place: u64) -> Result<Vec<u8>, AllocError>
+    ensures { IfOk result (λ text. text.items ≡ digits 16 place) }
+{
+    let mut text = Vec::new(alloc);
+    push_digits(&mut text, 16, place)?;
+    Ok(text)
+}
+
+/// Returns the key under a prefix at which a place is noted for a start, in base64: the prefix and `last`.
+///
+/// # Errors
+///
+/// `AllocError`: an allocation failed.
+pub fn hint_key64(alloc: Global, prefix: &str) -> Result<String, AllocError>
+    ensures { IfOk result (λ text. decode_of standard (string_bytes text) ≡ Ok (hint_key_of prefix.now)) }
+{
+    let mut key = Vec::from_slice(alloc, prefix.as_bytes())?;
+    key.extend_from_slice(b"last")?;
+    STANDARD.encode(alloc, &key)
+}
+
+/// A law: under one prefix two places below 10^16 have two keys.
+pub fn law_of_keys()
+    ensures { (prefix : List ℕ) (p q : ℕ) → p < 10 ^ 16 → q < 10 ^ 16 → key_of prefix p ≡ key_of prefix q → p ≡ q }
+{}

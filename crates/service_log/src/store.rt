@@ -1,0 +1,82 @@
+//! Stores: logs whose places are written once.
+
+ghost use Rattle.std.specs.Prelude.{◌≡◌, ◌<◌, ℕ, List, true, false, Ok, Err, IfErr};
+ghost use Rattle.service_log.specs.Places.{Adds, IsTaken, Same};
+ghost use Rattle.service_log.specs.declared.store.Put.TheVariants.{Written, Taken};
+ghost use Rattle.service_log.specs.declared.store_fault.StoreFault.TheVariants.{Gap};
+
+use crate::store_fault::StoreFault;
+
+/// The number of places of a store: 10^16.
+pub const MOST_PLACES: u64 = 10_000_000_000_000_000;
+
+/// What a put did.
+#[derive(Clone, Copy, Debug, Drop, PartialEq, Eq)]
+pub enum Put {
+    /// This call wrote the entry at the place.
+    Written,
+    /// The place had an entry: another one, or this one from an earlier call whose answer was lost.
+    Taken,
+}
+
+/// Places from 0 on, each of which is written at most once, by the first caller.
+///
+/// No contract can say what a store over a network holds. The relations `stands` and `lacks` of such a store say
+/// nothing.
+pub trait Store {
+    ghost use Rattle.service_log.specs.declared.store_fault.StoreFault.{StoreFault};
+    ghost use Rattle.std.specs.Prelude.{ℕ, List};
+
+    /// An entry is at a place, as far as this store can tell.
+    ghost stands: { Self → ℕ → List ℕ → Type 0 };
+
+    /// A place is empty, as far as this store can tell.
+    ghost lacks: { Self → ℕ → Type 0 };
+
+    /// The faults that it may return.
+    ghost fails: { StoreFault → Type 0 };
+
+    /// Writes an entry at a place below `MOST_PLACES`, if the place is empty.
+    ///
+    /// # Errors
+    ///
+    /// After any fault the entry may be at the place, or get there later. The fault is one of `fails`. `Gap` is
+    /// returned only if a place before this one is empty.
+    fn put(&mut self, place: u64, entry: &[u8]) -> Result<Put, StoreFault>
+        ensures written { result ≡ Ok Written → stands self.new place entry.now }
+        ensures taken { result ≡ Ok Taken → Same (stands self.old) (stands self.new) }
+        ensures stood { result ≡ Ok Taken → IsTaken (stands self.new) place }
+        ensures adds { Adds (stands self.old) place entry.now (stands self.new) }
+        ensures gap { result ≡ Err Gap → (below : ℕ) × (below < place) × lacks self.new below }
+        ensures fault { IfErr result fails };
+
+    /// Stores the entry at a place in `entry`, in place of what it held. Returns false if the place is empty.
+    ///
+    /// # Errors
+    ///
+    /// A fault of `fails`. The log stays as it was.
+    fn get(&mut self, place: u64, entry: &mut Vec<u8>) -> Result<bool, StoreFault>
+        ensures found { result ≡ Ok true → stands self.new place entry.new.items }
+        ensures missed { result ≡ Ok false → lacks self.new place }
+        ensures same { Same (stands self.old) (stands self.new) }
+        ensures fault { IfErr result fails };
+
+    /// Returns the place that was noted last (`put_hint`), or `None` if there is none. It is a hint alone: any place may be
+    /// returned.
+    ///
+    /// # Errors
+    ///
+    /// A fault of `fails`. The log stays as it was.
+    fn hint(&mut self) -> Result<Option<u64>, StoreFault>
+        ensures same { Same (stands self.old) (stands self.new) }
+        ensures fault { IfErr result fails };
+
+    /// Notes a place beside the entries, in place of the one noted before.
+    ///
+    /// # Errors
+    ///
+    /// A fault of `fails`. The log stays as it was, and the place may be noted.
+    fn put_hint(&mut self, place: u64) -> Result<(), StoreFault>
+        ensures same { Same (stands self.old) (stands self.new) }
+        ensures fault { IfErr result fails };
+}

@@ -1,0 +1,91 @@
+-- what a server does, one thing after another
+use Rattle.std.proofs.Common.{◌≡◌, ◌⊎◌, inl, inr, ℕ, List, [], ◌∷◌, ◌++◌, Option, Result, Ok, Err, IsErr, IfOk, OnErr, OnOk, is_ok, true, take, refl, subst}
+use Rattle.service_loop.proofs.Common.{Request, ShownReply, Peek, WorldKind}
+use Rattle.text_player.specs.Shared.{all_turns}
+use Rattle.service_loop.specs.Gathering.{PrefetchedIteration}
+use Rattle.service_loop.specs.declared.gathering.Called.{Called}
+use Rattle.service_loop.specs.declared.gathering.Called.TheVariants as called
+use Rattle.service_loop.specs.Rounds.{AllDone, Deed, WasServed}
+use Rattle.service_loop.specs.Rounds.Deed.{Waits, Prefetches, Serves}
+use Rattle.service_loop.specs.Seats.{LoopIteration, Seating, ServedIteration}
+
+-- what is so is so where a call went well
+pub always : {T E : Type 0} (result : Result T E) (P : Type 0) → P → OnOk result P
+always (Ok done) P is = is
+always (Err fault) P is = tt
+
+-- what follows from what is so where a call went well
+pub ok_then : {T E : Type 0} (result : Result T E) (P Q : Type 0) → (P → Q) → OnOk result P → OnOk result Q
+ok_then (Ok done) P Q f is = f is
+ok_then (Err fault) P Q f is = tt
+
+-- and where it went wrong
+pub always_wrong : {T E : Type 0} (result : Result T E) (P : Type 0) → P → OnErr result P
+always_wrong (Ok done) P is = tt
+always_wrong (Err fault) P is = is
+
+-- where it went wrong nothing is owed of what it gave
+pub owes_none : {T E : Type 0} (result : Result T E) (P : T → Type 0) → IsErr result → IfOk result P
+owes_none (Ok done) P wrong = absurd (cc)
+owes_none (Err fault) P wrong = tt
+
+pub owes_nothing : {T E : Type 0} (result : Result T E) (P : Type 0) → IsErr result → OnOk result P
+owes_nothing (Ok done) P wrong = absurd (cc)
+owes_nothing (Err fault) P wrong = tt
+
+pub gave_none : {T E : Type 0} (result : Result T E) (done : T) → IsErr result → result ≡ Ok done → ⊥
+gave_none (Ok done) other wrong is = cc
+gave_none (Err fault) other wrong is = cc
+
+-- of what a call gave where it went well, the first part
+pub turned_alone : {E : Type 0} (result : Result ℕ E) (S : ℕ → Type 0) (H : (n : ℕ) → S n → Type 0) → IfOk result (λ n. (turned : S n) × H n turned) → IfOk result S
+turned_alone (Ok n) S H is = is.0
+turned_alone (Err fault) S H is = tt
+
+module _ {T K : Type 0} (may : T → Request → ShownReply → T → Type 0) (prefetches : K → T → List ℕ → K → T → Type 0) (persists waits : K → T → K → T → Type 0) where
+  -- nothing was done
+  pub served_none : (k : K) (w : T) → WasServed may prefetches persists waits k w k w
+  served_none k w = ([], (refl, refl))
+
+  -- the persister went on by itself
+  pub served_waits : (k l : K) (w u : T) → waits k w l u → WasServed may prefetches persists waits k w l u
+  served_waits k l w u done = (Waits ∷ [], (l, u, done, (refl, refl)))
+
+  pub served_maybe : (k l : K) (w u : T) → ((l ≡ k) × (u ≡ w)) ⊎ waits k w l u → WasServed may prefetches persists waits k w l u
+  served_maybe k l w u (inl same) = ([], same)
+  served_maybe k l w u (inr done) = served_waits k l w u done
+
+  -- one thing was done after another
+  done_then : (xs ys : List Deed) (k mid l : K) (w then u : T) → AllDone may prefetches persists waits k w xs mid then → AllDone may prefetches persists waits mid then ys l u → AllDone may prefetches persists waits k w (xs ++ ys) l u
+  done_then [] ys k mid l w then u one two = subst (λ (m : K). AllDone may prefetches persists waits m w ys l u) one.0 (subst (λ (v : T). AllDone may prefetches persists waits mid v ys l u) one.1 two)
+  done_then (x ∷ xs) ys k mid l w then u one two = (one.0, one.1, one.2, done_then xs ys one.0 mid l one.1 then u one.3 two)
+
+  pub served_then : (k mid l : K) (w then u : T) → WasServed may prefetches persists waits k w mid then → WasServed may prefetches persists waits mid then l u → WasServed may prefetches persists waits k w l u
+  served_then k mid l w then u one two = (one.0 ++ two.0, done_then one.0 two.0 k mid l w then u one.1 two.1)
+
+  module _ {C : Type 0} (on : Seating C) where
+    -- a turn of the loop
+    pub served_turn : (k l : K) (w u : T) (seats seats' : List (Option C)) → LoopIteration on may persists k w seats l u seats' → WasServed may prefetches persists waits k w l u
+    served_turn k l w u seats seats' t = (Serves (all_turns t.log) ∷ [], (l, u, (t.reported, t.taken.run, t.kept), (refl, refl)))
+
+    -- and one whose answers were prefetched before
+    pub served_prefetched : (peek : C → Option Peek) (Due : C → Type 0) (kind : WorldKind) (k l : K) (w u : T) (lines : List ℕ) (seats seats' : List (Option C)) → PrefetchedIteration on peek Due may prefetches persists kind k w seats lines l u seats' →
+        WasServed may prefetches persists waits k w l u
+    served_prefetched peek Due kind k l w u lines seats seats' t =
+        let turn = served_turn t.prefetched_by l t.ready u t.gathered_seats seats' t.turn in
+        elim t.prefetched as (λ _. WasServed may prefetches persists waits k w l u) [
+          | inl none ↦ subst (λ (j : K). WasServed may prefetches persists waits j w l u) none.1 (subst (λ (v : T). WasServed may prefetches persists waits t.prefetched_by v l u) none.2 turn)
+          | inr prefetched ↦ (Prefetches lines ∷ turn.0, (t.prefetched_by, t.ready, prefetched, turn.1))
+        ]
+
+    -- the same of a turn by its result, where it went well
+    pub served_turned : {E : Type 0} (Due : C → Type 0) (r : Result ℕ E) (ready : List ℕ) (k l : K) (w u : T) (seats seats' : List (Option C)) → is_ok r ≡ true →
+        IfOk r (λ called. ServedIteration on may persists Due (take called ready) k w seats l u seats') → WasServed may prefetches persists waits k w l u
+    served_turned Due (Ok n) ready k l w u seats seats' is served = served_turn k l w u seats seats' served.turn
+    served_turned Due (Err fault) ready k l w u seats seats' is served = absurd (cc is)
+
+    pub served_called : {E : Type 0} (peek : C → Option Peek) (Due : C → Type 0) (kind : WorldKind) (r : Result Called E) (k l : K) (w u : T) (lines : List ℕ) (seats seats' : List (Option C)) → is_ok r ≡ true →
+        ((n : ℕ) → r ≡ Ok (called.Served n) → PrefetchedIteration on peek Due may prefetches persists kind k w seats lines l u seats') → ((n : ℕ) → r ≡ Ok (called.Unserved n) → waits k w l u) → WasServed may prefetches persists waits k w l u
+    served_called peek Due kind (Ok (called.Served n)) k l w u lines seats seats' is served lost = served_prefetched peek Due kind k l w u lines seats seats' (served n refl)
+    served_called peek Due kind (Ok (called.Unserved n)) k l w u lines seats seats' is served lost = served_waits k l w u (lost n refl)
+    served_called peek Due kind (Err fault) k l w u lines seats seats' is served lost = absurd (cc is)

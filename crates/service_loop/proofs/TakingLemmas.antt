@@ -1,0 +1,177 @@
+-- numbers that are taken, one connection after another
+use Rattle.std.proofs.Common.{◌≡◌, ◌⊎◌, ◌≤◌, ◌<◌, ◌+◌, ◌-◌, ◌∙◌, inl, inr, arith, ℕ, Bool, true, false, set, List, [], ◌∷◌, ◌++◌, length, length-append, map, get_or, Option, Some, None, Result, Ok, Err, OnOk, refl, sym, ap, subst}
+use Rattle.model_pool.specs.declared.pool.TheConstants.{MOST_NUMBERS}
+use Rattle.model_asked.specs.declared.event.Event.TheVariants as event
+use Rattle.model_asked.specs.declared.reply.Reply.{Reply}
+use Rattle.model_asked.specs.Replies.{with_view}
+use Rattle.model_asked.specs.Requests.Request.{Take}
+use Rattle.service_loop.proofs.Common.{append-nil, get_or-set_same, get_or-set_other, length-set, cases_eq, eq-eqb, ne_eqb, ShownReply, Request, Runs, runs-append, all-append, all-tagged, of-append, of-same, of-other, Turn}
+use Rattle.text_player.specs.Shared.{TurnLog, turns_of, all_turns, tagged}
+use Rattle.service_loop.specs.Rounds.{WasServed}
+use Rattle.service_loop.specs.Rounds.Deed.{Prefetches, Serves}
+use Rattle.service_loop.specs.declared.gathering.Called.{Called}
+use Rattle.service_loop.specs.declared.gathering.Called.TheVariants as called
+use Rattle.service_loop.specs.Seats.{Seating}
+use Rattle.service_loop.proofs.AttendedLemmas.{Tells, shown}
+use Rattle.service_loop.proofs.RoundLemmas.{served_waits}
+use Rattle.service_loop.specs.Taking.{IsTaking, LeadTo, MayTakeNumber, NumbersTaken, SaysTaking, SeatTakesNumber, SeatTook, TakingsKept, TakingsPrefetched, entered, probed, wants_probe}
+
+-- whether `probe` is said behind a reply is the same whatever view it shows
+pub wants_shown : {V W : Type 0} (r : Reply V) (v : W) → wants_probe (with_view r v) ≡ wants_probe r
+wants_shown r v = ap (λ (t : Tells). t.wants) (shown r v)
+
+-- one reply more
+lead_more : (first : ShownReply) (more : List ShownReply) (last r : ShownReply) → LeadTo first more last → wants_probe last ≡ true → LeadTo first (more ++ r ∷ []) r
+lead_more first [] last r same wants = (subst (λ (x : ShownReply). wants_probe x ≡ true) same wants, refl)
+lead_more first (p ∷ ps) last r lead wants = (lead.0, lead_more p ps last r lead.1 wants)
+
+probed_more : (id : ℕ) (more : List ShownReply) (r : ShownReply) → map (probed id) (more ++ r ∷ []) ≡ map (probed id) more ++ probed id r ∷ []
+probed_more id [] r = refl
+probed_more id (p ∷ ps) r = ap (λ (l : List Turn). probed id p ∷ l) (probed_more id ps r)
+
+module _ {T : Type 0} (may : T → Request → ShownReply → T → Type 0) (id : ℕ) where
+  -- so far: `enter` was said, and `probe` so many times
+  pub record Probing (w u : T) (answer : ShownReply) (said : ℕ) : Type 0 where
+    pub first : ShownReply
+    pub more : List ShownReply
+    pub run : Runs may w (entered id first ∷ map (probed id) more) u
+    pub lead : LeadTo first more answer
+    pub many : length more ≡ said
+
+  pub probing_none : (w u : T) (r : ShownReply) → may w (Take (event.Enter id)) r u → Probing w u r 0
+  probing_none w u r m = record { first = r; more = []; run = (u, m, refl); lead = refl; many = refl }
+
+  pub probing_more : (w u v : T) (answer r : ShownReply) (said : ℕ) → Probing w u answer said → wants_probe answer ≡ true → may u (Take (event.Probe id)) r v → Probing w v r (said + 1)
+  probing_more w u v answer r said so wants m = record {
+    first = so.first;
+    more = so.more ++ r ∷ [];
+    run = subst (λ (l : List Turn). Runs may w (entered id so.first ∷ l) v) (sym (probed_more id so.more r))
+        (runs-append may w u v (entered id so.first ∷ map (probed id) so.more) (probed id r ∷ []) so.run (v, m, refl));
+    lead = lead_more so.first so.more answer r so.lead wants;
+    many = length-append so.more (r ∷ []) ∙ ap (λ (n : ℕ). n + 1) so.many;
+  }
+
+  -- what was said in all, and how often `probe` was
+  abbrev pub TookOne : T → T → ShownReply → ℕ → Type 0
+  TookOne w u answer said = (turns : List Turn) × Runs may w turns u × (taking : IsTaking id turns answer) × (length taking.more ≡ said) × (said ≤ MOST_NUMBERS)
+
+  pub took_one : (w u : T) (answer : ShownReply) (said : ℕ) → Probing w u answer said → (wants_probe answer ≡ false) ⊎ (said ≡ MOST_NUMBERS) → said ≤ MOST_NUMBERS → TookOne w u answer said
+  took_one w u answer said so enough few = (
+    entered id so.first ∷ map (probed id) so.more,
+    so.run,
+    record {
+      first = so.first;
+      more = so.more;
+      turns_are = refl;
+      lead = so.lead;
+      enough = elim enough as (λ _. (wants_probe answer ≡ false) ⊎ (length so.more ≡ MOST_NUMBERS)) [ inl e ↦ inl e | inr e ↦ inr (so.many ∙ e) ];
+    },
+    so.many,
+    few,
+  )
+
+  -- `probe` alone, so many times
+  abbrev pub ProbedOn : T → T → ℕ → Type 0
+  ProbedOn w u said = (rest : List ShownReply) × Runs may w (map (probed id) rest) u × (length rest ≡ said)
+
+  pub probed_none : (w : T) → ProbedOn w w 0
+  probed_none w = ([], refl, refl)
+
+  pub probed_on : (w u v : T) (r : ShownReply) (said : ℕ) → ProbedOn w u said → may u (Take (event.Probe id)) r v → ProbedOn w v (said + 1)
+  probed_on w u v r said so m = (
+    so.0 ++ r ∷ [],
+    subst (λ (l : List Turn). Runs may w l v) (sym (probed_more id so.0 r)) (runs-append may w u v (map (probed id) so.0) (probed id r ∷ []) so.1 (v, m, refl)),
+    length-append so.0 (r ∷ []) ∙ ap (λ (n : ℕ). n + 1) so.2,
+  )
+
+  -- what is answered, by whether the answers were prefetched
+  pub says_alone : (ahead : Bool) (w u : T) (answer : ShownReply) (said : ℕ) → ahead ≡ false → TookOne w u answer said → (turns : List Turn) × Runs may w turns u × SaysTaking ahead id turns answer
+  says_alone ahead w u answer said is took = subst (λ (b : Bool). (turns : List Turn) × Runs may w turns u × SaysTaking b id turns answer) (sym is) (took.0, took.1, took.2)
+
+  pub says_ahead : (ahead : Bool) (w u v : T) (answer : ShownReply) (said : ℕ) → ahead ≡ true → TookOne w u answer said → ProbedOn u v (MOST_NUMBERS - said) → (turns : List Turn) × Runs may w turns v × SaysTaking ahead id turns answer
+  says_ahead ahead w u v answer said is took on = subst (λ (b : Bool). (turns : List Turn) × Runs may w turns v × SaysTaking b id turns answer) (sym is) (
+    took.0 ++ map (probed id) on.0,
+    runs-append may w u v took.0 (map (probed id) on.0) took.1 on.1,
+    record { own = took.0; taking = took.2; rest = on.0; turns_are = refl; many = (let a = took.3 in let b = on.2 in let few = took.4 in omega (arith, a, b, few)) },
+  )
+
+some_same : {C : Type 0} (c d : C) → Some c ≡ Some d → c ≡ d
+some_same c d e = cc
+
+module _ {C : Type 0} (on : Seating C) (ahead : Bool) where
+  pub seat_waits : (x : Option C) → SeatTakesNumber on ahead [] x x
+  seat_waits None = refl
+  seat_waits (Some c) = (inl (refl, refl), refl, refl)
+
+  -- one connection takes a number where it sits
+  abbrev pub seat_took_number : {T : Type 0} (may : T → Request → ShownReply → T → Type 0) (Due : C → Type 0) (key : ℕ) (w : T) (seats : List (Option C)) (u : T) (was is : C) → key < length seats → get_or seats key None ≡ Some was → Due was → (Due is → ⊥) →
+      (turns : List Turn) → Runs may w turns u → MayTakeNumber ahead turns (on.buffers was) (on.buffers is) → on.left is ≡ on.left was → on.gone is ≡ on.gone was → SeatTook on ahead may Due key w seats u (set seats key (Some is))
+  seat_took_number may Due key w seats u was is below there due done turns run takes unread unsent = record {
+    turns = turns;
+    run = run;
+    was = was;
+    is = is;
+    was_there = there;
+    is_there = get_or-set_same seats key (Some is) None below;
+    due = due;
+    done = done;
+    takes = (takes, unread, unsent);
+    others = λ i other. get_or-set_other seats key i (Some is) None other;
+    many = length-set seats key (Some is);
+  }
+
+  module _ {T : Type 0} (may : T → Request → ShownReply → T → Type 0) (Due : C → Type 0) (w : T) (seats : List (Option C)) where
+    -- so far, where whoever is still due has taken none
+    pub record Taking (log : TurnLog) (u : T) (seats' : List (Option C)) : Type 0 where
+      pub taken : NumbersTaken on ahead may w seats log u seats'
+      pub waiting : (i : ℕ) (c : C) → get_or seats' i None ≡ Some c → Due c → (get_or seats i None ≡ Some c) × (turns_of i log ≡ [])
+
+    pub taking_none : Taking [] w seats
+    taking_none = record {
+      taken = record { run = refl; each = λ i. seat_waits (get_or seats i None); many = refl };
+      waiting = λ i c is due. (is, refl);
+    }
+
+    pub taking_on : (log : TurnLog) (u v : T) (seats' seats'' : List (Option C)) (key : ℕ) → Taking log u seats' → (turn : SeatTook on ahead may Due key u seats' v seats'') → Taking (log ++ tagged key turn.turns) v seats''
+    taking_on log u v seats' seats'' key so turn =
+        let turns = turn.turns in
+        let was = so.waiting key turn.was turn.was_there turn.due in
+        record {
+          taken = record {
+            run = rw (all-append log (tagged key turns), all-tagged key turns) (runs-append may w u v (all_turns log) turns so.taken.run turn.run);
+            each = λ i. rw (of-append i log (tagged key turns)) (elim (cases_eq i key) as (λ _. SeatTakesNumber on ahead (turns_of i log ++ turns_of i (tagged key turns)) (get_or seats i None) (get_or seats'' i None)) [
+              | inl same ↦ subst (λ (k : ℕ). SeatTakesNumber on ahead (turns_of k log ++ turns_of k (tagged key turns)) (get_or seats k None) (get_or seats'' k None)) (sym same)
+                  (rw (was.1, of-same key key turns (eq-eqb key key refl), was.0, turn.is_there) turn.takes)
+              | inr other ↦ rw (of-other key i turns (ne_eqb key i (λ e. other (sym e))), append-nil (turns_of i log), turn.others i other) (so.taken.each i)
+            ]);
+            many = turn.many ∙ so.taken.many;
+          };
+          waiting = λ i c is due. elim (cases_eq i key) as (λ _. (get_or seats i None ≡ Some c) × (turns_of i (log ++ tagged key turns) ≡ [])) [
+            | inl same ↦ absurd (turn.done (subst Due (some_same c turn.is (sym is ∙ ap (λ (k : ℕ). get_or seats'' k None) same ∙ turn.is_there)) due))
+            | inr other ↦ (let before = so.waiting i c (sym (turn.others i other) ∙ is) due in
+                (before.0, of-append i log (tagged key turns) ∙ rw (of-other key i turns (ne_eqb key i (λ e. other (sym e))), append-nil (turns_of i log)) before.1))
+          ];
+        }
+
+  -- that numbers were taken is what a server does to its service and its persister
+  pub served_takings : {T K : Type 0} (may : T → Request → ShownReply → T → Type 0) (prefetches : K → T → List ℕ → K → T → Type 0) (persists waits : K → T → K → T → Type 0) (k l : K) (w u : T) (seats seats' : List (Option C)) →
+      TakingsKept on ahead may persists k w seats l u seats' → WasServed may prefetches persists waits k w l u
+  served_takings may prefetches persists waits k l w u seats seats' t = (Serves (all_turns t.log) ∷ [], (l, u, (t.reported, t.taken.run, t.kept), (refl, refl)))
+
+  -- and so it is where the answers were prefetched before
+  served_ahead : {T K : Type 0} (may : T → Request → ShownReply → T → Type 0) (prefetches : K → T → List ℕ → K → T → Type 0) (persists waits : K → T → K → T → Type 0) (k l : K) (w u : T) (lines : List ℕ) (seats seats' : List (Option C)) →
+      TakingsPrefetched on ahead may prefetches persists k w seats lines l u seats' → WasServed may prefetches persists waits k w l u
+  served_ahead {T = T} {K = K} may prefetches persists waits k l w u lines seats seats' t =
+      let turn = served_takings may prefetches persists waits t.prefetched_by l t.ready u seats seats' t.turn in
+      elim t.prefetched as (λ _. WasServed may prefetches persists waits k w l u) [
+        | inl none ↦ subst (λ (j : K). WasServed may prefetches persists waits j w l u) none.1 (subst (λ (v : T). WasServed may prefetches persists waits t.prefetched_by v l u) none.2 turn)
+        | inr prefetched ↦ (Prefetches lines ∷ turn.0, (t.prefetched_by, t.ready, prefetched, turn.1))
+      ]
+
+  -- or where they were not
+  pub served_prefetch : {T K E : Type 0} (may : T → Request → ShownReply → T → Type 0) (prefetches : K → T → List ℕ → K → T → Type 0) (persists waits : K → T → K → T → Type 0) (result : Result Called E) (k l : K) (w u : T) (lines : List ℕ)
+      (seats seats' : List (Option C)) → ((n : ℕ) → result ≡ Ok (called.Served n) → TakingsPrefetched on ahead may prefetches persists k w seats lines l u seats') → ((n : ℕ) → result ≡ Ok (called.Unserved n) → waits k w l u) →
+      OnOk result (WasServed may prefetches persists waits k w l u)
+  served_prefetch may prefetches persists waits (Ok (called.Served n)) k l w u lines seats seats' served lost = served_ahead may prefetches persists waits k l w u lines seats seats' (served n refl)
+  served_prefetch may prefetches persists waits (Ok (called.Unserved n)) k l w u lines seats seats' served lost = served_waits may prefetches persists waits k l w u (lost n refl)
+  served_prefetch may prefetches persists waits (Err e) k l w u lines seats seats' served lost = tt

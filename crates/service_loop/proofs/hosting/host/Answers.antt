@@ -1,0 +1,53 @@
+use Rattle.std.proofs.Common.{◌++◌, []}
+use Rattle.service_loop.proofs.RoundLemmas.{always, owes_nothing, served_none, served_then}
+use Rattle.service_loop.specs.Rounds.{WasServed}
+use contract.BorrowLft.{⊑_meet, ⊑_refl, ⊑_static}
+use Rattle.service_loop.proofs.hosting.host.Goals.{in-None, in-Some+in_ok-go_round+then-is_over}
+use Rattle.service_loop.proofs.hosting.host.Goals as goal
+
+pub into_iter-iterator-requires : goal.into_iter-iterator-requires
+into_iter-iterator-requires g c κs = λ within.
+    let κ = κs.0 in
+    let lives = g.row.R.lives in
+    let one = ⊑_meet κ lives [] within (⊑_static κ) in
+    let two = ⊑_meet κ (κ ++ lives) [] (⊑_meet κ κ lives (⊑_refl κ) within) (⊑_static κ) in
+    ((within, (within, tt)), (⊑_meet κ (lives ++ []) ((κ ++ lives) ++ []) one two, ⊑_static κs.1.0))
+
+pub loop-init : goal.loop-init
+loop-init g c = record {
+  room = c.in_ok-shared.ensures;
+  served = served_none g.D.Service.may g.K.Persist.prefetches g.K.Persist.persists g.K.Persist.waits c.args.persister.now c.args.service.now.service;
+}
+
+pub loop-preserved : goal.loop-preserved
+loop-preserved g c = record {
+  room = c.go_round.ensures.room;
+  served = served_then g.D.Service.may g.K.Persist.prefetches g.K.Persist.persists g.K.Persist.waits _ _ _ _ _ _ c.loop.invariant.served c.in_ok-go_round.ensures.served;
+}
+
+pub returns : goal.returns
+returns g c =
+    let may = g.D.Service.may in
+    let prefetches = g.K.Persist.prefetches in
+    let persists = g.K.Persist.persists in
+    let waits = g.K.Persist.waits in
+    always c.tell_end.result (WasServed may prefetches persists waits c.args.persister.now c.args.service.now.service c.match-next.persister c.match-next.service.service)
+    (elim c.match-next.branch as (λ _. WasServed may prefetches persists waits c.args.persister.now c.args.service.now.service c.match-next.persister c.match-next.service.service) [
+      | in-None w ↦ rw (w.persister-is, w.service-is) c.loop.invariant.served
+      | in-Some+in_ok-go_round+then-is_over w ↦ rw (w.persister-is, w.service-is) (served_then may prefetches persists waits _ _ _ _ _ _ c.loop.invariant.served w.in_ok-go_round.ensures.served)
+    ])
+
+pub go_round-requires : goal.go_round-requires
+go_round-requires g c = record { knows = c.requires; room = c.loop.invariant.room }
+
+pub returns-in_err-shared : goal.returns-in_err-shared
+returns-in_err-shared g c = owes_nothing c.from_residual.result _ c.from_residual.ensures.0
+
+pub returns-in_err-hosting : goal.returns-in_err-hosting
+returns-in_err-hosting g c = owes_nothing c.from_residual-in_err-hosting.result _ c.from_residual-in_err-hosting.ensures.0
+
+pub returns-in_err-tell_listening : goal.returns-in_err-tell_listening
+returns-in_err-tell_listening g c = owes_nothing c.from_residual-in_err-tell_listening.result _ c.from_residual-in_err-tell_listening.ensures.0
+
+pub returns-in_err-go_round : goal.returns-in_err-go_round
+returns-in_err-go_round g c = owes_nothing c.from_residual-in_err-go_round.result _ c.from_residual-in_err-go_round.ensures.0

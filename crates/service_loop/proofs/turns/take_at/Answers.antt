@@ -1,0 +1,79 @@
+use borrow.Author.Rules.{scaled_Fits}
+use Rattle.std.proofs.lemmas.List.{set-get_or, get_or_past}
+use Rattle.std.proofs.Common.{◌≡◌, ◌∙◌, inr, Some, None, sym, inl, refl, subst, set, ap, get_or}
+use Rattle.service_loop.proofs.Common.{get_or_default, get_or-set_same, get_or-set_other, SeatIs, seats_of}
+use Rattle.service_loop.specs.declared.connection.Stage.TheVariants as stage
+use Rattle.service_loop.specs.SharedBuffers.{AreShared}
+use Rattle.service_loop.proofs.SeatLemmas.{seat_took}
+use Rattle.service_loop.specs.ConnectionBuffers.{HasTakenAll}
+use Rattle.service_loop.proofs.AttendedLemmas.{runs_listened}
+use Rattle.service_loop.proofs.turns.take_at.Goals as goal
+
+pub returns-in-Queued-clause-took : goal.returns-in-Queued-clause-took
+returns-in-Queued-clause-took g c =
+    let below = c.if-key-seats.true in
+    let took = c.take.ensures.takes in
+    let r = runs_listened g.D.Service.may c.args.number took.0 c.args.service.now c.listen_to.new.self c.take.new.service c.listen_to.ensures took.1 in
+    inr (
+      seat_took (seats_of g.S.Stream.left g.S.Stream.gone) g.D.Service.may (λ x. x.stage ≡ stage.Queued)
+          c.args.key c.args.service.now.service c.args.seats.now c.take.new.service.service c.in-Some.connection c.take.new.self below (get_or_default c.args.seats.now c.args.key None c.index-seats-key.result below ∙ c.in-Some.is) c.in-Queued.is
+          (λ again. (let e : stage.Taken ≡ stage.Queued = sym c.take.ensures.stage ∙ again in absurd cc)) (took.0, r.0, took.2) c.take.ensures.unsent,
+      r.1,
+    )
+
+pub returns-in-Queued-clause-done : goal.returns-in-Queued-clause-done
+returns-in-Queued-clause-done g c =
+    subst (λ x. SeatIs (λ q. q.stage ≡ stage.Queued → ⊥) x) (sym (get_or-set_same c.args.seats.now c.args.key (Some c.take.new.self) None c.if-key-seats.true))
+    (λ again. (let e : stage.Taken ≡ stage.Queued = sym c.take.ensures.stage ∙ again in absurd cc))
+
+pub returns-in-Queued-clause-all : goal.returns-in-Queued-clause-all
+returns-in-Queued-clause-all g c =
+    inr (subst (λ x. SeatIs (λ q. HasTakenAll q.buffers) x) (sym (get_or-set_same c.args.seats.now c.args.key (Some c.take.new.self) None c.if-key-seats.true)) c.take.ensures.all)
+
+pub returns-in-Queued-clause-others : goal.returns-in-Queued-clause-others
+returns-in-Queued-clause-others g c = λ i other. get_or-set_other c.args.seats.now c.args.key i (Some c.take.new.self) None other
+
+pub offset_bounds-seats-key : goal.offset_bounds-seats-key
+offset_bounds-seats-key g c = scaled_Fits _ _ _ c.if-key-seats.true c.well_formed.1.1.1.0.1
+
+pub bounds-seats-key : goal.bounds-seats-key
+bounds-seats-key g c = c.if-key-seats.true
+
+pub take-requires : goal.take-requires
+take-requires g c = record { knows = c.requires.knows; room = c.requires.room }
+
+pub returns-in-Queued-clause-room : goal.returns-in-Queued-clause-room
+returns-in-Queued-clause-room g c = subst (λ s. AreShared s) (sym c.note_turn.ensures) c.take.ensures.room
+
+pub returns-else-key-seats : goal.returns-else-key-seats
+returns-else-key-seats g c = record {
+  took = inl (refl, refl);
+  all = inl refl;
+  done = subst (λ x. SeatIs (λ q. q.stage ≡ stage.Queued → ⊥) x) (sym (get_or_past c.args.seats.now c.args.key None c.if-key-seats.false)) tt;
+  others = λ i other. refl;
+  room = c.requires.room;
+}
+
+pub returns-in_default : goal.returns-in_default
+returns-in_default g c =
+    let back = set-get_or c.args.seats.now c.args.key c.index-seats-key.result in
+    let there = get_or_default c.args.seats.now c.args.key None c.index-seats-key.result c.if-key-seats.true ∙ c.in_default.is in
+    record {
+      took = inl (refl, back);
+      all = inl back;
+      done = subst (λ x. SeatIs (λ q. q.stage ≡ stage.Queued → ⊥) x) (sym (ap (λ x. get_or x c.args.key None) back ∙ there)) tt;
+      others = λ i other. ap (λ x. get_or x i None) back;
+      room = c.requires.room;
+    }
+
+pub returns-in_default-stage : goal.returns-in_default-stage
+returns-in_default-stage g c =
+    let back = subst (λ x. set c.args.seats.now c.args.key x ≡ c.args.seats.now) c.in-Some.is (set-get_or c.args.seats.now c.args.key c.index-seats-key.result) in
+    let there = get_or_default c.args.seats.now c.args.key None c.index-seats-key.result c.if-key-seats.true ∙ c.in-Some.is in
+    record {
+      took = inl (refl, back);
+      all = inl back;
+      done = subst (λ x. SeatIs (λ q. q.stage ≡ stage.Queued → ⊥) x) (sym (ap (λ x. get_or x c.args.key None) back ∙ there)) c.in_default-stage.not-Queued;
+      others = λ i other. ap (λ x. get_or x i None) back;
+      room = c.requires.room;
+    }

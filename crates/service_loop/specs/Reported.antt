@@ -1,0 +1,105 @@
+-- which lines of a connection go to a persister before a turn takes them
+use Rattle.std.specs.Prelude.{◌≡◌, ℕ, ◌<◌, ◌||◌, nat_lt, ◌≤◌, if◌then◌else◌, Bool, true, false, List, [], ◌∷◌, ◌++◌, length, get_or, take, Option, Some, None, Result, Ok, Err}
+use Rattle.model_asked.specs.declared.bad.Bad.{Bad}
+use Rattle.model_asked.specs.declared.command.Command.{Command}
+use Rattle.model_asked.specs.declared.command.Command.TheVariants as command
+use Rattle.model_asked.specs.declared.kind.WorldKind.{WorldKind}
+use Rattle.text_lines.specs.Lines.{lines, rest_of, whole_lines, with_ends}
+use Rattle.text_lines.specs.Meaning.{meaning}
+use Rattle.text_player.specs.Shared.{numbered, unnumbered}
+use Rattle.service_loop.specs.BuffersState.{BuffersState}
+use Rattle.service_loop.specs.declared.peek.Peek.{Peek}
+
+-- a line that means this asks the service for something
+abbrev pub is_request : Result Command Bad → Bool
+is_request (Err bad) = false
+is_request (Ok (command.Event e)) = true
+is_request (Ok (command.Owner n)) = true
+is_request (Ok command.Quit) = false
+
+-- the lines that do
+abbrev pub requests : WorldKind → List (List ℕ) → List (List ℕ)
+requests kind [] = []
+requests kind (l ∷ ls) = if is_request (meaning kind l) then l ∷ requests kind ls else requests kind ls
+
+-- where a line that is longer than any request was begun before, the first of these is its end, and asks for nothing
+abbrev pub behind : Bool → List (List ℕ) → List (List ℕ)
+behind false ls = ls
+behind true [] = []
+behind true (l ∷ ls) = ls
+
+-- the lines that are taken with these bytes: at the end of what comes, what no LF ends is one too
+abbrev pub lines_in : List ℕ → Bool → List (List ℕ)
+lines_in bytes false = whole_lines bytes
+lines_in bytes true = lines bytes
+
+-- the requests among them
+abbrev pub requests_in : WorldKind → Bool → List ℕ → Bool → List (List ℕ)
+requests_in kind long bytes ends = requests kind (behind long (lines_in bytes ends))
+
+-- So many of the bytes were looked at, up to where a line ends: the requests among their lines stand behind what stood in the batch, and are
+-- noted; and whether the next line is the end of a longer one
+pub record HasPeeked (kind : WorldKind) (long asks : Bool) (batch bytes : List ℕ) (at : ℕ) (long' asks' : Bool) (batch' : List ℕ) : Type 0 where
+  pub inside : at ≤ length bytes
+  pub whole : rest_of (take at bytes) ≡ []
+  pub added : batch' ≡ batch ++ with_ends (requests_in kind long (take at bytes) false)
+  pub asked : asks' ≡ false → (asks ≡ false) × (requests_in kind long (take at bytes) false ≡ [])
+  pub next : (line : List ℕ) → behind long (whole_lines (take at bytes) ++ line ∷ []) ≡ behind long (whole_lines (take at bytes)) ++ behind long' (line ∷ [])
+
+-- what was looked at of a connection, if anything was: so many bytes of what waits, and whether the end of what comes is behind them
+abbrev pub bytes_of : Option Peek → ℕ
+bytes_of None = 0
+bytes_of (Some peek) = peek.bytes
+
+abbrev pub ends_of : Option Peek → Bool
+ends_of None = false
+ends_of (Some peek) = peek.ends
+
+-- whether a line that is longer than any request was begun before; and whether lines of it are reported
+abbrev pub long_of : Option Peek → Bool
+long_of None = false
+long_of (Some peek) = peek.long
+
+abbrev pub asks_of : Option Peek → Bool
+asks_of None = false
+asks_of (Some peek) = peek.asks
+
+-- whether a line of it asks who holds numbers
+abbrev pub holds_of : Option Peek → Bool
+holds_of None = false
+holds_of (Some peek) = peek.holds
+
+-- whether more than it takes could be taken
+abbrev pub more_of : Option Peek → Bool
+more_of None = false
+more_of (Some peek) = peek.more
+
+-- it takes something, or more than it takes could be taken
+abbrev pub takes_any : Peek → Bool
+takes_any peek = peek.more || peek.ends || nat_lt 0 peek.bytes
+
+-- no more and no less was looked at
+abbrev pub IsSameGrant : Option Peek → Option Peek → Type 0
+IsSameGrant a b = (bytes_of b ≡ bytes_of a) × (ends_of b ≡ ends_of a) × (long_of b ≡ long_of a) × (asks_of b ≡ asks_of a)
+
+-- the requests among what was looked at; there is none once `quit` was answered
+abbrev pub requests_seen : WorldKind → BuffersState → Option Peek → List (List ℕ)
+requests_seen kind s peek = if s.responder.over then [] else requests_in kind (long_of peek) (take (bytes_of peek) s.inbox) (ends_of peek)
+
+-- lines, each with the seat whose it is: those of one seat, and all
+abbrev pub SeatLines : Type 0
+SeatLines = List (ℕ × List ℕ)
+
+abbrev pub lines_of : ℕ → SeatLines → List (List ℕ)
+lines_of i reported = numbered i reported
+
+abbrev pub all_lines : SeatLines → List (List ℕ)
+all_lines reported = unnumbered reported
+
+-- a list ends with these
+abbrev pub EndsWith : List (List ℕ) → List (List ℕ) → Type 0
+EndsWith all ls = (front : List (List ℕ)) × (all ≡ front ++ ls)
+
+-- a key is among these
+abbrev pub IsAmong : ℕ → List ℕ → Type 0
+IsAmong key keys = (j : ℕ) × (j < length keys) × (get_or keys j 0 ≡ key)

@@ -1,0 +1,582 @@
+//! A connection: its stream, and what is held of it.
+
+ghost use Rattle.std.specs.Prelude.{◌≡◌, ◌⊎◌, ◌+◌, ◌++◌, ◌≤◌, ◌<◌, true, false, List, [], length, take, drop, IfOk, IsTrue, ◌↔◌};
+ghost use Rattle.std.specs.Io.{ReadsAtMost};
+ghost use Rattle.std.specs.Io.KnownBytes.{Appends, ReadConsumes};
+ghost use Rattle.model_asked.specs.Requests.{Request};
+ghost use Rattle.text_lines.specs.Lines.{with_ends};
+ghost use Rattle.text_player.specs.Runs.{Runs};
+ghost use Rattle.text_player.specs.Turns.{Turn};
+ghost use Rattle.text_player.specs.declared.form.TheConstants.{TURN_ROOM};
+ghost use Rattle.service_loop.specs.SharedBuffers.{AreShared};
+ghost use Rattle.service_loop.specs.Reported.{asks_of, holds_of, more_of, requests_seen, IsSameGrant};
+ghost use Rattle.text_lines.specs.declared.held.query.TheConstants.{QUERY_MAX};
+ghost use Rattle.service_loop.specs.Asking.{MayAnswer, MayAsk};
+ghost use Rattle.service_loop.specs.ConnectionBuffers.{is_done, CanSend, CanTake, HasTakenAll, SomeTaken, Takes, TakesEnd, TakesPeeked, SendsTo};
+ghost use Rattle.service_loop.specs.Gathering.{GathersOf};
+ghost use Rattle.service_loop.specs.Taking.{MayTakeNumber};
+ghost use Rattle.service_loop.specs.Waiting.{given_up, may_take, taken_for};
+ghost use Rattle.service_loop.specs.declared.shared.TheConstants.{READ_ROOM};
+ghost use Rattle.service_loop.specs.declared.buffers.TheConstants.{UNSENT_ROOM, MOST_LINES};
+
+use crate::buffers::{Buffers, MOST_LINES, UNSENT_ROOM};
+use crate::peek::{Limits, Peek};
+use crate::persist::Persist;
+use crate::shared::{READ_ROOM, SharedBuffers};
+use crate::stream::Stream;
+use crate::taking::say_taking;
+use text_lines::print_reply;
+use model_asked::WorldKind;
+use text_lines::held::QUERY_MAX;
+use text_player::{Service, TURN_ROOM};
+use std::alloc::Allocator;
+use std::io::{self, ErrorKind};
+
+/// So many bytes are read at most, behind the beginning of a line that may ask who holds numbers, or take one.
+const MOST_READ: usize = READ_ROOM - QUERY_MAX;
+
+/// Where a connection stands in a turn of the loop.
+#[derive(Clone, Copy, Debug, Drop, PartialEq, Eq)]
+pub enum Stage {
+    /// Nothing is to be done for it.
+    Idle,
+    /// It has something to take or to send.
+    Queued,
+    /// Its lines of this turn are taken, and the replies not sent yet.
+    Taken,
+}
+
+/// A connection.
+#[derive(Drop)]
+pub struct Connection<S, A: Allocator> {
+    pub stream: S,
+    pub buffers: Buffers<A>,
+    pub stage: Stage,
+    /// Whether a read may give something.
+    pub readable: bool,
+    /// Whether a write may take something.
+    pub writable: bool,
+    /// Whether the end of what comes was reported: then a read that gives little need not be the last that gives something.
+    pub hung: bool,
+    /// The tick at which something last came or went.
+    pub since: u64,
+    /// What its next turn takes, where the service prefetches the answers before; `None` where it takes what comes.
+    pub peek: Option<Peek>,
+}
+
+// Reads once into the first so many bytes of a chunk.
+fn read_at_most<S: Stream>(stream: &mut S, chunk: &mut [u8], most: usize) -> io::Result<usize>
+    requires { (1 ≤ most) × (most ≤ length chunk.old) }
+    ensures bound { ReadsAtMost result chunk.new }
+    ensures bytes { ReadConsumes (S.left stream.old) (S.left stream.new) result chunk.new }
+    ensures same { S.gone stream.new ≡ S.gone stream.old }
+    ensures size { length chunk.new ≡ length chunk.old }
+    ensures few { IfOk result (λ count. count ≤ most) }
+{
+    stream.read_some(&mut chunk[..most])
+}
+
+// Reads once into the room, at most so many bytes.
+fn read_into<S: Stream, B: Allocator>(
+    stream: &mut S,
+    shared: &mut SharedBuffers<B>,
+    most: usize,
+) -> io::Result<usize>
+    requires room { AreShared shared.old }
+    requires most { (1 ≤ most) × (most ≤ READ_ROOM) }
+    ensures bound { ReadsAtMost result shared.new.chunk.items }
+    ensures bytes { ReadConsumes (S.left stream.old) (S.left stream.new) result shared.new.chunk.items }
+    ensures same { S.gone stream.new ≡ S.gone stream.old }
+    ensures few { IfOk result (λ count. count ≤ most) }
+    ensures room { AreShared shared.new }
+{
+    read_at_most(stream, &mut shared.chunk, most)
+}
+
+// A read or a write did nothing: it may do something once the stream is reported able again, or at once, or else the connection is at fault.
+fn note_fault<A: Allocator>(fault: &io::Error, able: &mut bool, buffers: &mut Buffers<A>)
+    ensures buffers { buffers.new ≡ record buffers.old { broken = buffers.new.broken } }
+    ensures whole { buffers.new.broken ≡ false → buffers.old.broken ≡ false }
+{
+    match fault.kind() {
+        ErrorKind::WouldBlock => *able = false,
+        ErrorKind::Interrupted => {}
+        _ => buffers.fail(),
+    }
+}
+
+impl<S: Stream, A: Allocator> Connection<S, A> {
+    /// A connection of which nothing was read.
+    pub fn new(stream: S, buffers: Buffers<A>, since: u64) -> Connection<S, A>
+        ensures { (result.stream ≡ stream) × (result.buffers ≡ buffers) × (result.stage ≡ Stage.Idle) }
+    {
+        Connection {
+            stream,
+            buffers,
+            stage: Stage::Idle,
+            readable: false,
+            writable: true,
+            hung: false,
+            since,
+            peek: None,
+        }
+    }
+
+    /// Whether it is at its end: at fault, or all that came is taken and all replies are sent.
+    pub fn is_done(&self) -> bool
+        ensures { result ≡ is_done self.now.buffers }
+    {
+        self.buffers.is_broken() || (self.buffers.is_ended() && self.buffers.unsent().is_empty())
+    }
+
+    /// Whether a turn more would have something to do, with nothing new told of its stream.
+    pub fn goes_on(&self) -> bool
+        ensures sends { CanSend self.now.writable self.now.buffers → IsTrue result }
+        ensures takes { CanTake self.now.buffers → (self.now.readable ≡ true) ⊎ (more_of self.now.peek ≡ true) → IsTrue result }
+        ensures only { IsTrue result → CanSend self.now.writable self.now.buffers ⊎ CanTake self.now.buffers }
+    {
+        let sends = self.writable && !self.buffers.unsent().is_empty();
+        let waits = match self.peek {
+            Some(peek) => peek.more,
+            None => !self.buffers.waits_for_more(),
+        };
+        let takes = self.may_take() && (waits || self.readable);
+        !self.buffers.is_broken() && (sends || takes)
+    }
+
+    // Whether more may come and be taken: there is room for a reply.
+    fn may_take(&self) -> bool
+        ensures may { IsTrue result ↔ CanTake self.now.buffers }
+        ensures none { result ≡ false → HasTakenAll self.now.buffers }
+        ensures whole { IsTrue result → self.now.buffers.broken ≡ false }
+        ensures reply { IsTrue result → length self.now.buffers.outbox + TURN_ROOM ≤ UNSENT_ROOM }
+        ensures count { IsTrue result → self.now.buffers.responder.summary.lines ≤ MOST_LINES }
+        ensures exact { result ≡ may_take self.now.buffers }
+    {
+        !self.buffers.is_broken() && !self.buffers.is_ended() && self.buffers.has_room()
+    }
+
+    /// Takes its turn, which is due: what waited of its lines, or else what one read gives.
+    pub fn take<R, D: Service<R>, B: Allocator>(
+        &mut self,
+        rt: &R,
+        service: &mut D,
+        shared: &mut SharedBuffers<B>,
+    )
+        requires knows { (q : Request) → D.knows q ≡ true }
+        requires room { AreShared shared.old }
+        ensures takes { SomeTaken D.may service.old service.new (S.left self.old.stream) self.old.buffers (S.left self.new.stream) self.new.buffers }
+        ensures all { HasTakenAll self.new.buffers }
+        ensures unsent { S.gone self.new.stream ≡ S.gone self.old.stream }
+        ensures stage { self.new.stage ≡ Stage.Taken }
+        ensures room { AreShared shared.new }
+    {
+        self.stage = Stage::Taken;
+        if !self.may_take() {
+            return;
+        }
+        if !self.buffers.waits_for_more() {
+            self.buffers.take(
+                rt,
+                service,
+                &mut shared.view,
+                &[],
+                false,
+                &mut shared.replies,
+            );
+        } else if self.readable {
+            self.read(rt, service, shared);
+        }
+    }
+
+    /// Takes its turn over a service that prefetched its answers before: what was looked at (`gather`), and nothing else.
+    pub fn take_peeked<R, D: Service<R>, B: Allocator>(
+        &mut self,
+        rt: &R,
+        service: &mut D,
+        shared: &mut SharedBuffers<B>,
+    )
+        requires knows { (q : Request) → D.knows q ≡ true }
+        requires room { AreShared shared.old }
+        ensures takes { (turns : List Turn) × Runs D.may service.old turns service.new ×
+            TakesPeeked turns self.old.peek (S.left self.old.stream) self.old.buffers (S.left self.new.stream) self.new.buffers }
+        ensures unsent { S.gone self.new.stream ≡ S.gone self.old.stream }
+        ensures stage { self.new.stage ≡ Stage.Taken }
+        ensures room { AreShared shared.new }
+    {
+        self.stage = Stage::Taken;
+        let Some(peek) = self.peek else {
+            return;
+        };
+        if !self.may_take() {
+            return;
+        }
+        self.peek = Some(peek.taken());
+        self.buffers.take_first(
+            rt,
+            service,
+            &mut shared.view,
+            peek.bytes,
+            &mut shared.replies,
+        );
+        if peek.ends && self.may_read() {
+            self.take_end(rt, service, shared);
+        }
+    }
+
+    // Takes the end, which was read before: a stream that was at its end tells it again. One that gives more is at fault.
+    fn take_end<R, D: Service<R>, B: Allocator>(
+        &mut self,
+        rt: &R,
+        service: &mut D,
+        shared: &mut SharedBuffers<B>,
+    )
+        requires knows { (q : Request) → D.knows q ≡ true }
+        requires whole { self.old.buffers.broken ≡ false }
+        requires none { self.old.buffers.inbox ≡ [] }
+        requires reply { length self.old.buffers.outbox + TURN_ROOM ≤ UNSENT_ROOM }
+        requires count { self.old.buffers.responder.summary.lines ≤ MOST_LINES }
+        requires room { AreShared shared.old }
+        ensures takes { (turns : List Turn) × Runs D.may service.old turns service.new ×
+            TakesEnd turns (S.left self.old.stream) self.old.buffers (S.left self.new.stream) self.new.buffers }
+        ensures unsent { S.gone self.new.stream ≡ S.gone self.old.stream }
+        ensures stage { self.new.stage ≡ self.old.stage }
+        ensures room { AreShared shared.new }
+    {
+        match read_into(&mut self.stream, shared, READ_ROOM) {
+            Ok(0) => self
+                .buffers
+                .finish(rt, service, &mut shared.view, &mut shared.replies),
+            Ok(_) => self.buffers.fail(),
+            Err(fault) => note_fault(&fault, &mut self.readable, &mut self.buffers),
+        }
+    }
+
+    // Whether all that came is taken, and there is room for a reply to the end.
+    fn may_read(&self) -> bool
+        ensures whole { IsTrue result → self.now.buffers.broken ≡ false }
+        ensures none { IsTrue result → self.now.buffers.inbox ≡ [] }
+        ensures reply { IsTrue result → length self.now.buffers.outbox + TURN_ROOM ≤ UNSENT_ROOM }
+        ensures count { IsTrue result → self.now.buffers.responder.summary.lines ≤ MOST_LINES }
+    {
+        self.may_take() && !self.buffers.has_input()
+    }
+
+    /// Reads once what came, if there is room, and looks at its lines before they are taken: its requests are added to the batch, as far
+    /// as there is room there. Where memory is refused it is at fault, and none of its lines is in the batch.
+    pub fn gather<B: Allocator>(
+        &mut self,
+        kind: WorldKind,
+        most: usize,
+        shared: &mut SharedBuffers<B>,
+        batch: &mut Vec<u8, B>,
+    )
+        requires { AreShared shared.old }
+        ensures gathers { GathersOf (S.left self.old.stream) self.old.buffers (S.left self.new.stream) self.new.buffers }
+        ensures unsent { S.gone self.new.stream ≡ S.gone self.old.stream }
+        ensures stage { self.new.stage ≡ self.old.stage }
+        ensures reported { batch.new.items ≡ batch.old.items ++ with_ends (requests_seen kind self.new.buffers self.new.peek) }
+        ensures asks { asks_of self.new.peek ≡ false → (asks_of self.old.peek ≡ false) × (requests_seen kind self.new.buffers self.new.peek ≡ []) }
+        ensures room { AreShared shared.new }
+    {
+        let peek = match self.peek {
+            Some(peek) => peek.nothing(),
+            None => Peek::new(),
+        };
+        self.peek = Some(peek);
+        if !self.may_take() {
+            return;
+        }
+        self.gather_bytes(&mut shared.chunk);
+        if !self.buffers.is_broken() {
+            self.peek_over(kind, most, batch);
+        }
+    }
+
+    /// Whether a line that was looked at asks who holds numbers.
+    pub fn asks_holders(&self) -> bool
+        ensures { result ≡ holds_of self.now.peek }
+    {
+        match self.peek {
+            Some(peek) => peek.holds,
+            None => false,
+        }
+    }
+
+    // The end of what comes was read.
+    fn note_end(&mut self)
+        ensures same { self.new ≡ record self.old { readable = false; peek = self.new.peek } }
+        ensures peek { IsSameGrant self.old.peek self.new.peek }
+    {
+        self.readable = false;
+        if let Some(peek) = &mut self.peek {
+            peek.at_end = true;
+        }
+    }
+
+    // Looks at what waits.
+    fn peek_over<B: Allocator>(&mut self, kind: WorldKind, most: usize, batch: &mut Vec<u8, B>)
+        ensures reported { batch.new.items ≡ batch.old.items ++ with_ends (requests_seen kind self.new.buffers self.new.peek) }
+        ensures asks { asks_of self.new.peek ≡ false → (asks_of self.old.peek ≡ false) × (requests_seen kind self.new.buffers self.new.peek ≡ []) }
+        ensures buffers { self.new.buffers ≡ record self.old.buffers { broken = self.new.buffers.broken } }
+        ensures whole { self.new.buffers.broken ≡ false → self.old.buffers.broken ≡ false }
+        ensures stream { self.new.stream ≡ self.old.stream }
+        ensures stage { self.new.stage ≡ self.old.stage }
+    {
+        let Some(seen) = self.peek else {
+            return;
+        };
+        let mut peek = seen;
+        let before = batch.len();
+        let mut limits = Limits {
+            kind,
+            most,
+            said: self.buffers.unsent().len(),
+        };
+        if self.buffers.is_over() {
+            peek.take_all(self.buffers.inbox());
+        } else if peek
+            .peek_over(self.buffers.inbox(), &mut limits, batch)
+            .is_err()
+        {
+            batch.truncate(before);
+            peek = seen.nothing();
+            self.buffers.fail();
+        }
+        self.peek = Some(peek);
+    }
+
+    /// Its lines went to the persister, if any were, and what they are answered is not known: then it is at fault. It waits for its next turn.
+    pub fn give_up(&mut self)
+        ensures buffers { self.new.buffers ≡ record self.old.buffers { broken = self.new.buffers.broken } }
+        ensures whole { self.new.buffers.broken ≡ false → self.old.buffers.broken ≡ false }
+        ensures stream { self.new.stream ≡ self.old.stream }
+        ensures reported { asks_of self.old.peek ≡ true → self.new.buffers.broken ≡ true }
+        ensures stage { self.new.stage ≡ Stage.Idle }
+    {
+        if let Some(peek) = self.peek {
+            if peek.asks || peek.holds {
+                self.buffers.fail();
+            }
+            self.peek = Some(peek.untaken());
+        }
+        self.stage = Stage::Idle;
+    }
+
+    // Reads once what came, if there is room.
+    fn gather_bytes(&mut self, chunk: &mut [u8])
+        requires whole { self.old.buffers.broken ≡ false }
+        requires room { length chunk.old ≡ READ_ROOM }
+        ensures gathers { GathersOf (S.left self.old.stream) self.old.buffers (S.left self.new.stream) self.new.buffers }
+        ensures unsent { S.gone self.new.stream ≡ S.gone self.old.stream }
+        ensures stage { self.new.stage ≡ self.old.stage }
+        ensures peek { IsSameGrant self.old.peek self.new.peek }
+    {
+        let free = READ_ROOM - self.buffers.inbox().len();
+        if !self.readable || free == 0 {
+            return;
+        }
+        match self.stream.read_some(&mut chunk[..free]) {
+            Ok(0) => self.note_end(),
+            Ok(count) => {
+                self.readable = self.hung || count == free;
+                self.buffers.add(&chunk[..count]);
+            }
+            Err(fault) => note_fault(&fault, &mut self.readable, &mut self.buffers),
+        }
+    }
+
+    // Reads once, and takes what that gives. At the end what waits is taken first, and the end is read again in the next turn.
+    fn read<R, D: Service<R>, B: Allocator>(
+        &mut self,
+        rt: &R,
+        service: &mut D,
+        shared: &mut SharedBuffers<B>,
+    )
+        requires knows { (q : Request) → D.knows q ≡ true }
+        requires whole { self.old.buffers.broken ≡ false }
+        requires none { 0 < length self.old.buffers.inbox → MayAsk self.old.buffers.inbox }
+        requires few { length self.old.buffers.inbox ≤ QUERY_MAX }
+        requires reply { length self.old.buffers.outbox + TURN_ROOM ≤ UNSENT_ROOM }
+        requires count { self.old.buffers.responder.summary.lines ≤ MOST_LINES }
+        requires room { AreShared shared.old }
+        ensures takes { SomeTaken D.may service.old service.new (S.left self.old.stream) self.old.buffers (S.left self.new.stream) self.new.buffers }
+        ensures all { HasTakenAll self.new.buffers }
+        ensures unsent { S.gone self.new.stream ≡ S.gone self.old.stream }
+        ensures stage { self.new.stage ≡ self.old.stage }
+        ensures room { AreShared shared.new }
+    {
+        let most = shared.most().min(MOST_READ);
+        match read_into(&mut self.stream, shared, most) {
+            Ok(0) => self.take_last(rt, service, shared),
+            Ok(count) => {
+                self.readable = self.hung || count == most;
+                self.buffers.take(
+                    rt,
+                    service,
+                    &mut shared.view,
+                    &shared.chunk[..count],
+                    false,
+                    &mut shared.replies,
+                );
+            }
+            Err(fault) => note_fault(&fault, &mut self.readable, &mut self.buffers),
+        }
+    }
+
+    // The end was read. What waits is taken before it, where anything does.
+    fn take_last<R, D: Service<R>, B: Allocator>(
+        &mut self,
+        rt: &R,
+        service: &mut D,
+        shared: &mut SharedBuffers<B>,
+    )
+        requires knows { (q : Request) → D.knows q ≡ true }
+        requires whole { self.old.buffers.broken ≡ false }
+        requires reply { length self.old.buffers.outbox + TURN_ROOM ≤ UNSENT_ROOM }
+        requires count { self.old.buffers.responder.summary.lines ≤ MOST_LINES }
+        requires room { AreShared shared.old }
+        ensures takes { (turns : List Turn) × Runs D.may service.old turns service.new ×
+            (Takes turns [] true self.old.buffers self.new.buffers ⊎ Takes turns [] false self.old.buffers self.new.buffers) }
+        ensures all { HasTakenAll self.new.buffers }
+        ensures stream { self.new.stream ≡ self.old.stream }
+        ensures stage { self.new.stage ≡ self.old.stage }
+        ensures room { AreShared shared.new }
+    {
+        if self.buffers.has_input() {
+            self.buffers.take(
+                rt,
+                service,
+                &mut shared.view,
+                &[],
+                true,
+                &mut shared.replies,
+            );
+        } else {
+            self.buffers
+                .finish(rt, service, &mut shared.view, &mut shared.replies);
+        }
+    }
+
+    /// Answers the line that waits first, where that asks who holds numbers and there is room: where the service prefetches its answers, only
+    /// if the line was looked at. The persister tells who holds them.
+    pub fn answer<D, K: Persist<D>, B: Allocator>(
+        &mut self,
+        service: &D,
+        persister: &K,
+        shared: &mut SharedBuffers<B>,
+    )
+        requires room { AreShared shared.old }
+        ensures answers { MayAnswer (K.holds persister.now service.now) self.old.buffers self.new.buffers }
+        ensures stream { self.new.stream ≡ self.old.stream }
+        ensures stage { self.new.stage ≡ Stage.Taken }
+        ensures room { AreShared shared.new }
+    {
+        self.stage = Stage::Taken;
+        if !self.may_take() || !self.may_ask() {
+            return;
+        }
+        if let Some((query, count)) = self.buffers.query() {
+            persister.put_held(service, query, &mut shared.replies);
+            self.buffers.answer(count, &mut shared.replies);
+        }
+    }
+
+    // Whether a line that asks who holds numbers may be answered in this turn.
+    fn may_ask(&self) -> bool {
+        match self.peek {
+            Some(peek) => peek.holds,
+            None => true,
+        }
+    }
+
+    /// For which identity the line that waits first takes a number, where it takes one and there is room for the answer.
+    pub fn taking(&self) -> Option<u64>
+        ensures { result ≡ taken_for self.now.buffers }
+    {
+        if !self.may_take() {
+            return None;
+        }
+        match self.buffers.taking() {
+            Some((identity, _)) => Some(identity),
+            None => None,
+        }
+    }
+
+    /// Where it takes a number, the lines of that went to the persister, and what they are answered is not known: then it is at fault.
+    pub fn give_up_taking(&mut self)
+        ensures { self.new ≡ record self.old { buffers = given_up self.old.buffers } }
+    {
+        if self.taking().is_some() {
+            self.buffers.fail();
+        }
+    }
+
+    /// Takes a number, where the line that waits first is `take ID` and there is room for the answer: by events of the service, one after another, of
+    /// which the last reply is the answer (`say_taking`).
+    pub fn take_number<R, D: Service<R>, B: Allocator>(
+        &mut self,
+        rt: &R,
+        service: &mut D,
+        shared: &mut SharedBuffers<B>,
+        ahead: bool,
+    )
+        requires knows { (q : Request) → D.knows q ≡ true }
+        requires room { AreShared shared.old }
+        ensures takes { (turns : List Turn) × Runs D.may service.old turns service.new × MayTakeNumber ahead turns self.old.buffers self.new.buffers }
+        ensures stream { self.new.stream ≡ self.old.stream }
+        ensures stage { self.new.stage ≡ Stage.Taken }
+        ensures room { AreShared shared.new }
+    {
+        self.stage = Stage::Taken;
+        if !self.may_take() {
+            return;
+        }
+        if let Some((identity, count)) = self.buffers.taking() {
+            let reply = say_taking(rt, service, &mut shared.view, identity, ahead);
+            print_reply(reply, &shared.view, &mut shared.replies);
+            self.buffers.answer(count, &mut shared.replies);
+        }
+    }
+
+    /// Sends what waits, where it has taken its turn, as far as its stream takes it now.
+    pub fn send(&mut self)
+        ensures sends { SendsTo (S.gone self.old.stream) self.old.buffers (S.gone self.new.stream) self.new.buffers }
+        ensures unread { S.left self.new.stream ≡ S.left self.old.stream }
+        ensures stage { self.new.stage ≡ Stage.Idle }
+    {
+        self.stage = Stage::Idle;
+        let mut at = 0;
+        while self.writable && !self.buffers.is_broken() && at < self.buffers.unsent().len() {
+            let count = self.write(at);
+            if count == 0 {
+                break;
+            }
+            at += count;
+        }
+        self.buffers.was_sent(at);
+    }
+
+    // Writes once, what waits from there on, and says how many bytes of it were taken; none where it takes no more now.
+    fn write(&mut self, from: usize) -> usize
+        requires { from ≤ length self.old.buffers.outbox }
+        ensures taken { from + result ≤ length self.old.buffers.outbox }
+        ensures gained { Appends (S.gone self.old.stream) (S.gone self.new.stream) (take result (drop from self.old.buffers.outbox)) }
+        ensures unread { S.left self.new.stream ≡ S.left self.old.stream }
+        ensures buffers { self.new.buffers ≡ record self.old.buffers { broken = self.new.buffers.broken } }
+        ensures whole { self.new.buffers.broken ≡ false → self.old.buffers.broken ≡ false }
+        ensures stage { self.new.stage ≡ self.old.stage }
+    {
+        match self.stream.write_some(&self.buffers.unsent()[from..]) {
+            Ok(0) => {
+                self.buffers.fail();
+                0
+            }
+            Ok(count) => count,
+            Err(fault) => {
+                note_fault(&fault, &mut self.writable, &mut self.buffers);
+                0
+            }
+        }
+    }
+}

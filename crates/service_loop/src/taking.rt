@@ -1,0 +1,366 @@
+//! Lines that take a number, after a turn of the loop: `take ID` is `enter ID`, and `probe ID` as often as it takes.
+
+ghost use Rattle.std.specs.Prelude.{◌≡◌, ◌⊎◌, ◌≤◌, ℕ, List, [], None, get_or, map, length, take, true, false, IfOk, OnOk, OnErr};
+ghost use Rattle.model_pool.specs.declared.pool.TheConstants.{MOST_NUMBERS};
+ghost use Rattle.model_asked.specs.Replies.{ShownReply, with_view};
+ghost use Rattle.model_asked.specs.Requests.{Request};
+ghost use Rattle.text_lines.specs.Lines.{whole_lines};
+ghost use Rattle.text_player.specs.Runs.{Runs};
+ghost use Rattle.text_player.specs.Shared.{TurnLog};
+ghost use Rattle.text_player.specs.Turns.{Turn};
+ghost use Rattle.service_loop.specs.Attending.{Hears, acts_in, acts_of, number_at};
+ghost use Rattle.service_loop.specs.Gathering.{Gathered, count_of};
+ghost use Rattle.service_loop.specs.Losing.{lost_acts};
+ghost use Rattle.service_loop.specs.Seats.{seats_of, NoneSent};
+ghost use Rattle.service_loop.specs.SharedBuffers.{AreShared};
+ghost use Rattle.service_loop.specs.Taking.{IsTaking, NumbersTaken, SaysTaking, SeatGivenUp, SeatTook, TakingsGivenUp, TakingsKept, TakingsPrefetched, probed, wants_probe};
+
+use crate::attended::Attended;
+use crate::connection::{Connection, Stage};
+use crate::gathering::{Batch, Called, prefetch};
+use crate::losing::note_lost;
+use crate::persist::{Persist, Prefetch};
+use crate::shared::SharedBuffers;
+use crate::stream::Stream;
+use crate::turns::{number_at, send_replies};
+use model_pool::MOST_NUMBERS;
+use text_lines::{Replies, print_event};
+use model_asked::{Event, Reply};
+use text_player::Service;
+use std::alloc::{AllocError, Allocator};
+use model_steps::View;
+
+/// What ends a line.
+const LF: u8 = 10;
+
+/// The most bytes of the lines that take a number: `enter`, and `probe` as often as there are numbers. Each has a word of 5 letters, a space, a number of
+/// at most 20 digits, and LF.
+const TAKING_ROOM: usize = 27 * (MOST_NUMBERS + 1);
+
+// Whether `probe` is said behind this reply: `enter` was accepted, or a `probe` missed.
+fn wants_probe(reply: &Reply<()>) -> bool
+    ensures { result ≡ wants_probe reply.now }
+{
+    matches!(reply, Reply::Ok | Reply::Missed)
+}
+
+// What `take` of an identity said, and how often it said `probe`.
+#[derive(Clone, Copy, Debug, Drop)]
+struct Took {
+    answer: Reply<()>,
+    probes: usize,
+}
+
+// Says `enter` of an identity, and then `probe` as long as a reply wants it, and no more often than there are numbers.
+fn take_one<R, D: Service<R>>(rt: &R, service: &mut D, view: &mut View, identity: u64) -> Took
+    requires { (q : Request) → D.knows q ≡ true }
+    ensures { (turns : List Turn) × Runs D.may service.old turns service.new ×
+        (taking : IsTaking identity turns (with_view result.answer view.new)) × (length taking.more ≡ result.probes) × (result.probes ≤ MOST_NUMBERS) }
+{
+    let mut answer = service.apply(rt, Event::Enter(identity), view);
+    let mut probes = 0;
+    while probes < MOST_NUMBERS && wants_probe(&answer) {
+        answer = service.apply(rt, Event::Probe(identity), view);
+        probes += 1;
+    }
+    Took { answer, probes }
+}
+
+// Says `probe` of an identity so many times, whatever is said to it.
+fn probe_on<R, D: Service<R>>(rt: &R, service: &mut D, identity: u64, count: usize)
+    requires { (q : Request) → D.knows q ≡ true }
+    ensures { (rest : List ShownReply) × Runs D.may service.old (map (probed identity) rest) service.new × (length rest ≡ count) }
+{
+    let mut view = View::new();
+    let mut said = 0;
+    while said < count {
+        service.apply(rt, Event::Probe(identity), &mut view);
+        said += 1;
+    }
+}
+
+/// Takes a number for an identity by events of the service, one after another: `enter`; and then `probe` until it holds a number or is refused, and no
+/// more often than there are numbers. Returns the last reply: a refusal of `enter` is answered as it is, and nothing is probed. Where the answers were
+/// prefetched, so many more are said behind it, and answered to nobody, that `probe` is said as often as there are numbers.
+pub fn say_taking<R, D: Service<R>>(
+    rt: &R,
+    service: &mut D,
+    view: &mut View,
+    identity: u64,
+    ahead: bool,
+) -> Reply<()>
+    requires { (q : Request) → D.knows q ≡ true }
+    ensures { (turns : List Turn) × Runs D.may service.old turns service.new × SaysTaking ahead identity turns (with_view result view.new) }
+{
+    let took = take_one(rt, service, view, identity);
+    if ahead {
+        probe_on(rt, service, identity, MOST_NUMBERS - took.probes);
+    }
+    took.answer
+}
+
+// The connection of a seat takes a number, where there is one that rests. It is the one of this number.
+fn take_number_at<R, D: Service<R>, S: Stream, A: Allocator, B: Allocator>(
+    rt: &R,
+    service: &mut Attended<D>,
+    shared: &mut SharedBuffers<B>,
+    seats: &mut [Option<Connection<S, A>>],
+    number: u64,
+    key: usize,
+    ahead: bool,
+)
+    requires knows { (q : Request) → D.knows q ≡ true }
+    requires room { AreShared shared.old }
+    ensures took { ((service.new ≡ service.old) × (seats.new ≡ seats.old)) ⊎
+        ((turn : SeatTook (seats_of S.left S.gone) ahead D.may (λ c. c.stage ≡ Stage.Idle) key service.old.service seats.old service.new.service seats.new) ×
+        Hears (acts_of number turn.turns) service.old service.new) }
+    ensures room { AreShared shared.new }
+{
+    if key < seats.len() {
+        if let Some(connection) = &mut seats[key] {
+            if let Stage::Idle = connection.stage {
+                service.listen_to(number);
+                connection.take_number(rt, service, shared, ahead);
+            }
+        }
+    }
+}
+
+// Whether so much is to be kept before another connection takes a number. It is not asked where the answers were prefetched.
+fn is_full<D, K: Persist<D>>(service: &D, persister: &K, ahead: bool) -> bool {
+    !ahead && persister.is_full(service)
+}
+
+// The connections of these seats take numbers, one after another, until so much is to be kept. Nothing is sent.
+fn take_numbers<R, D: Service<R>, K: Persist<D>, S: Stream, A: Allocator, B: Allocator>(
+    rt: &R,
+    service: &mut Attended<D>,
+    persister: &K,
+    shared: &mut SharedBuffers<B>,
+    seats: &mut [Option<Connection<S, A>>],
+    numbers: &[u64],
+    called: &[usize],
+    ahead: bool,
+)
+    requires knows { (q : Request) → D.knows q ≡ true }
+    requires room { AreShared shared.old }
+    ensures taken { (log : TurnLog) × NumbersTaken (seats_of S.left S.gone) ahead D.may service.old.service seats.old log service.new.service seats.new ×
+        Hears (acts_in (number_at numbers.now) log) service.old service.new }
+    ensures room { AreShared shared.new }
+{
+    for key in called {
+        if is_full(&service.service, persister, ahead) {
+            break;
+        }
+        take_number_at(
+            rt,
+            service,
+            shared,
+            seats,
+            number_at(numbers, *key),
+            *key,
+            ahead,
+        );
+    }
+}
+
+/// After a turn of the loop: for each of these seats whose first waiting line is `take ID` a number is taken (`say_taking`), what the service tells of it
+/// is kept, and only then are answers sent. Who keeps a stay is noted by the numbers of the connections, in the order of all turns. Where so much is to
+/// be kept that others have to wait, their lines wait for the next turn.
+///
+/// # Errors
+///
+/// The fault of what keeps, with no byte sent.
+pub fn serve_takings<R, D: Service<R>, K: Persist<D>, S: Stream, A: Allocator, B: Allocator>(
+    rt: &R,
+    service: &mut Attended<D>,
+    persister: &mut K,
+    shared: &mut SharedBuffers<B>,
+    seats: &mut [Option<Connection<S, A>>],
+    numbers: &[u64],
+    called: &[usize],
+    ahead: bool,
+) -> Result<(), K::Fault>
+    requires knows { (q : Request) → D.knows q ≡ true }
+    requires room { AreShared shared.old }
+    ensures turned { OnOk result ((turned : TakingsKept (seats_of S.left S.gone) ahead D.may K.persists
+        persister.old service.old.service seats.old persister.new service.new.service seats.new) ×
+        Hears (acts_in (number_at numbers.now) turned.log) service.old service.new) }
+    ensures unsent { OnErr result (NoneSent (seats_of S.left S.gone) seats.old seats.new) }
+    ensures room { AreShared shared.new }
+{
+    take_numbers(
+        rt, service, persister, shared, seats, numbers, called, ahead,
+    );
+    persister.persist(&mut service.service)?;
+    send_replies(seats, called);
+    Ok(())
+}
+
+// The line of an event is added to others, with its LF.
+fn add_event<B: Allocator>(
+    event: Event,
+    words: &mut Replies<B>,
+    lines: &mut Vec<u8, B>,
+) -> Result<(), AllocError>
+    requires { words.old ≡ [] }
+    ensures { words.new ≡ [] }
+{
+    print_event(event, words);
+    let added = lines.extend_from_slice(words.as_slice());
+    words.clear();
+    added?;
+    lines.push(LF)?;
+    Ok(())
+}
+
+// The lines that take a number for an identity are added to others.
+fn add_taking<B: Allocator>(
+    identity: u64,
+    words: &mut Replies<B>,
+    lines: &mut Vec<u8, B>,
+) -> Result<(), AllocError>
+    requires { words.old ≡ [] }
+    ensures { words.new ≡ [] }
+{
+    add_event(Event::Enter(identity), words, lines)?;
+    for _ in 0..MOST_NUMBERS {
+        add_event(Event::Probe(identity), words, lines)?;
+    }
+    Ok(())
+}
+
+// For which identity the connection of a seat takes a number, where there is one that does.
+fn taking_at<S: Stream, A: Allocator>(
+    seats: &[Option<Connection<S, A>>],
+    key: usize,
+) -> Option<u64> {
+    if key < seats.len() {
+        if let Some(connection) = &seats[key] {
+            return connection.taking();
+        }
+    }
+    None
+}
+
+// Whether there is room in a batch for the lines that take one number more. In an empty one there is.
+fn has_room<B: Allocator>(batch: &Batch<B>) -> bool {
+    batch.lines.is_empty() || batch.lines.len() <= batch.most.saturating_sub(TAKING_ROOM)
+}
+
+// The lines of the connection of a seat are added to the batch, where it takes a number. Says whether there was room for them, and memory.
+fn add_taking_at<S: Stream, A: Allocator, B: Allocator>(
+    batch: &mut Batch<B>,
+    words: &mut Replies<B>,
+    seats: &[Option<Connection<S, A>>],
+    key: usize,
+) -> bool
+    requires { words.old ≡ [] }
+    ensures { words.new ≡ [] }
+{
+    let Some(identity) = taking_at(seats, key) else {
+        return true;
+    };
+    if !has_room(batch) {
+        return false;
+    }
+    let before = batch.lines.len();
+    if add_taking(identity, words, &mut batch.lines).is_err() {
+        batch.lines.truncate(before);
+        return false;
+    }
+    true
+}
+
+// The lines of these seats that take numbers are the batch, as far as there is room. Says how many of the seats were looked at.
+fn gather_takings<S: Stream, A: Allocator, B: Allocator>(
+    batch: &mut Batch<B>,
+    words: &mut Replies<B>,
+    seats: &[Option<Connection<S, A>>],
+    called: &[usize],
+) -> usize
+    requires { words.old ≡ [] }
+    ensures few { result ≤ length called.now }
+    ensures empty { words.new ≡ [] }
+{
+    batch.lines.clear();
+    batch.holds = false;
+    let mut seen = 0;
+    while seen < called.len() && add_taking_at(batch, words, seats, called[seen]) {
+        seen += 1;
+    }
+    seen
+}
+
+// The connection of a seat is at fault, where there is one that takes a number.
+fn give_up_taking_at<S: Stream, A: Allocator>(seats: &mut [Option<Connection<S, A>>], key: usize)
+    ensures gathered { Gathered (seats_of S.left S.gone) seats.old seats.new }
+    ensures given { SeatGivenUp (seats_of S.left S.gone) (get_or seats.old key None) (get_or seats.new key None) }
+    ensures others { (i : ℕ) → (i ≡ key → ⊥) → get_or seats.new i None ≡ get_or seats.old i None }
+{
+    if key < seats.len() {
+        if let Some(connection) = &mut seats[key] {
+            connection.give_up_taking();
+        }
+    }
+}
+
+// The connections of these seats that take numbers are at fault; nothing is taken of any, and nothing sent.
+fn give_up_takings<S: Stream, A: Allocator>(
+    seats: &mut [Option<Connection<S, A>>],
+    called: &[usize],
+)
+    ensures gathered { Gathered (seats_of S.left S.gone) seats.old seats.new }
+    ensures given { TakingsGivenUp (seats_of S.left S.gone) called.now seats.old seats.new }
+{
+    for key in called {
+        give_up_taking_at(seats, *key);
+    }
+}
+
+/// Takes numbers as `serve_takings` does, over a service that prefetches its answers: the lines go to the persister first, for as many of the seats as there
+/// is room, one at least. `probe` is said as often as there are numbers, whatever is said to it: an identity that holds a number is refused more of them.
+/// Where the answers are not prefetched in time, those whose lines went are at fault, and nothing is sent: of each `enter` it is noted that nobody keeps
+/// the stay, unless a connection does.
+///
+/// # Errors
+///
+/// The fault of what keeps, with no byte sent.
+pub fn prefetch_takings<R, D: Service<R>, K: Persist<D>, S: Stream, A: Allocator, B: Allocator>(
+    rt: &R,
+    service: &mut Attended<D>,
+    persister: &mut K,
+    batch: &mut Batch<B>,
+    shared: &mut SharedBuffers<B>,
+    seats: &mut [Option<Connection<S, A>>],
+    numbers: &[u64],
+    called: &[usize],
+) -> Result<Called, K::Fault>
+    requires knows { (q : Request) → D.knows q ≡ true }
+    requires room { AreShared shared.old }
+    ensures served { (count : ℕ) → result ≡ Ok (Called.Served count) →
+        (turned : TakingsPrefetched (seats_of S.left S.gone) true D.may K.prefetches K.persists
+        persister.old service.old.service seats.old batch.new.lines.items persister.new service.new.service seats.new) ×
+        Hears (acts_in (number_at numbers.now) turned.turn.log) service.old service.new }
+    ensures unserved { (count : ℕ) → result ≡ Ok (Called.Unserved count) → Gathered (seats_of S.left S.gone) seats.old seats.new ×
+        TakingsGivenUp (seats_of S.left S.gone) (take count called.now) seats.old seats.new }
+    ensures lost { (count : ℕ) → result ≡ Ok (Called.Unserved count) → K.waits persister.old service.old.service persister.new service.new.service ×
+        Hears (lost_acts batch.new.kind service.old.stays (whole_lines batch.new.lines.items)) service.old service.new }
+    ensures unsent { OnErr result (NoneSent (seats_of S.left S.gone) seats.old seats.new) }
+    ensures few { IfOk result (λ called_of. count_of called_of ≤ length called.now) }
+    ensures room { AreShared shared.new }
+{
+    let seen = gather_takings(batch, &mut shared.replies, seats, called);
+    let few = &called[..seen];
+    match prefetch(&mut service.service, persister, batch)? {
+        Prefetch::Known => {
+            serve_takings(rt, service, persister, shared, seats, numbers, few, true)?;
+            Ok(Called::Served(seen))
+        }
+        Prefetch::Lost => {
+            give_up_takings(seats, few);
+            note_lost(service, &batch.lines, batch.kind);
+            Ok(Called::Unserved(seen))
+        }
+    }
+}

@@ -1,0 +1,75 @@
+//! All that a server listens on.
+
+use crate::listeners::fault::ListenFault;
+use crate::listeners::socket_file::{LocalListener, SocketFile, SocketPlan, listen_at};
+use mio::net::TcpListener;
+use std::alloc::Global;
+use std::io;
+use std::net::{Net, SocketAddr};
+use std::rt::Files;
+
+/// What is to be listened on. With port 0 any is taken that is free.
+#[derive(Clone, Copy, Debug, Drop)]
+pub struct ListenPlan<'a> {
+    /// The address and the port for clients.
+    pub network: Option<SocketAddr>,
+    /// The socket of the file system for clients.
+    pub local: Option<SocketPlan<'a>>,
+    /// The address and the port for whoever watches.
+    pub metrics: Option<SocketAddr>,
+}
+
+/// Listeners, none of which blocks.
+#[derive(Drop)]
+pub struct Listeners {
+    /// For clients of the network.
+    pub network: Option<TcpListener>,
+    /// For clients of this machine.
+    pub local: Option<LocalListener>,
+    /// For whoever watches.
+    pub metrics: Option<TcpListener>,
+}
+
+/// What is listened on, and the file of the socket, which is to be removed at the end.
+#[derive(Drop)]
+pub struct Listening {
+    /// The listeners.
+    pub listeners: Listeners,
+    /// The file of the socket, where there is one.
+    pub file: Option<SocketFile>,
+}
+
+// Listens on a port, where one is wanted.
+fn listen_on<R: Net>(rt: &R, address: Option<SocketAddr>) -> io::Result<Option<TcpListener>> {
+    match address {
+        Some(address) => Ok(Some(TcpListener::bind(rt, address)?)),
+        None => Ok(None),
+    }
+}
+
+/// Listens on all that is wanted: first on the ports, so that nothing is made in the file system where one is taken.
+///
+/// # Errors
+///
+/// `Network` where the system refuses a port, and those of `listen_at` for the socket.
+pub fn listen<R: Net + Files>(
+    rt: &R,
+    alloc: Global,
+    plan: ListenPlan<'_>,
+) -> Result<Listening, ListenFault> {
+    let network = listen_on(rt, plan.network)?;
+    let metrics = listen_on(rt, plan.metrics)?;
+    let (local, file) = match plan.local {
+        Some(plan) => {
+            let (listener, file) = listen_at(rt, alloc, plan)?;
+            (Some(listener), Some(file))
+        }
+        None => (None, None),
+    };
+    let listeners = Listeners {
+        network,
+        local,
+        metrics,
+    };
+    Ok(Listening { listeners, file })
+}

@@ -1,4 +1,0 @@
-mod Common
-mod SlotLemmas
-pub mod SlotsKeep
-mod TokenLemmas

@@ -1,8 +1,0 @@
-use Rattle.slot_array.proofs.SlotsKeep.{slots_proved, slot_there}
-use Rattle.slot_array.proofs.laws.law_of_slot_calls.Goals as goal
-
-pub returns-clause-machine : goal.returns-clause-machine
-returns-clause-machine g c = slots_proved
-
-pub returns-clause-there : goal.returns-clause-there
-returns-clause-there g c = slot_there

@@ -1,9 +1,0 @@
-use Rattle.locked_world.specs.Serving.{ClerkGoesOn}
-use Rattle.slot_server.proofs.workers.work.Given as goal
-
-abbrev pub invariant-loop : goal.invariant-loop
-invariant-loop g l = record {
-  can : (goal.iterator-loop g).can_next l.iterator';
-  ends : (goal.iterator-loop g).is_finite l.iterator';
-  gone : ClerkGoesOn g.L.LockName.config l.initial.service l.service;
-}

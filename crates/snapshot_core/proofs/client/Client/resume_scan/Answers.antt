@@ -1,5 +1,0 @@
-use Rattle.std.proofs.Common.{rules}
-use Rattle.snapshot_core.proofs.client.Client.resume_scan.Goals as goal
-
-pub returns-in-None-clause-note : goal.returns-in-None-clause-note
-returns-in-None-clause-note g c = search rules

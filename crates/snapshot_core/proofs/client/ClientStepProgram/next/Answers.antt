@@ -1,5 +1,0 @@
-use Rattle.std.proofs.Common.{rules}
-use Rattle.snapshot_core.proofs.client.ClientStepProgram.next.Goals as goal
-
-pub returns-in-Scan : goal.returns-in-Scan
-returns-in-Scan g c = search rules

@@ -1,5 +1,0 @@
-use Rattle.std.proofs.Common.{rules}
-use Rattle.snapshot_core.proofs.client.ToUpdateRequestClient.ask.Goals as goal
-
-pub returns : goal.returns
-returns g c = search rules

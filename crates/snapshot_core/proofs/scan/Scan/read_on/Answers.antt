@@ -1,8 +1,0 @@
-use Rattle.std.proofs.Common.{rules}
-use Rattle.snapshot_core.proofs.scan.Scan.read_on.Goals as goal
-
-pub returns-clause-after : goal.returns-clause-after
-returns-clause-after g c = search rules
-
-pub returns-clause-goes : goal.returns-clause-goes
-returns-clause-goes g c = search rules

@@ -1,5 +1,0 @@
-use Rattle.snapshot_core.proofs.Following.{law_holds}
-use Rattle.snapshot_core.proofs.world.SnapWorld.new.Goals as goal
-
-pub returns-clause-law : goal.returns-clause-law
-returns-clause-law g c = law_holds _ g.met.W.Places.laws c.in_ok-new.field-0

@@ -1,3 +1,0 @@
-mod GridContents
-pub mod GridLaw
-pub mod TreeLaw

@@ -1,7 +1,0 @@
-mod Common
-mod Changed
-pub mod DoorKept
-pub mod VisitorAccess
-pub mod SplitterTied
-pub mod StageLemmas
-pub mod WalkLemmas

@@ -1,8 +1,0 @@
-use Rattle.splitter.proofs.VisitorAccess.{is_access_of, own_access}
-use Rattle.splitter.proofs.laws.law_of_one_access.Goals as goal
-
-pub returns-clause-own : goal.returns-clause-own
-returns-clause-own c = λ v. own_access v.identity v.x v.y v.stage
-
-pub returns-clause-access : goal.returns-clause-access
-returns-clause-access c = is_access_of

@@ -1,5 +1,0 @@
-use Rattle.splitter.proofs.SplitterTied.{splitter_proved}
-use Rattle.splitter.proofs.laws.law_of_splitter_calls.Goals as goal
-
-pub returns : goal.returns
-returns c = splitter_proved

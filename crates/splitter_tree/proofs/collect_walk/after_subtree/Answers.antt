@@ -1,6 +1,0 @@
-use Rattle.std.proofs.Common.{sym, ◌∙◌, arith}
-use Rattle.splitter_tree.proofs.collects.Climbing.{climbed_up}
-use Rattle.splitter_tree.proofs.collect_walk.after_subtree.Goals as goal
-
-pub loop-at-preserved : goal.loop-at-preserved
-loop-at-preserved c = sym (climbed_up c.loop-at.at (omega arith) (omega arith)) ∙ c.loop-at.invariant

@@ -1,5 +1,0 @@
-use Rattle.splitter_tree.proofs.node.+write_below.Given as goal
-
--- how far the place lies below
-abbrev pub decreases-write_below : goal.decreases-write_below
-decreases-write_below g l = l.depth

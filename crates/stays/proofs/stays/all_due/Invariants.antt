@@ -1,6 +1,0 @@
-use Rattle.std.proofs.Common.{◌≡◌, ◌++◌, drop}
-use Rattle.stays.specs.Stays.{all_due}
-use Rattle.stays.proofs.stays.all_due.Given as goal
-
-abbrev pub invariant-loop-stay : goal.invariant-loop-stay
-invariant-loop-stay l = all_due l.grace l.tick l.stays ≡ l.due.items ++ all_due l.grace l.tick (drop l.stay-index l.stays)

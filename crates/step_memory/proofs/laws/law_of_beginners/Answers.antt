@@ -1,5 +1,0 @@
-use Rattle.step_memory.proofs.WorldKeeps.{let_in}
-use Rattle.step_memory.proofs.laws.law_of_beginners.Goals as goal
-
-pub returns : goal.returns
-returns g c = λ w id h. let k = let_in w id h in (k.not_zero, k.absent, k.room)

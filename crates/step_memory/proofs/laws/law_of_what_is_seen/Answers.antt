@@ -1,8 +1,0 @@
-use Rattle.step_memory.proofs.SetAtLemmas.{set_at-map, same_in}
-use Rattle.step_memory.proofs.laws.law_of_what_is_seen.Goals as goal
-
-pub returns-clause-same : goal.returns-clause-same
-returns-clause-same g c = same_in
-
-pub returns-clause-changed : goal.returns-clause-changed
-returns-clause-changed g c = set_at-map

@@ -1,6 +1,0 @@
-use Rattle.std.proofs.Common.{◌∙◌}
-use Rattle.step_memory.proofs.ParticipantLemmas.{asked_anything}
-use Rattle.step_memory.proofs.world.World.set.Goals as goal
-
-pub returns-clause-after : goal.returns-clause-after
-returns-clause-after g c = c.ask.ensures.after ∙ asked_anything c.args.self.now c.args.id c.args.program

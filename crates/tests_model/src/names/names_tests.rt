@@ -1,0 +1,180 @@
+//! Names that are given one after another, and to threads at once.
+
+ghost use Rattle.std.specs.Prelude.{◌≡◌};
+
+use std::alloc::{AllocError, Global};
+use std::process::Abort;
+use std::thread::{self, Threads};
+use model_steps::Refusal;
+use words_names::{Dealer, FreshSeat, Names};
+
+/// What an integration test tells of what was made: whether it goes so; or why it was not made.
+pub type Reported = Result<bool, Refusal>;
+
+/// Stops an integration test unless in this case of it, named by a row or a round, what it tells is what is due.
+pub fn same(rt: &impl Abort, case: usize, reported: Reported, due: Reported) {
+    assert_eq!(rt; reported, due, "case {case}");
+}
+
+/// An identity of 64 bits for a seat: the greatest first.
+pub fn identity_at(number: u64) -> u64 {
+    u64::MAX - number
+}
+
+/// The name of the next seat.
+fn name_next(names: &Names<Global>, dealer: &mut Dealer) -> Option<u64>
+    requires ours { dealer.old.names ≡ names.now }
+    ensures ours { dealer.new.names ≡ names.now }
+{
+    let identity = identity_at(dealer.dealt());
+    let fresh = names.deal(dealer, identity).ok()?;
+    let mut renamed = names.rename(fresh);
+    names.tally(dealer, &mut renamed);
+    Some(names.name(&renamed))
+}
+
+/// Whether the last name is this, where so many seats are renamed one after another.
+fn last_is(
+    alloc: Global,
+    most: u64,
+    limit: u64,
+    count: u64,
+    due: Option<u64>,
+) -> Result<bool, Refusal> {
+    let (names, dealer) = Names::new(alloc, most, limit)?;
+    let mut dealer = dealer;
+    let mut last = None;
+    for _ in 0..count {
+        last = name_next(&names, &mut dealer);
+    }
+    Ok(last == due)
+}
+
+/// For how many, with how many proposals each, how many come one after another; the last name, and whether it is that, or why
+/// there are no names. Where the k-th that comes is the k-th by identity, it proposes the k-th number that nobody has: `2k - 1`.
+/// With one proposal it is spent at the second seat, whose place is 1.
+const NAMED: [(u64, u64, u64, Option<u64>, Result<bool, Refusal>); 10] = [
+    (0, 1, 1, None, Err(Refusal::OutOfRange)),
+    (17, 1, 1, None, Err(Refusal::OutOfRange)),
+    (1, 0, 1, None, Err(Refusal::OutOfRange)),
+    (1, 1001, 1, None, Err(Refusal::OutOfRange)),
+    (1, 1, 1, Some(1), Ok(true)),
+    (1, 1, 2, None, Ok(true)),
+    (2, 2, 2, Some(3), Ok(true)),
+    (16, 64, 16, Some(31), Ok(true)),
+    (2, 1, 2, Some(5), Ok(true)),
+    (16, 1000, 3, Some(5), Ok(true)),
+];
+
+#[test]
+fn each_that_comes_later_has_the_next_odd_name(rt: HostRuntime) {
+    for (i, (most, limit, count, last, due)) in NAMED.iter().enumerate() {
+        same(
+            &rt,
+            i,
+            last_is(rt.alloc(), *most, *limit, *count, *last),
+            *due,
+        );
+    }
+}
+
+/// A thread's part: the names, and a seat of theirs.
+#[derive(Drop)]
+struct Caller<'a> {
+    names: &'a Names<Global>,
+    seat: FreshSeat,
+    ghost ours: { seat.names ≡ names.now },
+}
+
+/// The name that the rounds of a seat give it.
+fn name_of(caller: Caller<'_>) -> Option<u64> {
+    let Caller { names, seat } = caller;
+    names.rename(seat).named()
+}
+
+/// So many callers, each with a seat of its own, as far as there are seats.
+fn callers_of<'a>(
+    alloc: Global,
+    names: &'a Names<Global>,
+    mut dealer: Dealer,
+    count: u64,
+) -> Result<Vec<Caller<'a>, Global>, AllocError>
+    requires ours { dealer.names ≡ names.now }
+{
+    let mut callers = Vec::new(alloc);
+    for _ in 0..count {
+        let identity = identity_at(dealer.dealt());
+        if let Ok(seat) = names.deal(&mut dealer, identity) {
+            callers.push(Caller { names, seat })?;
+        }
+    }
+    Ok(callers)
+}
+
+/// Whether these are so many names of rounds, each below twice their number and no two alike.
+fn are_names_of(names: &[Option<u64>], count: u64) -> bool {
+    for (i, name) in names.iter().enumerate() {
+        let Some(own) = *name else {
+            return false;
+        };
+        if own < 1 || count.saturating_mul(2) <= own || names[..i].contains(name) {
+            return false;
+        }
+    }
+    names.len() as u64 == count
+}
+
+/// Whether so many threads that are renamed at once have names of their own below twice their number.
+fn have_names<R: Threads + Sync>(rt: &R, alloc: Global, count: u64) -> Result<bool, Refusal> {
+    let (names, dealer) = Names::new(alloc, count, 64)?;
+    let callers = callers_of(alloc, &names, dealer, count)?;
+    let reported = thread::map_vec(rt, callers, &|caller| name_of(caller))?;
+    Ok(are_names_of(&reported, count))
+}
+
+#[test]
+fn threads_have_names_of_their_own(rt: HostRuntime) {
+    for round in 0..1000u64 {
+        let count = 2 + round % 15;
+        same(
+            &rt,
+            round as usize,
+            have_names(&rt, rt.alloc(), count),
+            Ok(true),
+        );
+    }
+}
+
+/// Why a seat is refused to an identity, where these were dealt one.
+fn refusal_after(alloc: Global, most: u64, known: &[u64], identity: u64) -> Result<bool, Refusal> {
+    let (names, dealer) = Names::new(alloc, most, 1)?;
+    let mut dealer = dealer;
+    for other in known {
+        names.deal(&mut dealer, *other)?;
+    }
+    let seat = names.deal(&mut dealer, identity)?;
+    Ok(seat.identity() == identity && seat.number() == known.len() as u64)
+}
+
+/// How many seats there are, to whom some were dealt, who asks next, and what is reported.
+const DEALT: [(u64, &[u64], u64, Result<bool, Refusal>); 7] = [
+    (2, &[], 0, Err(Refusal::ZeroIdentity)),
+    (2, &[7], 7, Err(Refusal::AlreadyBegun)),
+    (2, &[7], u64::MAX, Ok(true)),
+    (2, &[7, 8], 7, Err(Refusal::AlreadyBegun)),
+    (2, &[7, 8], 9, Err(Refusal::Full)),
+    (2, &[7, 8], 0, Err(Refusal::ZeroIdentity)),
+    (16, &[1, 2, 3], 4, Ok(true)),
+];
+
+#[test]
+fn each_identity_is_dealt_one_seat(rt: HostRuntime) {
+    for (i, (most, known, identity, due)) in DEALT.iter().enumerate() {
+        same(
+            &rt,
+            i,
+            refusal_after(rt.alloc(), *most, known, *identity),
+            *due,
+        );
+    }
+}

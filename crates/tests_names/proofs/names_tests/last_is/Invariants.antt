@@ -1,5 +1,0 @@
-use Rattle.std.proofs.Common.{◌≡◌}
-use Rattle.tests_names.proofs.names_tests.last_is.Given as goal
-
-abbrev pub invariant-loop : goal.invariant-loop
-invariant-loop l = l.dealer.names ≡ l.names

@@ -1,0 +1,13 @@
+pub mod Config
+pub mod ObjectRun
+pub mod Reasons
+pub mod Fault
+pub mod Lines
+pub mod Judged
+pub mod Verdict
+pub mod Gathered
+pub mod Recorded
+pub mod Migrated
+pub mod SoFar
+pub mod Stages
+pub mod judges

@@ -1,0 +1,231 @@
+//! The state of the pool and the slots.
+
+ghost use Rattle.std.specs.Prelude.{◌≡◌, ◌≢◌, ℕ, ◌+◌, ◌-◌, ◌≤◌, ◌↔◌, max, replicate, IfOk, OnOk, IsTrue, None, Ok};
+ghost use Rattle.std.specs.List.{list_any};
+ghost use Rattle.model_pool.specs.Calls.Call.{Entered};
+ghost use Rattle.model_pool.specs.PoolObject.{no_entry, no_probe, number_in, IsFree};
+ghost use Rattle.model_pool.specs.Widening.{widen_refusal};
+ghost use Rattle.model_pool.specs.slots.SlotCalls.SlotCall.{Pooled};
+ghost use Rattle.model_pool.specs.slots.Slots.{IsFetched};
+ghost use Rattle.model_pool.specs.slots.SlotsObject.{fresh_slots, slots_after};
+ghost use Rattle.text_checker.specs.judges.Standing.{is_held};
+ghost use Rattle.text_checker.specs.judges.Stays.{HoldsSlots, OfSlots, missed_by, got_by, left_by, stored_by, widened_to};
+
+use crate::judges::names::is_number;
+use crate::judges::people::{find, put};
+use std::alloc::{AllocError, Global};
+use model_steps::{Participant, Refusal};
+
+/// The present stay of a competitor.
+#[derive(Clone, Copy, Drop)]
+pub struct Stay {
+    /// The number of probes that it has made.
+    pub probes: u64,
+    /// The number that it holds, or `None`.
+    pub held: Option<u64>,
+}
+
+/// The state of the pool and the slots: the competitors, what they hold, and the values in the slots.
+#[derive(Drop)]
+pub struct Stays {
+    size: u64,
+    competitors: Vec<Participant<Stay>>,
+    values: Vec<u64>,
+}
+
+/// Whether a competitor holds this number.
+fn is_taken(competitors: &[Participant<Stay>], number: u64) -> bool
+    ensures { result ≡ list_any (λ v. is_held number v.program.held) competitors.now }
+{
+    competitors
+        .iter()
+        .any(|competitor| is_number(competitor.program.held, number))
+}
+
+impl Stays {
+    /// Makes the state in which nobody competes and each slot holds 0.
+    ///
+    /// # Errors
+    ///
+    /// `AllocError`: the allocation failed.
+    pub fn new(alloc: Global, size: u64) -> Result<Stays, AllocError>
+        ensures { IfOk result (λ s. 1 ≤ size → size ≤ 64 → HoldsSlots s (fresh_slots size (replicate size 0))) }
+    {
+        let values = Vec::from_elem(alloc, 0u64, size as usize)?;
+        Ok(Stays {
+            size,
+            competitors: Vec::new(alloc),
+            values,
+        })
+    }
+
+    /// Returns the error that `enter` of an identity must return, or `None`.
+    pub fn enter_refusal(&self, id: u64) -> Option<Refusal>
+        ensures { OfSlots self.now (λ o. result ≡ no_entry o.pool id) }
+    {
+        if id == 0 {
+            Some(Refusal::ZeroIdentity)
+        } else if find(&self.competitors, id).is_some() {
+            Some(Refusal::AlreadyCompeting)
+        } else if self.size <= self.competitors.len() as u64 {
+            Some(Refusal::Crowded)
+        } else {
+            None
+        }
+    }
+
+    /// Returns the error that `probe` of an identity must return, or `None`.
+    pub fn probe_refusal(&self, id: u64) -> Option<Refusal>
+        ensures { OfSlots self.now (λ o. result ≡ no_probe o.pool id) }
+    {
+        match find(&self.competitors, id) {
+            None => Some(Refusal::NotCompeting),
+            Some(stay) => match stay.held {
+                None => None,
+                Some(_) => Some(Refusal::Holding),
+            },
+        }
+    }
+
+    /// Returns the number that an identity holds, or the error that `leave`, `put` and `get` of it must return.
+    ///
+    /// # Errors
+    ///
+    /// The first that applies is returned:
+    ///
+    /// - `NotCompeting`: the identity does not compete.
+    /// - `NotHolding`: the identity competes and holds no number.
+    pub fn number_of(&self, id: u64) -> Result<u64, Refusal>
+        ensures { OfSlots self.now (λ o. result ≡ number_in o.pool id) }
+    {
+        match find(&self.competitors, id) {
+            None => Err(Refusal::NotCompeting),
+            Some(stay) => match stay.held {
+                None => Err(Refusal::NotHolding),
+                Some(number) => Ok(number),
+            },
+        }
+    }
+
+    /// Returns the error that a widening to `more` numbers must return, or `None`.
+    pub fn widen_refusal(&self, more: u64) -> Option<Refusal>
+        ensures { OfSlots self.now (λ o. result ≡ widen_refusal o.pool.size more) }
+    {
+        if more <= self.size || 64 < more {
+            Some(Refusal::OutOfRange)
+        } else {
+            None
+        }
+    }
+
+    /// Records that an identity, which may enter, enters.
+    ///
+    /// # Errors
+    ///
+    /// `AllocError`: the allocation failed. The state is then of no use.
+    pub fn enter(&mut self, id: u64) -> Result<(), AllocError>
+        ensures { OnOk result (OfSlots self.old (λ o. no_entry o.pool id ≡ None → HoldsSlots self.new (slots_after o (Pooled (Entered id (Ok tt)))))) }
+    {
+        let program = Stay {
+            probes: 0,
+            held: None,
+        };
+        self.competitors.push(Participant {
+            identity: id,
+            program,
+            ended: false,
+        })?;
+        Ok(())
+    }
+
+    /// Whether the next probe of an identity that may probe may be missed.
+    pub fn may_miss(&self, id: u64) -> bool
+        ensures { OfSlots self.now (λ o. no_probe o.pool id ≡ None → IsTrue result ↔ (o.pool.probes id + 1 ≢ max 1 (o.pool.size - 1))) }
+    {
+        match find(&self.competitors, id) {
+            Some(stay) => stay.probes.saturating_add(1) != self.size.saturating_sub(1).max(1),
+            None => false,
+        }
+    }
+
+    /// Records that an identity misses a probe that may be missed.
+    pub fn miss(&mut self, id: u64)
+        ensures { OfSlots self.old (λ o. no_probe o.pool id ≡ None → o.pool.probes id + 1 ≢ max 1 (o.pool.size - 1) →
+            HoldsSlots self.new (missed_by id o)) }
+    {
+        let Some(stay) = find(&self.competitors, id) else {
+            return;
+        };
+        let missed = Stay {
+            probes: stay.probes.saturating_add(1),
+            held: None,
+        };
+        put(&mut self.competitors, id, missed);
+    }
+
+    /// Whether a number is one of the pool that nobody holds.
+    pub fn is_free(&self, number: u64) -> bool
+        ensures { OfSlots self.now (λ o. IsTrue result ↔ IsFree o.pool number) }
+    {
+        if number < 1 {
+            return false;
+        }
+        if self.size < number {
+            return false;
+        }
+        !is_taken(&self.competitors, number)
+    }
+
+    /// Gives a free number to an identity that may probe.
+    pub fn gain(&mut self, id: u64, number: u64)
+        ensures { OfSlots self.old (λ o. no_probe o.pool id ≡ None → IsFree o.pool number → HoldsSlots self.new (got_by id number o)) }
+    {
+        let Some(stay) = find(&self.competitors, id) else {
+            return;
+        };
+        let got = Stay {
+            probes: stay.probes.saturating_add(1),
+            held: Some(number),
+        };
+        put(&mut self.competitors, id, got);
+    }
+
+    /// Records that an identity gives back the number that it holds.
+    pub fn leave(&mut self, id: u64)
+        ensures { OfSlots self.old (λ o. (n : ℕ) → number_in o.pool id ≡ Ok n → HoldsSlots self.new (left_by id n o)) }
+    {
+        self.competitors
+            .retain(|competitor| competitor.identity != id);
+    }
+
+    /// Puts a value into the slot of a number that is held.
+    pub fn store(&mut self, number: u64, value: u64)
+        ensures { OfSlots self.old (λ o. (id : ℕ) → number_in o.pool id ≡ Ok number → HoldsSlots self.new (stored_by id value o)) }
+    {
+        let place = number.saturating_sub(1) as usize;
+        if place < self.values.len() {
+            self.values[place] = value;
+        }
+    }
+
+    /// Whether the slot of a number has this value.
+    pub fn has_value(&self, number: u64, value: u64) -> bool
+        ensures { OfSlots self.now (λ o. IsTrue result ↔ IsFetched o.values (Ok number) (Ok value)) }
+    {
+        let place = number.saturating_sub(1) as usize;
+        place < self.values.len() && self.values[place] == value
+    }
+
+    /// Gives the pool more numbers, up to `more`. Each new slot holds 0.
+    ///
+    /// # Errors
+    ///
+    /// `AllocError`: the allocation failed. The state is then of no use.
+    pub fn widen(&mut self, more: u64) -> Result<(), AllocError>
+        ensures { OnOk result (OfSlots self.old (λ o. widen_refusal o.pool.size more ≡ None → HoldsSlots self.new (widened_to more o))) }
+    {
+        self.values.resize(more as usize, 0)?;
+        self.size = more;
+        Ok(())
+    }
+}

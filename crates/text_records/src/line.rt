@@ -1,0 +1,23 @@
+//! A line of a record.
+
+use crate::reported::Reported;
+use model_asked::Event;
+
+/// A line of a record: an event, and what the record reports of its reply.
+#[derive(Debug)]
+pub struct Line {
+    /// The event.
+    pub event: Event,
+    /// What the record reports of its reply.
+    pub reported: Reported,
+}
+
+// By hand, so that the code that drops a line is here alone, and not at each place where one goes out of scope.
+impl Drop for Line {
+    fn drop(self) {
+        let Line {
+            event: _,
+            reported: _,
+        } = self;
+    }
+}

@@ -1,0 +1,126 @@
+//! From the bytes of a record's line to its contents.
+
+ghost use Rattle.std.specs.Prelude.{◌≤◌, IfOk, MatchOption, Ok, length};
+ghost use Rattle.model_asked.specs.declared.event.Event.{Event};
+ghost use Rattle.model_asked.specs.declared.command.Command.TheVariants as command;
+ghost use Rattle.serde_json.specs.Data.{Data};
+ghost use Rattle.serde_json.specs.View.{view};
+ghost use Rattle.text_records.specs.declared.header.Header.{Header};
+ghost use Rattle.text_records.specs.RecordLine.{IsJson, IsEventOf, FindsLine, SaysLine, IsEventLine, IsHeaderLine};
+
+use crate::header::{Header, Version};
+use crate::line::Line;
+use crate::object::{header, texts};
+use crate::plain_line::plain_line;
+use crate::reply_text::reported_of;
+use model_asked::{Event, WorldKind};
+use text_player::{Command, parse_line};
+use serde_json::Value;
+use std::alloc::{AllocError, Global};
+
+/// The most bytes of a record's line, without its LF.
+pub const LINE_MOST: usize = 8192;
+
+/// The JSON value of a text, or `None` if it is no JSON.
+fn value_of(alloc: Global, bytes: &[u8]) -> Result<Option<Value>, AllocError>
+    ensures { IfOk result (λ r. MatchOption r ((d : Data) → IsJson bytes.now d → ⊥) (λ v. IsJson bytes.now (view v))) }
+{
+    match Value::from_slice(alloc, bytes) {
+        Ok(value) => Ok(Some(value)),
+        Err(error) if error.is_memory() => Err(AllocError),
+        Err(_) => Ok(None),
+    }
+}
+
+/// The event that a command's line asks for, in a world of this kind.
+fn event_of(text: &[u8], kind: WorldKind) -> Option<Event>
+    ensures { MatchOption result ((e : Event) → IsEventOf kind text.now e → ⊥) (IsEventOf kind text.now) }
+{
+    match parse_line(text, kind) {
+        Ok(Command::Event(event)) => Some(event),
+        Ok(Command::Owner(_)) => None,
+        Ok(Command::Quit) => None,
+        Err(_) => None,
+    }
+}
+
+/// The line that a value is, in a world of this kind and a record of this version.
+fn line_of(
+    alloc: Global,
+    kind: WorldKind,
+    version: Version,
+    value: &Value,
+) -> Result<Option<Line>, AllocError>
+    ensures { IfOk result (FindsLine (SaysLine kind version (view value.now))) }
+{
+    let Some(texts) = texts(value) else {
+        return Ok(None);
+    };
+    let Some(event) = event_of(texts.command, kind) else {
+        return Ok(None);
+    };
+    match reported_of(alloc, version, texts.reply, texts.view)? {
+        Some(reported) => Ok(Some(Line { event, reported })),
+        None => Ok(None),
+    }
+}
+
+/// Reads a line as `read_line` does, by a JSON reader.
+fn read_json_line(
+    alloc: Global,
+    kind: WorldKind,
+    version: Version,
+    bytes: &[u8],
+) -> Result<Option<Line>, AllocError>
+    requires { length bytes.now ≤ 8192 }
+    ensures { IfOk result (FindsLine (IsEventLine kind version bytes.now)) }
+{
+    let Some(value) = value_of(alloc, bytes)? else {
+        return Ok(None);
+    };
+    line_of(alloc, kind, version, &value)
+}
+
+/// Reads an event's line, without its LF, of a record of this world and version. Returns `None` if it is no event's
+/// line.
+///
+/// A line has at most 8,192 bytes.
+///
+/// # Errors
+///
+/// `AllocError`: the allocation failed.
+pub fn read_line(
+    alloc: Global,
+    kind: WorldKind,
+    version: Version,
+    bytes: &[u8],
+) -> Result<Option<Line>, AllocError>
+    ensures { IfOk result (FindsLine (IsEventLine kind version bytes.now)) }
+{
+    if LINE_MOST < bytes.len() {
+        return Ok(None);
+    }
+    if let Some(line) = plain_line(alloc, kind, version, bytes)? {
+        return Ok(Some(line));
+    }
+    read_json_line(alloc, kind, version, bytes)
+}
+
+/// Reads the first line of a record, without its LF. Returns `None` if it is no header.
+///
+/// A line has at most 8,192 bytes.
+///
+/// # Errors
+///
+/// `AllocError`: the allocation failed.
+pub fn read_header(alloc: Global, bytes: &[u8]) -> Result<Option<Header>, AllocError>
+    ensures { IfOk result (λ r. MatchOption r ((h : Header) → IsHeaderLine bytes.now h → ⊥) (λ h. IsHeaderLine bytes.now h)) }
+{
+    if LINE_MOST < bytes.len() {
+        return Ok(None);
+    }
+    let Some(value) = value_of(alloc, bytes)? else {
+        return Ok(None);
+    };
+    Ok(header(&value))
+}

@@ -1,0 +1,4 @@
+mod TranscriptLemmas
+mod RecordedLemmas
+mod GrowthLemmas
+pub mod desk_lemmas

@@ -1,0 +1,69 @@
+//! A splitter as a world: it answers events.
+
+ghost use Rattle.std.proofs.Common.{refl};
+ghost use Rattle.model_asked.specs.Config.{is_kind};
+ghost use Rattle.model_asked.specs.declared.kind.WorldKind.TheVariants.{Splitter};
+ghost use Rattle.model_splitter.proofs.SplitterTied.{splitter_proved};
+ghost use Rattle.model_splitter.specs.Machine.{splitter_parts};
+ghost use Rattle.text_worlds.specs.WorldRuns.{world_lawful};
+ghost use Rattle.text_worlds.specs.Visits.{visit_may, knows_visits};
+ghost use Rattle.text_worlds.specs.VisitProofs.{kind_meant, visit_answers, one_visit, visits_tell};
+ghost use Rattle.text_worlds.specs.SplitterWorld.{splitter_rules, way_reply, IsSplitterRun, splitter_fresh, one_splitter_fresh};
+
+use crate::outcomes::visit_reply;
+use crate::world::{Unshared, World};
+use model_asked::{Config, Event, Reply};
+use text_player::Service;
+use model_splitter::SplitterWorld;
+use std::alloc::Allocator;
+use model_steps::{Refusal, View};
+
+impl<A: Allocator + Clone> Service<Unshared> for SplitterWorld<A> {
+    ghost knows = { knows_visits };
+
+    ghost may = { visit_may splitter_rules };
+
+    ghost answers = { visit_answers splitter_rules };
+
+    #[inline(always)]
+    fn apply(&mut self, _rt: &Unshared, event: Event, _view: &mut View) -> Reply<()> {
+        match event {
+            Event::Begin(id) => Reply::of_done(self.begin(id)),
+            Event::Step(id) => visit_reply(self.step(id)),
+            Event::Enter(_)
+            | Event::Probe(_)
+            | Event::Leave(_)
+            | Event::Put(_, _)
+            | Event::Get(_)
+            | Event::Widen(_) => unreachable!(),
+        }
+    }
+
+    #[tactic(auto, using(crate::specs::VisitProofs::no_name))]
+    fn owner(&mut self, _rt: &Unshared, _n: u64) -> Reply<View> {
+        Reply::Refused(Refusal::OutOfRange)
+    }
+}
+
+impl<A: Allocator + Clone> World<A, Unshared> for SplitterWorld<A> {
+    ghost serves = { λ kind. is_kind kind Splitter };
+
+    ghost fresh = { splitter_fresh };
+
+    ghost IsRunIn = { λ c. IsSplitterRun };
+
+    #[tactic(auto, using(model_asked::specs::KindProofs::one_kind))]
+    fn open(alloc: A, config: Config) -> Result<Self, Refusal> {
+        SplitterWorld::new(alloc, config.m as usize)
+    }
+
+    ghost meant = { kind_meant Splitter refl };
+
+    ghost lawful = { λ c w u ts fresh. world_lawful splitter_parts way_reply splitter_proved c.m w u tt fresh ts };
+
+    ghost tells = { λ c w u ts fresh. visits_tell splitter_rules c.m w u ts };
+
+    ghost one_fresh = { one_splitter_fresh };
+
+    ghost one_reply = { one_visit splitter_rules };
+}

@@ -1,0 +1,142 @@
+-- what clap's answer tells of the words
+use Rattle.std.proofs.Common.{ap, sym, ◌≡◌, ◌⊎◌, ◌||◌, ◌∙◌, inl, inr, ℕ, List, [], ◌∷◌, Bool, true, false, codes, subst, refl}
+use Rattle.std.proofs.Common.{Option, Some, None, option_map}
+use Rattle.tool_work.proofs.Common.{same_Some, Ask, Drawing, Hosting, Playing, Racing, Serving, Showing, slotctl_app}
+use Rattle.std.specs.List.{list_any}
+use Rattle.std.specs.Str.{bytes_eq}
+use Rattle.std.proofs.lemmas.Slice.Eq.{bytes_eq-Decides}
+use Rattle.clap.specs.Words.{IsAmong, Kinds, Row}
+use Rattle.clap.specs.Faults.{is_simple_and_free}
+use Rattle.clap.specs.Simple.{is_simple}
+use Rattle.clap.specs.declared.error.kind.ErrorKind.{ErrorKind}
+use Rattle.clap.specs.declared.error.kind.ErrorKind.TheVariants.{OutOfMemory}
+use Rattle.clap.proofs.OnLiterals.{clap_on_literals}
+use Rattle.tool_work.specs.declared.asked.Ask.TheVariants.{Play, Check, Migrate, Show, Draw, Race, Serve, Host, Held}
+use Rattle.tool_work.specs.declared.misuse.Misuse.{Misuse}
+use Rattle.tool_work.specs.declared.misuse.Misuse.TheVariants.{Help, Words, Memory}
+use Rattle.tool_work.specs.Asked.{AsksFor, GiveAsked, IsAsked, IsDrawingOf, IsHostingOf, IsPlayingOf, IsMisuse, IsMisuseOf, IsRefusal, IsRacingOf, IsServingOf, IsShowingOf, is_help, is_refusal, subcommand_name}
+
+pub app_is_simple : is_simple slotctl_app ≡ true
+unfolding clap_on_literals
+app_is_simple = refl
+
+pub app_is_free : is_simple_and_free slotctl_app ≡ true
+unfolding clap_on_literals
+app_is_free = refl
+
+or_true : (b : Bool) → (b || true) ≡ true
+or_true true = refl
+or_true false = refl
+
+-- one of the kinds passes a test that this kind passes
+any_among : (test : ErrorKind → Bool) (k : ErrorKind) (ks : Kinds) → IsAmong k ks → test k ≡ true → list_any test ks ≡ true
+any_among test k [] among passes = elim among [ ]
+any_among test k (x ∷ xs) (inl same) passes = ap (λ b. b || list_any test xs) (ap test (sym same) ∙ passes)
+any_among test k (x ∷ xs) (inr among) passes = ap (λ b. test x || b) (any_among test k xs among passes) ∙ or_true (test x)
+
+-- an error of a kind that clap may give, or an allocation failure, is reported as a misuse of the words
+pub reported : (words : List (List ℕ)) (kinds : Kinds) (k : ErrorKind) (u : Misuse) → (k ≡ OutOfMemory) ⊎ IsAmong k kinds → IsMisuseOf k u → IsMisuse words kinds u
+reported words kinds k Memory of is = tt
+reported words kinds k (Help text) (inl none) is =
+    let bad : false ≡ true = rw none at is in
+    cc
+reported words kinds k (Help text) (inr among) is = any_among is_help k kinds among is
+reported words kinds k (Words text) (inl none) is =
+    let bad : false ≡ true = rw none at is in
+    cc
+reported words kinds k (Words text) (inr among) is = inl (any_among is_refusal k kinds among is)
+
+-- words that clap takes, and that ask for nothing, are refused
+pub refused : (words : List (List ℕ)) (kinds : Kinds) (u : Misuse) → IsRefusal u → kinds ≡ [] → ((a : Ask) → AsksFor words a → ⊥) → IsMisuse words kinds u
+refused words kinds Memory is none never = tt
+refused words kinds (Help text) is none never = elim is [ ]
+refused words kinds (Words text) is none never = inr (none, never)
+
+-- where one subcommand was met, what no subcommand of its name gives is not asked for
+pub nothing_met : {name : List ℕ} (rows : List Row) → ((a : Ask) → subcommand_name a ≡ name → GiveAsked rows a → ⊥) → (a : Ask) → IsAsked (Some (name, rows)) a → ⊥
+nothing_met {name} rows none a h =
+    let same = same_Some (name, rows) (subcommand_name a, h.0) h.1 in
+    none a (sym (ap (λ (p : List ℕ × List Row). p.0) same)) (subst (λ (r : List Row). GiveAsked r a) (sym (ap (λ (p : List ℕ × List Row). p.1) same)) h.2)
+
+-- names that differ are not one
+apart : (name other : List ℕ) → bytes_eq name other ≡ false → name ≡ other → ⊥
+apart name other differ same = let no : false ≡ true = sym differ ∙ (bytes_eq-Decides name other).1 same in cc
+
+-- nothing of the name `play`, where its options give nothing
+pub nothing_played : (rows : List Row) → ((p : Playing) → IsPlayingOf rows p → ⊥) → (a : Ask) → subcommand_name a ≡ codes "play" → GiveAsked rows a → ⊥
+nothing_played rows none (Play p) same h = none p h
+nothing_played rows none Check same h = apart (codes "check") (codes "play") refl same
+nothing_played rows none Migrate same h = apart (codes "migrate") (codes "play") refl same
+nothing_played rows none (Show s) same h = apart (codes "show") (codes "play") refl same
+nothing_played rows none (Draw d) same h = apart (codes "draw") (codes "play") refl same
+nothing_played rows none (Race r) same h = apart (codes "race") (codes "play") refl same
+nothing_played rows none (Serve s) same h = apart (codes "serve") (codes "play") refl same
+nothing_played rows none (Host x) same h = apart (codes "host") (codes "play") refl same
+nothing_played rows none Held same h = apart (codes "held") (codes "play") refl same
+
+-- nothing of the name `show`, where its options give nothing
+pub nothing_shown : (rows : List Row) → ((s : Showing) → IsShowingOf rows s → ⊥) → (a : Ask) → subcommand_name a ≡ codes "show" → GiveAsked rows a → ⊥
+nothing_shown rows none (Play p) same h = apart (codes "play") (codes "show") refl same
+nothing_shown rows none Check same h = apart (codes "check") (codes "show") refl same
+nothing_shown rows none Migrate same h = apart (codes "migrate") (codes "show") refl same
+nothing_shown rows none (Show s) same h = none s h
+nothing_shown rows none (Draw d) same h = apart (codes "draw") (codes "show") refl same
+nothing_shown rows none (Race r) same h = apart (codes "race") (codes "show") refl same
+nothing_shown rows none (Serve s) same h = apart (codes "serve") (codes "show") refl same
+nothing_shown rows none (Host x) same h = apart (codes "host") (codes "show") refl same
+nothing_shown rows none Held same h = apart (codes "held") (codes "show") refl same
+
+-- nothing of the name `draw`, where its options give nothing
+pub nothing_drawn : (rows : List Row) → ((d : Drawing) → IsDrawingOf rows d → ⊥) → (a : Ask) → subcommand_name a ≡ codes "draw" → GiveAsked rows a → ⊥
+nothing_drawn rows none (Play p) same h = apart (codes "play") (codes "draw") refl same
+nothing_drawn rows none Check same h = apart (codes "check") (codes "draw") refl same
+nothing_drawn rows none Migrate same h = apart (codes "migrate") (codes "draw") refl same
+nothing_drawn rows none (Show s) same h = apart (codes "show") (codes "draw") refl same
+nothing_drawn rows none (Draw d) same h = none d h
+nothing_drawn rows none (Race r) same h = apart (codes "race") (codes "draw") refl same
+nothing_drawn rows none (Serve s) same h = apart (codes "serve") (codes "draw") refl same
+nothing_drawn rows none (Host x) same h = apart (codes "host") (codes "draw") refl same
+nothing_drawn rows none Held same h = apart (codes "held") (codes "draw") refl same
+
+-- nothing of the name `race`, where its options give nothing
+pub nothing_raced : (rows : List Row) → ((r : Racing) → IsRacingOf rows r → ⊥) → (a : Ask) → subcommand_name a ≡ codes "race" → GiveAsked rows a → ⊥
+nothing_raced rows none (Play p) same h = apart (codes "play") (codes "race") refl same
+nothing_raced rows none Check same h = apart (codes "check") (codes "race") refl same
+nothing_raced rows none Migrate same h = apart (codes "migrate") (codes "race") refl same
+nothing_raced rows none (Show s) same h = apart (codes "show") (codes "race") refl same
+nothing_raced rows none (Draw d) same h = apart (codes "draw") (codes "race") refl same
+nothing_raced rows none (Race r) same h = none r h
+nothing_raced rows none (Serve s) same h = apart (codes "serve") (codes "race") refl same
+nothing_raced rows none (Host x) same h = apart (codes "host") (codes "race") refl same
+nothing_raced rows none Held same h = apart (codes "held") (codes "race") refl same
+
+-- nothing of the name `serve`, where its options give nothing
+pub nothing_served : (rows : List Row) → ((s : Serving) → IsServingOf rows s → ⊥) → (a : Ask) → subcommand_name a ≡ codes "serve" → GiveAsked rows a → ⊥
+nothing_served rows none (Play p) same h = apart (codes "play") (codes "serve") refl same
+nothing_served rows none Check same h = apart (codes "check") (codes "serve") refl same
+nothing_served rows none Migrate same h = apart (codes "migrate") (codes "serve") refl same
+nothing_served rows none (Show s) same h = apart (codes "show") (codes "serve") refl same
+nothing_served rows none (Draw d) same h = apart (codes "draw") (codes "serve") refl same
+nothing_served rows none (Race r) same h = apart (codes "race") (codes "serve") refl same
+nothing_served rows none (Serve s) same h = none s h
+nothing_served rows none (Host x) same h = apart (codes "host") (codes "serve") refl same
+nothing_served rows none Held same h = apart (codes "held") (codes "serve") refl same
+
+-- nothing of the name `host`, where its options give nothing
+pub nothing_hosted : (rows : List Row) → ((x : Hosting) → IsHostingOf rows x → ⊥) → (a : Ask) → subcommand_name a ≡ codes "host" → GiveAsked rows a → ⊥
+nothing_hosted rows none (Play p) same h = apart (codes "play") (codes "host") refl same
+nothing_hosted rows none Check same h = apart (codes "check") (codes "host") refl same
+nothing_hosted rows none Migrate same h = apart (codes "migrate") (codes "host") refl same
+nothing_hosted rows none (Show s) same h = apart (codes "show") (codes "host") refl same
+nothing_hosted rows none (Draw d) same h = apart (codes "draw") (codes "host") refl same
+nothing_hosted rows none (Race r) same h = apart (codes "race") (codes "host") refl same
+nothing_hosted rows none (Serve s) same h = apart (codes "serve") (codes "host") refl same
+nothing_hosted rows none (Host x) same h = none x h
+nothing_hosted rows none Held same h = apart (codes "held") (codes "host") refl same
+
+-- what was met, from its name and its rows
+pub both_met : {X A B : Type 0} (f : X → A) (g : X → B) (o : Option X) (a : A) (b : B) → Some a ≡ option_map f o →
+    Some b ≡ option_map (λ (p : A × B). p.1) (option_map {U = A × B} (λ x. (f x, g x)) o) →
+    option_map {U = A × B} (λ x. (f x, g x)) o ≡ Some (a, b)
+both_met f g None a b left right = absurd (cc)
+both_met f g (Some x) a b left right = cc

@@ -1,0 +1,144 @@
+//! The check of a record that a reader gives.
+
+ghost use Rattle.std.specs.Prelude.{◌≡◌, ◌⊎◌, ◌+◌, ◌^◌, ◌<◌, ◌≤◌, IfOk, IfErr, Err, [], length};
+ghost use Rattle.text_player.specs.Played.{reading, writing};
+ghost use Rattle.text_checker.specs.declared.verdict.Verdict.{Verdict};
+ghost use Rattle.tool_work.specs.Checked.{HasFailedRead, IsChecked, IsJudgedWhole, IsWhole, verdict_status, verdict_text};
+
+use text_lines::put_all;
+use text_player::{Fault, MOST_READS, READ_BYTES, Replies, Sink, Source, put_word};
+use text_checker::{Judge, Verdict};
+use std::alloc::{Allocator, Global};
+
+/// Returns all that the reader gives. It reads by way of `chunk`.
+///
+/// # Errors
+///
+/// - `Read`: the reader failed, or was read 2^40 times.
+/// - `Memory`: an allocation failed.
+pub fn read_whole<R: Source>(
+    alloc: Global,
+    reader: &mut R,
+    chunk: &mut [u8],
+) -> Result<Vec<u8>, Fault>
+    requires reads { R.calls reader.old < 2 ^ 64 }
+    requires chunk { length chunk.old ≡ READ_BYTES }
+    ensures whole { IfOk result (λ bytes. IsWhole (reading R.remaining R.calls R.failed reader.old reader.new) bytes.items) }
+    ensures read_fault { result ≡ Err Fault.Read → HasFailedRead (reading R.remaining R.calls R.failed reader.old reader.new) }
+    ensures memory { result ≡ Err Fault.Memory → R.failed reader.new ≡ R.failed reader.old }
+    ensures only { IfErr result (λ fault. (fault ≡ Fault.Read) ⊎ (fault ≡ Fault.Memory)) }
+    ensures reads { R.calls reader.new ≤ R.calls reader.old + MOST_READS }
+{
+    let mut bytes = Vec::new(alloc);
+    for _reads in 0..MOST_READS {
+        let count = match reader.read_once(chunk) {
+            Ok(count) => count,
+            Err(_) => return Err(Fault::Read),
+        };
+        if count == 0 {
+            return Ok(bytes);
+        }
+        match bytes.extend_from_slice(&chunk[..count]) {
+            Ok(()) => {}
+            Err(_) => return Err(Fault::Memory),
+        }
+    }
+    Err(Fault::Read)
+}
+
+/// Returns the verdict on all that the reader gives. It judges each line once it was read, and keeps no line.
+///
+/// # Errors
+///
+/// - `Read`: the reader failed, or was read 2^40 times.
+/// - `Memory`: an allocation failed.
+pub fn judge_whole<R: Source>(
+    alloc: Global,
+    reader: &mut R,
+    chunk: &mut [u8],
+) -> Result<Verdict, Fault>
+    requires reads { R.calls reader.old < 2 ^ 64 }
+    requires chunk { length chunk.old ≡ READ_BYTES }
+    ensures judged { IfOk result (λ v. IsJudgedWhole (reading R.remaining R.calls R.failed reader.old reader.new) v) }
+    ensures read_fault { result ≡ Err Fault.Read → HasFailedRead (reading R.remaining R.calls R.failed reader.old reader.new) }
+    ensures memory { result ≡ Err Fault.Memory → R.failed reader.new ≡ R.failed reader.old }
+    ensures only { IfErr result (λ fault. (fault ≡ Fault.Read) ⊎ (fault ≡ Fault.Memory)) }
+    ensures reads { R.calls reader.new ≤ R.calls reader.old + MOST_READS }
+{
+    let mut judge = Judge::new(alloc);
+    for _reads in 0..MOST_READS {
+        let count = match reader.read_once(chunk) {
+            Ok(count) => count,
+            Err(_) => return Err(Fault::Read),
+        };
+        if count == 0 {
+            return match judge.verdict() {
+                Ok(verdict) => Ok(verdict),
+                Err(_) => Err(Fault::Memory),
+            };
+        }
+        match judge.take(&chunk[..count]) {
+            Ok(()) => {}
+            Err(_) => return Err(Fault::Memory),
+        }
+    }
+    Err(Fault::Read)
+}
+
+/// Appends the line of a verdict.
+pub fn put_verdict<A: Allocator>(verdict: Verdict, out: &mut Replies<A>)
+    requires { out.old ≡ [] }
+    ensures { out.new ≡ verdict_text verdict }
+{
+    match verdict {
+        Verdict::Yes => out.put(b"yes\n"),
+        Verdict::No(number, reason) => {
+            put_word(b"no ", number, out);
+            put_word(b" ", u64::from(reason.number()), out);
+            out.put(b"\n");
+        }
+        Verdict::BadRecord(number) => {
+            put_word(b"bad record ", number, out);
+            out.put(b"\n");
+        }
+        Verdict::NoMemory => {}
+    }
+}
+
+// Returns the status for a verdict.
+fn status_of(verdict: Verdict) -> u8
+    ensures { result ≡ verdict_status verdict }
+{
+    match verdict {
+        Verdict::Yes => 0,
+        _ => 1,
+    }
+}
+
+/// Reads a record to its end, and writes its verdict: `yes`, `no LINE REASON` or `bad record LINE`. Returns 0 for `yes`, else 1.
+///
+/// # Errors
+///
+/// - `Read`: the reader failed, or was read 2^40 times. Nothing is written.
+/// - `Memory`: an allocation failed. Nothing is written.
+/// - `Write`: the writer failed or took no byte. A prefix of the line is written.
+pub fn check_for<R: Source, W: Sink>(
+    alloc: Global,
+    reader: &mut R,
+    writer: &mut W,
+) -> Result<u8, Fault>
+    requires reads { R.calls reader.old < 2 ^ 64 }
+    requires writes { W.calls writer.old < 2 ^ 64 }
+    ensures { IsChecked (reading R.remaining R.calls R.failed reader.old reader.new) (writing W.contents W.failed writer.old writer.new) result }
+{
+    let Ok(mut line) = Replies::new(alloc) else {
+        return Err(Fault::Memory);
+    };
+    let Ok(mut chunk) = Vec::from_elem(alloc, 0, READ_BYTES) else {
+        return Err(Fault::Memory);
+    };
+    let verdict = judge_whole(alloc, reader, &mut chunk)?;
+    put_verdict(verdict, &mut line);
+    put_all(writer, line.as_slice())?;
+    Ok(status_of(verdict))
+}

@@ -1,0 +1,70 @@
+//! Schedules and runs by plain numbers, for callers that have no `Schedule`.
+
+ghost use Rattle.std.specs.Prelude.{◌≡◌, ◌<◌, ◌≤◌, ◌+◌, ◌^◌, ◌⊎◌, true, Err, IfErr, OnOk, OnErr};
+ghost use Rattle.std.specs.Io.KnownBytes.{Appends};
+ghost use Rattle.model_asked.specs.Config.{gives_names};
+ghost use Rattle.text_lines.specs.Events.{event_lines};
+ghost use Rattle.text_lines.specs.Written.{HasPartOf};
+ghost use Rattle.tool_work.specs.drawn.Runs.{HasDrawn, HasDrawnPart};
+ghost use Rattle.tool_work.specs.drawn.Schedule.{schedule};
+
+use crate::drawn::runs::play_schedules;
+use crate::drawn::schedule::{Schedule, draw_schedule};
+use model_asked::Config;
+use text_player::{Fault, Sink};
+use std::alloc::Allocator;
+
+/// Writes the schedule of a seed as lines, as `draw_schedule` does: `ids` identities begin, and then `steps` steps are
+/// taken.
+///
+/// # Errors
+///
+/// - `Memory`: an allocation failed. Nothing was written.
+/// - `Write`: a write failed or took no byte. A prefix of the text is written.
+pub fn draw<A: Allocator, W: Sink>(
+    alloc: A,
+    seed: u64,
+    ids: u64,
+    steps: u64,
+    writer: &mut W,
+) -> Result<(), Fault>
+    requires ids { (1 ≤ ids) × (ids ≤ 64) }
+    requires writes { W.calls writer.old < 2 ^ 64 }
+    ensures ok { OnOk result (Appends (W.contents writer.old) (W.contents writer.new) (event_lines (schedule seed ids steps))) }
+    ensures unfailed { OnOk result (W.failed writer.new ≡ W.failed writer.old) }
+    ensures part { result ≡ Err Fault.Write → HasPartOf (W.contents writer.old) (W.contents writer.new) (event_lines (schedule seed ids steps)) }
+    ensures failed { result ≡ Err Fault.Write → W.failed writer.old < W.failed writer.new }
+    ensures memory { result ≡ Err Fault.Memory → writer.new ≡ writer.old }
+    ensures only { IfErr result (λ fault. (fault ≡ Fault.Write) ⊎ (fault ≡ Fault.Memory)) }
+{
+    draw_schedule(alloc, Schedule { seed, ids, steps }, writer)
+}
+
+/// Plays the schedules of `runs` seeds, from `seed` on, and writes a line for each run, as `play_schedules` does.
+///
+/// # Errors
+///
+/// - `Memory`: an allocation failed, or the reset of the arena did. No write failed.
+/// - `Write`: a write failed or took no byte. A prefix of the lines is written.
+pub fn play_drawn<A: Allocator + Clone, W: Sink>(
+    alloc: A,
+    seed: u64,
+    ids: u64,
+    steps: u64,
+    runs: u64,
+    config: Config,
+    writer: &mut W,
+) -> Result<(), Fault>
+    requires ids { (1 ≤ ids) × (ids ≤ 64) }
+    requires names { gives_names config.world ≡ true }
+    requires steps { steps + 64 < 2 ^ 64 }
+    requires writes { W.calls writer.old < 2 ^ 64 }
+    ensures ok { OnOk result (HasDrawn config seed ids steps runs (Appends (W.contents writer.old) (W.contents writer.new))) }
+    ensures part { OnErr result (HasDrawnPart config seed ids steps runs (W.contents writer.old) (W.contents writer.new)) }
+    ensures only { IfErr result (λ fault. (fault ≡ Fault.Write) ⊎ (fault ≡ Fault.Memory)) }
+    ensures failed { result ≡ Err Fault.Write → W.failed writer.old < W.failed writer.new }
+    ensures memory { result ≡ Err Fault.Memory → W.failed writer.new ≡ W.failed writer.old }
+    ensures unfailed { OnOk result (W.failed writer.new ≡ W.failed writer.old) }
+{
+    play_schedules(alloc, Schedule { seed, ids, steps }, runs, config, writer)
+}

@@ -1,0 +1,43 @@
+//! Why the program did not do what it was asked.
+
+ghost use Rattle.std.specs.Prelude.{◌≡◌};
+ghost use Rattle.tool_work.specs.Statuses.{status_of};
+
+use crate::Misuse;
+use text_player::Fault;
+use thiserror::Error;
+
+/// Why the program did nothing, or did not come to its end. Its `Display` is the text for the user.
+#[derive(Debug, Drop, Error)]
+pub enum Failure {
+    /// The words of its command line ask for nothing, or for help.
+    #[error("{0}")]
+    Misuse(#[from] Misuse),
+    /// The record is one of no run. These are the numbers of its first line at fault and of the reason.
+    #[error("no {0} {1}\n")]
+    No(u64, u8),
+    /// The line of this number is none of a record.
+    #[error("bad record {0}\n")]
+    BadRecord(u64),
+    /// A read, a write or an allocation failed.
+    #[error("slotctl: {0}\n")]
+    Fault(#[from] Fault),
+}
+
+impl Failure {
+    /// Returns the status of the program.
+    ///
+    /// It is 0 for help, 1 for a record that is not shown, 2 for words that are refused, and 3 for a fault or an allocation failure.
+    pub fn status(&self) -> u8
+        ensures { result ≡ status_of self.now }
+    {
+        match self {
+            Failure::Misuse(Misuse::Help(_)) => 0,
+            Failure::Misuse(Misuse::Words(_)) => 2,
+            Failure::Misuse(Misuse::Memory) => 3,
+            Failure::No(_, _) => 1,
+            Failure::BadRecord(_) => 1,
+            Failure::Fault(_) => 3,
+        }
+    }
+}

@@ -1,0 +1,113 @@
+//! What a desk does at an event.
+
+ghost use Rattle.std.specs.Prelude.{◌≡◌, IfOk, OnOk};
+ghost use Rattle.text_worlds.specs.desk.Desk.{desk_after, desk_reply};
+ghost use Rattle.text_records.specs.Reported.{identity_of};
+ghost use Rattle.tool_work.specs.page.Row.{access_at, access_in, desk_next, done_at, is_refused};
+
+use crate::page::access::held_at;
+use crate::page::standing::Standing;
+use text_worlds::desk::{Coming, Desk, Event, Reply};
+use text_records::{Line, Reported};
+use std::alloc::{AllocError, Global};
+use model_steps::{Refusal, View};
+
+/// What a desk does at an event.
+#[derive(Clone, Copy, Debug, Drop)]
+pub struct Done {
+    /// What it answers.
+    pub reply: Reply<View>,
+    /// The access that is made by it.
+    pub access: Option<Coming>,
+    /// What then stands in the register that was reached: a word, or the proposal in a segment.
+    pub held: Option<u64>,
+    /// Where whose event it is then stands.
+    pub standing: Standing,
+    /// How many numbers the pool then has.
+    pub size: u64,
+}
+
+/// Who an event is of; a widening is nobody's, and 0 is nobody.
+pub(crate) fn identity_of(event: Event) -> u64
+    ensures { result ≡ identity_of event }
+{
+    match event {
+        Event::Begin(id) => id,
+        Event::Step(id) => id,
+        Event::Enter(id) => id,
+        Event::Probe(id) => id,
+        Event::Leave(id) => id,
+        Event::Put(id, _) => id,
+        Event::Get(id) => id,
+        Event::Widen(_) => 0,
+    }
+}
+
+/// Whether an event is reported to be refused.
+pub(crate) fn is_refused(reported: &Reported) -> bool
+    ensures { result ≡ is_refused reported.now }
+{
+    matches!(reported, Reported::Refused(_))
+}
+
+/// The access that an event makes to a register of splitters or segments: a step alone makes one.
+fn access_at(desk: &Desk<Global>, event: Event) -> Option<Coming>
+    ensures { result ≡ access_at desk.now event }
+{
+    match event {
+        Event::Step(id) => desk.coming(id),
+        Event::Begin(_) => None,
+        Event::Enter(_) => None,
+        Event::Probe(_) => None,
+        Event::Leave(_) => None,
+        Event::Put(_, _) => None,
+        Event::Get(_) => None,
+        Event::Widen(_) => None,
+    }
+}
+
+/// The access that was made at a line.
+pub(crate) fn access_in(done: &Option<Done>) -> Option<Coming>
+    ensures { result ≡ access_in done.now }
+{
+    match done {
+        None => None,
+        Some(done) => done.access,
+    }
+}
+
+/// Applies an event. An error where a growth was refused, with the desk unchanged.
+fn answered(desk: &mut Desk<Global>, event: Event) -> Result<Reply<View>, AllocError>
+    ensures { IfOk result (λ r. (r ≡ desk_reply desk.old event) × (desk.new ≡ desk_after desk.old event)) }
+{
+    match desk.apply(event) {
+        Reply::Refused(Refusal::NoMemory) => Err(AllocError),
+        reply => Ok(reply),
+    }
+}
+
+/// Replays a line, and keeps what the desk did at it, which is nothing where the line tells a refusal. An error where a growth was
+/// refused; then the desk is of no more use.
+pub(crate) fn replay(
+    desk: &mut Desk<Global>,
+    line: &Line,
+    done: &mut Option<Done>,
+) -> Result<(), AllocError>
+    ensures desk { OnOk result (desk.new ≡ desk_next desk.old line.now) }
+    ensures done { OnOk result (done.new ≡ done_at desk.old line.now) }
+{
+    if is_refused(&line.reported) {
+        *done = None;
+        return Ok(());
+    }
+    let access = access_at(desk, line.event);
+    let reply = answered(desk, line.event)?;
+    *done = Some(Done {
+        reply,
+        access,
+        held: held_at(desk, access),
+        standing: Standing::on(desk, identity_of(line.event)),
+        size: desk.slots().pool().size(),
+    });
+    Ok(())
+}

@@ -1,0 +1,141 @@
+//! The program, over any streams.
+
+ghost use Rattle.std.specs.Prelude.{◌≡◌, ◌⊎◌, ◌<◌, ◌^◌, Result, map};
+ghost use Rattle.text_player.specs.Played.{reading, writing};
+ghost use Rattle.tool_work.specs.Asked.{IsRead};
+ghost use Rattle.tool_work.specs.Done.{IsAnswered, IsDone, outcome_of};
+ghost use Rattle.tool_work.specs.declared.asked.Ask.{Ask};
+ghost use Rattle.tool_work.specs.declared.failure.Failure.{Failure};
+ghost use Rattle.tool_work.specs.declared.misuse.Misuse.{Misuse};
+ghost use Rattle.tool_work.specs.declared.outcome.Outcome.{Outcome};
+ghost use Rattle.tool_work.specs.Statuses.{status_after, status_of};
+
+use crate::checking::check_for;
+use crate::drawing::draw_for;
+use crate::failure::Failure;
+use crate::migrating::migrate_for;
+use crate::outcome::Outcome;
+use crate::showing::{after_showing, show_for};
+use crate::{Ask, Misuse, Playing, ask};
+use text_player::{Fault, Sink, Source};
+use text_worlds::{play, record};
+use std::alloc::Global;
+use std::convert::AsStr;
+use std::io::Write;
+use std::thread::Threads;
+
+/// Does what the words of a command line ask for, and returns the status of the program. The first word is the program's name.
+///
+/// - 0: it was done, or help was asked for.
+/// - 1: a verdict is other than `Yes`.
+/// - 2: the words are refused.
+/// - 3: a read, a write or an allocation failed.
+///
+/// Help and what is done go to `output`, each other text to `errors`. Four commands are left to the caller, and returned: to race, to
+/// serve, to host and to tell who holds numbers.
+pub fn program<'a, T: Threads + Sync, S: AsStr, R: Source, W: Sink, E: Write>(
+    rt: &T,
+    alloc: Global,
+    words: &'a [S],
+    input: &mut R,
+    output: &mut W,
+    errors: &mut E,
+) -> Outcome<'a>
+    requires reads { R.calls input.old < 2 ^ 64 }
+    requires writes { W.calls output.old < 2 ^ 64 }
+    ensures { (asked : Result Ask Misuse) × IsRead (map S.text words.now) asked × (ended : Result Outcome Failure) × (at : W)
+        × IsDone (reading R.remaining R.calls R.failed input.old input.new) (writing W.contents W.failed output.old at) asked ended × IsAnswered ended at output.new result }
+{
+    match done(rt, alloc, words, input, output) {
+        Ok(outcome) => outcome,
+        Err(failure) => Outcome::Ended(report(failure, output, errors)),
+    }
+}
+
+/// Does what the words ask for, but to race, to serve, to host and to tell who holds numbers: these are returned.
+///
+/// - `play` writes the replies to the commands that it reads, or with `--record` the record of the run.
+/// - `check` reads to the end and writes a verdict.
+/// - `migrate` reads to the end and writes the record again in version 2.
+/// - `show` reads to the end and writes the page of a record.
+/// - `draw` reads nothing and writes a schedule or runs.
+///
+/// # Errors
+///
+/// - `Failure::Misuse`: the words ask for nothing. Nothing is read or written.
+/// - `Fault::Read`: the reader failed, or was read 2^40 times.
+/// - `Fault::Memory`: an allocation failed. `check`, `migrate` and `play` have written nothing then, and `play` has read nothing.
+/// - `Fault::Write`: the writer failed or took no byte. A prefix is written.
+/// - `Failure::No` and `Failure::BadRecord`: the verdict of `show` is other than `Yes`. Nothing is written.
+pub fn done<'a, T: Threads + Sync, S: AsStr, R: Source, W: Sink>(
+    rt: &T,
+    alloc: Global,
+    words: &'a [S],
+    input: &mut R,
+    output: &mut W,
+) -> Result<Outcome<'a>, Failure>
+    requires reads { R.calls input.old < 2 ^ 64 }
+    requires writes { W.calls output.old < 2 ^ 64 }
+    ensures { (asked : Result Ask Misuse) × IsRead (map S.text words.now) asked
+        × IsDone (reading R.remaining R.calls R.failed input.old input.new) (writing W.contents W.failed output.old output.new) asked result }
+{
+    let asked = match ask(alloc, words) {
+        Ok(asked) => asked,
+        Err(misuse) => return Err(Failure::Misuse(misuse)),
+    };
+    match asked {
+        Ask::Play(Playing { config, recorded }) => {
+            if recorded {
+                after_run(record(alloc, input, output, config))
+            } else {
+                after_run(play(alloc, input, output, config))
+            }
+        }
+        Ask::Check => after(check_for(alloc, input, output)),
+        Ask::Migrate => after(migrate_for(alloc, input, output)),
+        Ask::Show(showing) => after_showing(show_for(alloc, showing, input, output)),
+        Ask::Draw(drawing) => after(draw_for(rt, alloc, drawing, output)),
+        Ask::Race(racing) => Ok(Outcome::Race(racing)),
+        Ask::Serve(serving) => Ok(Outcome::Serve(serving)),
+        Ask::Host(hosting) => Ok(Outcome::Host(hosting)),
+        Ask::Held => Ok(Outcome::Held),
+    }
+}
+
+// Returns how the program ends once this was done: with a status, or by a fault.
+fn after<'a>(status: Result<u8, Fault>) -> Result<Outcome<'a>, Failure>
+    ensures { result ≡ outcome_of status }
+{
+    match status {
+        Ok(status) => Ok(Outcome::Ended(status)),
+        Err(fault) => Err(Failure::Fault(fault)),
+    }
+}
+
+// Returns how the program ends once a run was played: with status 0, or by a fault.
+fn after_run<'a, T: Drop>(run: Result<T, Fault>) -> Result<Outcome<'a>, Failure>
+    ensures { result ≡ outcome_of (status_after run) }
+{
+    match run {
+        Ok(_) => Ok(Outcome::Ended(0)),
+        Err(fault) => Err(Failure::Fault(fault)),
+    }
+}
+
+/// Writes the text of a failure, and returns the status. Help goes to `output`, each other text to `errors`.
+///
+/// If `output` does not take the help, the status is 3.
+pub fn report<W: Write, E: Write>(failure: Failure, output: &mut W, errors: &mut E) -> u8
+    ensures { (result ≡ status_of failure) ⊎ (result ≡ 3) }
+{
+    let failure = match failure {
+        Failure::Misuse(Misuse::Help(text)) => match output.write_all(text.as_bytes()) {
+            Ok(()) => return 0,
+            Err(_) => Failure::Fault(Fault::Write),
+        },
+        other => other,
+    };
+    // A standard error that takes no text leaves the status alone to tell.
+    let _ = write!(errors, "{failure}");
+    failure.status()
+}

@@ -1,3 +1,0 @@
-mod Accesses
-mod Places
-mod Ruling

@@ -1,9 +1,0 @@
-use Rattle.word_grid.specs.Seats.{walk_of_run}
-use Rattle.word_grid.proofs.Places.{walk_law, alone_at_corner}
-use Rattle.word_grid.proofs.word_grid.WordGrid.enter.Goals as goal
-
-pub returns-clause-law : goal.returns-clause-law
-returns-clause-law g c = walk_law _ c.enter-seat.ensures.law
-
-pub returns-clause-alone : goal.returns-clause-alone
-returns-clause-alone g c = alone_at_corner (walk_of_run c.enter-seat.result) (walk_law _ c.enter-seat.ensures.law)

@@ -1,9 +1,0 @@
-use Rattle.std.proofs.Common.{rules, ap, sym, ◌∙◌, ◌≡◌}
-use Rattle.std.specs.Arc.{arc_value}
-use Rattle.word_names.specs.Seats.{DealerId, NamesId}
-use Rattle.word_pool_c.proofs.names.open_names.Goals as goal
-
-pub invariant_of-new : goal.invariant_of-new
-invariant_of-new c =
-    let shared : arc_value c.in_ok-names.names ≡ c.in-Ok.names = search rules in
-    record { dealt = ap (λ (d : DealerId). d.names) c.in-Ok.ensures.dealer ∙ sym shared; ours = tt; was = tt }

@@ -1,4 +1,0 @@
-use Rattle.word_pool_c.proofs.names.word_names_name.Given as goal
-
-abbrev pub ghost-into_box : goal.ghost-into_box
-ghost-into_box g a = g.names

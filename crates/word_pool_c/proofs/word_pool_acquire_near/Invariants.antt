@@ -1,4 +1,0 @@
-use Rattle.word_pool_c.proofs.word_pool_acquire_near.Given as goal
-
-abbrev pub ghost-into_box : goal.ghost-into_box
-ghost-into_box g a = g.pool

@@ -1,0 +1,33 @@
+-- What a handle owns: what a box of a member of a pool, of a grid, of a line or of names owns, or nothing.
+use denote.RattleType.{RattleType}
+use base.Fml.{Fml, ftrue}
+use base.Stored.{Coded}
+use denote.RawPtr.{Ptr}
+use Rattle.std.specs.Prelude.{Option, None, Some}
+use Rattle.std.specs.Box.Ownership.{box_owns}
+use Rattle.std.specs.Coded.{coded_option}
+use Rattle.std.specs.Global.{Global}
+use Rattle.std_heap.specs.contracts.GlobalAllocator.TheImpl.{ghosts}
+use Rattle.words_c.specs.contracts.member.Member as pool
+use Rattle.words_c.specs.contracts.grid_member.GridMember as grid
+use Rattle.words_c.specs.contracts.line_member.LineMember as line
+use Rattle.words_c.specs.contracts.names_member.NamesMember as names
+
+abbrev pub pool_row : RattleType
+pool_row = pool.the_row
+
+abbrev pub grid_row : RattleType
+grid_row = grid.the_row
+
+abbrev pub line_row : RattleType
+line_row = line.the_row
+
+abbrev pub names_row : RattleType
+names_row = names.the_row
+
+abbrev pub held_owns : (row : RattleType) → Global → Ptr → Option row.Denot → Fml
+held_owns row alloc at None = ftrue
+held_owns row alloc at (Some p) = box_owns (ghosts.dealloc_token alloc) row at p
+
+abbrev pub held_coded : (row : RattleType) → Coded (Option row.Denot)
+held_coded row = coded_option row.coded

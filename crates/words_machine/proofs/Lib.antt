@@ -1,0 +1,12 @@
+mod Common
+pub mod Slots
+mod Stepping
+mod Reaching
+mod Running
+mod GoingAhead
+mod Dealing
+mod Counting
+mod Meeting
+mod Claiming
+pub mod parts_lemmas
+pub mod grid_lemmas

@@ -1,0 +1,11 @@
+pub mod WordLaw
+pub mod SeatViews
+pub mod NextAccess
+pub mod RunRule
+pub mod RunSteps
+pub mod Ids
+pub mod Locals
+pub mod Visits
+pub mod Walks
+pub mod parts
+pub mod grid

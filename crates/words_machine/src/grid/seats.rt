@@ -1,0 +1,132 @@
+//! The seats of a grid, before they are dealt and before and after their walks, and claims of their places.
+
+ghost use Rattle.std.specs.Prelude.{◌≡◌};
+ghost use Rattle.words_machine.specs.grid.Seats.{place_of};
+ghost use Rattle.words_machine.specs.grid.Law.{WalkSpec};
+
+use model_splitter::grid::{Door, Walker};
+use std::marker::Model;
+use model_steps::Place;
+
+/// The seats of a grid that are not dealt yet, by rising number.
+#[derive(Drop)]
+pub struct Dealer {
+    pub(crate) dealer: crate::Dealer<Walker>,
+}
+
+impl Model for Dealer {
+    ghost use Rattle.words_machine.specs.grid.Seats.{DealerId, dealer_of};
+
+    ghost Value = { DealerId };
+
+    ghost view = { λ d. dealer_of d.dealer.words d.dealer.dealt };
+}
+
+impl Dealer {
+    /// Returns the number of seats that were dealt.
+    pub fn dealt(&self) -> u64
+        ensures { result ≡ self.now.dealt }
+    {
+        self.dealer.dealt()
+    }
+}
+
+/// A seat that has not entered. `enter` takes it, so no seat enters twice.
+#[derive(Drop)]
+pub struct FreshSeat {
+    pub(crate) seat: crate::FreshSeat<Walker>,
+}
+
+impl Model for FreshSeat {
+    ghost use Rattle.words_machine.specs.grid.Seats.{SeatId, seat_of};
+
+    ghost Value = { SeatId };
+
+    ghost view = { λ f. seat_of f.seat.words f.seat.number };
+}
+
+impl FreshSeat {
+    /// Returns the seat's number, from 0.
+    pub fn number(&self) -> u64
+        ensures { result ≡ self.now.number }
+    {
+        self.seat.number()
+    }
+}
+
+/// A seat that has entered, with the door at which its walk stopped.
+#[derive(Drop)]
+pub struct EnteredSeat {
+    pub(crate) seat: crate::EnteredSeat<Walker>,
+}
+
+impl Model for EnteredSeat {
+    ghost use Rattle.words_machine.specs.grid.Seats.{EndedWalk, walk_of_run};
+    ghost use Rattle.words_machine.specs.Ids.{HasRun};
+    ghost use Rattle.words_machine.specs.Walks.{walk_law};
+
+    ghost Value = { EndedWalk };
+
+    ghost view = { λ e. walk_of_run e.seat };
+
+    ghost invariant = { λ e. HasRun walk_law e.seat };
+}
+
+impl EnteredSeat {
+    /// Returns the seat's number, from 0.
+    pub fn number(&self) -> u64
+        ensures { result ≡ self.now.number }
+    {
+        self.seat.number()
+    }
+
+    /// Returns its place: the number of the door at which the walk stopped. Numbers go from 0, diagonal by diagonal.
+    ///
+    /// Where `b` walks had begun when this one ended, the place is below `b(b + 1)/2` and the walk made at most `4b`
+    /// accesses.
+    pub fn place(&self) -> Place
+        ensures value { result ≡ place_of self.now }
+
+        // The law that each entered seat keeps.
+        ensures law { WalkSpec self.now }
+    {
+        Place::from(self.seat.end().door.number())
+    }
+
+    /// Returns the door at which the walk stopped.
+    pub fn door(&self) -> Door
+        ensures { result ≡ self.now.door }
+    {
+        self.seat.end().door
+    }
+}
+
+/// A claim: the walk of a seat has ended at a place. It stays true.
+#[derive(Drop)]
+pub struct Claim {
+    pub(crate) claim: crate::Claim<Walker>,
+}
+
+impl Model for Claim {
+    ghost use Rattle.words_machine.specs.grid.Seats.{ClaimId, claim_at};
+
+    ghost Value = { ClaimId };
+
+    ghost view = { λ c. claim_at c.claim.words c.claim.number c.claim.outcome };
+}
+
+impl Claim {
+    /// Returns the number of the seat whose place it is, from 0.
+    pub fn number(&self) -> u64
+        ensures { result ≡ self.now.number }
+    {
+        self.claim.number()
+    }
+
+    /// Returns the place, from 0.
+    pub fn place(&self) -> Place
+        ensures { result ≡ self.now.place }
+    {
+        *self.claim.outcome()
+    }
+}
