@@ -1,1 +1,2 @@
+pub mod cited
 pub mod rounds_lemmas

@@ -1,9 +1,7 @@
 pub mod Common
-pub mod Numbers
 pub mod Counting
 pub mod Views
 pub mod Lists
 pub mod Moments
 pub mod Settling
 pub mod Pieces
-pub mod Whole

@@ -1,6 +1,6 @@
 //! The configuration of a run.
 
-ghost use Rattle.std.specs.Prelude.{◌≡◌, ◌<◌, ◌↔◌, true, IfOk, IfErr, IsOk};
+ghost use Rattle.std.specs.Prelude.{◌≡◌, ◌<◌, ◌+◌, ◌*◌, ◌↔◌, true, IfOk, IfErr, IsOk};
 ghost use Rattle.model_asked.specs.Ranges.{IsConfigRange};
 ghost use Rattle.model_asked.specs.rounds.Rounds.{most_proposals};
 
@@ -38,18 +38,19 @@ impl Config {
         Ok(Config { world, m, k, limit })
     }
 
-    /// Whether the round limit is above `3(5^m - 1)/4`, the most proposals that `m` participants make, all together.
+    /// Whether no participant can use up its rounds: whether twice the round limit is above `S(m) + 2`, where
+    /// `S(m) = 3(5^m - 1)/4` is the most proposals that `m` participants make, all together.
     ///
-    /// No participant can then use up its rounds. The bound is 3, 18, 93, 468, 2,343, 11,718, 58,593 and 292,968 for
-    /// `m` from 1 to 8. From `m = 9` on it is above every round limit.
+    /// One participant makes at most half of them and one. The least such limits are 3, 11, 48, 236, 1,173, 5,861,
+    /// 29,298, 146,486 and 732,423 for `m` from 1 to 9. From `m = 10` on there is none.
     pub fn cannot_spend(&self) -> bool
-        ensures { (result ≡ true) ↔ (most_proposals self.now.m < self.now.limit) }
+        ensures { (result ≡ true) ↔ (most_proposals self.now.m + 2 < 2 * self.now.limit) }
     {
         let mut most = 0;
         for begun in 0..self.m {
             let _ = begun;
             most = 5 * most + 3;
-            if self.limit <= most {
+            if 2 * self.limit <= most + 2 {
                 return false;
             }
         }

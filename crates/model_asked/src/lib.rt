@@ -16,11 +16,10 @@
 //!     Ok(config.cannot_spend())
 //! }
 //! ..
-//! same(&rt, 8, cannot_spend(9, 1_000_000), Ok(false));
+//! same(&rt, 9, cannot_spend(10, 1_000_000), Ok(false));
 //! ```
 #![tactic(auto)]
 
-pub mod rounds;
 pub mod bad;
 pub mod command;
 pub mod config;
@@ -28,6 +27,7 @@ pub mod event;
 pub mod exchange;
 pub mod kind;
 pub mod reply;
+pub mod rounds;
 
 pub use bad::Bad;
 pub use command::Command;

@@ -2,12 +2,12 @@
 use Rattle.std.proofs.Common.{◌≡◌, ℕ, zero, suc, ◌+◌, List, [], ◌∷◌, ◌++◌, replicate, Some, None, Ok, refl, sym, ap, ◌∙◌, arith, is_some}
 use Rattle.model_pool.proofs.Common.{nat_tests, Registers, after_access, set_at-same, Competitor, Missed, Got, Stay, Seeking, Settled, probe_access, probe_reply, stay_of, with_stay, PoolState, fresh_pool, enter_refusal, Call, Probed, next, IsReply, pool}
 use Rattle.model_steps.specs.Runs.{Run}
-use Rattle.model_steps.proofs.RunLemmas.{run_more, run_keeps}
+use Rattle.model_steps.proofs.cited.RunLemmas.{run_more, run_keeps}
 use Rattle.model_steps.specs.Machine.{Reaches}
 use Rattle.model_pool.specs.Acquired.{stay_calls, IsAcquired, GetsAfter, Gets}
 use Rattle.model_pool.proofs.Counts.{competitor}
 use Rattle.model_pool.proofs.StayOfLemmas.{stay_of-push, stay_of-with_stay}
-use Rattle.model_pool.proofs.PoolKeeps.{let_in}
+use Rattle.model_pool.proofs.cited.PoolKeeps.{let_in}
 
 -- a run goes on by a run
 run_on : {S H : Type 0} (step : S → H → S) (Right : S → H → Type 0) (s mid end : S) (r t : List H) → Run step Right s r mid → Run step Right mid t end → Run step Right s (r ++ t) end

@@ -2,7 +2,7 @@
 pub use Rattle.std.proofs.lemmas.Bool.Decides.{nat_tests, leb_tells, Decides-eqb, eqb_tells}
 pub use Rattle.model_steps.specs.RegisterState.{Registers}
 pub use Rattle.model_steps.specs.Registers.{after_access}
-pub use Rattle.model_steps.proofs.SetAtLemmas.{set_at-same, set_at-is, set_at-other}
+pub use Rattle.model_steps.proofs.cited.SetAtLemmas.{set_at-same, set_at-is, set_at-other}
 pub use Rattle.model_steps.specs.declared.refusal.Refusal.{Refusal}
 pub use Rattle.model_steps.specs.declared.access.Access.TheVariants.{TestAndSet, Nothing}
 pub use Rattle.model_steps.specs.declared.refusal.Refusal.TheVariants.{NotCompeting, Holding, NotHolding}

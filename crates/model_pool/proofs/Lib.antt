@@ -1,13 +1,13 @@
-mod Common
-mod StayOfLemmas
-mod RosterLemmas
-mod Counts
-mod Balanced
-mod Tied
-pub mod PoolKeeps
-mod Seeking
 mod Acquiring
-mod LocalityLemmas
+mod Balanced
 mod CallLemmas
+mod Common
+mod Counts
+mod LocalityLemmas
+mod RosterLemmas
+mod Seeking
+mod StayOfLemmas
+mod Tied
+pub mod cited
 pub mod slots_lemmas
 pub mod stays_lemmas

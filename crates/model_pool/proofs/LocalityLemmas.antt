@@ -2,13 +2,13 @@
 use Rattle.std.proofs.Common.{◌≡◌, ℕ, true, false, cond, List, Option, Some, None, Ok, Err, refl, sym, ap, subst, ◌∙◌, is_some, nat_lt}
 use Rattle.model_pool.proofs.Common.{Refusal, NotCompeting, Holding, NotHolding, set_at, Competitor, Stay, Seeking, Settled, stay_of, with_stay, without, holder_in, PoolState, probe_answer, probe_answer_by, after_probe, after_probe_by, got_by, number_answer, number_by, after_leave, after_leave_by, set_at-same, set_at-other}
 use Rattle.model_steps.specs.declared.access.Access.TheVariants.{TestAndSet, Clear, Nothing}
-use Rattle.model_steps.specs.RegisterProofs.{others_kept}
+use Rattle.model_steps.specs.lemmas.RegisterProofs.{others_kept}
 use Rattle.model_steps.specs.Registers.{register_of, answer_of, after_access}
 use Rattle.model_steps.specs.Steps.{Spares, SetsOrClears}
 use Rattle.model_pool.specs.Stay.{probe_access, stay_probed, stay_found, probe_reply, leave_access}
 use Rattle.model_pool.specs.Widening.{widen_access}
 use Rattle.model_pool.specs.Locality.{ChangesOnly, OwnSteps, got_in, Indistinguishable, StandAlike, probe_steps, leave_steps}
-use Rattle.model_steps.proofs.LocalityLemmas.{answer_alike}
+use Rattle.model_steps.proofs.cited.LocalityLemmas.{answer_alike}
 use Rattle.model_pool.proofs.StayOfLemmas.{stay_of-with_stay, stay_of-without}
 
 module _ {O : Type 0} (steps : OwnSteps O) (id : ℕ) (w : PoolState) where

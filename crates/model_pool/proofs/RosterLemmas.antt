@@ -3,7 +3,7 @@ use Rattle.std.proofs.Common.{◌≡◌, ◌≢◌, ◌<◌, ◌%◌, ℕ, zero,
 use Rattle.model_pool.proofs.Common.{eqb_tells, nat_tests, Competitor, Stay, index_of, stay_of, with_stay, without, set_at-other}
 use Rattle.std.proofs.lemmas.List.{get_or_default, get_or-set_other}
 use Rattle.std.proofs.lemmas.Grind.{get_or-set_at}
-use Rattle.model_steps.proofs.Roster as roster
+use Rattle.model_steps.proofs.cited.Roster as roster
 use Rattle.model_pool.specs.Roster.{AreDistinct, IsNoted, AreNoted}
 use Rattle.model_pool.proofs.StayOfLemmas.{stay_of-push, stay_of-without}
 

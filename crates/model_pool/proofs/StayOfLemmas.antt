@@ -3,7 +3,7 @@ use Rattle.std.proofs.Common.{◌≡◌, ℕ, true, not, ◌==◌, List, [], ◌
 use Rattle.model_pool.proofs.Common.{eqb_tells, nat_tests, set_at, Competitor, Stay, identities, stay_of, with_stay, without}
 use Rattle.std.specs.List.{list_any}
 use Rattle.std.proofs.lemmas.List.{map-append, length-map}
-use Rattle.model_steps.proofs.Roster.{seen-push, seen-put}
+use Rattle.model_steps.proofs.cited.Roster.{seen-push, seen-put}
 
 -- one more at the end, whose identity was not there
 pub stay_of-push : (cs : List Competitor) (new : Competitor) → stay_of new.identity cs ≡ None → (q : ℕ) → stay_of q (cs ++ new ∷ []) ≡ set_at (λ v. stay_of v cs) new.identity (Some new.stay) q

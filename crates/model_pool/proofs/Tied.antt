@@ -6,7 +6,7 @@ use Rattle.model_pool.specs.Competitors.{identities, stay_of, with_stay, without
 use Rattle.model_pool.specs.PoolObject.{PoolObject, competes, no_entry, no_probe, number_in}
 use Rattle.model_pool.proofs.StayOfLemmas.{stay_of-push, stay_of-with_stay, stay_of-without, identities-push, identities-with_stay, identities-without, length-identities, competes-identities}
 use Rattle.model_pool.proofs.Counts.{competitor, holds, count-some}
-use Rattle.model_steps.proofs.SetAtLemmas.{set_at-same, set_at-other, set_at-as_is, set_at-is, set_at-map}
+use Rattle.model_steps.proofs.cited.SetAtLemmas.{set_at-same, set_at-other, set_at-as_is, set_at-is, set_at-map}
 use Rattle.model_pool.proofs.Balanced.{NobodyHolds}
 
 -- the object has the pool's size and competitors and what these hold; who seeks has made the probes of all numbers below

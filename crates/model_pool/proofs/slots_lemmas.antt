@@ -1,4 +1,3 @@
 pub mod Common
 pub mod SlotLemmas
-pub mod SlotsKeep
 pub mod TokenLemmas

@@ -32,14 +32,14 @@
 //! ```
 #![tactic(auto)]
 
-pub mod stays;
-pub mod slots;
 pub mod competitor;
 pub mod laws;
 pub mod pool;
 pub mod probe;
 mod roster;
+pub mod slots;
 pub mod stay;
+pub mod stays;
 
 pub use competitor::Competitor;
 pub use laws::{law_of_own_accesses, law_of_pool_calls};

@@ -17,9 +17,9 @@ use crate::competitor::Competitor;
 use crate::probe::Probe;
 use crate::roster::Roster;
 use crate::stay::Stay;
+use model_steps::{Access, Answer, Memory, Refusal, StepMemory};
 use std::alloc::Allocator;
 use std::marker::Model;
-use model_steps::{Access, Answer, Memory, Refusal, StepMemory};
 
 /// The most numbers that a pool may have, and the most competitors.
 pub const MOST_NUMBERS: usize = 64;
@@ -198,7 +198,7 @@ impl<A: Allocator> Pool<A> {
     /// - `ZeroIdentity`: `id` is 0.
     /// - `AlreadyCompeting`: `id` competes.
     /// - `Crowded`: as many compete as the pool has numbers.
-    #[tactic(auto, using(crate::proofs::PoolKeeps::pool_law))]
+    #[tactic(auto, using(crate::proofs::cited::PoolKeeps::pool_law))]
     pub fn enter(&mut self, id: u64) -> Result<(), Refusal>
         ensures answer { result ≡ enter_answer self.old id }
         ensures state { self.new ≡ after_enter self.old id }
@@ -238,7 +238,7 @@ impl<A: Allocator> Pool<A> {
     /// # Steps
     ///
     /// At most one access. A competitor has a number after at most `max(1, k - 1)` probes in a pool of size `k`.
-    #[tactic(auto, using(crate::proofs::PoolKeeps::pool_law))]
+    #[tactic(auto, using(crate::proofs::cited::PoolKeeps::pool_law))]
     pub fn probe(&mut self, id: u64) -> Result<Probe, Refusal>
         ensures answer { result ≡ probe_answer self.old id }
         ensures state { self.new ≡ after_probe self.old id }
@@ -275,7 +275,7 @@ impl<A: Allocator> Pool<A> {
     /// # Steps
     ///
     /// At most `max(1, k - 1)` probes in a pool of size `k`. The identity is searched once.
-    #[tactic(auto, using(crate::proofs::PoolKeeps::pool_law))]
+    #[tactic(auto, using(crate::proofs::cited::PoolKeeps::pool_law))]
     pub fn acquire(&mut self, id: u64) -> Result<u8, Refusal>
         ensures acquired { IfOk result (λ n. IsAcquired self.old id n self.new) }
         ensures unchanged_on_error { IfErr result (λ why. (enter_answer self.old id ≡ Err why) × (self.new ≡ self.old)) }
@@ -303,7 +303,7 @@ impl<A: Allocator> Pool<A> {
     /// # Steps
     ///
     /// At most one access, which clears the number's bit.
-    #[tactic(auto, using(crate::proofs::PoolKeeps::pool_law))]
+    #[tactic(auto, using(crate::proofs::cited::PoolKeeps::pool_law))]
     pub fn leave(&mut self, id: u64) -> Result<u8, Refusal>
         ensures answer { result ≡ number_answer self.old id }
         ensures state { self.new ≡ after_leave self.old id }
@@ -348,7 +348,7 @@ impl<A: Allocator> Pool<A> {
     /// # Steps
     ///
     /// At most one access.
-    #[tactic(auto, using(crate::proofs::PoolKeeps::pool_law))]
+    #[tactic(auto, using(crate::proofs::cited::PoolKeeps::pool_law))]
     pub fn widen(&mut self, size: u64) -> Result<(), Refusal>
         ensures answer { result ≡ widen_answer self.old size }
         ensures state { self.new ≡ after_widen self.old size }

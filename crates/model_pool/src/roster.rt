@@ -6,9 +6,9 @@ ghost use Rattle.model_pool.specs.Roster.{AreNoted};
 
 use crate::competitor::Competitor;
 use crate::stay::Stay;
+use model_steps::NoMemory;
 use std::alloc::Allocator;
 use std::marker::Model;
-use model_steps::NoMemory;
 
 /// The most competitors.
 pub(crate) const ROOM: usize = 64;

@@ -31,4 +31,4 @@ pub mod stays;
 pub use keeper::Keeper;
 pub use kept_stay::KeptStay;
 pub use laws::law_of_grace;
-pub use crate::stays::Stays;
+pub use stays::Stays;

@@ -2,11 +2,11 @@
 use Rattle.std.proofs.Common.{◌≡◌, ◌≢◌, ℕ, zero, suc, ◌+◌, ◌-◌, ◌*◌, ◌≤◌, ◌==◌, Bool, true, false, cond, ◌⊎◌, List, Option, Some, None, Result, Ok, Err, inl, inr, refl, sym, ap, subst, ◌∙◌, arith, add-one, is_some, nat_lt, nat_le}
 use Rattle.model_renaming.proofs.Common.{eqb_tells, leb_tells, set_at-same, set_at-other, value_of, Participant, Refusal, Finished, NoMemory, participant_of, beginner, participant_of-put, participant_of-push, Call, lacked_memory, steps_by, Began, Stepped, begin_refusal, done_unless, let_in, has_begun, goes_busy, KnownPlaces, GoesBusy, is_quiet, SnapReply, Silent, HasPlace, Written, Viewed, SnapCall, snap_next, IsSnapReply, Task, SnapObject, SnapBounds, observed, SnapAllows, SnapState, beginner_at, snap_answer, after_snap_step, Client, StepReply, Quiet, Round, Follow, Stage, Placing, Proposing, Looking, Settled, Over, Pace, IsInTime, most_steps, paced, paced_step, ToGo, ToPropose, ToLook, is_taken, next_proposal, next, IsReply, RenameTerms, RenameObject, IsRecent, IsConflict, Allows, after, after_step, no_step, RenameState, after_wish, begun_snap, begun_unless, has_place, world_with, snap_step, rename_answer, after_rename_step, stage_refusal, followed, decided, named_by, spent_by, saw_by, number_of, written_round, first_round, first_wish}
 use Rattle.model_snapshot.specs.Alone.{EndsAlone, EndsSoon, most_reads}
-use Rattle.model_snapshot.proofs.Alone.{ends_alike}
+use Rattle.model_snapshot.proofs.cited.Alone.{ends_alike}
 use Rattle.model_snapshot.specs.Snapshot.Task.{Absent, Placing as ToPlace, Scanning as ToScan, Updating as ToUpdate}
 use Rattle.model_renaming.specs.Alone.{LeavesAlone, HasTwoLeft, steps_alone}
 use Rattle.model_renaming.proofs.LocalSteps.{wish_becomes}
-use Rattle.model_asked.proofs.rounds_lemmas.Numbers.{next_free}
+use Rattle.model_asked.proofs.cited.rounds.Numbers.{next_free}
 use Rattle.model_renaming.proofs.rounds.Standing.{others_stand}
 use Rattle.model_renaming.proofs.rounds.StepCases.{begun_own, no_round, reported_answer, reported_state, refusal_here, closed_answer, step_refused}
 use Rattle.model_renaming.proofs.rounds.Stepping.{HasGone, placing_gone, proposing_gone, looking_gone, standing_made}

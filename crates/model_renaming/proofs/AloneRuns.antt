@@ -2,7 +2,7 @@
 use Rattle.std.proofs.Common.{◌≡◌, ℕ, ◌+◌, ◌≤◌, true, false, ◌⊎◌, List, [], ◌∷◌, ◌++◌, inl, inr, refl, sym, ap, subst, ◌∙◌, arith}
 use Rattle.model_renaming.proofs.Common.{eqb_tells, run_more, run_one, KnownPlaces, SnapCall, snap_next, IsSnapReply, SnapObject, SnapBounds, observed, SnapAllows, SnapState, StepReply, Pace, paced, next, IsReply, RenameTerms, RenameObject, new_object, Allows, after, IsRun, RenameState}
 use Rattle.model_steps.specs.Calls.{Call, steps_of, steps_by}
-use Rattle.model_steps.proofs.WorldKeeps.{steps_of-push}
+use Rattle.model_steps.proofs.cited.WorldKeeps.{steps_of-push}
 use Rattle.model_renaming.specs.Alone.{LeavesAlone, StepsAlone, HasTwoLeft, steps_alone, IsNamedWithin, IsNamedAlone}
 use Rattle.model_renaming.proofs.Alone.{Grounds, LeftAlone, starts_alone, goes_alone, ends_named, call_alone}
 use Rattle.model_renaming.proofs.rounds.Keeping.{Goes}

@@ -1,16 +1,17 @@
 -- how many steps each has made, by how many proposals
-use Rattle.std.proofs.Common.{◌≡◌, ◌≢◌, ℕ, zero, suc, ◌+◌, ◌*◌, ◌<◌, ◌≤◌, ◌==◌, Bool, true, false, cond, List, [], ◌∷◌, ◌++◌, ◌⊎◌, Some, Ok, Err, is_some, not, inl, inr, refl, sym, ap, subst, ◌∙◌, arith, add-one, mul-le-mul_right, add-mul, one-mul}
+use Rattle.std.proofs.Common.{◌/◌, ◌≡◌, ◌≢◌, ℕ, zero, suc, ◌+◌, ◌*◌, ◌<◌, ◌≤◌, ◌==◌, Bool, true, false, cond, List, [], ◌∷◌, ◌++◌, ◌⊎◌, Some, Ok, Err, is_some, not, inl, inr, refl, sym, ap, subst, ◌∙◌, arith, add-one, mul-le-mul_right, add-mul, one-mul}
 use Rattle.model_renaming.proofs.Common.{eqb_tells, set_at, set_at-same, set_at-other, Call, Began, Stepped, StepReply, Quiet, Placed, Proposed, Saw, Named, Spent, SnapBounds, Pace, InTime, IsInTime, most_steps, paced, paced_step, ToGo, ToPropose, ToLook, RenameTerms, RenameObject, Allows, after, new_object, steps_by, next_proposal}
 use Rattle.model_steps.specs.Calls.{steps_of}
-use Rattle.model_steps.proofs.WorldKeeps.{steps_of-push}
+use Rattle.model_steps.proofs.cited.WorldKeeps.{steps_of-push}
 use Rattle.model_renaming.specs.Pace.{Phase, new_pace, first_phase}
 use Rattle.model_renaming.specs.Pace.Phase.{AtEnd}
 use Rattle.model_renaming.specs.RenameObject.{no_begin, after_step, AllowsStep}
 use Rattle.model_renaming.specs.Ends.{steps_among, EndsAmong}
 use Rattle.model_renaming.proofs.Ruled.{IsRuled, MayStep, not_begun, may_step, proposals_by}
 use Rattle.model_renaming.proofs.rounds.StepCases.{was_begun}
-use Rattle.model_asked.specs.rounds.Rounds.{most_proposals}
-use Rattle.model_asked.proofs.rounds_lemmas.Whole.{rounds_end, more_proposals}
+use Rattle.model_asked.specs.rounds.Rounds.{most_proposals, made_by}
+use Rattle.model_asked.proofs.cited.rounds.Whole.{rounds_end, more_proposals}
+use Rattle.model_asked.proofs.cited.rounds.Sharing.{shared}
 use Rattle.std.proofs.lemmas.Map.Views.{Contains-from_any}
 use Rattle.std.proofs.lemmas.Bool.Decides.{Decides-eqb}
 
@@ -329,7 +330,20 @@ module _ (terms : RenameTerms) (bounds : SnapBounds) (rising : AreRising bounds)
     few = subst (λ (b : ℕ). o.last ≤ most_proposals b) ruled.many (
         rounds_end (proposals_by ruled.whose o) o.last ruled.ids ruled.rule (λ i a b. Contains-from_any (λ x y. (Decides-eqb x y).0) (ruled.whose i) ruled.ids (ruled.begun (ruled.whose i) (ruled.of i a b))))
 
+    own_few : (p : ℕ) → 2 * made_by (proposals_by ruled.whose o) p o.last ≤ most_proposals o.many + 2
+    own_few p = subst (λ (b : ℕ). 2 * made_by (proposals_by ruled.whose o) p o.last ≤ most_proposals b + 2) ruled.many (
+        shared (proposals_by ruled.whose o) o.last ruled.ids p ruled.rule (λ i a b. Contains-from_any (λ x y. (Decides-eqb x y).0) (ruled.whose i) ruled.ids (ruled.begun (ruled.whose i) (ruled.of i a b))))
+
     module _ (b : ℕ) (as_few : o.many ≤ b) where
+      half : (p : ℕ) → 2 * o.count p ≤ most_proposals b + 2
+      half p = let a = own_few p in let d = ruled.counts p in let c = more_proposals o.many b as_few in omega arith
+
+      sure : (p : ℕ) → most_proposals b + 2 < 2 * terms.limit → o.spent p ≡ false
+      sure p l = elim (o.spent p) as (λ z. o.spent p ≡ z → z ≡ false) [
+        | false ↦ λ e. refl
+        | true ↦ λ e. absurd (let a = k.spent p e in let d = half p in omega arith)
+      ] refl
+
       together : o.last ≤ most_proposals b
       together = let a = few in let c = more_proposals o.many b as_few in omega arith
 
@@ -339,13 +353,13 @@ module _ (terms : RenameTerms) (bounds : SnapBounds) (rising : AreRising bounds)
         | true ↦ λ e. absurd (let a = k.spent p e in let c = k.counted p in let d = together in omega arith)
       ] refl
 
-      products : (p : ℕ) → o.count p * round bounds b ≤ most_proposals b * round bounds b
-      products p = mul-le-mul_right (round bounds b) (let c = k.counted p in let d = together in omega arith)
+      products : (p : ℕ) → o.count p * round bounds b ≤ (most_proposals b / 2 + 1) * round bounds b
+      products p = mul-le-mul_right (round bounds b) (let d = half p in omega arith)
 
       by_phase : (p : ℕ) (phase : Phase) → t.phase p ≡ phase → Clock bounds b phase (o.count p) (t.steps p) (steps_of p r) → steps_among bounds b ≤ steps_of p r → t.phase p ≡ AtEnd
-      by_phase p ToGo e c l = absurd (let f = c.fits in let g = c.waits in let x = one_more (most_proposals b) (round bounds b) in omega arith)
-      by_phase p (ToPropose n) e c l = absurd (let f = c.fits in let g = c.waits in let x = one_more (most_proposals b) (round bounds b) in let y = products p in omega arith)
-      by_phase p ToLook e c l = absurd (let f = c.fits in let g = c.waits in let x = one_more (most_proposals b) (round bounds b) in let y = products p in omega arith)
+      by_phase p ToGo e c l = absurd (let f = c.fits in let g = c.waits in let x = one_more (most_proposals b / 2 + 1) (round bounds b) in omega arith)
+      by_phase p (ToPropose n) e c l = absurd (let f = c.fits in let g = c.waits in let x = one_more (most_proposals b / 2 + 1) (round bounds b) in let y = products p in omega arith)
+      by_phase p ToLook e c l = absurd (let f = c.fits in let g = c.waits in let x = one_more (most_proposals b / 2 + 1) (round bounds b) in let y = products p in omega arith)
       by_phase p AtEnd e c l = e
 
       ended : (p : ℕ) → o.begun p ≡ true → steps_among bounds b ≤ steps_of p r → (is_some (o.name p) ≡ true) ⊎ (o.spent p ≡ true)
@@ -356,6 +370,8 @@ module _ (terms : RenameTerms) (bounds : SnapBounds) (rising : AreRising bounds)
       roomy = roomy;
       together = λ b l. together b l;
       each = k.counted;
+      half = λ b p l. half b l p;
       ended = λ b p l. ended b l p;
       unspent = λ b p l. never_spent b l p;
+      sure = λ b p l. sure b l p;
     }

@@ -5,22 +5,22 @@ pub use Rattle.model_steps.specs.declared.refusal.Refusal.TheVariants.{NotBegun,
 pub use Rattle.model_steps.specs.Calls.{lacked_memory, Call, steps_by}
 pub use Rattle.model_steps.specs.Calls.Call.{Stepped, Began}
 pub use Rattle.model_steps.specs.Machine.{Reaches}
-pub use Rattle.model_steps.proofs.MachineLemmas.{call_leads_on}
-pub use Rattle.model_steps.proofs.SetAtLemmas.{set_at-same, set_at-other}
+pub use Rattle.model_steps.proofs.cited.MachineLemmas.{call_leads_on}
+pub use Rattle.model_steps.proofs.cited.SetAtLemmas.{set_at-same, set_at-other}
 pub use Rattle.model_steps.specs.View.{value_of, IsRising}
 pub use Rattle.model_steps.specs.declared.participant.Participant.{Participant}
 pub use Rattle.model_steps.specs.Participant.{participant_of, beginner, program_of, identities, resumed, with_participant, AreDistinct, index_of}
-pub use Rattle.model_steps.proofs.ParticipantLemmas.{participant_of-put, participant_of-push, length-with_participant}
+pub use Rattle.model_steps.proofs.cited.ParticipantLemmas.{participant_of-put, participant_of-push, length-with_participant}
 pub use Rattle.model_steps.specs.World.{begin_refusal, done_unless}
-pub use Rattle.model_steps.proofs.WorldKeeps.{let_in}
-pub use Rattle.model_steps.proofs.RunLemmas.{run_more, run_one}
+pub use Rattle.model_steps.proofs.cited.WorldKeeps.{let_in}
+pub use Rattle.model_steps.proofs.cited.RunLemmas.{run_more, run_one}
 pub use Rattle.model_steps.specs.Runs.{Run}
 pub use Rattle.model_steps.specs.SetAt.{set_at}
-pub use Rattle.model_steps.proofs.Found.{found, none-index_of, index_of-below}
+pub use Rattle.model_steps.proofs.cited.Found.{found, none-index_of, index_of-below}
 pub use Rattle.model_asked.specs.declared.kind.WorldKind.{WorldKind}
 pub use Rattle.model_asked.specs.Config.{is_tree}
 pub use Rattle.model_snapshot.specs.Places.{KnownPlaces, PlacesLaws, BoundsScans, places_by}
-pub use Rattle.model_snapshot.proofs.Clients.{has_begun, goes_busy, goes_idle}
+pub use Rattle.model_snapshot.proofs.cited.Clients.{has_begun, goes_busy, goes_idle}
 pub use Rattle.model_snapshot.specs.Standing.{GoesBusy, is_quiet, StandsAt}
 pub use Rattle.model_snapshot.specs.declared.client.SnapReply.{SnapReply}
 pub use Rattle.model_snapshot.specs.declared.client.SnapReply.TheVariants.{Quiet as Silent, Placed as HasPlace, Written, View as Viewed}

@@ -2,7 +2,7 @@
 use Rattle.std.proofs.Common.{◌≡◌, ℕ, true, false, cond, length, Option, Some, None, refl, ◌∙◌}
 use Rattle.model_renaming.proofs.Common.{Participant, Refusal, participant_of, program_of, identities, beginner, resumed, length-with_participant, Client, is_idle, updating, scanning, KnownPlaces}
 use Rattle.model_steps.specs.World.{after_step, after_step_by, got_by}
-use Rattle.model_steps.proofs.DistinctParticipants.{identities-put}
+use Rattle.model_steps.proofs.cited.DistinctParticipants.{identities-put}
 use Rattle.model_snapshot.specs.SnapWorld.{SnapState, clients_over, asked, after_scan, after_update, scan_refusal, update_refusal, after_snap_step, after_snap_by}
 
 -- the same take part as before, and there is room for as many

@@ -1,16 +1,13 @@
-mod Common
-mod rounds
-mod ShortReplies
-mod Large
-pub mod Sizes
-mod LocalSteps
 mod Alone
 mod AloneRuns
-mod Ruled
 mod Clocked
-mod Names
-pub mod NamedPlaces
+mod Common
 mod FreshWorlds
-pub mod ReachesByCalls
-pub mod PlacesLaw
+mod Large
+mod LocalSteps
+mod Names
+mod Ruled
+mod ShortReplies
+pub mod cited
 pub mod over_lemmas
+mod rounds

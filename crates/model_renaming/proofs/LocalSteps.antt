@@ -6,8 +6,8 @@ use Rattle.model_steps.specs.declared.access.Answer.{Answer}
 use Rattle.model_steps.specs.Steps.{Spares}
 use Rattle.model_steps.specs.World.{step_answer_by}
 use Rattle.model_steps.specs.Calls.{reply_of}
-use Rattle.model_steps.proofs.ParticipantLemmas.{participant_of-put, identity_of}
-use Rattle.model_steps.proofs.StepLemmas.{going_after, lacks_or_not}
+use Rattle.model_steps.proofs.cited.ParticipantLemmas.{participant_of-put, identity_of}
+use Rattle.model_steps.proofs.cited.StepLemmas.{going_after, lacks_or_not}
 use Rattle.model_snapshot.specs.SnapWorld.{SnapState, asked, clients_over, reported, scan_refusal_by, update_refusal_by, snap_answer_by, after_snap_step}
 use Rattle.model_renaming.specs.Locality.{client_of, round_of, wished, asked_unless, access_of, got_in, follow_by, ChangesOnly}
 

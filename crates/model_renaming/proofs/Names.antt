@@ -1,15 +1,15 @@
 -- every renaming world keeps the law of renaming
 use Rattle.std.proofs.Common.{◌≤◌, None, is_some, IsOk, ◌≡◌, ◌+◌, false, ℕ, ◌==◌, Bool, true, List, [], ◌∷◌, ◌++◌, Option, Some, refl, sym, ap, ◌∙◌, arith, option_map, option_and_then}
 use Rattle.model_renaming.proofs.Common.{Call, Began, Stepped, Participant, NotBegun, participant_of, Run, PlacesLaws, BoundsScans, KnownPlaces, Client, StandsAt, GoesBusy, goes_busy, client_of, access_of, snapshot, SnapCall, snap_next, IsSnapReply, is_tree, WorldKind, StepReply, Round, Stage, Placing, Proposing, Looking, Settled, Over, Reaches, RenameState, name_in, name_by, owner_by, shown_by, step_refusal, rename_answer, may_lack, name_at, stage_refusal, standing_by}
-use Rattle.model_steps.proofs.RunLemmas.{run_more, run_keeps, run_one}
+use Rattle.model_steps.proofs.cited.RunLemmas.{run_more, run_keeps, run_one}
 use Rattle.model_snapshot.specs.SnapWorld.{SnapState, IsAccessFor}
-use Rattle.model_snapshot.proofs.Following.{own_access_holds}
+use Rattle.model_snapshot.proofs.cited.Following.{own_access_holds}
 use Rattle.model_snapshot.specs.Snapshot.{IsMoment, SnapObject, SnapBounds, bounds_over, observed, Allows as SnapAllows, new_object as new_snap}
 use Rattle.model_renaming.specs.Law.{RenameSpec}
 use Rattle.model_renaming.specs.Pace.{Pace, InTime, new_pace, paced, IsPaced}
 use Rattle.model_renaming.specs.Machine.{next, IsReply, fresh_over, IsRenameStart, renaming, terms_of}
 use Rattle.model_renaming.specs.RenameObject.{RenameTerms, RenameObject, new_object, Allows, after, IsRun, IsOwner}
-use Rattle.model_snapshot.proofs.Alone.{ends_soon_alone}
+use Rattle.model_snapshot.proofs.cited.Alone.{ends_soon_alone}
 use Rattle.model_renaming.proofs.Alone.{Grounds}
 use Rattle.model_renaming.proofs.AloneRuns.{KeepsAlone, alone_fresh, alone_more, alone_named}
 use Rattle.model_renaming.proofs.Ruled.{IsRuled, ruled_fresh, ruled_more}
@@ -17,7 +17,7 @@ use Rattle.model_renaming.proofs.Clocked.{AreRising, IsClocked, are_rising, cloc
 use Rattle.model_renaming.proofs.rounds.Beginning.{begin_goes}
 use Rattle.model_renaming.proofs.rounds.Keeping.{Goes, step_goes}
 use Rattle.model_renaming.proofs.rounds.Shown.{standing_of, shown_rising, shown_is, Owns, owner_is}
-use Rattle.model_renaming.proofs.Sizes.{most_after}
+use Rattle.model_renaming.proofs.cited.Sizes.{most_after}
 use Rattle.model_renaming.proofs.rounds.Snapping.{AreAfter, after_none, after_more}
 use Rattle.model_renaming.proofs.rounds.Standing.{standing_fresh, distinct_names, name_small}
 use Rattle.model_renaming.proofs.rounds.Tied.{IsAtStage, IsTied}

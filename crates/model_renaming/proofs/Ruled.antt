@@ -1,5 +1,5 @@
 -- the proposals of a run of the object, in their order, are made by the rule
-use Rattle.std.proofs.Common.{◌≡◌, ◌≢◌, ℕ, suc, ◌+◌, ◌≤◌, ◌==◌, Bool, true, false, cond, List, [], ◌∷◌, length, ◌⊎◌, Option, Some, None, Ok, Err, is_some, nat_le, not, inl, inr, refl, sym, ap, subst, ◌∙◌, arith}
+use Rattle.std.proofs.Common.{◌≡◌, ◌≢◌, ℕ, zero, suc, ◌+◌, ◌≤◌, ◌==◌, Bool, true, false, cond, List, [], ◌∷◌, length, ◌⊎◌, Option, Some, None, Ok, Err, is_some, nat_le, not, inl, inr, refl, sym, ap, subst, ◌∙◌, arith}
 use Rattle.std.specs.List.{list_any}
 use Rattle.model_renaming.proofs.Common.{eqb_tells, set_at, set_at-same, set_at-other, Call, Began, Stepped, Refusal, StepReply, Quiet, Placed, Proposed, Saw, Named, Spent, SnapBounds, Pace, InTime, paced, ToGo, ToPropose, ToLook, RenameTerms, RenameObject, Allows, after, new_object, next_proposal}
 use Rattle.model_steps.specs.declared.refusal.Refusal.TheVariants.{ZeroIdentity, AlreadyBegun, Full, NotBegun, Finished, Spent as IsSpent}
@@ -7,7 +7,7 @@ use Rattle.model_renaming.specs.Pace.{Phase, new_pace, first_phase}
 use Rattle.model_renaming.specs.Pace.Phase.{AtEnd}
 use Rattle.model_renaming.specs.RenameObject.{no_begin, no_step, after_step, AllowsStep, ShowsConflict}
 use Rattle.model_renaming.proofs.rounds.StepCases.{was_begun}
-use Rattle.model_asked.specs.rounds.Rounds.{Proposals, IsSilent, IsSeen, IsFirst, IsChosen, AreByRule}
+use Rattle.model_asked.specs.rounds.Rounds.{Proposals, IsSilent, IsSeen, IsFirst, IsChosen, AreByRule, made_by}
 
 -- the proposals of an object, of which these are whose each is
 abbrev pub proposals_by : (ℕ → ℕ) → RenameObject → Proposals
@@ -24,6 +24,7 @@ pub record IsRuled (o : RenameObject) (t : Pace) : Type 0 where
   pub many : length ids ≡ o.many
   pub begun : (q : ℕ) → o.begun q ≡ true → list_any (λ u. q == u) ids ≡ true
   pub of : (i : ℕ) → 1 ≤ i → i ≤ o.last → o.begun (whose i) ≡ true
+  pub counts : (q : ℕ) → o.count q ≡ made_by (proposals_by whose o) q o.last
   pub recent : (q : ℕ) → IsSilent (proposals_by whose o) q (o.since q) o.last
   pub unborn : (q : ℕ) → o.begun q ≡ false → o.moment o.last q ≡ None
   pub coming : (q : ℕ) → t.phase q ≡ ToGo → o.moment o.last q ≡ None
@@ -37,6 +38,7 @@ ruled_fresh = record {
   many = refl;
   begun = λ q e. absurd (cc);
   of = λ i a b. absurd (omega arith);
+  counts = λ q. refl;
   recent = λ q i a b. absurd (omega arith);
   unborn = λ q e. refl;
   coming = λ q e. absurd (cc);
@@ -168,6 +170,17 @@ module _ (o : RenameObject) (t : Pace) (k : IsRuled o t) (p n : ℕ) (is_begun :
     ];
   }
 
+  made_on : (q i : ℕ) → i ≤ o.last → made_by h' q i ≡ made_by h q i
+  made_on q zero l = refl
+  made_on q (suc i) l =
+      let whom : (whose' (suc i) == q) ≡ (k.whose (suc i) == q) = ap (λ (u : ℕ). u == q) (old_whose (suc i) l) in
+      ap (λ (b : Bool). cond b 1 0 + made_by h' q i) whom ∙ ap (λ (n : ℕ). cond (k.whose (suc i) == q) 1 0 + n) (made_on q i (omega arith))
+
+  made_more : (q j : ℕ) → j ≡ suc o.last → made_by h' q j ≡ cond (p == q) 1 0 + made_by h q o.last
+  made_more q j e =
+      let whom : (whose' (suc o.last) == q) ≡ (p == q) = ap (λ (u : ℕ). u == q) (new_whose (suc o.last) (omega arith)) in
+      ap (λ (n : ℕ). made_by h' q n) e ∙ (ap (λ (b : Bool). cond b 1 0 + made_by h' q o.last) whom ∙ ap (λ (n : ℕ). cond (p == q) 1 0 + n) (made_on q o.last (omega arith)))
+
   others_phase : (q : ℕ) → q ≢ p → set_at t.phase p ToLook q ≡ t.phase q
   others_phase q other = set_at-other t.phase p ToLook q other
 
@@ -184,6 +197,10 @@ module _ (o : RenameObject) (t : Pace) (k : IsRuled o t) (p n : ℕ) (is_begun :
     of = λ i a b. elim (eqb_tells i (o.last + 1)) [
       | inl e ↦ ap o.begun (new_whose i e.1) ∙ is_begun
       | inr e ↦ let f = e.1 in ap o.begun (old_whose i (omega arith)) ∙ k.of i a (omega arith)
+    ];
+    counts = λ q. elim (eqb_tells p q) [
+      | inl e ↦ (let more : made_by h' q (o.last + 1) ≡ 1 + made_by h q o.last = made_more q (o.last + 1) (omega arith) ∙ ap (λ (b : Bool). cond b 1 0 + made_by h q o.last) e.0 in let own : o'.count q ≡ o.count p + 1 = ap o'.count (sym e.1) ∙ set_at-same o.count p (o.count p + 1) in let before : o.count p ≡ made_by h q o.last = ap o.count e.1 ∙ k.counts q in omega arith)
+      | inr e ↦ (let more : made_by h' q (o.last + 1) ≡ 0 + made_by h q o.last = made_more q (o.last + 1) (omega arith) ∙ ap (λ (b : Bool). cond b 1 0 + made_by h q o.last) e.0 in let other : o'.count q ≡ o.count q = set_at-other o.count p (o.count p + 1) q (λ w. e.1 (sym w)) in let before = k.counts q in omega arith)
     ];
     recent = λ q. elim (eqb_tells q p) [
       | inl e ↦ λ i a b. absurd (let since : o'.since q ≡ o.last + 1 = ap o'.since e.1 ∙ set_at-same o.since p (o.last + 1) in omega arith)
@@ -219,6 +236,7 @@ module _ (terms : RenameTerms) (bounds : SnapBounds) where
       | inl w ↦ ap (set_at o.begun p true) w.1 ∙ set_at-same o.begun p true
       | inr w ↦ set_at-other o.begun p true (k.whose i) w.1 ∙ k.of i a b
     ];
+    counts = k.counts;
     recent = k.recent;
     unborn = λ q e. elim (eqb_tells q p) [
       | inl w ↦ absurd (let no : true ≡ false = sym (ap (set_at o.begun p true) w.1 ∙ set_at-same o.begun p true) ∙ e in cc)
@@ -246,6 +264,7 @@ module _ (terms : RenameTerms) (bounds : SnapBounds) where
     many = k.many;
     begun = k.begun;
     of = k.of;
+    counts = k.counts;
     recent = k.recent;
     unborn = k.unborn;
     coming = λ q e. elim (eqb_tells q p) [
@@ -278,7 +297,7 @@ module _ (terms : RenameTerms) (bounds : SnapBounds) where
   )
 
   ruled_stepped : (o : RenameObject) (t : Pace) (p : ℕ) → IsRuled o t → o.begun p ≡ true → (reply : StepReply) → AllowsStep terms o p reply → InTime bounds t (Stepped p (Ok reply)) → IsRuled (after o (Stepped p (Ok reply))) (paced bounds t (Stepped p (Ok reply)))
-  ruled_stepped o t p k begun Quiet allowed timed = record { whose = k.whose; rule = k.rule; ids = k.ids; many = k.many; begun = k.begun; of = k.of; recent = k.recent; unborn = k.unborn; coming = k.coming; due = k.due }
+  ruled_stepped o t p k begun Quiet allowed timed = record { whose = k.whose; rule = k.rule; ids = k.ids; many = k.many; begun = k.begun; of = k.of; counts = k.counts; recent = k.recent; unborn = k.unborn; coming = k.coming; due = k.due }
   ruled_stepped o t p k begun (Placed x) allowed timed = turns o t p k (ToPropose 1) (λ e. cc) (λ whose silent n e. inl (k.coming p timed.is, let same : 1 ≡ n = cc in sym same)) (set_at o.place p (Some x)) o.name o.spent (set_at t.steps p 0)
   ruled_stepped o t p k begun (Proposed n) allowed timed = ruled_proposed o t k p n begun timed.is bounds
   ruled_stepped o t p k begun (Saw view) allowed timed = turns o t p k (ToPropose (next_proposal p view)) (λ e. cc) (due_seen o p view allowed.2) o.place o.name o.spent (set_at t.steps p 0)

@@ -1,3 +1,2 @@
 pub mod GridContents
-pub mod GridLaw
 pub mod TreeLaw

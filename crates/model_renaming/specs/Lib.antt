@@ -11,6 +11,5 @@ pub mod Taken
 pub mod NamedPlaces
 pub mod Machine
 pub mod Locality
-pub mod Ample
-pub mod EmptyPlaces
 pub mod over
+pub mod lemmas

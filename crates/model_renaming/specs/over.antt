@@ -1,9 +1,7 @@
 pub mod GridState
 pub mod Grid
 pub mod GridTies
-pub mod GridProofs
 pub mod Tree
 pub mod TreeTies
-pub mod TreeProofs
 pub mod Bounds
 pub mod Made

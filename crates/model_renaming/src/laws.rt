@@ -1,6 +1,6 @@
 //! Laws of renaming, which run nothing: of the calls of a world, and over a grid, over a tree and over segments in a row.
 
-ghost use Rattle.std.specs.Prelude.{◌≡◌, ℕ, ◌+◌, ◌-◌, ◌*◌, ◌^◌, ◌<◌, ◌≤◌, false};
+ghost use Rattle.std.specs.Prelude.{◌≡◌, ℕ, ◌+◌, ◌-◌, ◌*◌, ◌/◌, ◌^◌, ◌<◌, ◌≤◌, false};
 ghost use Rattle.model_snapshot.specs.FixedTies.{fixed_places, fixed_bounds};
 ghost use Rattle.model_renaming.specs.over.Bounds.{grid_bounds, tree_bounds};
 ghost use Rattle.model_renaming.specs.over.Grid.{segments_for};
@@ -19,10 +19,10 @@ ghost use Rattle.model_asked.specs.declared.config.Config.{Config};
 ghost use Rattle.model_asked.specs.declared.kind.WorldKind.TheVariants as kind;
 ghost use Rattle.model_steps.specs.Calls.{Call};
 
+use crate::over::{Grid, TreePlaces};
 use crate::places::RenamePlaces;
 use crate::world::RenameWorld;
 use model_snapshot::{Fixed, Known, Places};
-use crate::over::{Grid, TreePlaces};
 use std::alloc::Allocator;
 
 /// A law: renaming is a machine whose calls extend its history.
@@ -91,14 +91,16 @@ pub fn law_of_steps_alone()
 
 /// A law: the most accepted steps that a participant makes until it is named, whatever the others do.
 ///
-/// Here b of at most m have begun, and the round limit is above 3(5^b - 1)/4, the most proposals of b. The round limit
-/// 1000 is, if at most 4 take part, and 292,969 is, if at most 8 do.
+/// Here b of at most m have begun, and twice the round limit is above S(b) + 2, where S(b) = 3(5^b - 1)/4 is the most
+/// proposals of b. The round limit 236 is enough for 4 participants, and 732,423 for 9.
 pub fn law_of_steps_among()
-    ensures grid { (m b : ℕ) → steps_among (grid_bounds m) b ≡ 4 * b + (most_proposals b + 1) * (2 * (segments_for m * (segments_for m + 1)) + 1) }
-    ensures tree { (m b : ℕ) → steps_among (tree_bounds m) b ≡ 5 * b + (most_proposals b + 1) * (2 * ((b + 1) * (6 * b - 2)) + 1) }
+    ensures grid { (m b : ℕ) → steps_among (grid_bounds m) b ≡ 4 * b + (most_proposals b / 2 + 2) * (2 * (segments_for m * (segments_for m + 1)) + 1) }
+    ensures tree { (m b : ℕ) → steps_among (tree_bounds m) b ≡ 5 * b + (most_proposals b / 2 + 2) * (2 * ((b + 1) * (6 * b - 2)) + 1) }
     ensures proposals { (b : ℕ) → 4 * most_proposals b + 3 ≡ 3 * 5 ^ b }
     ensures four { (b : ℕ) → b ≤ 4 → most_proposals b < 1000 }
     ensures eight { (b : ℕ) → b ≤ 8 → most_proposals b < 292969 }
+    ensures four_by_half { (b : ℕ) → b ≤ 4 → most_proposals b + 2 < 2 * 236 }
+    ensures nine_by_half { (b : ℕ) → b ≤ 9 → most_proposals b + 2 < 2 * 732423 }
 {}
 
 /// A law: under no configuration do more take part than a view has room for.

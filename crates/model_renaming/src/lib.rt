@@ -26,10 +26,10 @@
 //! place is reached within 4b steps and a view within G(G + 1). Over a tree the bounds are 5b and (b + 1)(6b - 2). A
 //! proposal takes one step more than a view (`grid_rename_law`, `tree_rename_law`).
 //!
-//! Renaming is wait-free if the round limit is above S(b) = 3(5^b - 1)/4 (`specs/Ends.antt`, `law_of_steps_among`).
-//! Participants of whom b have begun make at most S(b) proposals, all together, whatever the schedule is
-//! (`model_asked::rounds`). So each participant is named or spent within `steps_among` accepted steps of its own. If the
-//! limit is above S(b), nobody is spent (`Config::cannot_spend`).
+//! Participants of whom b have begun make at most S(b) = 3(5^b - 1)/4 proposals, all together, whatever the schedule is,
+//! and each makes at most half of them and one (`model_asked::rounds`). So each participant is named or spent within
+//! `steps_among` accepted steps of its own (`specs/Ends.antt`, `law_of_steps_among`). If twice the round limit is above
+//! S(b) + 2, nobody is spent, and renaming is wait-free (`Config::cannot_spend`).
 //!
 //! A participant that runs solo, with two proposals left, is named much sooner (`specs/Alone.antt`,
 //! `law_of_steps_alone`). Where at most m take part, it makes at most 4m + 11G + 1 steps over a grid of G doors.
@@ -54,8 +54,8 @@
 //! ```
 #![tactic(auto)]
 
-pub mod over;
 pub mod laws;
+pub mod over;
 pub mod places;
 pub mod proposal;
 pub mod reply;
@@ -63,11 +63,11 @@ pub mod round;
 mod step;
 pub mod world;
 
-pub use model_asked::{Config, WorldKind};
 pub use laws::{
     fixed_rename_law, grid_rename_law, law_of_configs, law_of_renaming_calls, law_of_steps_alone,
     law_of_steps_among, tree_rename_law,
 };
+pub use model_asked::{Config, WorldKind};
 pub use places::RenamePlaces;
 pub use proposal::next_proposal;
 pub use reply::Reply;

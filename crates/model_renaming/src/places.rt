@@ -1,8 +1,8 @@
 //! Places over which names are given.
 
 ghost use Rattle.std.specs.Prelude.{◌≡◌, ◌≤◌, ℕ, IfOk, IfErr, refl};
-ghost use Rattle.model_renaming.specs.Ample.{fixed_ample, grid_ample};
-ghost use Rattle.model_renaming.specs.EmptyPlaces.{AreEmptyFor, fixed_empty, grid_empty, tree_empty};
+ghost use Rattle.model_renaming.specs.lemmas.Ample.{fixed_ample, grid_ample};
+ghost use Rattle.model_renaming.specs.lemmas.EmptyPlaces.{AreEmptyFor, fixed_empty, grid_empty, tree_empty};
 ghost use Rattle.model_asked.specs.declared.kind.WorldKind.{WorldKind};
 ghost use Rattle.model_asked.specs.declared.kind.WorldKind.TheVariants as kind;
 ghost use Rattle.model_renaming.specs.NamedPlaces.{PlacesAtOnce, GrowsAsTree};
@@ -11,11 +11,11 @@ ghost use Rattle.model_snapshot.specs.FixedTies.{fresh_row};
 ghost use Rattle.model_renaming.specs.over.Grid.{fresh_grid};
 ghost use Rattle.model_renaming.specs.over.Tree.{new_tree};
 
+use crate::over::{Grid, TreePlaces};
 use model_asked::WorldKind;
 use model_snapshot::{Fixed, Known, Places};
-use crate::over::{Grid, TreePlaces};
-use std::alloc::Allocator;
 use model_steps::Refusal;
+use std::alloc::Allocator;
 
 /// Places over which names are given: the world that they serve, and how they are made.
 pub trait RenamePlaces<A: Allocator>: Places {

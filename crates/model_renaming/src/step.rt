@@ -11,8 +11,8 @@ use crate::places::RenamePlaces;
 use crate::reply::Reply;
 use crate::round::{Round, Wish};
 use model_snapshot::{Known, SnapReply, SnapWorld};
-use std::alloc::Allocator;
 use model_steps::{NoMemory, Participant, Refusal, View};
+use std::alloc::Allocator;
 
 /// Begins the operation of the snapshot object that a round needs, with no access. It never fails, since nothing of the
 /// identity is pending then.

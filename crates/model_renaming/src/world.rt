@@ -18,9 +18,9 @@ use crate::round::{Round, Wish};
 use crate::step::{ask, take};
 use model_asked::Config;
 use model_snapshot::{Known, SnapWorld};
+use model_steps::{Hints, Participant, Refusal, View};
 use std::alloc::{AllocError, Allocator};
 use std::marker::Model;
-use model_steps::{Hints, Participant, Refusal, View};
 
 /// Participants that get names in `1..=2b - 1` by rounds of proposals, where `b` have begun (Attiya et al. 1990).
 #[derive(Drop)]

@@ -3,10 +3,10 @@ use Rattle.std.proofs.Common.{◌≡◌, ◌≢◌, ℕ, true, false, Some, None
 use Rattle.model_snapshot.proofs.WorldCommon.{Pending, Note, Quiet, Read, Refusal, NotBegun, Finished, NoMemory, program_of, lacked_memory, reply_of, snapshot, Participant, Client, SnapReply, KnownPlaces, is_idle, access_for, Began, Updated, Scanned, Stepped}
 use Rattle.model_snapshot.specs.declared.client.Pending.TheVariants.{Nothing, Placing}
 use Rattle.model_steps.specs.World.{begin_refusal, done_unless, step_answer, after_step}
-use Rattle.model_steps.proofs.StepLemmas.{lacks_or_not}
-use Rattle.model_snapshot.proofs.SnapWorldLemmas.{after_stepped}
+use Rattle.model_steps.proofs.cited.StepLemmas.{lacks_or_not}
+use Rattle.model_snapshot.proofs.cited.SnapWorldLemmas.{after_stepped}
 use Rattle.model_steps.specs.Machine.{Extends}
-use Rattle.model_steps.proofs.MachineLemmas.{call_leads_on}
+use Rattle.model_steps.proofs.cited.MachineLemmas.{call_leads_on}
 use Rattle.model_steps.specs.Locality.{ReadsNext, IsTaken}
 use Rattle.model_snapshot.specs.SnapWorld.{SnapState, after_snap_begin, scan_refusal, update_refusal, after_scan, after_update, reported, clients_over, snap_answer, after_snap_step, may_lack_memory}
 

@@ -3,7 +3,7 @@ use Rattle.std.proofs.Common.{◌≡◌, ◌≢◌, ℕ, ◌+◌, ◌<◌, ◌�
 use Rattle.model_snapshot.proofs.Common.{length-map, set_at, set_at-same, set_at-other, Record, Sighting, met_in, number_met, sighting_of, noted, with_sighting, carried_over, shown_by, IsMoment, count_to}
 use Rattle.std.proofs.lemmas.Bool.{cases_Bool, or_cases, or_parts, or_left, or_right}
 use Rattle.std.proofs.lemmas.Bool.Decides.{eqb_tells, leb_tells}
-use Rattle.model_steps.proofs.CountLemmas.{count_to-lt, count_to-mono, count_to-gain, count_to-longer}
+use Rattle.model_steps.proofs.cited.CountLemmas.{count_to-lt, count_to-mono, count_to-gain, count_to-longer}
 use Rattle.model_snapshot.proofs.SightingLemmas.{is_known, sighting_of-with, is_known-with, length-with-known, length-with-unknown, noted-known, noted-room, sighting_of-carried, is_known-carried}
 use Rattle.model_snapshot.proofs.Shown.{AreMet, met-carried, met-set, met-with, number_met-is, shown_rising, shown_is}
 use Rattle.model_snapshot.proofs.Histories.{number, value, value_in, IsHistory}

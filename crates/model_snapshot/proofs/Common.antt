@@ -10,14 +10,14 @@ pub use Rattle.model_steps.specs.declared.participant.Participant.{Participant}
 pub use Rattle.model_steps.specs.Note.{ends}
 pub use Rattle.model_steps.specs.Participant.{participant_of, program_of, with_participant, beginner}
 pub use Rattle.model_steps.specs.SetAt.{set_at}
-pub use Rattle.model_steps.proofs.ParticipantLemmas.{participant_of-put, participant_of-push, length-with_participant, some_begun}
-pub use Rattle.model_steps.proofs.SetAtLemmas.{set_at-same, set_at-other}
-pub use Rattle.model_steps.proofs.StepLemmas.{going_answer, going_after}
+pub use Rattle.model_steps.proofs.cited.ParticipantLemmas.{participant_of-put, participant_of-push, length-with_participant, some_begun}
+pub use Rattle.model_steps.proofs.cited.SetAtLemmas.{set_at-same, set_at-other}
+pub use Rattle.model_steps.proofs.cited.StepLemmas.{going_answer, going_after}
 pub use Rattle.model_steps.specs.declared.note.Note.{Note}
 pub use Rattle.model_steps.specs.declared.note.Note.TheVariants.{Quiet, Said, Ended}
 pub use Rattle.model_steps.specs.declared.refusal.Refusal.TheVariants.{Spent, NotBegun, Finished, NoMemory}
 pub use Rattle.model_steps.specs.World.{begin_refusal, may_refuse_by, begun_unless, done_unless}
-pub use Rattle.model_steps.proofs.WorldKeeps.{let_in}
+pub use Rattle.model_steps.proofs.cited.WorldKeeps.{let_in}
 pub use Rattle.model_steps.specs.declared.record.Record.{Record}
 pub use Rattle.model_steps.specs.Count.{count_to}
 pub use Rattle.model_steps.specs.View.{IsRising, value_of}

@@ -3,7 +3,7 @@ use Rattle.std.proofs.Common.{◌≡◌, ℕ, ◌+◌, ◌*◌, ◌≤◌, ◌==
 use Rattle.model_snapshot.proofs.Common.{mul-le-mul_right, eqb_tells, some_begun, Participant, NotBegun, Finished, NoMemory, participant_of, begin_refusal, may_refuse_by, Client, Pending, Nothing, Places, Scans, Update, Writing, is_idle, BoundsScans, SnapState, clients_over, scan_refusal, update_refusal, scan_refusal_by, update_refusal_by, may_lack_memory, way_now, ways_of, Placing}
 use Rattle.model_snapshot.specs.Snapshot.{SnapObject, SnapBounds, has_begun, has_nothing_pending, begin_due, scan_due, update_due, step_due, LacksMemory}
 use Rattle.model_snapshot.proofs.LawfulPlaces.{LawfulPlaces}
-use Rattle.model_snapshot.proofs.SureSteps.{on_way_or_sure}
+use Rattle.model_snapshot.proofs.cited.SureSteps.{on_way_or_sure}
 use Rattle.model_snapshot.proofs.Tied.{IsAtTask, IsTied, era_now}
 
 -- so many participants at most, steps to a place, and those of a scan that keep the bound

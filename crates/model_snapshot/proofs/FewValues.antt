@@ -1,7 +1,7 @@
 -- a view has no more pairs than have begun
 use Rattle.std.proofs.Common.{◌≡◌, ℕ, ◌<◌, ◌≤◌, ◌==◌, Bool, true, false, List, [], ◌∷◌, length, Option, Some, None, inl, inr, refl, arith, is_some, if◌then◌else◌}
 use Rattle.model_snapshot.proofs.Common.{eqb_tells, IsRising, value_of, count_to}
-use Rattle.model_steps.proofs.CountLemmas.{count_to-le, count_to-gain}
+use Rattle.model_steps.proofs.cited.CountLemmas.{count_to-le, count_to-gain}
 
 -- who is found behind a pair is above it
 above : (x : ℕ × ℕ) (xs : List (ℕ × ℕ)) (q n : ℕ) → IsRising (x ∷ xs) → value_of q xs ≡ Some n → x.0 < q

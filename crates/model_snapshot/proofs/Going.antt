@@ -2,7 +2,7 @@
 use Rattle.std.proofs.Common.{◌≡◌, ◌≢◌, ℕ, ◌+◌, ◌<◌, ◌≤◌, false, List, ◌⊎◌, length, Option, Some, None, inl, inr, refl, sym, ap, ◌∙◌, arith}
 use Rattle.model_snapshot.proofs.Common.{eqb_tells, set_at, Write, Participant, participant_of, with_participant, length-with_participant, Record, Client, Nothing, SnapState, way_now, ways_of, segment_in, KeepsWalks, Idle}
 use Rattle.std.proofs.Math.Nat.{mul-le-mul_right, mul-le-mul_left}
-use Rattle.model_steps.proofs.SetAtLemmas.{set_at-same, set_at-other, set_at-as_is}
+use Rattle.model_steps.proofs.cited.SetAtLemmas.{set_at-same, set_at-other, set_at-as_is}
 use Rattle.model_snapshot.specs.Snapshot.{Task, SnapObject, with_task, with_moment}
 use Rattle.model_snapshot.proofs.LawfulPlaces.{LawfulPlaces}
 use Rattle.model_snapshot.proofs.Histories.{number, IsHelp, IsHistory, past', moment', past_kept, past_other, past_here, help_kept, history_more, history_joined, nothing_there}

@@ -1,7 +1,7 @@
 -- the view that a collect shows: each value that it met, under its identity
 use Rattle.std.proofs.Common.{◌≡◌, ℕ, suc, ◌+◌, ◌<◌, ◌≤◌, ◌==◌, Bool, true, false, cond, List, [], ◌∷◌, length, get_or, map, drop, drop-cons, Option, Some, None, inl, inr, refl, sym, ap, ◌∙◌, arith, option_map, ◌||◌}
 use Rattle.model_snapshot.proofs.Common.{or_left, or_right, eqb_tells, set_at, set_at-other, IsRising, value_of, Record, Sighting}
-use Rattle.model_steps.proofs.ViewLemmas.{value_of-inserted, IsRising-inserted, length-inserted}
+use Rattle.model_steps.proofs.cited.ViewLemmas.{value_of-inserted, IsRising-inserted, length-inserted}
 use Rattle.model_snapshot.specs.declared.sightings.Met.{Met}
 use Rattle.model_snapshot.specs.Sightings.{met_in, number_met, sighting_of, with_sighting, carried_over, shown_with, shown_by}
 use Rattle.model_snapshot.proofs.Histories.{number, value, value_in}

@@ -11,4 +11,4 @@ pub mod Machine
 pub mod Alone
 pub mod Fixed
 pub mod FixedTies
-pub mod FixedProofs
+pub mod lemmas

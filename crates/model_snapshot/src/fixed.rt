@@ -6,14 +6,14 @@ ghost use Rattle.model_steps.specs.declared.access.Access.TheVariants.{Read};
 ghost use Rattle.model_steps.specs.Steps.{answer_from};
 ghost use Rattle.model_snapshot.specs.Fixed.{fixed_steps, register_of, after_access, walker_steps, fixed_walks, fixed_place, fixed_walker, fixed_walk};
 ghost use Rattle.model_snapshot.specs.FixedTies.{IsEmptyRow, fixed_ties};
-ghost use Rattle.model_snapshot.specs.FixedProofs.{others_kept, fixed_laws};
+ghost use Rattle.model_snapshot.specs.lemmas.FixedProofs.{others_kept, fixed_laws};
 
 use crate::{PlaceWalker, Places, SegmentWalk};
-use std::alloc::Allocator;
-use std::marker::Model;
 use model_steps::{
     Access, Answer, NoMemory, Note, Place, Record, Refusal, Segment, StepMemory, StepProgram,
 };
+use std::alloc::Allocator;
+use std::marker::Model;
 
 /// Segments in a row, one for each of at most 16 participants.
 ///

@@ -3,8 +3,8 @@
 ghost use Rattle.std.specs.Prelude.{◌≡◌, ◌<◌, ◌≤◌, [], map, length};
 ghost use Rattle.model_snapshot.specs.Sightings.{met_in, unknown, sighting_of, index_of, noted, carried_over, shown_with, shown_by};
 
-use std::marker::Model;
 use model_steps::{Place, Record, View};
+use std::marker::Model;
 
 /// What a collect keeps of the record of a segment: its identity, value and sequence number.
 #[derive(Clone, Copy, Debug, Drop)]

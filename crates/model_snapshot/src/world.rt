@@ -13,9 +13,9 @@ ghost use Rattle.model_steps.specs.Machine.{Reaches, SatisfiesSpec, Extends};
 ghost use Rattle.model_snapshot.specs.SnapCalls.SnapCall.{Began, Updated, Scanned, Stepped};
 
 use crate::{Client, Known, MOST_UPDATES, OnWay, PlaceWalker, Places, SnapReply, ToScan, ToUpdate};
+use model_steps::{NoMemory, Note, Place, Refusal, World};
 use std::alloc::Allocator;
 use std::marker::Model;
-use model_steps::{NoMemory, Note, Place, Refusal, World};
 
 /// A snapshot object over places, whose participants update and scan step by step (Afek et al. 1993).
 #[derive(Drop)]

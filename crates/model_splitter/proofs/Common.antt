@@ -1,7 +1,7 @@
 -- The names that several proofs of this crate cite, passed on from one place. Declares nothing.
 pub use Rattle.std.proofs.lemmas.Bool.Decides.{eqb_tells}
 pub use Rattle.model_steps.specs.SetAt.{set_at}
-pub use Rattle.model_steps.proofs.SetAtLemmas.{set_at-cases}
+pub use Rattle.model_steps.proofs.cited.SetAtLemmas.{set_at-cases}
 pub use Rattle.model_splitter.specs.declared.way.Way.TheVariants.{Stop, Right, Down}
 pub use Rattle.model_splitter.specs.declared.stage.Stage.{Stage}
 pub use Rattle.model_splitter.specs.declared.stage.Stage.TheVariants.{Outside, WroteX, SawClear, WroteY, Gone}

@@ -1,9 +1,5 @@
-mod Common
 mod Changed
-pub mod DoorKept
-pub mod VisitorAccess
-pub mod SplitterTied
-pub mod StageLemmas
-pub mod WalkLemmas
+mod Common
+pub mod cited
 pub mod grid_lemmas
 pub mod tree_lemmas

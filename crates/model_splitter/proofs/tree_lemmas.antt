@@ -1,7 +1,6 @@
 pub mod Common
 pub mod collects
 pub mod nodes
-pub mod TreeMemoryLemmas
 pub mod WorldCommon
 pub mod CallCases
 pub mod PlacesTied

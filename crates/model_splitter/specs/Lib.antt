@@ -7,3 +7,4 @@ pub mod Machine
 pub mod Laws
 pub mod grid
 pub mod tree
+pub mod lemmas

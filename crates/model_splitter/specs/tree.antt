@@ -7,7 +7,6 @@ pub mod CollectWalk
 pub mod Ahead
 pub mod TreeSteps
 pub mod Nodes
-pub mod TreeProofs
 pub mod Laws
 pub mod Law
 pub mod Collect

@@ -27,10 +27,10 @@
 //! ```
 #![tactic(auto)]
 
-pub mod tree;
 pub mod grid;
 pub mod laws;
 pub mod stage;
+pub mod tree;
 pub mod visitor;
 pub mod way;
 pub mod world;

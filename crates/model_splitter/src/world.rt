@@ -13,9 +13,9 @@ ghost use Rattle.model_steps.specs.World.{after_begin, begin_refusal, done_unles
 
 use crate::visitor::Visitor;
 use crate::way::Way;
+use model_steps::{Memory, Note, Refusal, World};
 use std::alloc::Allocator;
 use std::marker::Model;
-use model_steps::{Memory, Note, Refusal, World};
 
 /// Participants that visit one splitter, each once.
 #[derive(Drop)]
@@ -38,7 +38,7 @@ impl<A: Allocator + Clone> SplitterWorld<A> {
     ///
     /// - `OutOfRange`: `most` is not from 1 to 16.
     /// - `NoMemory`: an allocation failed.
-    #[tactic(auto, using(crate::proofs::SplitterTied::splitter_contracts))]
+    #[tactic(auto, using(crate::proofs::cited::SplitterTied::splitter_contracts))]
     pub fn new(alloc: A, most: usize) -> Result<Self, Refusal>
         ensures fresh { IfOk result (λ w. w ≡ fresh most) }
         ensures after { IfOk result (λ w. Reaches splitter most w []) }
@@ -62,7 +62,7 @@ impl<A: Allocator + Clone> SplitterWorld<A> {
     /// - `ZeroIdentity`: `id` is 0.
     /// - `AlreadyBegun`: `id` has begun.
     /// - `Full`: as many participants as the world takes have begun.
-    #[tactic(auto, using(crate::proofs::SplitterTied::splitter_contracts))]
+    #[tactic(auto, using(crate::proofs::cited::SplitterTied::splitter_contracts))]
     pub fn begin(&mut self, id: u64) -> Result<(), Refusal>
         ensures answer { result ≡ done_unless (begin_refusal self.old id) }
         ensures state { self.new ≡ after_begin self.old id (visit_of id) }
@@ -88,7 +88,7 @@ impl<A: Allocator + Clone> SplitterWorld<A> {
     /// # Steps
     ///
     /// A visit makes at most 4.
-    #[tactic(auto, using(crate::proofs::SplitterTied::splitter_contracts))]
+    #[tactic(auto, using(crate::proofs::cited::SplitterTied::splitter_contracts))]
     pub fn step(&mut self, id: u64) -> Result<Option<Way>, Refusal>
         ensures answer { result ≡ step_reply self.old id }
         ensures state { self.new ≡ world_after_step self.old id }

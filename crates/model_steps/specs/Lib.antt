@@ -3,7 +3,6 @@ pub mod Refusal
 pub mod Steps
 pub mod RegisterState
 pub mod Registers
-pub mod RegisterProofs
 pub mod Roster
 pub mod Participant
 pub mod WorldState
@@ -22,7 +21,6 @@ pub mod WorldMachine
 pub mod LocalMachine
 pub mod LocalWorlds
 pub mod View
-pub mod ViewInside
-pub mod ViewEq
 pub mod WorldCode
 pub mod Laws
+pub mod lemmas

@@ -5,7 +5,7 @@ ghost use Rattle.model_steps.specs.Steps.{MemorySteps, answer_from, Spares};
 ghost use Rattle.model_steps.specs.Registers.{memory_steps, register_of, answer_of, after_access};
 ghost use Rattle.model_steps.specs.declared.access.Access.{Access};
 ghost use Rattle.model_steps.specs.declared.access.Access.TheVariants.{Read};
-ghost use Rattle.model_steps.specs.RegisterProofs.{others_kept};
+ghost use Rattle.model_steps.specs.lemmas.RegisterProofs.{others_kept};
 
 use crate::access::{Access, Answer};
 use crate::refusal::NoMemory;

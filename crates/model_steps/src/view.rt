@@ -20,7 +20,7 @@ impl Model for View {
     ghost Value = { List (ℕ × ℕ) };
 
     ghost use Rattle.std.specs.Prelude.{◌-◌, ◌++◌, length, take, replicate};
-    ghost use Rattle.model_steps.specs.ViewInside.{IsWellKept, given_back};
+    ghost use Rattle.model_steps.specs.lemmas.ViewInside.{IsWellKept, given_back};
 
     ghost view = { λ v. take v.len v.pairs };
 
@@ -151,7 +151,7 @@ impl View {
 
 impl PartialEq for View {
     ghost use Rattle.std.specs.Cmp.{partial_equiv_from_equiv};
-    ghost use Rattle.model_steps.specs.ViewEq.{are_same_pairs, same_pairs_equiv};
+    ghost use Rattle.model_steps.specs.lemmas.ViewEq.{are_same_pairs, same_pairs_equiv};
 
     ghost eq = { are_same_pairs };
 
@@ -167,7 +167,7 @@ impl PartialEq for View {
 }
 
 impl Eq for View {
-    ghost use Rattle.model_steps.specs.ViewEq.{same_pairs_equiv};
+    ghost use Rattle.model_steps.specs.lemmas.ViewEq.{same_pairs_equiv};
 
     ghost laws = { same_pairs_equiv };
 }

@@ -3,10 +3,10 @@
 ghost use Rattle.std.specs.Prelude.{◌≡◌, IfSome};
 
 use crate::common::holds;
-use words_machine::parts::{Board, Grant, ReaderSeat};
 use std::alloc::Global;
 use std::test::Fail;
 use std::thread::{Threads, join};
+use words_machine::parts::{Board, Grant, ReaderSeat};
 
 /// Two names, posted by a seat and by a further one.
 fn posts(board: &Board<Global>, seat: &mut ReaderSeat) -> Option<(Grant, Grant)>

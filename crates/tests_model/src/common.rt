@@ -1,7 +1,7 @@
 //! What the integration tests share.
 
-use std::process::Abort;
 use model_steps::{Refusal, View};
+use std::process::Abort;
 
 /// What an integration test tells of what was made: whether it goes so; or why it was not made.
 pub type Reported = Result<bool, Refusal>;

@@ -1,13 +1,13 @@
 //! Trees whose heap is full when a node is to be made: the growth is refused, and the same step is served later.
 
 use crate::common::holds;
-use model_asked::{Config, WorldKind};
 use linked_list_allocator::LocalHeap;
+use model_asked::{Config, WorldKind};
 use model_renaming::RenameWorld;
 use model_renaming::over::TreePlaces;
 use model_splitter::tree::TreeWorld;
-use std::alloc::{AllocError, Global};
 use model_steps::{Place, Refusal};
+use std::alloc::{AllocError, Global};
 
 /// Boxes of 16 bytes that take what a heap has left.
 fn filling(alloc: Global, heap: &LocalHeap) -> Result<Vec<Box<[u64; 2], &LocalHeap>>, AllocError> {

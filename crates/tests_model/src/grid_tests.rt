@@ -3,8 +3,8 @@
 
 use crate::common::{holds, lent, same};
 use model_splitter::grid::{Door, GridWorld, Walker};
-use std::alloc::Global;
 use model_steps::{Access, Answer, Note, StepProgram};
+use std::alloc::Global;
 
 /// The place of one who begins and takes 64 steps, which are enough for any; none where it has none.
 fn place_of_next(world: &mut GridWorld<Global>, id: u64) -> Option<u128> {

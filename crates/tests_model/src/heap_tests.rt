@@ -2,11 +2,11 @@
 
 use crate::common::holds;
 use linked_list_allocator::LocalHeap;
-use words_machine::parts::RawSplitter;
 use model_splitter::SplitterWorld;
-use std::alloc::{AllocError, Global};
 use model_steps::Refusal;
+use std::alloc::{AllocError, Global};
 use words_machine::grid::WordGrid;
+use words_machine::parts::RawSplitter;
 
 /// The bytes of a heap in which each of these objects finds room.
 const ROOM: usize = 1_600;

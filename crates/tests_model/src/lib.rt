@@ -7,7 +7,6 @@
 #![tactic(auto)]
 
 #[cfg(test)]
-pub mod names;
 mod board_tests;
 #[cfg(test)]
 mod common;
@@ -21,6 +20,8 @@ mod heap_tests;
 mod line_pool_tests;
 #[cfg(test)]
 mod memory_tests;
+#[cfg(test)]
+pub mod names;
 #[cfg(test)]
 mod places_tests;
 #[cfg(test)]

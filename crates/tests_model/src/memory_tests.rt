@@ -4,9 +4,9 @@ ghost use Rattle.std.specs.Prelude.{◌≡◌};
 ghost use Rattle.model_steps.specs.declared.note.Note.TheVariants as note;
 
 use crate::common::{holds, lent, same, view_of};
+use model_steps::{Access, Answer, Memory, Note, Refusal, StepProgram, World};
 use std::alloc::Global;
 use std::test::Fail;
-use model_steps::{Access, Answer, Memory, Note, Refusal, StepProgram, World};
 
 /// A program of one access, which ends with its answer.
 #[derive(Clone, Copy, Drop)]

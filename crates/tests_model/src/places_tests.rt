@@ -2,12 +2,12 @@
 
 use crate::common::holds;
 use crate::snapshot_tests::{Call, Reported, Row, plays};
-use model_snapshot::SnapWorld;
 use model_renaming::over::{Grid, TreePlaces};
+use model_snapshot::SnapWorld;
+use model_steps::{Place, Refusal};
 use std::alloc::Global;
 use std::process::Abort;
 use std::test::Fail;
-use model_steps::{Place, Refusal};
 
 /// 20 comes while 10 scans in a grid.
 const TWO_IN_A_GRID: &[Row] = &[

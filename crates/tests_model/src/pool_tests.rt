@@ -2,8 +2,8 @@
 
 use crate::common::{lent, same};
 use model_pool::{Pool, Probe};
-use std::alloc::Global;
 use model_steps::Refusal;
+use std::alloc::Global;
 
 /// Whether 5 stays as a whole, for want of a number 6 only once the pool has widened, and 7 has the number that 5 gave back.
 fn go_in_turn(pool: &mut Pool<Global>) -> bool {

@@ -3,11 +3,11 @@
 ghost use Rattle.std.specs.Prelude.{◌≡◌};
 
 use crate::common::holds;
-use words_machine::parts::{EnteredSeat, FreshSeat, RawSplitter};
 use model_splitter::Way;
 use std::alloc::Global;
 use std::test::Fail;
 use std::thread::{Threads, join};
+use words_machine::parts::{EnteredSeat, FreshSeat, RawSplitter};
 
 /// Whether the only seat of a splitter for one stops.
 fn one_stops(splitter: &RawSplitter<Global>, seat: FreshSeat) -> bool

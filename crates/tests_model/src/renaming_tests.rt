@@ -5,8 +5,8 @@ use crate::common::{Reported, holds, lent, same, view_of};
 use model_asked::{Config, WorldKind};
 use model_renaming::{RenameWorld, next_proposal};
 use model_snapshot::Fixed;
-use std::alloc::Global;
 use model_steps::Refusal;
+use std::alloc::Global;
 
 /// A world over segments in a row.
 type Row = RenameWorld<Fixed<Global>, Global>;
@@ -75,8 +75,8 @@ fn the_next_proposal_of_each_rank(rt: HostRuntime) {
     }
 }
 
-/// The most proposals of so many participants, from 1 on.
-const MOST_PROPOSALS: [u64; 8] = [3, 18, 93, 468, 2_343, 11_718, 58_593, 292_968];
+/// The least round limits under which nobody of so many participants can be spent, from 1 on.
+const LEAST_LIMITS: [u64; 9] = [3, 11, 48, 236, 1_173, 5_861, 29_298, 146_486, 732_423];
 
 /// Whether nobody of so many can be spent under a round limit.
 fn cannot_spend(most: u64, limit: u64) -> Reported {
@@ -86,14 +86,14 @@ fn cannot_spend(most: u64, limit: u64) -> Reported {
 
 #[test]
 fn limits_under_which_nobody_is_spent(rt: HostRuntime) {
-    for (i, most) in MOST_PROPOSALS.iter().enumerate() {
-        same(&rt, i, cannot_spend(i as u64 + 1, *most), Ok(false));
+    for (i, least) in LEAST_LIMITS.iter().enumerate() {
+        same(&rt, i, cannot_spend(i as u64 + 1, *least), Ok(true));
         same(
             &rt,
             i,
-            cannot_spend(i as u64 + 1, most.saturating_add(1)),
-            Ok(true),
+            cannot_spend(i as u64 + 1, least.saturating_sub(1)),
+            Ok(false),
         );
     }
-    same(&rt, 8, cannot_spend(9, 1_000_000), Ok(false));
+    same(&rt, 9, cannot_spend(10, 1_000_000), Ok(false));
 }

@@ -2,9 +2,9 @@
 
 use crate::common::{holds, lent, same};
 use model_snapshot::{Fixed, Places, SnapReply, SnapWorld};
+use model_steps::{Place, Refusal};
 use std::alloc::{Allocator, Global};
 use std::process::Abort;
-use model_steps::{Place, Refusal};
 
 /// A call: of steps so many, of which those before the last are quiet; or the question where one is.
 #[derive(Clone, Copy, Drop)]

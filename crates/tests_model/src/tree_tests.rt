@@ -2,8 +2,8 @@
 
 use crate::common::{holds, lent, same, view_of};
 use model_splitter::tree::{Tree, TreeRegister, TreeValue, TreeWorld};
-use std::alloc::Global;
 use model_steps::{Access, Place, Refusal, StepMemory, View};
+use std::alloc::Global;
 
 /// Takes so many steps of a walk: what the last answers.
 fn walked(world: &mut TreeWorld<Global>, id: u64, steps: u64) -> Result<Option<Place>, Refusal> {

@@ -3,9 +3,9 @@
 ghost use Rattle.std.specs.Prelude.{◌≡◌};
 
 use crate::common::same;
+use model_steps::{Place, Refusal};
 use std::alloc::{AllocError, Global};
 use std::thread::{self, Threads};
-use model_steps::{Place, Refusal};
 use words_machine::grid::{Dealer, FreshSeat, WordGrid};
 
 /// How many places the rows of a triangle have, so many rows.

@@ -4,10 +4,10 @@ ghost use Rattle.std.specs.Prelude.{◌≡◌, ◌≤◌};
 
 use crate::common::same;
 use model_splitter::{Visitor, Way};
+use model_steps::Refusal;
 use std::alloc::{AllocError, Global};
 use std::thread::{self, Threads};
-use model_steps::Refusal;
-use words_machine::{Dealer, FreshSeat, Size, WordMachine};
+use words_machine::{Dealer, FreshSeat, WordMachine};
 
 /// A splitter over two words.
 type Splitter = WordMachine<Visitor<usize>, Global>;
@@ -23,7 +23,8 @@ struct Guest<'a> {
 /// The way that a visit goes.
 fn way_of(guest: Guest<'_>) -> Way {
     let Guest { splitter, seat } = guest;
-    let entered = splitter.enter(seat);
+    let identity = splitter.own_number(&seat);
+    let entered = splitter.enter(seat, identity);
     *entered.outcome()
 }
 
@@ -62,13 +63,7 @@ fn are_split(ways: &[Way], count: u64) -> bool {
 fn split<R: Threads + Sync>(rt: &R, alloc: Global, count: u64) -> Result<bool, Refusal>
     requires { 1 ≤ count }
 {
-    let (splitter, dealer) = Splitter::new(
-        alloc,
-        Size {
-            most: count,
-            limit: 0,
-        },
-    )?;
+    let (splitter, dealer) = Splitter::new(alloc, count)?;
     let guests = guests_of(alloc, &splitter, dealer, count)?;
     let ways = thread::map_vec(rt, guests, &|guest| way_of(guest))?;
     Ok(are_split(&ways, count))

@@ -1,12 +1,12 @@
 //! Stays in a pool of words, one after another and by threads at once.
 
 use crate::common::{Reported, count_set, holds, same};
+use model_steps::Refusal;
 use std::alloc::{AllocError, Global};
 use std::sync::atomic::AtomicU64;
 use std::sync::atomic::Ordering::SeqCst;
 use std::test::Fail;
 use std::thread::{self, Threads};
-use model_steps::Refusal;
 use words_pool::{AllHeld, Held, WordPool};
 
 /// For how many numbers a pool is asked, and whether it has as many, or why it is not made.
@@ -59,21 +59,21 @@ fn each_number_is_given_in_turn(rt: HostRuntime) {
     }
 }
 
-/// A pool of four tries each hint first, and gives the least that is free where it was in vain.
+/// A pool of four goes on from each hint, and then from 1; a hint that is no number of it is none.
 #[test]
-fn a_hint_is_tried_first(rt: HostRuntime) -> Result<(), Fail> {
+fn a_walk_goes_on_from_a_hint(rt: HostRuntime) -> Result<(), Fail> {
     let pool = WordPool::new(rt.alloc(), 4)?;
     let reported = [
         number_in(pool.acquire_near(3)),
         number_in(pool.acquire_near(3)),
-        number_in(pool.acquire_near(0)),
+        number_in(pool.acquire_near(4)),
         number_in(pool.acquire_near(5)),
         number_in(pool.acquire_near(2)),
     ];
     holds(
         &rt,
         4,
-        reported == [Some(3), Some(1), Some(2), Some(4), None],
+        reported == [Some(3), Some(4), Some(1), Some(2), None],
     );
     Ok(())
 }

@@ -1,7 +1,7 @@
 -- how seats are dealt to identities, and what the name says that crosses to C
 use Rattle.std.specs.Prelude.{◌≡◌, ℕ, ◌+◌, ◌++◌, ◌∷◌, [], ◌⊎◌, Option, None, IsSome, IsSomeAnd}
 use Rattle.words_names.specs.NameLaw.{NameSpec}
-use Rattle.words_names.specs.Seats.{DealerId, NamesId, RenamedId, SeatId, dealer_of, name_of, no_deal, seat_of}
+use Rattle.words_names.specs.Seats.{DealerId, NamesId, RenamedId, SeatId, dealer_of, no_deal, seat_of}
 
 -- a dealer of these names that has dealt one more seat, to this identity
 abbrev pub dealt_to : NamesId → ℕ → DealerId → DealerId
@@ -21,4 +21,4 @@ IsDueOrLost names identity before after = IsSome (no_deal before identity) ⊎ (
 
 -- a seat of these names was renamed, and this is its name, as its law says
 abbrev pub IsReportedName : ℕ → NamesId → RenamedId → Type 0
-IsReportedName name names e = (name_of e ≡ name) × (e.names ≡ names) × NameSpec e
+IsReportedName name names e = (e.name ≡ name) × (e.names ≡ names) × NameSpec e

@@ -3,7 +3,6 @@ use Rattle.std.specs.Prelude.{◌≡◌, ◌≤◌, ◌+◌, ℕ, IsSome, IsSome
 use Rattle.std.specs.Arc.{arc_value}
 use Rattle.words_c.specs.Refused.{IsReceiptOf, MetAllInTime, WasSought}
 use Rattle.words_pool.specs.Pools.{CallId}
-use Rattle.words_machine.specs.declared.size.Size.{Size}
 use Rattle.words_c.specs.Lines.{IsHeldInLine, IsTicketOf}
 use Rattle.words_c.specs.Grids.{IsNextOf}
 use Rattle.words_c.specs.Named.{IsNextTo, IsDueOrLost}
@@ -12,13 +11,12 @@ use Rattle.words_c.specs.declared.grid_member.GridMember.{GridMember}
 use Rattle.words_c.specs.declared.line_member.LineMember.{LineMember}
 use Rattle.words_c.specs.declared.names_member.NamesMember.{NamesMember}
 
--- a member holds this number of its pool, which it got by at most so many accesses, as it was sought
+-- a member holds this number of its pool, as it was sought
 abbrev pub HoldsNumber : ℕ → ℕ → Member → Type 0
 HoldsNumber hint number m =
-    IsSomeAnd m.held (λ h. (h.number ≡ number) × (h.call.accesses ≤ number + 2) × WasSought hint (arc_value m.pool) h) × (number ≤ (arc_value m.pool).numbers)
+    IsSomeAnd m.held (λ h. (h.number ≡ number) × WasSought hint (arc_value m.pool) h) × (number ≤ (arc_value m.pool).numbers)
 
--- a member's last walk met each number of its pool held, one after another, from 1 on, by at most so many accesses, and before them that
--- of the hint
+-- a member's last walk met each number of its pool held, one after another, by at most so many accesses
 abbrev pub WasRefused : ℕ → Member → Type 0
 WasRefused hint m = IsSomeAnd m.refused (MetAllInTime hint (arc_value m.pool))
 
@@ -38,9 +36,9 @@ HasTicketOf h m = IsSomeAnd m.ticket (IsTicketOf h)
 abbrev pub DealtNext : GridMember → GridMember → GridMember → Type 0
 DealtNext before after other = IsSomeAnd before.dealer (λ d. IsSomeAnd after.dealer (λ e. IsSomeAnd other.seat (IsNextOf d e)))
 
--- a member deals the seats of names of this size, and has no seat itself
-abbrev pub DealsSeats : Size → NamesMember → Type 0
-DealsSeats size m = ((arc_value m.names).size ≡ size) × IsSome m.dealer × (m.seat ≡ None) × (m.renamed ≡ None)
+-- a member deals the seats of names for so many, and has no seat itself
+abbrev pub DealsSeats : ℕ → NamesMember → Type 0
+DealsSeats most m = ((arc_value m.names).most ≡ most) × IsSome m.dealer × (m.seat ≡ None) × (m.renamed ≡ None)
 
 -- a member has the same names, and the same seat or name in them, and deals seats if it did before
 abbrev pub KeepsSeat : NamesMember → NamesMember → Type 0

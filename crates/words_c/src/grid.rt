@@ -15,7 +15,7 @@ use words_machine::grid::WordGrid;
 
 fn open_grid(alloc: Global, most: u64) -> Option<Box<GridMember, Global>>
     ensures range { IsSome result → (1 ≤ most) × (most ≤ 64) }
-    ensures most { IfSome result (λ b. (arc_value b.value.grid).size.most ≡ most) }
+    ensures most { IfSome result (λ b. (arc_value b.value.grid).most ≡ most) }
     ensures seat { IfSome result (λ b. IsSome b.value.seat × IsSome b.value.dealer) }
 {
     let (grid, mut dealer) = WordGrid::new(alloc, most).ok()?;
@@ -40,7 +40,7 @@ fn open_grid(alloc: Global, most: u64) -> Option<Box<GridMember, Global>>
 #[unsafe(no_mangle)]
 pub extern "C" fn word_grid_new(alloc: Global, handle: &mut GridHandle, most: u64) -> bool
     requires empty { handle.old.grid ≡ None }
-    ensures made { result ≡ true → IsSomeAnd handle.new.grid (λ m. ((arc_value m.grid).size.most ≡ most) × IsSome m.seat × IsSome m.dealer) }
+    ensures made { result ≡ true → IsSomeAnd handle.new.grid (λ m. ((arc_value m.grid).most ≡ most) × IsSome m.seat × IsSome m.dealer) }
     ensures range { result ≡ true → (1 ≤ most) × (most ≤ 64) }
     ensures none { result ≡ false → handle.new.grid ≡ None }
 {

@@ -28,7 +28,7 @@ impl GridMember {
         ensures same { (self.new.seat ≡ self.old.seat) × (self.new.entered ≡ self.old.entered) }
         ensures ours { IfSome result (λ s. s.grid ≡ arc_value self.old.grid) }
         ensures dealt { IfSome result (λ s. IsSomeAnd self.old.dealer (λ d. IsSomeAnd self.new.dealer (λ e. IsNextOf d e s))) }
-        ensures due { IfNone result ((self.old.dealer ≡ None) ⊎ IsSomeAnd self.old.dealer (λ d. (arc_value self.old.grid).size.most ≤ d.dealt)) }
+        ensures due { IfNone result ((self.old.dealer ≡ None) ⊎ IsSomeAnd self.old.dealer (λ d. (arc_value self.old.grid).most ≤ d.dealt)) }
         ensures none { IfNone result (self.new.dealer ≡ self.old.dealer) }
     {
         let mut dealer = self.dealer.take()?;

@@ -99,8 +99,8 @@ pub extern "C" fn word_pool_join(alloc: Global, handle: &mut Handle, other: &mut
     }
 }
 
-/// Takes the least number that a walk from 1 upward finds free, by at most two accesses more than the number says. 0 where it
-/// met each number held, by at most two accesses more than there are numbers, and where the handle holds one already.
+/// Takes the least number that a walk from 1 upward finds free, by at most one access more than the number says. 0 where it
+/// met each number held, by at most one access more than there are numbers, and where the handle holds one already.
 #[unsafe(no_mangle)]
 pub extern "C" fn word_pool_acquire(alloc: Global, handle: &mut Handle) -> u64
     ghost pool: { Member }
@@ -117,7 +117,8 @@ pub extern "C" fn word_pool_acquire(alloc: Global, handle: &mut Handle) -> u64
     number
 }
 
-/// The same, but it tries the number of a hint first.
+/// Takes the first number that a walk finds free: from a hint up to the greatest, and then from 1 up to the hint. It tries each
+/// number once. A hint that is no number of the pool is as good as 1.
 #[unsafe(no_mangle)]
 pub extern "C" fn word_pool_acquire_near(alloc: Global, handle: &mut Handle, hint: u64) -> u64
     ghost pool: { Member }

@@ -34,13 +34,12 @@ impl Member {
         }
     }
 
-    /// Takes the number of the hint where it is free, else the least that a walk from 1 finds free, and holds it. 0 where
+    /// Takes the first number that a walk finds free, from the hint up and then from 1 up to the hint, and holds it. 0 where
     /// the walk met each number held, and where one is held already.
     pub fn acquire(&mut self, hint: u64) -> u64
         ensures pool { arc_value self.new.pool ≡ arc_value self.old.pool }
         ensures one { IsSome self.old.held → result ≡ 0 }
-        ensures held { result ≢ 0 → IsSomeAnd self.new.held (λ h. (h.number ≡ result) × (h.call.accesses ≤ result + 2) ×
-            WasSought hint (arc_value self.new.pool) h) }
+        ensures held { result ≢ 0 → IsSomeAnd self.new.held (λ h. (h.number ≡ result) × WasSought hint (arc_value self.new.pool) h) }
         ensures range { result ≢ 0 → result ≤ (arc_value self.new.pool).numbers }
         ensures kept { result ≡ 0 → self.new.held ≡ self.old.held }
         ensures none { result ≡ 0 → IsSome self.old.held ⊎ IsSomeAnd self.new.refused (MetAllInTime hint (arc_value self.new.pool)) }

@@ -14,11 +14,11 @@ use std::mem;
 use std::sync::Arc;
 use words_names::Names;
 
-fn open_names(alloc: Global, most: u64, limit: u64) -> Option<Box<NamesMember, Global>>
-    ensures range { IsSome result → IsSize most limit }
-    ensures made { IfSome result (λ b. DealsSeats (record { most = most; limit = limit }) b.value) }
+fn open_names(alloc: Global, most: u64) -> Option<Box<NamesMember, Global>>
+    ensures range { IsSome result → IsSize most }
+    ensures made { IfSome result (λ b. DealsSeats most b.value) }
 {
-    let Ok((names, dealer)) = Names::new(alloc, most, limit) else {
+    let Ok((names, dealer)) = Names::new(alloc, most) else {
         return None;
     };
     let names = Arc::new(alloc, names).ok()?;
@@ -37,22 +37,16 @@ fn open_names(alloc: Global, most: u64, limit: u64) -> Option<Box<NamesMember, G
     .ok()
 }
 
-/// Makes names for `most` threads, from 1 to 16, each of which makes at most `limit` proposals, from 1 to 1,000, at a handle that
-/// holds none. This handle deals the seats, and has none. False, with nothing made, where a number is outside its range, or an
-/// allocation failed.
+/// Makes names for `most` threads, from 1 to 64, at a handle that holds none. This handle deals the seats, and has none. False,
+/// with nothing made, where the number is outside its range, or an allocation failed.
 #[unsafe(no_mangle)]
-pub extern "C" fn word_names_new(
-    alloc: Global,
-    handle: &mut NamesHandle,
-    most: u64,
-    limit: u64,
-) -> bool
+pub extern "C" fn word_names_new(alloc: Global, handle: &mut NamesHandle, most: u64) -> bool
     requires empty { handle.old.names ≡ None }
-    ensures made { result ≡ true → IsSomeAnd handle.new.names (DealsSeats (record { most = most; limit = limit })) }
-    ensures range { result ≡ true → IsSize most limit }
+    ensures made { result ≡ true → IsSomeAnd handle.new.names (DealsSeats most) }
+    ensures range { result ≡ true → IsSize most }
     ensures none { result ≡ false → handle.new.names ≡ None }
 {
-    match open_names(alloc, most, limit) {
+    match open_names(alloc, most) {
         Some(whole) => {
             *handle = NamesHandle::of(whole);
             true
@@ -115,9 +109,9 @@ pub extern "C" fn word_names_join(
 }
 
 /// The name of this handle. The first call runs the renaming program with the handle's seat, by reads and writes alone, whatever
-/// the others do; a further call tells the same name. Where `b` had begun, itself among them, it is from 1 to `2b - 1`; where
-/// the seat's proposals are spent it is `2 * most` and its place, which is above all others. No two handles of one family have
-/// one name. 0 where the handle has no seat: it is the one that deals them.
+/// the others do: at most `most * (most + 1)` of them. A further call tells the same name. Where `b` had begun, itself among
+/// them, it is from 1 to `2b - 1`. No two handles of one family have one name. 0 where the handle has no seat: it is the one
+/// that deals them.
 #[unsafe(no_mangle)]
 pub extern "C" fn word_names_name(alloc: Global, handle: &mut NamesHandle) -> u64
     ghost names: { NamesMember }

@@ -2,7 +2,7 @@
 use Rattle.std.proofs.Common.{◌≡◌, ℕ, zero, suc, ◌<◌, ◌≤◌, Bool, true, inl, inr, arith}
 use Rattle.std.proofs.lemmas.Bool.{cases_Bool}
 use Rattle.model_steps.specs.Count.{count_to}
-use Rattle.model_steps.proofs.CountLemmas.{count_to-le}
+use Rattle.model_steps.proofs.cited.CountLemmas.{count_to-le}
 
 -- of so many no more pass than those below a bound
 pub count_low : (f : ℕ → Bool) (top n : ℕ) → ((k : ℕ) → k < n → f k ≡ true → k < top) → count_to f n ≤ top

@@ -1,9 +1,7 @@
 mod Common
-pub mod Slots
 mod Stepping
 mod Reaching
 mod Running
-mod GoingAhead
 mod Dealing
 mod Counting
 mod Meeting

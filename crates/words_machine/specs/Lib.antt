@@ -5,7 +5,7 @@ pub mod RunRule
 pub mod RunSteps
 pub mod Ids
 pub mod Locals
-pub mod Visits
-pub mod Walks
+pub mod Names
 pub mod parts
 pub mod grid
+pub mod lemmas

@@ -35,4 +35,4 @@ pub mod word_grid;
 
 pub use laws::law_of_the_grid_rule;
 pub use seats::{Claim, Dealer, EnteredSeat, FreshSeat};
-pub use crate::grid::WordGrid;
+pub use word_grid::WordGrid;

@@ -1,14 +1,9 @@
-//! Programs of single accesses to words and to records, taken by threads over atomic words that they share, with no lock.
+//! Programs of single accesses to words, taken by threads over atomic words that they share, with no lock.
 //!
-//! A [`WordProgram`] is a step program each of whose registers is a word or holds a record, with the machine on which it is
-//! proved. Each step of the machine is one access of one participant's program. A [`WordMachine`] runs the same program by
-//! threads: the holder of a seat makes the accesses of its participant, one after another. No call takes a lock, waits for
-//! another or starts a thread.
-//!
-//! A register that is one word is loaded and stored. A register that holds a record has a word too, which names a slot of
-//! words. A write stores the record into a slot of the writer's own, which no other seat reads yet, and then publishes it by
-//! one store of the register's word. A published slot never changes. So a read is one load of the register's word, and the
-//! words of the slot say the rest.
+//! A [`WordProgram`] is a step program each of whose registers is a word, with the machine on which it is proved. Each step
+//! of the machine is one access of one participant's program. A [`WordMachine`] runs the same program by threads: the holder
+//! of a seat makes the accesses of its participant, one after another. No call takes a lock, waits for another or starts a
+//! thread.
 //!
 //! The law: for each participant that has ended, some list of calls of the machine leads to a state in which it stands at the
 //! program that `enter` returned, and got the outcome, by just as many steps as it made accesses; as many had begun as
@@ -16,33 +11,31 @@
 //! for both ends. The dealer shows that no more had entered than seats were dealt. A claim shows an outcome to each that was
 //! reported of it. What is not promised: anything of seats that never meet, and that a thread gets on with its accesses.
 //!
+//! Three programs are here: a visit to a splitter ([`visits`]), a walk through a grid of splitters ([`walks`]), and the
+//! program of a seat that is named by recursion over levels ([`names`]).
+//!
 //! From `tests_model/src/word_machine_tests.rt`, where threads visit a splitter:
 //!
 //! ```text
-//! let entered = splitter.enter(seat);
+//! let identity = splitter.own_number(&seat);
+//! let entered = splitter.enter(seat, identity);
 //! *entered.outcome()
 //! ..
 //! if let Some(seat) = splitter.deal(&mut dealer) {
 //!     guests.push(Guest { splitter, seat })?;
 //! }
 //! ..
-//! let (splitter, dealer) = Splitter::new(
-//!     alloc,
-//!     Size {
-//!         most: count,
-//!         limit: 0,
-//!     },
-//! )?;
+//! let (splitter, dealer) = Splitter::new(alloc, count)?;
 //! ```
 #![tactic(auto)]
 
 pub mod grid;
+pub mod names;
 pub mod parts;
 pub mod program;
 pub mod run_steps;
 pub mod seat_view;
 pub mod seats;
-pub mod size;
 pub mod visits;
 pub mod walks;
 pub mod word_access;
@@ -51,6 +44,5 @@ mod words;
 
 pub use program::WordProgram;
 pub use seats::{Claim, Dealer, EnteredSeat, FreshSeat, RunningSeat};
-pub use size::Size;
 pub use word_access::WordAccess;
-pub use crate::WordMachine;
+pub use word_machine::WordMachine;

@@ -1,8 +1,7 @@
 //! What a seat knows. No value of these types is made: they exist in proofs alone.
 
-use crate::size::Size;
-use std::collections::LinkedList;
 use model_steps::Participant;
+use std::collections::LinkedList;
 
 /// Where the participant of a number stands.
 pub struct Stand<P, O> {
@@ -12,18 +11,10 @@ pub struct Stand<P, O> {
     pub participant: Option<Participant<P>>,
     /// What its program has ended with.
     pub outcome: Option<O>,
-    /// How many accesses to registers it has made.
+    /// How many accesses it has made.
     pub accesses: u64,
     /// How many had begun at its last access, itself among them.
     pub entered: u64,
-    /// How many records it has published.
-    pub written: u64,
-    /// The words of its next record that it has stored.
-    pub private: LinkedList<u64>,
-    /// The slot of the record that it read last.
-    pub slot: u64,
-    /// The words of that record, which never change.
-    pub read: LinkedList<u64>,
 }
 
 /// The program of a number has ended with this.
@@ -36,8 +27,8 @@ pub struct Ending<O> {
 
 /// What a seat knows.
 pub struct SeatView<P, O> {
-    /// How many seats there are, and how many records each may write.
-    pub size: Size,
+    /// How many seats there are.
+    pub most: u64,
     /// The participants that are this seat's to step: one, but where seats are still to be dealt or while two of them meet.
     pub stands: LinkedList<Stand<P, O>>,
     /// The endings that it can tell of.

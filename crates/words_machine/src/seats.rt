@@ -18,17 +18,17 @@ pub struct Dealer<P: WordProgram> {
 impl<P: WordProgram> Model for Dealer<P> {
     ghost use Rattle.std.specs.Prelude.{◌≡◌, ◌≤◌, [], ◌∷◌};
     ghost use Rattle.words_machine.specs.SeatViews.{undealt_from};
-    ghost use Rattle.words_machine.specs.Ids.{DealerId, dealer_of, words_of, size_in};
+    ghost use Rattle.words_machine.specs.Ids.{DealerId, dealer_of, words_of, most_in};
 
     ghost Value = { DealerId };
 
-    ghost view = { λ d. dealer_of (words_of d.badge.table_id (size_in d.badge.views)) d.dealt };
+    ghost view = { λ d. dealer_of (words_of d.badge.table_id (most_in d.badge.views)) d.dealt };
 
-    ghost invariant = { λ d. (d.dealt ≤ (size_in d.badge.views).most) × (d.badge.views ≡ undealt_from d.dealt (size_in d.badge.views) ∷ []) };
+    ghost invariant = { λ d. (d.dealt ≤ most_in d.badge.views) × (d.badge.views ≡ undealt_from d.dealt (most_in d.badge.views) ∷ []) };
 }
 
 impl<P: WordProgram> Dealer<P> {
-    /// How many seats were dealt.
+    /// Returns how many seats were dealt.
     pub fn dealt(&self) -> u64
         ensures { result ≡ self.now.dealt }
     {
@@ -50,13 +50,13 @@ impl<P: WordProgram> Model for FreshSeat<P> {
 
     ghost Value = { SeatId };
 
-    ghost view = { λ f. seat_of (words_of f.seat.table_id f.seat.me.0.size) f.number };
+    ghost view = { λ f. seat_of (words_of f.seat.table_id f.seat.me.0.most) f.number };
 
-    ghost invariant = { λ f. (f.number < f.seat.me.0.size.most) × (f.seat.me ≡ (lone_view f.seat.me.0.size (unbegun f.number), [])) };
+    ghost invariant = { λ f. (f.number < f.seat.me.0.most) × (f.seat.me ≡ (lone_view f.seat.me.0.most (unbegun f.number), [])) };
 }
 
 impl<P: WordProgram> FreshSeat<P> {
-    /// The seat's number, from 0. The identity of its participant is one more.
+    /// Returns the seat's number, from 0.
     pub fn number(&self) -> u64
         ensures { result ≡ self.now.number }
     {
@@ -64,45 +64,52 @@ impl<P: WordProgram> FreshSeat<P> {
     }
 }
 
-/// A seat whose participant has not ended, for who takes its accesses one at a time. To take one uses it up.
+/// A seat whose participant has not ended, to make its accesses one at a time. To make one uses it up.
 #[derive(Drop)]
 pub struct RunningSeat<P: WordProgram + Drop> {
     pub(crate) number: u64,
-    pub(crate) written: usize,
+    pub(crate) identity: u64,
     pub(crate) program: P,
     pub(crate) accesses: u64,
     pub(crate) seat: Seat<u8, SeatView<P, P::Output>>,
 }
 
 impl<P: WordProgram + Drop> Model for RunningSeat<P> {
-    ghost use Rattle.std.specs.Prelude.{◌≡◌, ◌<◌, []};
+    ghost use Rattle.std.specs.Prelude.{◌≡◌, ◌<◌};
     ghost use Rattle.words_machine.specs.Ids.{RunningId, running_of, words_of};
     ghost use Rattle.words_machine.specs.RunSteps.{Stands, accesses_in};
 
     ghost Value = { RunningId P };
 
-    ghost view = { λ s. running_of (words_of s.seat.table_id s.seat.me.0.size) s.number s.program s.accesses };
+    ghost view = { λ s. running_of (words_of s.seat.table_id s.seat.me.0.most) s.number s.identity s.program s.accesses };
 
-    ghost invariant = { λ s. (s.number < s.seat.me.0.size.most) × (s.accesses ≡ accesses_in s.seat.me)
-        × Stands P.steps P.law s.seat.me.0.size s.number s.written s.program [] s.seat.me };
+    ghost invariant = { λ s. (s.number < s.seat.me.0.most) × (s.accesses ≡ accesses_in s.seat.me)
+        × Stands P.steps P.law s.seat.me.0.most s.number s.identity s.program s.seat.me };
 }
 
 impl<P: WordProgram + Drop> RunningSeat<P> {
-    /// The seat's number, from 0.
+    /// Returns the seat's number, from 0.
     pub fn number(&self) -> u64
         ensures { result ≡ self.now.number }
     {
         self.number
     }
 
-    /// The program at which it stands.
+    /// Returns the identity for which it began.
+    pub fn identity(&self) -> u64
+        ensures { result ≡ self.now.identity }
+    {
+        self.identity
+    }
+
+    /// Returns the program at which it stands.
     pub fn program(&self) -> &P
         ensures { result.now ≡ self.now.program }
     {
         &self.program
     }
 
-    /// How many accesses of registers its program has made.
+    /// Returns how many accesses its program has made.
     pub fn accesses(&self) -> u64
         ensures { result ≡ self.now.accesses }
     {
@@ -117,6 +124,7 @@ where
     P::Output: Drop,
 {
     pub(crate) number: u64,
+    pub(crate) identity: u64,
     pub(crate) end: P::End,
     pub(crate) outcome: P::Output,
     pub(crate) accesses: u64,
@@ -132,26 +140,33 @@ where
 
     ghost Value = { EndedRun P P.Output };
 
-    ghost view = { λ e. ended_run e.badge.table_id e.number (program_in P.law e.number e.badge.views) e.outcome e.badge.views };
+    ghost view = { λ e. ended_run e.badge.table_id e.number e.identity (program_in P.law e.number e.identity e.badge.views) e.outcome e.badge.views };
 
-    ghost invariant = { λ e. IsOfEnded e.number (program_in P.law e.number e.badge.views) e.outcome e.badge.views
-        × HasRun P.law (ended_run e.badge.table_id e.number (program_in P.law e.number e.badge.views) e.outcome e.badge.views)
+    ghost invariant = { λ e. IsOfEnded e.number e.identity (program_in P.law e.number e.identity e.badge.views) e.outcome e.badge.views
+        × HasRun P.law (ended_run e.badge.table_id e.number e.identity (program_in P.law e.number e.identity e.badge.views) e.outcome e.badge.views)
         × (e.accesses ≡ accesses_in e.badge.views)
-        × (e.end ≡ P.end_of (program_in P.law e.number e.badge.views)) };
+        × (e.end ≡ P.end_of (program_in P.law e.number e.identity e.badge.views)) };
 }
 
 impl<P: WordProgram + Drop> EnteredSeat<P>
 where
     P::Output: Drop,
 {
-    /// The seat's number, from 0.
+    /// Returns the seat's number, from 0.
     pub fn number(&self) -> u64
         ensures { result ≡ self.now.number }
     {
         self.number
     }
 
-    /// What is kept of the program at which it has ended.
+    /// Returns the identity for which it began.
+    pub fn identity(&self) -> u64
+        ensures { result ≡ self.now.identity }
+    {
+        self.identity
+    }
+
+    /// Returns what is kept of the program at which it has ended.
     pub fn end(&self) -> P::End
         ensures value { result ≡ P.end_of self.now.program }
 
@@ -161,7 +176,7 @@ where
         self.end
     }
 
-    /// What its program has ended with.
+    /// Returns what its program has ended with.
     pub fn outcome(&self) -> &P::Output
         ensures value { result.now ≡ self.now.outcome }
 
@@ -171,7 +186,7 @@ where
         &self.outcome
     }
 
-    /// How many accesses of registers its program has made.
+    /// Returns how many accesses its program has made.
     pub fn accesses(&self) -> u64
         ensures { result ≡ self.now.accesses }
     {
@@ -196,27 +211,27 @@ where
 {
     ghost use Rattle.std.specs.Prelude.{◌≡◌, [], ◌∷◌};
     ghost use Rattle.words_machine.specs.SeatViews.{ending_at, view_of};
-    ghost use Rattle.words_machine.specs.Ids.{ClaimId, claim_at, size_in};
+    ghost use Rattle.words_machine.specs.Ids.{ClaimId, claim_at, most_in};
 
     ghost Value = { ClaimId P.Output };
 
     ghost view = { λ c. claim_at c.badge.table_id c.number c.outcome c.badge.views };
 
-    ghost invariant = { λ c. c.badge.views ≡ view_of (size_in c.badge.views) [] (ending_at c.number c.outcome ∷ []) ∷ [] };
+    ghost invariant = { λ c. c.badge.views ≡ view_of (most_in c.badge.views) [] (ending_at c.number c.outcome ∷ []) ∷ [] };
 }
 
 impl<P: WordProgram> Claim<P>
 where
     P::Output: Drop,
 {
-    /// Whose end it is: the number of a seat, from 0.
+    /// Returns whose end it is: the number of a seat, from 0.
     pub fn number(&self) -> u64
         ensures { result ≡ self.now.number }
     {
         self.number
     }
 
-    /// What the participant has ended with.
+    /// Returns what the participant has ended with.
     pub fn outcome(&self) -> &P::Output
         ensures { result.now ≡ self.now.outcome }
     {

@@ -1,20 +1,17 @@
 //! A visit to a splitter as a program over two words.
 
-ghost use Rattle.std.specs.Prelude.{◌≡◌, ◌<◌, ◌∷◌, [], length, slice_index, true};
+ghost use Rattle.std.specs.Prelude.{◌≡◌};
 ghost use Rattle.model_splitter.specs.Machine.{visit_of};
 ghost use Rattle.model_splitter.specs.Visitor.{visitor_steps};
-ghost use Rattle.words_machine.specs.Visits.{visit_law, visit_words_sound};
+ghost use Rattle.words_machine.specs.lemmas.Visits.{visit_law, visit_words_sound};
 
 use crate::program::WordProgram;
-use crate::size::Size;
 use crate::word_access::WordAccess;
 use model_splitter::{Visitor, Way};
 use model_steps::{Access, Answer, Note, StepProgram};
 
 impl WordProgram for Visitor<usize> {
     type Reg = usize;
-
-    type Value = u64;
 
     type Output = Way;
 
@@ -26,13 +23,13 @@ impl WordProgram for Visitor<usize> {
 
     ghost law = { visit_law };
 
-    fn registers(_size: Size) -> usize
+    fn registers(_most: u64) -> usize
         ensures { result ≡ 2 }
     {
         2
     }
 
-    fn place(_size: Size, register: usize) -> usize
+    fn place(_most: u64, register: usize) -> usize
         ensures { result ≡ register }
     {
         register
@@ -48,24 +45,8 @@ impl WordProgram for Visitor<usize> {
         }
     }
 
-    fn record_words(&self) -> usize {
-        0
-    }
-
-    fn record_word(&self, _at: usize) -> u64 {
-        0
-    }
-
     fn take_word(&mut self, word: u64) -> Note<Way> {
         self.resume(Answer::Value(word))
-    }
-
-    fn take_first(&mut self) -> Note<Way> {
-        self.resume(Answer::Value(0))
-    }
-
-    fn take_words(&mut self, words: &[u64]) -> Note<Way> {
-        self.resume(Answer::Value(words[0]))
     }
 
     fn take_done(&mut self) -> Note<Way> {
@@ -76,34 +57,10 @@ impl WordProgram for Visitor<usize> {
         *self
     }
 
-    fn start(_size: Size, identity: u64) -> Self
-        ensures { result ≡ visit_of identity }
+    fn start(_most: u64, seat: u64, _identity: u64) -> Self
+        ensures { result ≡ visit_of seat }
     {
-        Visitor::new(identity, 0, 1)
-    }
-
-    fn length() -> usize
-        ensures { result ≡ 1 }
-    {
-        1
-    }
-
-    fn reads(&self) -> Option<usize> {
-        None
-    }
-
-    fn ahead(&self) -> usize {
-        0
-    }
-
-    fn skip(&mut self, _count: usize) {}
-
-    fn head() -> usize {
-        0
-    }
-
-    fn read_head(&mut self, _head: &[u64]) -> bool {
-        false
+        Visitor::new(seat, 0, 1)
     }
 
     ghost sound = { visit_words_sound };

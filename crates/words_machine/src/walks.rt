@@ -1,19 +1,16 @@
 //! A walk through a grid of splitters as a program over words, two for each door.
 
-ghost use Rattle.std.specs.Prelude.{◌≡◌, ◌<◌, ◌≤◌, ◌+◌, ◌*◌, ◌∷◌, [], length, slice_index, true};
+ghost use Rattle.std.specs.Prelude.{◌≡◌, ◌+◌, ◌*◌};
 ghost use Rattle.model_splitter.specs.grid.Walk.{walk_of, walker_steps};
-ghost use Rattle.words_machine.specs.Walks.{walk_law, walk_words_sound};
+ghost use Rattle.words_machine.specs.lemmas.Walks.{walk_law, walk_words_sound};
 
 use crate::program::WordProgram;
-use crate::size::Size;
 use crate::word_access::WordAccess;
 use model_splitter::grid::{Door, Walker};
 use model_steps::{Access, Answer, Note, Place, StepProgram};
 
 impl WordProgram for Walker {
     type Reg = usize;
-
-    type Value = u64;
 
     type Output = Place;
 
@@ -25,14 +22,14 @@ impl WordProgram for Walker {
 
     ghost law = { walk_law };
 
-    fn registers(size: Size) -> usize
-        requires { walk_law.MayStart size }
-        ensures { result ≡ size.most * (size.most + 1) }
+    fn registers(most: u64) -> usize
+        requires { walk_law.MayStart most }
+        ensures { result ≡ most * (most + 1) }
     {
-        (size.most * (size.most + 1)) as usize
+        (most * (most + 1)) as usize
     }
 
-    fn place(_size: Size, register: usize) -> usize
+    fn place(_most: u64, register: usize) -> usize
         ensures { result ≡ register }
     {
         register
@@ -48,24 +45,8 @@ impl WordProgram for Walker {
         }
     }
 
-    fn record_words(&self) -> usize {
-        0
-    }
-
-    fn record_word(&self, _at: usize) -> u64 {
-        0
-    }
-
     fn take_word(&mut self, word: u64) -> Note<Place> {
         self.resume(Answer::Value(word))
-    }
-
-    fn take_first(&mut self) -> Note<Place> {
-        self.resume(Answer::Value(0))
-    }
-
-    fn take_words(&mut self, words: &[u64]) -> Note<Place> {
-        self.resume(Answer::Value(words[0]))
     }
 
     fn take_done(&mut self) -> Note<Place> {
@@ -76,34 +57,10 @@ impl WordProgram for Walker {
         *self
     }
 
-    fn start(_size: Size, identity: u64) -> Self
-        ensures { result ≡ walk_of identity }
+    fn start(_most: u64, seat: u64, _identity: u64) -> Self
+        ensures { result ≡ walk_of seat }
     {
-        Walker::new(identity, Door::corner())
-    }
-
-    fn length() -> usize
-        ensures { result ≡ 1 }
-    {
-        1
-    }
-
-    fn reads(&self) -> Option<usize> {
-        None
-    }
-
-    fn ahead(&self) -> usize {
-        0
-    }
-
-    fn skip(&mut self, _count: usize) {}
-
-    fn head() -> usize {
-        0
-    }
-
-    fn read_head(&mut self, _head: &[u64]) -> bool {
-        false
+        Walker::new(seat, Door::corner())
     }
 
     ghost sound = { walk_words_sound };

@@ -1,4 +1,4 @@
-//! A machine over words, whose registers are words and records.
+//! A machine over words.
 
 ghost use Rattle.std.specs.Prelude.{◌≡◌, ◌≢◌, ◌<◌, ◌≤◌, ◌+◌, IfOk, IfErr, IfSome, IfNone, IsSome, ◌↔◌};
 ghost use Rattle.words_machine.specs.Ids.{dealer_of, seat_of, claim_of, running_of, HasRun, HaveRun, HaveReported};
@@ -6,7 +6,6 @@ ghost use Rattle.words_machine.specs.SeatViews.{own};
 
 use crate::program::WordProgram;
 use crate::seats::{Claim, Dealer, EnteredSeat, FreshSeat, RunningSeat};
-use crate::size::Size;
 use crate::words::Words;
 use atomic_table::Badge;
 use std::alloc::{AllocError, Allocator};
@@ -28,43 +27,43 @@ impl<P: WordProgram, A: Allocator> Model for WordMachine<P, A> {
 }
 
 impl<P: WordProgram, A: Allocator + Clone> WordMachine<P, A> {
-    /// A machine of this size, of which no participant has begun, and who deals its seats.
+    /// Makes a machine for so many seats, of which none has begun, and the dealer of its seats.
     ///
     /// # Errors
     ///
     /// Only if the allocation failed.
-    pub fn new(alloc: A, size: Size) -> Result<(WordMachine<P, A>, Dealer<P>), AllocError>
-        requires some { 1 ≤ size.most }
-        requires may { P.law.MayStart size }
-        ensures machine { IfOk result (λ r. r.0.size ≡ size) }
+    pub fn new(alloc: A, most: u64) -> Result<(WordMachine<P, A>, Dealer<P>), AllocError>
+        requires some { 1 ≤ most }
+        requires may { P.law.MayStart most }
+        ensures machine { IfOk result (λ r. r.0.most ≡ most) }
         ensures dealer { IfOk result (λ r. r.1 ≡ dealer_of r.0 0) }
     {
-        let (words, rest) = Words::open(alloc, size)?;
+        let (words, rest) = Words::open(alloc, most)?;
         let badge = rest.into_badge();
         Ok((WordMachine { words }, Dealer { dealt: 0, badge }))
     }
 }
 
 impl<P: WordProgram, A: Allocator> WordMachine<P, A> {
-    /// How many seats there are at most, and how many records each may write.
-    pub fn size(&self) -> Size
-        ensures count { result ≡ self.now.size }
-        ensures some { 1 ≤ result.most }
+    /// Returns how many seats there are at most.
+    pub fn most(&self) -> u64
+        ensures count { result ≡ self.now.most }
+        ensures some { 1 ≤ result }
         ensures may { P.law.MayStart result }
     {
-        self.words.size()
+        self.words.most()
     }
 
     /// The seat of the least number that was not dealt, where there is one. The dealer is of this machine.
     pub fn deal(&self, dealer: &mut Dealer<P>) -> Option<FreshSeat<P>>
         requires ours { dealer.old.words ≡ self.now }
         ensures ours { dealer.new.words ≡ self.now }
-        ensures some { IsSome result ↔ (dealer.old.dealt < self.now.size.most) }
+        ensures some { IsSome result ↔ (dealer.old.dealt < self.now.most) }
         ensures seat { IfSome result (λ s. (s ≡ seat_of self.now dealer.old.dealt) × (dealer.new.dealt ≡ dealer.old.dealt + 1)) }
         ensures none { IfNone result (dealer.new ≡ dealer.old) }
     {
         let number = dealer.dealt;
-        if self.words.size().most <= number {
+        if self.words.most() <= number {
             return None;
         }
         let mut rest = mem::replace(&mut dealer.badge, Badge::blank()).into_seat::<u8>();
@@ -79,22 +78,34 @@ impl<P: WordProgram + Drop, A: Allocator> WordMachine<P, A>
 where
     P::Output: Drop,
 {
-    /// Takes the program of the seat's participant, access by access, until it ends, whatever the other seats do: it makes no
-    /// more accesses than the machine's bound. The seat is of this machine.
-    pub fn enter(&self, fresh: FreshSeat<P>) -> EnteredSeat<P>
+    /// Returns the number by which the machine knows a seat of this machine, from 1.
+    pub fn own_number(&self, fresh: &FreshSeat<P>) -> u64
+        requires ours { fresh.now.words ≡ self.now }
+        ensures { result ≡ own fresh.now.number }
+    {
+        // Opens the words, so that the range of `most`, which the number is below, is known.
+        let _most = self.words.most();
+        fresh.number + 1
+    }
+
+    /// Takes the program of the seat's participant for an identity, access by access, until it ends, whatever the other seats
+    /// do: it makes no more accesses than the machine's bound. The seat is of this machine.
+    pub fn enter(&self, fresh: FreshSeat<P>, identity: u64) -> EnteredSeat<P>
         requires ours { fresh.words ≡ self.now }
-        ensures seat { (result.words ≡ fresh.words) × (result.number ≡ fresh.number) }
+        requires begins { P.law.MayBegin (own fresh.number) identity }
+        ensures seat { (result.words ≡ fresh.words) × (result.number ≡ fresh.number) × (result.identity ≡ identity) }
 
         // There is a list of calls after which it has ended so, by as many steps as it made accesses.
         ensures law { HasRun P.law result }
-        ensures few { result.accesses ≤ P.law.bound self.now.size }
+        ensures few { result.accesses ≤ P.law.bound self.now.most }
     {
         let FreshSeat { number, mut seat } = fresh;
-        let mut program = P::start(self.words.size(), number + 1);
-        let (outcome, accesses) = self.words.run(&mut seat, number, &mut program);
+        let mut program = P::start(self.words.most(), number + 1, identity);
+        let (outcome, accesses) = self.words.run(&mut seat, number, identity, &mut program);
         let end = program.end();
         EnteredSeat {
             number,
+            identity,
             end,
             outcome,
             accesses,
@@ -102,16 +113,18 @@ where
         }
     }
 
-    /// The seat's participant before its first access, for who takes its accesses one at a time. The seat is of this machine.
-    pub fn begin(&self, fresh: FreshSeat<P>) -> RunningSeat<P>
+    /// Returns the seat's participant for an identity before its first access, to make its accesses one at a time. The seat is
+    /// of this machine.
+    pub fn begin(&self, fresh: FreshSeat<P>, identity: u64) -> RunningSeat<P>
         requires ours { fresh.words ≡ self.now }
-        ensures { result ≡ running_of fresh.words fresh.number (P.law.start self.now.size (own fresh.number)) 0 }
+        requires begins { P.law.MayBegin (own fresh.number) identity }
+        ensures { result ≡ running_of fresh.words fresh.number identity (P.law.start self.now.most (own fresh.number) identity) 0 }
     {
         let FreshSeat { number, seat } = fresh;
-        let program = P::start(self.words.size(), number + 1);
+        let program = P::start(self.words.most(), number + 1, identity);
         RunningSeat {
             number,
-            written: 0,
+            identity,
             program,
             accesses: 0,
             seat,
@@ -122,29 +135,28 @@ where
     /// that goes on. The seat is of this machine.
     pub fn step(&self, running: RunningSeat<P>) -> Result<EnteredSeat<P>, RunningSeat<P>>
         requires ours { running.words ≡ self.now }
-        ensures ended { IfOk result (λ e. (e.words ≡ running.words) × (e.number ≡ running.number) × (e.accesses ≡ running.accesses + 1)) }
+        ensures ended { IfOk result (λ e. (e.words ≡ running.words) × (e.number ≡ running.number) × (e.identity ≡ running.identity) × (e.accesses ≡ running.accesses + 1)) }
 
         // There is a list of calls after which it has ended so, by as many steps as it made accesses.
         ensures law { IfOk result (HasRun P.law) }
-        ensures goes_on { IfErr result (λ s. (s.words ≡ running.words) × (s.number ≡ running.number) × (s.accesses ≡ running.accesses + 1)) }
-        ensures few { IfErr result (λ s. s.accesses ≤ P.law.bound self.now.size) }
+        ensures goes_on { IfErr result (λ s. (s.words ≡ running.words) × (s.number ≡ running.number) × (s.identity ≡ running.identity) × (s.accesses ≡ running.accesses + 1)) }
+        ensures few { IfErr result (λ s. s.accesses ≤ P.law.bound self.now.most) }
     {
         let RunningSeat {
             number,
-            mut written,
+            identity,
             mut program,
             accesses,
             mut seat,
         } = running;
         // Opens the words, so that the machine's bound is known to be small.
-        let _size = self.words.size();
-        let note = self
-            .words
-            .step(&mut seat, number, &mut written, &mut program);
+        let _most = self.words.most();
+        let note = self.words.step(&mut seat, number, identity, &mut program);
         let accesses = accesses + 1;
         match note.outcome() {
             Some(outcome) => Ok(EnteredSeat {
                 number,
+                identity,
                 end: program.end(),
                 outcome,
                 accesses,
@@ -152,7 +164,7 @@ where
             }),
             None => Err(RunningSeat {
                 number,
-                written,
+                identity,
                 program,
                 accesses,
                 seat,

@@ -1,15 +1,19 @@
-//! Names given to threads over atomic words, with no lock (the problem: Attiya et al. 1990).
+//! Names given to threads over atomic words, by reads and writes alone (the problem: Attiya et al. 1990).
 //!
-//! The participant is the program of `model_renaming` over a grid with segments: it walks to a place of its own, and then
-//! proposes numbers in rounds until no other proposes the same. A [`words_machine::WordMachine`] takes that very program
-//! access by access. A door's registers are words; a segment holds a record, which is written into words of the writer's own
-//! and published by one store. So the law of the renaming machine holds of threads, and nothing of it is proved anew.
+//! The participant is the program of `model_recursion` (Gafni and Rajsbaum 2010), which a [`words_machine::WordMachine`]
+//! takes access by access. Its words hold the identities of the callers. So the law of that crate's machine holds of threads,
+//! and nothing of it is proved anew.
 //!
-//! The law, where `b` had begun when a seat's run ended, itself among them: a name of its rounds is from 1 to `2b - 1`. Two that
-//! meet have two names. No more have begun than seats were dealt, which the dealer shows. Each run ends within a bounded
-//! number of accesses, whatever the other seats do. A seat whose proposals are spent has a name too, above all names of
-//! rounds: `2m` and its place, where there are `m` seats at most. No seat is spent whose limit is above `3(5^m - 1)/4`. What is
-//! not promised: anything of seats that never meet, and that a thread gets on with its accesses.
+//! Of `m` seats, where `b` had begun when a seat got its name, itself among them:
+//!
+//! - The name is from 1 to `2b - 1`.
+//! - The seat made at most `m(m + 1)` accesses, whatever the other seats did.
+//! - Two seats that meet have two names (`meet`). A claim shows a name, and two claims of one name are of one seat.
+//! - No more seats have begun than were dealt, which the dealer shows (`tally`).
+//!
+//! A seat has a number, which says only which words are its own. Which of two seats turns is chosen by their identities.
+//!
+//! Not proved: anything of seats that never meet, and that a thread makes its next access.
 //!
 //! From `tests_model/src/names/names_tests.rt`:
 //!
@@ -19,20 +23,12 @@
 //! names.tally(dealer, &mut renamed);
 //! Some(names.name(&renamed))
 //! ..
-//! let (names, dealer) = Names::new(alloc, most, limit)?;
+//! let (names, dealer) = Names::new(alloc, most)?;
 //! ```
 #![tactic(auto)]
 
-pub mod collect;
-pub mod grid_words;
-pub mod namer;
 pub mod names;
-pub mod renamer;
 pub mod seats;
-pub mod seen;
-pub mod sighted;
 
-pub use namer::Namer;
 pub use names::Names;
-pub use renamer::Renamer;
-pub use seats::{Claim, Dealer, FreshSeat, GridRenamer, Renamed, Renaming};
+pub use seats::{Claim, Dealer, FreshSeat, Renamed, Renaming};

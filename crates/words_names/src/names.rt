@@ -1,24 +1,21 @@
 //! The names.
 
-ghost use Rattle.std.specs.Prelude.{◌≡◌, ◌≢◌, ◌≤◌, ◌+◌, ◌-◌, ◌*◌, ◌++◌, ◌∷◌, [], ℕ, None, Some, false, IfOk, IfErr, IsErr, IsOk};
-ghost use Rattle.model_renaming.specs.Round.{first_round};
+ghost use Rattle.std.specs.Prelude.{◌≡◌, ◌≢◌, ◌≤◌, ◌+◌, ◌*◌, ◌++◌, ◌∷◌, [], None, IfOk, IfErr, IsErr, IsOk};
 ghost use Rattle.words_names.specs.NameLaw.{NameSpec};
-ghost use Rattle.words_names.specs.Seats.{claim_of, dealer_of, name_of, no_deal, seat_of, IsSize};
+ghost use Rattle.words_names.specs.Seats.{claim_of, dealer_of, no_deal, seat_of, IsSize};
 ghost use Rattle.model_steps.specs.declared.refusal.Refusal.TheVariants as refused;
 
-use crate::seats::{Claim, Dealer, FreshSeat, GridRenamer, MOST_SEATS, Renamed, Renaming};
+use crate::seats::{Claim, Dealer, FreshSeat, MOST_SEATS, Renamed, Renaming};
+use model_recursion::Namer;
+use model_steps::Refusal;
 use std::alloc::Allocator;
 use std::marker::Model;
-use model_steps::Refusal;
-use words_machine::{Size, WordMachine};
-
-/// The most proposals of a seat.
-const MOST_PROPOSALS: u64 = 1000;
+use words_machine::WordMachine;
 
 /// Names for as many seats as they are made for.
 #[derive(Drop)]
 pub struct Names<A: Allocator> {
-    machine: WordMachine<GridRenamer, A>,
+    machine: WordMachine<Namer, A>,
 }
 
 impl<A: Allocator> Model for Names<A> {
@@ -30,46 +27,45 @@ impl<A: Allocator> Model for Names<A> {
 }
 
 impl<A: Allocator + Clone> Names<A> {
-    /// Names for at most `most` seats, from 1 to 16, each of which makes at most `limit` proposals, from 1 to 1,000, and who
-    /// deals the seats.
+    /// Makes names for at most `most` seats, from 1 to 64, and the dealer of the seats. They take `most^3` words of 64 bits.
     ///
     /// # Errors
     ///
-    /// - `OutOfRange` if `most` or `limit` is not in its range.
-    /// - `NoMemory` only if an allocation failed.
-    pub fn new(alloc: A, most: u64, limit: u64) -> Result<(Names<A>, Dealer), Refusal>
-        ensures names { IfOk result (λ r. r.0.size ≡ record { most = most; limit = limit }) }
+    /// - `OutOfRange`: `most` is not from 1 to 64.
+    /// - `NoMemory`: an allocation failed.
+    pub fn new(alloc: A, most: u64) -> Result<(Names<A>, Dealer), Refusal>
+        ensures names { IfOk result (λ r. r.0.most ≡ most) }
         ensures dealer { IfOk result (λ r. r.1 ≡ dealer_of r.0 0 []) }
-        ensures range { IsOk result → IsSize most limit }
-        ensures error { IfErr result (λ why. IsSize most limit → why ≡ refused.NoMemory) }
-        ensures outside { (IsSize most limit → ⊥) → result ≡ Err refused.OutOfRange }
+        ensures range { IsOk result → IsSize most }
+        ensures error { IfErr result (λ why. IsSize most → why ≡ refused.NoMemory) }
+        ensures outside { (IsSize most → ⊥) → result ≡ Err refused.OutOfRange }
     {
-        if most < 1 || (MOST_SEATS as u64) < most || limit < 1 || MOST_PROPOSALS < limit {
+        if most < 1 || (MOST_SEATS as u64) < most {
             return Err(Refusal::OutOfRange);
         }
-        let (machine, dealer) = WordMachine::new(alloc, Size { most, limit })?;
+        let (machine, dealer) = WordMachine::new(alloc, most)?;
         let identities = [0; MOST_SEATS];
         Ok((Names { machine }, Dealer { dealer, identities }))
     }
 }
 
 impl<A: Allocator> Names<A> {
-    /// How many seats there are at most.
+    /// Returns how many seats there are at most: from 1 to 64.
     pub fn most(&self) -> u64
-        ensures count { result ≡ self.now.size.most }
-        ensures range { (1 ≤ result) × (result ≤ 16) }
+        ensures count { result ≡ self.now.most }
+        ensures range { (1 ≤ result) × (result ≤ 64) }
     {
-        self.machine.size().most
+        self.machine.most()
     }
 
-    /// Deals the seat of the least number that was not dealt to an identity, which is of the caller's choice. The dealer is of
-    /// these names.
+    /// Deals the seat of the least number that was not dealt to an identity of the caller's choice. The dealer is of these
+    /// names.
     ///
     /// # Errors
     ///
-    /// - `ZeroIdentity` if the identity is 0.
-    /// - `AlreadyBegun` if a seat was dealt to this identity.
-    /// - `Full` if all seats were dealt.
+    /// - `ZeroIdentity`: the identity is 0.
+    /// - `AlreadyBegun`: a seat was dealt to this identity.
+    /// - `Full`: all seats were dealt.
     pub fn deal(&self, dealer: &mut Dealer, identity: u64) -> Result<FreshSeat, Refusal>
         requires ours { dealer.old.names ≡ self.now }
         ensures seat { IfOk result (λ s. s ≡ seat_of self.now dealer.old.dealt identity) }
@@ -86,7 +82,7 @@ impl<A: Allocator> Names<A> {
             return Err(Refusal::AlreadyBegun);
         }
         // Opens the machine, so that the range of the most seats is known.
-        let _most = self.machine.size().most;
+        let _most = self.machine.most();
         let Some(seat) = self.machine.deal(&mut dealer.dealer) else {
             return Err(Refusal::Full);
         };
@@ -94,31 +90,35 @@ impl<A: Allocator> Names<A> {
         Ok(FreshSeat { identity, seat })
     }
 
-    /// Makes the accesses of the seat's participant, one after another, until its rounds give it a name or its proposals are
-    /// spent, whatever the other seats do. The seat is of these names.
+    /// Makes the accesses of a seat of these names, one after another, until it has a name, by reads and writes (Gafni and
+    /// Rajsbaum 2010).
+    ///
+    /// # Steps
+    ///
+    /// At most `m(m + 1)` accesses of `m` seats, whatever the other seats do.
     pub fn rename(&self, fresh: FreshSeat) -> Renamed
         requires ours { fresh.names ≡ self.now }
         ensures seat { (result.names ≡ fresh.names) × (result.number ≡ fresh.number) × (result.identity ≡ fresh.identity) }
         ensures law { NameSpec result }
     {
         let FreshSeat { identity, seat } = fresh;
-        let seat = self.machine.enter(seat);
-        Renamed { identity, seat }
+        let seat = self.machine.enter(seat, identity);
+        Renamed { seat }
     }
 
-    /// The seat's participant before its first access, for who takes its accesses one at a time. The seat is of these names.
+    /// Returns a seat of these names before its first access, to make its accesses one at a time.
     pub fn begin(&self, fresh: FreshSeat) -> Renaming
         requires ours { fresh.names ≡ self.now }
         ensures seat { (result.names ≡ fresh.names) × (result.number ≡ fresh.number) × (result.identity ≡ fresh.identity) }
-        ensures first { (result.round ≡ first_round false) × (result.accesses ≡ 0) }
+        ensures first { result.accesses ≡ 0 }
     {
         let FreshSeat { identity, seat } = fresh;
-        let seat = self.machine.begin(seat);
-        Renaming { identity, seat }
+        let seat = self.machine.begin(seat, identity);
+        Renaming { seat }
     }
 
-    /// One access of the seat's participant, whatever the other seats do: the seat that was renamed by it, or `Err` with the seat
-    /// that goes on. The seat is of these names.
+    /// Makes one access of a seat of these names, whatever the other seats do. Returns the seat that was renamed by it, or
+    /// `Err` with the seat that goes on.
     pub fn step(&self, renaming: Renaming) -> Result<Renamed, Renaming>
         requires ours { renaming.names ≡ self.now }
         ensures renamed { IfOk result (λ e. (e.names ≡ renaming.names) × (e.number ≡ renaming.number)
@@ -126,72 +126,68 @@ impl<A: Allocator> Names<A> {
         ensures law { IfOk result NameSpec }
         ensures goes_on { IfErr result (λ s. (s.names ≡ renaming.names) × (s.number ≡ renaming.number)
             × (s.identity ≡ renaming.identity) × (s.accesses ≡ renaming.accesses + 1)) }
+        ensures few { IfErr result (λ s. s.accesses ≤ self.now.most * (self.now.most + 1)) }
     {
-        let Renaming { identity, seat } = renaming;
+        let Renaming { seat } = renaming;
         match self.machine.step(seat) {
-            Ok(seat) => Ok(Renamed { identity, seat }),
-            Err(seat) => Err(Renaming { identity, seat }),
+            Ok(seat) => Ok(Renamed { seat }),
+            Err(seat) => Err(Renaming { seat }),
         }
     }
 
-    /// The name of a seat that was renamed, which each has: that of its rounds, or, where its proposals are spent, twice the
-    /// most seats and its place. The seat is of these names.
+    /// Returns the name of a renamed seat of these names.
     pub fn name(&self, renamed: &Renamed) -> u64
         requires ours { renamed.now.names ≡ self.now }
-        ensures value { result ≡ name_of renamed.now }
+        ensures value { result ≡ renamed.now.name }
         ensures positive { 1 ≤ result }
 
-        // The law, which each seat that was renamed keeps.
+        // The law that each renamed seat keeps.
         ensures law { NameSpec renamed.now }
     {
-        let place = renamed.place();
-        match renamed.named() {
-            Some(name) => name,
-            None => 2 * self.machine.size().most + place as u64,
-        }
+        renamed.name()
     }
 
-    /// Two seats that were renamed meet, and show that their names differ. Both are of these names, and stay as they are.
+    /// Compares two renamed seats of these names, which stay as they are. Their names differ.
     pub fn meet(&self, one: &mut Renamed, other: &mut Renamed)
         requires one { one.old.names ≡ self.now }
         requires other { other.old.names ≡ self.now }
         ensures same { (one.new ≡ one.old) × (other.new ≡ other.old) }
         ensures apart { one.old.number ≢ other.old.number }
-        ensures distinct { name_of one.old ≢ name_of other.old }
+        ensures distinct { one.old.name ≢ other.old.name }
     {
         self.machine.meet(&mut one.seat, &mut other.seat);
     }
 
-    /// A seat that was renamed meets the dealer, and shows that no more had begun when it ended than seats were dealt: so a
-    /// name of its rounds is at most `2d - 1` where `d` were dealt. Both are of these names, and stay as they are.
+    /// Compares a renamed seat with the dealer, both of these names, which stay as they are.
+    ///
+    /// Where `d` seats were dealt, at most `d` had begun when this one got its name. So the name is at most `2d - 1`.
     pub fn tally(&self, dealer: &mut Dealer, renamed: &mut Renamed)
         requires dealer { dealer.old.names ≡ self.now }
         requires renamed { renamed.old.names ≡ self.now }
         ensures same { (dealer.new ≡ dealer.old) × (renamed.new ≡ renamed.old) }
         ensures counted { renamed.old.entered ≤ dealer.old.dealt }
-        ensures low { (n : ℕ) → renamed.old.named ≡ Some n → n ≤ 2 * dealer.old.dealt - 1 }
+        ensures low { renamed.old.name + 1 ≤ 2 * dealer.old.dealt }
     {
         self.machine.tally(&mut dealer.dealer, &mut renamed.seat);
     }
 
-    /// A claim of the name that the rounds of a seat gave it. The seat is of these names, and stays as it is.
+    /// Makes a claim of the name of a renamed seat of these names, which stays as it is.
     pub fn claim(&self, renamed: &mut Renamed) -> Claim
         requires ours { renamed.old.names ≡ self.now }
         ensures same { renamed.new ≡ renamed.old }
         ensures claim { result ≡ claim_of renamed.old }
     {
-        let identity = renamed.identity;
+        let identity = renamed.seat.identity();
         let claim = self.machine.claim(&mut renamed.seat);
         Claim { identity, claim }
     }
 
-    /// Two claims meet, and show that a name is one seat's: where both are of one name, they are of one seat. Both are of these
-    /// names, and stay as they are.
+    /// Compares two claims of these names, which stay as they are. If their names are equal, so are their seats.
     pub fn compare(&self, one: &mut Claim, other: &mut Claim)
         requires one { one.old.names ≡ self.now }
         requires other { other.old.names ≡ self.now }
         ensures same { (one.new ≡ one.old) × (other.new ≡ other.old) }
-        ensures one_seat { (n : ℕ) → one.old.named ≡ Some n → other.old.named ≡ Some n → one.old.number ≡ other.old.number }
+        ensures one_seat { one.old.name ≡ other.old.name → one.old.number ≡ other.old.number }
     {
         self.machine.compare(&mut one.claim, &mut other.claim);
     }

@@ -3,21 +3,16 @@
 ghost use Rattle.std.specs.Prelude.{◌≡◌};
 ghost use Rattle.words_names.specs.NameLaw.{NameSpec};
 
-use crate::namer::Namer;
-use model_renaming::Round;
+use model_recursion::Namer;
 use std::marker::Model;
-use model_steps::Place;
-
-/// A participant over a grid.
-pub type GridRenamer = Namer;
 
 /// The most seats.
-pub const MOST_SEATS: usize = 16;
+pub const MOST_SEATS: usize = 64;
 
 /// The seats that are still to be dealt, by rising number.
 #[derive(Drop)]
 pub struct Dealer {
-    pub(crate) dealer: words_machine::Dealer<GridRenamer>,
+    pub(crate) dealer: words_machine::Dealer<Namer>,
     // The identities of the seats that were dealt come first.
     pub(crate) identities: [u64; MOST_SEATS],
 }
@@ -30,11 +25,11 @@ impl Model for Dealer {
 
     ghost view = { λ d. dealer_of d.dealer.words d.dealer.dealt (take d.dealer.dealt d.identities) };
 
-    ghost invariant = { λ d. d.dealer.dealt ≤ 16 };
+    ghost invariant = { λ d. d.dealer.dealt ≤ 64 };
 }
 
 impl Dealer {
-    /// How many seats were dealt.
+    /// Returns how many seats were dealt.
     pub fn dealt(&self) -> u64
         ensures { result ≡ self.now.dealt }
     {
@@ -42,30 +37,33 @@ impl Dealer {
     }
 }
 
-/// A seat that was not renamed. To be renamed uses it up, so no seat is renamed twice.
+/// A seat that was not renamed. `rename` takes it, so no seat is renamed twice.
 #[derive(Drop)]
 pub struct FreshSeat {
     pub(crate) identity: u64,
-    pub(crate) seat: words_machine::FreshSeat<GridRenamer>,
+    pub(crate) seat: words_machine::FreshSeat<Namer>,
 }
 
 impl Model for FreshSeat {
+    ghost use Rattle.std.specs.Prelude.{◌≤◌};
     ghost use Rattle.words_names.specs.Seats.{SeatId, seat_of};
 
     ghost Value = { SeatId };
 
     ghost view = { λ f. seat_of f.seat.words f.seat.number f.identity };
+
+    ghost invariant = { λ f. 1 ≤ f.identity };
 }
 
 impl FreshSeat {
-    /// The seat's number, from 0. The participant of the machine has an identity that is one more.
+    /// Returns the seat's number, from 0.
     pub fn number(&self) -> u64
         ensures { result ≡ self.now.number }
     {
         self.seat.number()
     }
 
-    /// The identity that the seat was dealt to.
+    /// Returns the identity that the seat was dealt to.
     pub fn identity(&self) -> u64
         ensures { result ≡ self.now.identity }
     {
@@ -73,11 +71,10 @@ impl FreshSeat {
     }
 }
 
-/// A seat that is being renamed, for who takes its accesses one at a time. To take one uses it up.
+/// A seat that is being renamed, one access at a time. `step` takes it.
 #[derive(Drop)]
 pub struct Renaming {
-    pub(crate) identity: u64,
-    pub(crate) seat: words_machine::RunningSeat<GridRenamer>,
+    pub(crate) seat: words_machine::RunningSeat<Namer>,
 }
 
 impl Model for Renaming {
@@ -85,103 +82,91 @@ impl Model for Renaming {
 
     ghost Value = { RenamingId };
 
-    ghost view = { λ e. renaming_by e.identity e.seat };
+    ghost view = { λ e. renaming_by e.seat };
 }
 
 impl Renaming {
-    /// The seat's number, from 0.
+    /// Returns the seat's number, from 0.
     pub fn number(&self) -> u64
         ensures { result ≡ self.now.number }
     {
         self.seat.number()
     }
 
-    /// The identity that the seat was dealt to.
+    /// Returns the identity that the seat was dealt to.
     pub fn identity(&self) -> u64
         ensures { result ≡ self.now.identity }
     {
-        self.identity
+        self.seat.identity()
     }
 
-    /// How many accesses of registers its participant has made.
+    /// Returns how many accesses of words it has made.
     pub fn accesses(&self) -> u64
         ensures { result ≡ self.now.accesses }
     {
         self.seat.accesses()
-    }
-
-    /// The round of its participant: how many proposals it has made, the last of them, and where it stands.
-    pub fn round(&self) -> Round
-        ensures { result ≡ self.now.round }
-    {
-        self.seat.program().round
     }
 }
 
 /// A seat that was renamed.
 #[derive(Drop)]
 pub struct Renamed {
-    pub(crate) identity: u64,
-    pub(crate) seat: words_machine::EnteredSeat<GridRenamer>,
+    pub(crate) seat: words_machine::EnteredSeat<Namer>,
 }
 
 impl Model for Renamed {
     ghost use Rattle.words_names.specs.Seats.{RenamedId, renamed_by};
     ghost use Rattle.words_machine.specs.Ids.{HasRun};
-    ghost use Rattle.words_names.specs.NameMachine.{names_law};
+    ghost use Rattle.words_machine.specs.Names.{names_law};
 
     ghost Value = { RenamedId };
 
-    ghost view = { λ e. renamed_by e.identity e.seat };
+    ghost view = { λ e. renamed_by e.seat };
 
     ghost invariant = { λ e. HasRun names_law e.seat };
 }
 
 impl Renamed {
-    /// The seat's number, from 0.
+    /// Returns the seat's number, from 0.
     pub fn number(&self) -> u64
         ensures { result ≡ self.now.number }
     {
         self.seat.number()
     }
 
-    /// The identity that the seat was dealt to.
+    /// Returns the identity that the seat was dealt to.
     pub fn identity(&self) -> u64
         ensures { result ≡ self.now.identity }
     {
-        self.identity
+        self.seat.identity()
     }
 
-    /// How many accesses of registers its participant has made.
+    /// Returns how many accesses of words it made.
     pub fn accesses(&self) -> u64
         ensures { result ≡ self.now.accesses }
     {
         self.seat.accesses()
     }
 
-    /// The name that its rounds of proposals gave it; `None` where its proposals are spent.
-    pub fn named(&self) -> Option<u64>
-        ensures { result ≡ self.now.named }
-    {
-        *self.seat.outcome()
-    }
+    /// Returns its name.
+    ///
+    /// Where `b` seats of `m` had begun when it got the name, itself among them, the name is from 1 to `2b - 1`, and the seat
+    /// made at most `m(m + 1)` accesses.
+    pub fn name(&self) -> u64
+        ensures value { result ≡ self.now.name }
 
-    /// The place of the seat's participant in the grid.
-    pub fn place(&self) -> Place
-        ensures value { result ≡ self.now.place }
-
-        // The law, which each seat that was renamed keeps.
+        // The law that each renamed seat keeps.
         ensures law { NameSpec self.now }
     {
-        self.seat.end()
+        u64::from(*self.seat.outcome())
     }
 }
 
-/// A claim: that the rounds of a seat gave it this name, or none. The holder can show it, for good.
+/// A claim: a seat has a name. It stays true.
 #[derive(Drop)]
 pub struct Claim {
     pub(crate) identity: u64,
-    pub(crate) claim: words_machine::Claim<GridRenamer>,
+    pub(crate) claim: words_machine::Claim<Namer>,
 }
 
 impl Model for Claim {
@@ -193,24 +178,24 @@ impl Model for Claim {
 }
 
 impl Claim {
-    /// Whose name it is: the number of a seat, from 0.
+    /// Returns the number of the seat whose name it is, from 0.
     pub fn number(&self) -> u64
         ensures { result ≡ self.now.number }
     {
         self.claim.number()
     }
 
-    /// The identity that the seat was dealt to.
+    /// Returns the identity that the seat was dealt to.
     pub fn identity(&self) -> u64
         ensures { result ≡ self.now.identity }
     {
         self.identity
     }
 
-    /// The name; `None` where the seat's proposals are spent.
-    pub fn named(&self) -> Option<u64>
-        ensures { result ≡ self.now.named }
+    /// Returns the name.
+    pub fn name(&self) -> u64
+        ensures { result ≡ self.now.name }
     {
-        *self.claim.outcome()
+        u64::from(*self.claim.outcome())
     }
 }

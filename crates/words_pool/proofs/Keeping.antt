@@ -218,6 +218,15 @@ module _ {S : Type 0} (count slots : ℕ) where
           (p, refl, 1, refl),
         )
 
+    -- a call that rests looks at the place of a hint
+    pub may_look_aside_again : (p n a b : ℕ) (o : Option S) → c.stage ≡ AtRest → Allows {S = S} {V = PoolView} (KeepsPoolRule count) slots seat (lone c past, []) (p * 8) (λ n. n) (LooksAside (step n (p * 8) a b o) (lone c past, []))
+    may_look_aside_again p n a b o is s h _ e _ =
+        let found : ℕ = slice_index s.words (p * 8) in
+        let kept : KeepsPool count (slice_set s.words (p * 8) found) (set s.views seat (lone (looked_aside p found c) past)) = rw (reread s.words (p * 8)) (dite (ℕ_discrete found 0)
+        (λ z. let x = eq-eqb found 0 z in rw x (still_kept count s.words s.views h seat (lone c past) (lone (sighting c) past) e (λ q. refl)))
+        (λ z. let x = ne_eqb found 0 z in rw x (still_kept count s.words s.views h seat (lone c past) (lone (passing_aside c.lost p c) past) e (λ q. refl)))) in
+        (lone (looked_aside p found c) past, keeps, tt, kept, (p, refl, refl))
+
     -- a call stores 0 into the word of its place
     pub free_kept : (moment p : ℕ) (s : State S PoolView) → p < count → c.stage ≡ Holding → c.place ≡ p → KeepsPoolRule count s → get_elem? s.views seat ≡ some (lone c past)
         → KeepsPool count (set s.words (p * 8) 0) (set s.views seat (lone at_rest (going moment c ∷ past)))

@@ -48,9 +48,10 @@ passing lost c = record c { stage = Seeking; place = suc c.place; met = c.place 
 abbrev pub taking : ℕ → List ℕ → Call → Call
 taking moment crowds c = record c { stage = Holding; accesses = suc c.accesses; sighted = false; took = moment; went = 0; crowds = crowds }
 
--- an access of a call at rest that took this place, at this moment
+-- an access of a call at rest that took this place, at this moment, with what it met and lost at places of hints before
 abbrev pub taking_hint : ℕ → ℕ → Call → Call
-taking_hint place moment c = record at_rest { stage = Holding; place = place; accesses = suc c.accesses; hinted = true; came = moment; took = moment }
+taking_hint place moment c =
+    record at_rest { stage = Holding; place = place; met_aside = c.met_aside; accesses = suc c.accesses; hinted = true; lost = c.lost; came = moment; took = moment }
 
 -- the access that gave its place back, at this moment
 abbrev pub going : ℕ → Call → Call
@@ -126,6 +127,11 @@ abbrev pub first_places : ℕ → List ℕ
 first_places zero = []
 first_places (suc count) = count ∷ first_places count
 
+-- so many places from this one on, the newest first
+abbrev pub places_from : ℕ → ℕ → List ℕ
+places_from first zero = []
+places_from first (suc count) = (first + count) ∷ places_from first count
+
 -- the view of a seat with one call, of this stage, at this place: its walk has met all places below held
 pub record IsAt (stage : Stage) (place : ℕ) (v : PoolView) : Type 0 where
   pub view_is : v ≡ lone (call_of v) v.past
@@ -139,6 +145,12 @@ IsSeeking = IsAt Seeking
 
 abbrev pub IsHolding : ℕ → PoolView → Type 0
 IsHolding = IsAt Holding
+
+-- the view of a seat with one call, at rest, which has met so many places from the first on held, by hints
+pub record IsAside (first count : ℕ) (v : PoolView) : Type 0 where
+  pub view_is : v ≡ lone (call_of v) v.past
+  pub stage_is : (call_of v).stage ≡ AtRest
+  pub met_are : (call_of v).met_aside ≡ places_from first count
 
 -- a seat's call has looked at this place, and found this: where it was held it stands at the next
 abbrev pub HasLooked : ℕ → ℕ → PoolView → Type 0

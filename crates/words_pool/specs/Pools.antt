@@ -1,10 +1,10 @@
 -- pools and what is held of them, as callers see them
-use Rattle.std.specs.Prelude.{◌≡◌, ◌<◌, ◌≤◌, ◌-◌, ◌==◌, ℕ, zero, suc, List, [], ◌∷◌, drop, slice_index, if◌then◌else◌}
+use Rattle.std.specs.Prelude.{◌≡◌, ◌<◌, ◌≤◌, ◌+◌, ◌-◌, ◌⊎◌, ◌==◌, ℕ, zero, suc, List, [], ◌∷◌, drop, slice_index, if◌then◌else◌}
 use Rattle.atomic_table.specs.Seated.{TableId}
 use Rattle.words_pool.specs.declared.pool_view.Stage.TheVariants.{Holding}
 use Rattle.words_pool.specs.declared.pool_view.Call.{Call}
 use Rattle.words_pool.specs.declared.pool_view.PoolView.{PoolView}
-use Rattle.words_pool.specs.PoolView.{lone, call_in, past_in, first_of, first_places}
+use Rattle.words_pool.specs.PoolView.{lone, call_in, past_in, first_of, first_places, places_from}
 use Rattle.words_pool.specs.PoolRule.{word_of}
 use Rattle.words_pool.specs.Tally.{own, holding}
 
@@ -45,17 +45,41 @@ pub record TicketId : Type 0 where
 abbrev pub ticket_id : TableId → ℕ → List Call → TicketId
 ticket_id pool seat past = record { pool = pool; seat = seat; past = past }
 
+-- a call met each of so many numbers of the pool held, one after another, from 1 on
+abbrev pub HasMetFirstHeld : PoolId → ℕ → CallId → Type 0
+HasMetFirstHeld p count a = (a.pool ≡ p.table) × (a.call.met ≡ first_places count)
+
 -- a call met each number of the pool held, one after another, from 1 on
 abbrev pub HasMetAllHeld : PoolId → CallId → Type 0
-HasMetAllHeld p a = (a.pool ≡ p.table) × (a.call.met ≡ first_places p.numbers)
+HasMetAllHeld p a = HasMetFirstHeld p p.numbers a
 
--- a hint that is a number of this pool other than 1, at which each walk begins
+-- a hint that is a number of this pool other than 1, from which each walk without a hint goes
 abbrev pub IsHint : PoolId → ℕ → Type 0
 IsHint p hint = (1 < hint) × (hint ≤ p.numbers)
 
--- before its walk a call met the number of a hint held, and no other
-abbrev pub HasMetHintHeld : ℕ → CallId → Type 0
-HasMetHintHeld hint a = a.call.met_aside ≡ (hint - 1) ∷ []
+abbrev pub IsNoHint : PoolId → ℕ → Type 0
+IsNoHint p hint = (hint ≤ 1) ⊎ (p.numbers < hint)
+
+-- a call got a number from the hint on: it met each number from the hint to it held, one after another
+abbrev pub HasGoneOn : ℕ → CallId → Type 0
+HasGoneOn hint h =
+    (hint ≤ h.number) × (h.call.met_aside ≡ places_from (hint - 1) (h.number - hint)) × (h.call.accesses + hint ≤ h.number + 2)
+
+-- a call met each number from the hint to the greatest held, one after another
+abbrev pub HasMetAllAbove : PoolId → ℕ → CallId → Type 0
+HasMetAllAbove p hint a = a.call.met_aside ≡ places_from (hint - 1) (p.numbers + 1 - hint)
+
+-- a call got a number below the hint: it met each from the hint to the greatest held, and then each from 1 to it
+pub record HasWrapped (p : PoolId) (hint : ℕ) (h : CallId) : Type 0 where
+  pub before : h.number < hint
+  pub above : HasMetAllAbove p hint h
+  pub below : h.call.met ≡ first_places (h.number - 1)
+
+-- a call met each number of the pool held, one after another, once: from the hint to the greatest, and then from 1 to the hint
+pub record HasMetAllFrom (p : PoolId) (hint : ℕ) (a : CallId) : Type 0 where
+  pub ours : a.pool ≡ p.table
+  pub above : HasMetAllAbove p hint a
+  pub below : a.call.met ≡ first_places (hint - 1)
 
 -- the places below this whose words are not 0, the greatest first
 abbrev pub set_places : List ℕ → ℕ → List ℕ

@@ -18,8 +18,8 @@ use crate::pool_steps::Come;
 use crate::pool_view::PoolView;
 use crate::ticket::{Ticket, Tickets};
 use atomic_table::{Closed, Seat};
-use std::alloc::{AllocError, Allocator};
 use model_steps::Refusal;
+use std::alloc::{AllocError, Allocator};
 
 /// A line: the numbers from 1 on, each with a shared atomic word, and as many tickets. A thread with a ticket always
 /// gets a number.
@@ -99,7 +99,7 @@ impl<A: Allocator> PoolOver<Lining, A> {
         let place = if found == 0 {
             0
         } else {
-            self.look_on(&mut seat)
+            self.look_on(&mut seat, self.numbers)
         };
         self.take_from(seat, place)
     }

@@ -13,10 +13,10 @@ use crate::held::Held;
 use crate::pool_steps::{Free, Look, LookOn, Sever, Unite};
 use crate::pool_view::PoolView;
 use atomic_table::{Badge, Seat, Table, TableRule};
+use model_steps::Refusal;
 use std::alloc::{AllocError, Allocator};
 use std::marker::Model;
 use std::mem;
-use model_steps::Refusal;
 
 /// The most numbers of a pool.
 pub(crate) const MOST_NUMBERS: u64 = 4096;
@@ -87,21 +87,21 @@ impl<R: TableRule<u8, PoolView, u64>, A: Allocator> PoolOver<R, A> {
         self.numbers
     }
 
-    /// Reads one word after another from the second on, and returns the first place that is free, or the last, which it
-    /// does not read.
-    pub(crate) fn look_on(&self, seat: &mut Seat<u8, PoolView>) -> u64
+    /// Reads one word after another from the second on, and returns the first place that is free, or the last below `end`,
+    /// which it does not read.
+    pub(crate) fn look_on(&self, seat: &mut Seat<u8, PoolView>, end: u64) -> u64
         requires ours { seat.old.table_id ≡ self.now.table }
-        requires some { 1 < self.now.numbers }
+        requires some { (1 < end) × (end ≤ self.now.numbers) }
         requires passed { IsSeeking 1 seat.old.me.0 × ((call_of seat.old.me.0).sighted ≡ false) × (seat.old.me.1 ≡ []) }
         ensures ours { (seat.new.table_id ≡ self.now.table) × (seat.new.me.1 ≡ []) }
         ensures this_call { (seat.new.id ≡ seat.old.id) × (seat.new.me.0.past ≡ seat.old.me.0.past) }
-        ensures range { (1 ≤ result) × (result + one_if (call_of seat.new.me.0).sighted < self.now.numbers) }
+        ensures range { (1 ≤ result) × (result + one_if (call_of seat.new.me.0).sighted < end) }
         ensures here { IsSeeking result seat.new.me.0 }
         ensures accesses { (call_of seat.new.me.0).accesses + 1 ≡ (call_of seat.old.me.0).accesses + result + one_if (call_of seat.new.me.0).sighted }
         ensures lost { (call_of seat.new.me.0).lost ≡ (call_of seat.old.me.0).lost }
         ensures aside { (call_of seat.new.me.0).met_aside ≡ (call_of seat.old.me.0).met_aside }
     {
-        for place in 1..self.numbers - 1 {
+        for place in 1..end - 1 {
             let found = self
                 .table
                 .shared
@@ -110,7 +110,7 @@ impl<R: TableRule<u8, PoolView, u64>, A: Allocator> PoolOver<R, A> {
                 return place;
             }
         }
-        self.numbers - 1
+        end - 1
     }
 
     /// Gives a number of this pool back, by one access, and returns the seat of the call that ended.

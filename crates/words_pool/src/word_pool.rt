@@ -5,15 +5,15 @@ ghost use lib.ListN.{get_elem?};
 ghost use mathlib.Core.Option.{some};
 ghost use Rattle.words_pool.specs.PoolView.{call_of, first_places, races, IsSeeking, IsWithin, HasLooked, HasSwapped};
 ghost use Rattle.words_pool.specs.PoolSteps.{IsWordFor};
-ghost use Rattle.words_pool.specs.Pools.{CallId, HasLookedAtAll, HasMetAllHeld, HasMetHintHeld, IsHint, IsTableOf, pool_of, set_places};
+ghost use Rattle.words_pool.specs.Pools.{CallId, HasLookedAtAll, HasMetAllHeld, HasMetFirstHeld, IsTableOf, pool_of, set_places};
 
 use crate::held::{AllHeld, Held, LastLook, Released};
 use crate::pool_over::{PoolOver, STRIDE};
-use crate::pool_steps::{Come, ComeBySwap, LookAside, Pooling, ReadFirst, ReadOn, Take, TakeAside};
+use crate::pool_steps::{Come, ComeBySwap, LookAside, Pooling, ReadFirst, ReadOn, Take};
 use crate::pool_view::PoolView;
 use atomic_table::{Seat, Shared};
-use std::alloc::{AllocError, Allocator};
 use model_steps::Refusal;
+use std::alloc::{AllocError, Allocator};
 
 /// A pool: the numbers from 1 on, each with a shared atomic word, for any number of threads.
 pub type WordPool<A> = PoolOver<Pooling, A>;
@@ -38,33 +38,34 @@ impl<A: Allocator + Clone> PoolOver<Pooling, A> {
 }
 
 /// The words of a pool's numbers.
-type Words = Shared<u8, PoolView, u64, Pooling>;
+pub(crate) type Words = Shared<u8, PoolView, u64, Pooling>;
 
-/// Swaps 1 into one word after another from place `from` on, until a word was 0.
+/// Swaps 1 into one word after another from place `from` to below `end`, until a word was 0.
 fn take_from(
     table: &Words,
-    numbers: u64,
+    _numbers: u64,
     mut seat: Seat<u8, PoolView>,
     from: u64,
+    end: u64,
 ) -> Result<Held, AllHeld>
-    requires table { IsTableOf numbers table.now.table_id table.now.key }
+    requires table { IsTableOf _numbers table.now.table_id table.now.key }
     requires ours { seat.table_id ≡ table.now.table_id }
-    requires range { from ≤ numbers }
+    requires range { (from ≤ end) × (end ≤ _numbers) }
     requires here { IsSeeking from seat.me.0 × (seat.me.1 ≡ []) }
     ensures ours { IfOk result (λ h. h.pool ≡ table.now.table_id) }
-    ensures range { IfOk result (λ h. (from < h.number) × (h.number ≤ numbers)) }
+    ensures range { IfOk result (λ h. (from < h.number) × (h.number ≤ end)) }
     ensures below { IfOk result (λ h. (h.call.met ≡ first_places (h.number - 1)) × (h.call.hinted ≡ false)) }
     ensures accesses { IfOk result (λ h. h.call.accesses + from ≡ (call_of seat.me.0).accesses + h.number) }
     ensures races { IfOk result (λ h. suc from < h.number → h.call.lost ≡ races (call_of seat.me.0)) }
     ensures aside { IfOk result (λ h. h.call.met_aside ≡ (call_of seat.me.0).met_aside) }
-    ensures all_held { IfErr result (λ a. HasMetAllHeld (pool_of table.now.table_id numbers) a) }
+    ensures all_held { IfErr result (λ a. HasMetFirstHeld (pool_of table.now.table_id _numbers) end a) }
     ensures aside_in_vain { IfErr result (λ a. a.call.met_aside ≡ (call_of seat.me.0).met_aside) }
-    ensures accesses_in_vain { IfErr result (λ a. a.call.accesses + from ≡ (call_of seat.me.0).accesses + numbers) }
-    ensures races_in_vain { IfErr result (λ a. from < numbers → a.call.lost ≡ races (call_of seat.me.0)) }
+    ensures accesses_in_vain { IfErr result (λ a. a.call.accesses + from ≡ (call_of seat.me.0).accesses + end) }
+    ensures races_in_vain { IfErr result (λ a. from < end → a.call.lost ≡ races (call_of seat.me.0)) }
     ensures lost { IfOk result (λ h. (call_of seat.me.0).lost ≤ h.call.lost) }
     ensures lost_in_vain { IfErr result (λ a. (call_of seat.me.0).lost ≤ a.call.lost) }
 {
-    for place in from..numbers {
+    for place in from..end {
         let found = table.swap::<Take>(&mut seat, (place * STRIDE) as usize, 1);
         if found == 0 {
             return Ok(Held::of(seat, place));
@@ -123,96 +124,66 @@ impl<A: Allocator> PoolOver<Pooling, A> {
     {
         if self.numbers == 1 {
             let (found, seat) = self.table.shared.swap_new_seat::<ComeBySwap>(0, 1);
-            return self.walk_by_swaps(seat, found);
+            return self.walk_by_swaps(seat, found, self.numbers);
         }
         let (found, seat) = self.table.shared.load_new_seat::<Come>(0);
-        self.walk(seat, found)
+        self.walk(seat, found, self.numbers)
     }
 
-    /// The walk of a seat that has read the first word. It reads until it finds a word 0, and then swaps.
-    fn walk(&self, mut seat: Seat<u8, PoolView>, found: u64) -> Result<Held, AllHeld>
+    /// The walk of a seat that has read the first word, over the places below `end`. It reads until it finds a word 0, and
+    /// then swaps.
+    pub(crate) fn walk(
+        &self,
+        mut seat: Seat<u8, PoolView>,
+        found: u64,
+        end: u64,
+    ) -> Result<Held, AllHeld>
         requires ours { seat.table_id ≡ self.now.table }
-        requires some { 1 < self.now.numbers }
+        requires some { (1 < end) × (end ≤ self.now.numbers) }
         requires looked { HasLooked found 0 seat.me.0 × ((call_of seat.me.0).lost ≡ 0) × (seat.me.1 ≡ []) }
         ensures ours { IfOk result (λ h. h.pool ≡ self.now.table) }
-        ensures range { IfOk result (λ h. (1 ≤ h.number) × (h.number ≤ self.now.numbers)) }
+        ensures range { IfOk result (λ h. (1 ≤ h.number) × (h.number ≤ end)) }
         ensures below { IfOk result (λ h. (h.call.met ≡ first_places (h.number - 1)) × (h.call.hinted ≡ false)) }
         ensures accesses { IfOk result (λ h. h.call.accesses ≤ (call_of seat.me.0).accesses + h.number) }
-        ensures within { IfOk result (λ h. IsWithin ((call_of seat.me.0).accesses + self.now.numbers - 1) h.call) }
+        ensures within { IfOk result (λ h. IsWithin ((call_of seat.me.0).accesses + end - 1) h.call) }
         ensures aside { IfOk result (λ h. h.call.met_aside ≡ (call_of seat.me.0).met_aside) }
-        ensures all_held { IfErr result (λ a. HasMetAllHeld self.now a) }
+        ensures all_held { IfErr result (λ a. HasMetFirstHeld self.now end a) }
         ensures aside_in_vain { IfErr result (λ a. a.call.met_aside ≡ (call_of seat.me.0).met_aside) }
-        ensures accesses_in_vain { IfErr result (λ a. IsWithin ((call_of seat.me.0).accesses + self.now.numbers - 1) a.call) }
+        ensures accesses_in_vain { IfErr result (λ a. IsWithin ((call_of seat.me.0).accesses + end - 1) a.call) }
     {
         let place = if found == 0 {
             0
         } else {
-            self.look_on(&mut seat)
+            self.look_on(&mut seat, end)
         };
-        take_from(&self.table.shared, self.numbers, seat, place)
+        take_from(&self.table.shared, self.numbers, seat, place, end)
     }
 
-    /// The walk of a seat that has swapped into the first word. It goes on by swaps alone.
-    fn walk_by_swaps(&self, seat: Seat<u8, PoolView>, found: u64) -> Result<Held, AllHeld>
+    /// The walk of a seat that has swapped into the first word, over the places below `end`. It goes on by swaps alone.
+    pub(crate) fn walk_by_swaps(
+        &self,
+        seat: Seat<u8, PoolView>,
+        found: u64,
+        end: u64,
+    ) -> Result<Held, AllHeld>
         requires ours { seat.table_id ≡ self.now.table }
-        requires some { (0 < self.now.numbers) × (0 < self.now.table.words) }
+        requires some { (0 < end) × (end ≤ self.now.numbers) × (0 < self.now.table.words) }
         requires swapped { HasSwapped found 0 seat.me.0 × (seat.me.1 ≡ []) }
         ensures ours { IfOk result (λ h. h.pool ≡ self.now.table) }
-        ensures range { IfOk result (λ h. (1 ≤ h.number) × (h.number ≤ self.now.numbers)) }
+        ensures range { IfOk result (λ h. (1 ≤ h.number) × (h.number ≤ end)) }
         ensures below { IfOk result (λ h. (h.call.met ≡ first_places (h.number - 1)) × (h.call.hinted ≡ false)) }
         ensures accesses { IfOk result (λ h. h.call.accesses + 1 ≡ (call_of seat.me.0).accesses + h.number) }
         ensures aside { IfOk result (λ h. h.call.met_aside ≡ (call_of seat.me.0).met_aside) }
-        ensures all_held { IfErr result (λ a. HasMetAllHeld self.now a) }
+        ensures all_held { IfErr result (λ a. HasMetFirstHeld self.now end a) }
         ensures aside_in_vain { IfErr result (λ a. a.call.met_aside ≡ (call_of seat.me.0).met_aside) }
-        ensures accesses_in_vain { IfErr result (λ a. a.call.accesses + 1 ≡ (call_of seat.me.0).accesses + self.now.numbers) }
+        ensures accesses_in_vain { IfErr result (λ a. a.call.accesses + 1 ≡ (call_of seat.me.0).accesses + end) }
         ensures lost { IfOk result (λ h. (call_of seat.me.0).lost ≤ h.call.lost) }
         ensures lost_in_vain { IfErr result (λ a. (call_of seat.me.0).lost ≤ a.call.lost) }
     {
         if found == 0 {
             return Ok(Held::of(seat, 0));
         }
-        take_from(&self.table.shared, self.numbers, seat, 1)
-    }
-
-    /// Takes the number `hint` if it is free, and otherwise a number as `acquire` does.
-    ///
-    /// A hint of 1, and one that is no number of this pool, is no hint.
-    ///
-    /// # Errors
-    ///
-    /// `AllHeld`: the call found the hint and each number held, one after another.
-    ///
-    /// # Steps
-    ///
-    /// Two accesses to get the hint. Otherwise at most `n + 2` to get number `n`, and at most `k + 1` in all among `k`
-    /// numbers, or `k + 2` if it lost a race.
-    pub fn acquire_near(&self, hint: u64) -> Result<Held, AllHeld>
-        ensures ours { IfOk result (λ h. h.pool ≡ self.now.table) }
-        ensures range { IfOk result (λ h. (1 ≤ h.number) × (h.number ≤ self.now.numbers)) }
-        ensures hint { IfOk result (λ h. h.call.hinted ≡ true → (h.number ≡ hint) × (h.call.accesses ≡ 2)) }
-        ensures tried { IfOk result (λ h. h.call.hinted ≡ false → IsHint self.now hint → HasMetHintHeld hint h) }
-        ensures below { IfOk result (λ h. h.call.hinted ≡ false → h.call.met ≡ first_places (h.number - 1)) }
-        ensures accesses { IfOk result (λ h. (h.call.accesses ≤ h.number + 2) × IsWithin (self.now.numbers + 1) h.call) }
-        ensures all_held { IfErr result (λ a. HasMetAllHeld self.now a) }
-        ensures accesses_in_vain { IfErr result (λ a. IsWithin (self.now.numbers + 1) a.call) }
-        ensures tried_in_vain { IfErr result (λ a. IsHint self.now hint → HasMetHintHeld hint a) }
-    {
-        if hint <= 1 || self.numbers < hint {
-            return self.acquire();
-        }
-        let place = hint - 1;
-        let word = (place * STRIDE) as usize;
-        let (aside, mut seat) = self.table.shared.load_new_seat::<LookAside>(word);
-        if aside != 0 {
-            let found = self.table.shared.load::<Come>(&mut seat, 0);
-            return self.walk(seat, found);
-        }
-        let at_swap = self.table.shared.swap::<TakeAside>(&mut seat, word, 1);
-        if at_swap == 0 {
-            return Ok(Held::of(seat, place));
-        }
-        let found = self.table.shared.swap::<ComeBySwap>(&mut seat, 0, 1);
-        self.walk_by_swaps(seat, found)
+        take_from(&self.table.shared, self.numbers, seat, 1, end)
     }
 
     /// Gives a number of this pool back, by one access.

@@ -1,7 +1,7 @@
 -- free numbers, where more or fewer are taken
 use Rattle.std.proofs.Common.{◌≡◌, ℕ, zero, suc, ◌+◌, ◌<◌, ◌≤◌, Bool, true, false, cond, inl, inr, refl, arith}
 use Rattle.model_asked.proofs.rounds_lemmas.Common.{leb_tells}
-use Rattle.model_asked.proofs.rounds_lemmas.Numbers.{free_rises}
+use Rattle.model_asked.proofs.cited.rounds.Numbers.{free_rises}
 use Rattle.model_asked.specs.rounds.Proposals.{free_up_to, least_with}
 
 -- below the least number up to which so many are free, fewer are

@@ -2,7 +2,7 @@
 use Rattle.std.proofs.Common.{◌≡◌, ◌≢◌, ℕ, suc, ◌+◌, ◌<◌, ◌≤◌, ◌==◌, Bool, true, false, not, List, length, Some, is_some, inl, inr, refl, sym, ap, subst, ◌∙◌, arith}
 use Rattle.std.proofs.lemmas.Bool.{cases_Bool}
 use Rattle.model_asked.proofs.rounds_lemmas.Common.{eqb_tells, leb_tells, value_of, IsRising}
-use Rattle.model_asked.proofs.rounds_lemmas.Numbers.{least_has, own_pair, free_or_taken, next_free}
+use Rattle.model_asked.proofs.cited.rounds.Numbers.{least_has, own_pair, free_or_taken, next_free}
 use Rattle.model_asked.proofs.rounds_lemmas.Counting.{least_below, free_fewer, same_free}
 use Rattle.model_asked.proofs.rounds_lemmas.Views.{proposed_by, found, finds, stands_in, rank_higher}
 use Rattle.model_asked.proofs.rounds_lemmas.Lists.{among, IsLeast}

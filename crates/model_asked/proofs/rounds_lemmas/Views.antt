@@ -3,7 +3,7 @@ use Rattle.std.proofs.Common.{◌≡◌, ℕ, zero, suc, ◌+◌, ◌<◌, ◌==
 use Rattle.std.specs.List.{list_any}
 use Rattle.std.proofs.lemmas.Bool.{cases_Bool}
 use Rattle.std.proofs.lemmas.List.Sums.{sum_by-cons}
-use Rattle.model_steps.proofs.CountLemmas.{count_none, count_more, count_below, count_to-mono, count_to-longer}
+use Rattle.model_steps.proofs.cited.CountLemmas.{count_none, count_more, count_below, count_to-mono, count_to-longer}
 use Rattle.model_asked.proofs.rounds_lemmas.Common.{eqb_tells, leb_tells, IsRising, value_of, count_to, set_at}
 use Rattle.model_asked.specs.rounds.Proposals.{rank}
 

@@ -1,6 +1,6 @@
 -- rounds of proposals over a snapshot, and their end (the problem and the algorithm: Attiya et al. 1990; that the proposals of
 -- some runs grow exponentially: Fouren 1999; this bound and its proof: this project's own)
-use Rattle.std.specs.Prelude.{◌≡◌, ◌≢◌, ℕ, zero, suc, ◌+◌, ◌*◌, ◌<◌, ◌≤◌, ◌⊎◌, List, length, Option, Some, None}
+use Rattle.std.specs.Prelude.{◌≡◌, ◌≢◌, ℕ, zero, suc, ◌+◌, ◌*◌, ◌<◌, ◌≤◌, ◌==◌, ◌⊎◌, if◌then◌else◌, List, length, Option, Some, None}
 use Rattle.std.specs.List.{Contains}
 use Rattle.model_steps.specs.View.{IsRising, value_of}
 use Rattle.model_asked.specs.rounds.Proposals.{next_proposal}
@@ -59,3 +59,12 @@ most_proposals (suc b) = 5 * most_proposals b + 3
 -- rounds end: proposals by the rule, of these identities, are no more than that
 abbrev pub RoundsEnd : Type 0
 RoundsEnd = (h : Proposals) (last : ℕ) (identities : List ℕ) → AreByRule h last → AreOf h last identities → last ≤ most_proposals (length identities)
+
+-- how many of the first `last` proposals are q's
+abbrev pub made_by : Proposals → ℕ → ℕ → ℕ
+made_by h q zero = 0
+made_by h q (suc last) = (if h.whose (suc last) == q then 1 else 0) + made_by h q last
+
+-- rounds are shared: of proposals by the rule, those of one identity are at most one more than half
+abbrev pub RoundsAreShared : Type 0
+RoundsAreShared = (h : Proposals) (last : ℕ) (identities : List ℕ) (q : ℕ) → AreByRule h last → AreOf h last identities → 2 * made_by h q last ≤ most_proposals (length identities) + 2

@@ -1,7 +1,7 @@
 -- slots, after another value was put into one, and after more were filled
 use Rattle.std.proofs.Common.{◌≡◌, ◌≢◌, ℕ, zero, suc, ◌+◌, ◌-◌, ◌≤◌, ◌<◌, List, [], ◌∷◌, ◌++◌, Option, Some, None, length, replicate, set, refl, sym, ap, subst, ◌∙◌, arith, Result, Ok, Err, slice_get}
 use Rattle.model_pool.proofs.slots_lemmas.Common.{Refusal, done_unless, number_answer, widen_answer, widen_refusal, SlotsState}
-use Rattle.model_pool.proofs.PoolKeeps.{may_widen}
+use Rattle.model_pool.proofs.cited.PoolKeeps.{may_widen}
 use Rattle.model_pool.specs.slots.Slots.{slot, stored_in, after_put, ChangesOwnSlot, extended_in, after_extend, FillsNewSlots}
 
 pub slice_get-set_same : {T : Type 0} (values : List T) (i : ℕ) (value : T) → i < length values → slice_get (set values i value) i ≡ Some value

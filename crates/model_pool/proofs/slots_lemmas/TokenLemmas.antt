@@ -8,7 +8,7 @@ use Rattle.model_steps.specs.Runs.{Run}
 use Rattle.model_pool.specs.slots.SlotCalls.{SlotCall}
 use Rattle.model_pool.specs.slots.Machine.{IsSlotReply}
 use Rattle.model_pool.specs.slots.Tokens.{value_of, is_number, token_of, with_token, tokens_of, RaisesByOne, Rise, TokensRise}
-use Rattle.model_pool.proofs.slots_lemmas.SlotsKeep.{slots_proved, held_within}
+use Rattle.model_pool.proofs.cited.slots.SlotsKeep.{slots_proved, held_within}
 
 -- a list, after another value was put into it
 set_here : (xs : List ℕ) (i v : ℕ) → i < length xs → get_or (set xs i v) i 0 ≡ v

@@ -14,9 +14,9 @@ ghost use Rattle.model_pool.specs.slots.Slots.{stored_reply, IsFetched, after_pu
 ghost use Rattle.model_pool.specs.slots.Machine.{slots};
 
 use crate::{MOST_NUMBERS, Pool, Probe};
+use model_steps::{NoMemory, Refusal};
 use std::alloc::Allocator;
 use std::marker::Model;
-use model_steps::{NoMemory, Refusal};
 
 /// A pool of numbers, with a slot for each number.
 pub struct Slots<T, A: Allocator> {
@@ -99,7 +99,7 @@ impl<T: Drop, A: Allocator> Slots<T, A> {
     /// - `ZeroIdentity`: `id` is 0.
     /// - `AlreadyCompeting`: `id` competes.
     /// - `Crowded`: as many compete as the pool has numbers.
-    #[tactic(auto, using(crate::proofs::slots_lemmas::SlotsKeep::slots_law))]
+    #[tactic(auto, using(crate::proofs::cited::slots::SlotsKeep::slots_law))]
     pub fn enter(&mut self, id: u64) -> Result<(), Refusal>
         ensures answer { result ≡ enter_answer self.old.pool id }
         ensures state { self.new ≡ record self.old { pool = after_enter self.old.pool id } }
@@ -118,7 +118,7 @@ impl<T: Drop, A: Allocator> Slots<T, A> {
     ///
     /// - `NotCompeting`: `id` does not compete.
     /// - `Holding`: `id` holds a number.
-    #[tactic(auto, using(crate::proofs::slots_lemmas::SlotsKeep::slots_law))]
+    #[tactic(auto, using(crate::proofs::cited::slots::SlotsKeep::slots_law))]
     pub fn probe(&mut self, id: u64) -> Result<Probe, Refusal>
         ensures answer { result ≡ probe_answer self.old.pool id }
         ensures state { self.new ≡ record self.old { pool = after_probe self.old.pool id } }
@@ -144,7 +144,7 @@ impl<T: Drop, A: Allocator> Slots<T, A> {
     ///
     /// - `NotCompeting`: `id` does not compete.
     /// - `NotHolding`: `id` competes and holds no number.
-    #[tactic(auto, using(crate::proofs::slots_lemmas::SlotsKeep::slots_law))]
+    #[tactic(auto, using(crate::proofs::cited::slots::SlotsKeep::slots_law))]
     pub fn leave(&mut self, id: u64) -> Result<u8, Refusal>
         ensures answer { result ≡ number_answer self.old.pool id }
         ensures state { self.new ≡ record self.old { pool = after_leave self.old.pool id } }
@@ -169,7 +169,7 @@ impl<T: Drop, A: Allocator> Slots<T, A> {
     ///
     /// - `NotCompeting`: `id` does not compete.
     /// - `NotHolding`: `id` competes and holds no number.
-    #[tactic(auto, using(crate::proofs::slots_lemmas::SlotsKeep::slots_law))]
+    #[tactic(auto, using(crate::proofs::cited::slots::SlotsKeep::slots_law))]
     pub fn put(&mut self, id: u64, value: T) -> Result<(), Refusal>
         ensures answer { result ≡ stored_reply (number_answer self.old.pool id) }
         ensures state { self.new ≡ after_put self.old id value }
@@ -191,7 +191,7 @@ impl<T: Drop, A: Allocator> Slots<T, A> {
     ///
     /// - `NotCompeting`: `id` does not compete.
     /// - `NotHolding`: `id` competes and holds no number.
-    #[tactic(auto, using(crate::proofs::slots_lemmas::SlotsKeep::slots_law))]
+    #[tactic(auto, using(crate::proofs::cited::slots::SlotsKeep::slots_law))]
     pub fn get(&self, id: u64) -> Result<&T, Refusal>
         ensures answer { IsFetched self.now.values (number_answer self.now.pool id) (result_map_both (λ value. value.now) (λ refusal. refusal) result) }
         ensures after { Extends slots self.now self.now (Fetched id (result_map_both (λ value. value.now) (λ refusal. refusal) result)) }
@@ -211,7 +211,7 @@ impl<T: Copy, A: Allocator> Slots<T, A> {
     /// # Errors
     ///
     /// `OutOfRange`: `size` is not above the present size, or is above 64. Nothing has changed.
-    #[tactic(auto, using(crate::proofs::slots_lemmas::SlotsKeep::slots_law))]
+    #[tactic(auto, using(crate::proofs::cited::slots::SlotsKeep::slots_law))]
     pub fn widen(&mut self, size: u64, value: T) -> Result<(), Refusal>
         ensures answer { result ≡ widen_answer self.old.pool size }
         ensures state { self.new ≡ after_extend self.old size value }

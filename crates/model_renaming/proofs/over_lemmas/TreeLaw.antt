@@ -5,14 +5,15 @@ use Rattle.model_steps.specs.World.{may_refuse_by}
 use Rattle.model_splitter.specs.tree.TreeSteps.{tree_steps}
 use Rattle.model_splitter.specs.tree.Invariant.{IsConsistent}
 use Rattle.model_splitter.specs.tree.Walk.{next_access}
-use Rattle.model_splitter.proofs.tree_lemmas.nodes.ConsistentKept.{refused}
-use Rattle.model_splitter.proofs.tree_lemmas.nodes.TreeLaw.{tree_law as law_of_tree}
-use Rattle.model_splitter.proofs.tree_lemmas.TreeMemoryLemmas.{tree_memory}
+use Rattle.model_splitter.proofs.cited.tree.nodes.ConsistentKept.{refused}
+use Rattle.model_splitter.proofs.cited.tree.nodes.TreeLaw.{tree_law as law_of_tree}
+use Rattle.model_splitter.proofs.cited.tree.TreeMemoryLemmas.{tree_memory}
 use Rattle.model_renaming.specs.declared.over.tree_walker.TreeWalker.{TreeWalker}
 use Rattle.model_renaming.specs.declared.over.tree_walk.TreeWalk.{TreeWalk}
 use Rattle.model_renaming.specs.over.Tree.{TreeState, new_tree, tree_places_steps}
-use Rattle.model_renaming.specs.over.TreeTies.{IsNewTree, walks_of, tree_places}
-use Rattle.model_renaming.specs.over.TreeProofs.{tree_laws}
+use Rattle.model_renaming.specs.over.TreeTies.{walks_of, tree_places}
+pub use Rattle.model_renaming.specs.lemmas.EmptyPlaces.{is_new}
+use Rattle.model_renaming.specs.lemmas.over.TreeProofs.{tree_laws}
 use Rattle.model_renaming.specs.over.Bounds.{tree_bounds}
 use Rattle.model_renaming.specs.over.Made.{MakesNode, IsFromNewTree, KeepsTree, LacksAtNode}
 use Rattle.model_snapshot.specs.declared.client.Client.{Client}
@@ -20,11 +21,8 @@ use Rattle.model_snapshot.specs.declared.client.Pending.TheVariants.{Placing}
 use Rattle.model_snapshot.specs.Places.{BeginsAlike, BoundsScans}
 use Rattle.model_snapshot.specs.SnapWorld.{SnapState, clients_over, ways_of}
 use Rattle.model_snapshot.specs.Machine.{SatisfiesSpecFrom}
-use Rattle.model_snapshot.proofs.Following.{law_holds, consistent_holds}
-use Rattle.model_snapshot.proofs.SureSteps.{lacks_on_way}
-
-pub is_new : (most : ℕ) → most ≤ 64 → IsNewTree (new_tree most)
-is_new most few = record { few = few; empty = refl }
+use Rattle.model_snapshot.proofs.cited.Following.{law_holds, consistent_holds}
+use Rattle.model_snapshot.proofs.cited.SureSteps.{lacks_on_way}
 
 pub fits_tree : (most : ℕ) → BoundsScans tree_places most (tree_bounds most).scanning
 fits_tree most b some l =

@@ -2,7 +2,7 @@
 use Rattle.std.proofs.Common.{◌≡◌, ℕ, Bool, List, [], ◌∷◌, ◌++◌, Some, None, sym, ap, ◌∙◌, is_some, option_map}
 use Rattle.model_renaming.proofs.Common.{Call, set_at-same, participant_of, beginner, begin_refusal, participant_of-push, Client, beginner_at, is_tree, WorldKind, StepReply, Round, client_of, round_of, wished, renaming, BeginsTheSame, Reaches, RenameState, first_round, first_wish}
 use Rattle.model_snapshot.specs.Places.{KnownPlaces, PlacesLaws, BeginsAlike}
-use Rattle.model_snapshot.proofs.Following.{begins_the_same}
+use Rattle.model_snapshot.proofs.cited.Following.{begins_the_same}
 use Rattle.model_renaming.specs.RenameWorld.{begun_snap, has_place, after_rename_begin}
 use Rattle.model_renaming.proofs.LocalSteps.{wish_becomes}
 use Rattle.model_renaming.proofs.rounds.StepCases.{begun_own, begun_placed, no_round}

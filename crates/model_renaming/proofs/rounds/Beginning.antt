@@ -2,7 +2,7 @@
 use Rattle.std.proofs.Common.{◌==◌, cond, ◌≡◌, ◌≢◌, ℕ, ◌+◌, ◌<◌, ◌≤◌, Bool, true, false, List, [], ◌∷◌, ◌++◌, length, Option, Some, None, Result, Ok, inl, inr, refl, sym, ap, subst, ◌∙◌, arith, is_some}
 use Rattle.model_renaming.proofs.Common.{eqb_tells, set_at, set_at-same, set_at-other, Participant, Refusal, participant_of, beginner, Began, begin_refusal, done_unless, participant_of-push, SnapState, after_update, SnapCall, snap_next, IsSnapReply, SnapObject, SnapBounds, observed, SnapAllows, asked_for, with_update, ToPlace, ToUpdate, Round, first_round, first_wish, RenameState, KnownPlaces, ToGo, ToPropose, after_wish, begun_snap, has_place, begun_unless, has_begun, goes_idle}
 use Rattle.std.proofs.lemmas.List.{length-append}
-use Rattle.model_steps.proofs.WorldKeeps.{IsLetIn, let_in}
+use Rattle.model_steps.proofs.cited.WorldKeeps.{IsLetIn, let_in}
 use Rattle.model_snapshot.specs.SnapCalls.SnapCall.{Began as SnapBegan, Updated}
 use Rattle.model_renaming.specs.Pace.{Pace, paced, first_phase}
 use Rattle.model_renaming.specs.RenameObject.{RenameTerms, RenameObject, no_begin, after}
@@ -11,7 +11,7 @@ use Rattle.model_renaming.proofs.rounds.StepCases.{begun_placed, no_round}
 use Rattle.model_snapshot.specs.Standing.{StandsAt, HasBegun}
 use Rattle.model_renaming.proofs.Large.{update_large}
 use Rattle.model_renaming.proofs.rounds.Tied.{IsAtStage, IsCounted, IsTied, Carries, Spares, since_kept, spares_task, spares_next, counted_on, stage_on}
-use Rattle.model_steps.proofs.DistinctParticipants.{distinct_push}
+use Rattle.model_steps.proofs.cited.DistinctParticipants.{distinct_push}
 use Rattle.model_renaming.proofs.rounds.Keeping.{Goes}
 
 module _ {S R V U K : Type 0} (W : KnownPlaces S R V U K) (terms : RenameTerms) (bounds : SnapBounds)

@@ -1,7 +1,7 @@
 -- the proposals that stand in the memory, and who has a name, by the rounds
 use Rattle.std.proofs.Common.{suc, ◌<◌, get_or, drop, drop-cons, ◌≡◌, ◌≢◌, ℕ, ◌+◌, ◌≤◌, ◌==◌, true, false, cond, List, [], ◌∷◌, length, Option, Some, None, inl, inr, refl, sym, ap, ◌∙◌, arith, option_map, option_and_then}
 use Rattle.model_renaming.proofs.Common.{eqb_tells, Participant, AreDistinct, participant_of, program_of, IsRising, value_of, Round, Stage, Settled}
-use Rattle.model_steps.proofs.ViewLemmas.{IsRising-inserted, value_of-inserted, length-inserted}
+use Rattle.model_steps.proofs.cited.ViewLemmas.{IsRising-inserted, value_of-inserted, length-inserted}
 use Rattle.model_renaming.specs.RenameWorld.{name_by, owner_by, shown_with, shown_by}
 use Rattle.model_renaming.specs.Round.{name_at, has_name, standing_by}
 

@@ -3,7 +3,7 @@ use Rattle.std.proofs.Common.{◌≡◌, ℕ, List, [], ◌∷◌, ◌++◌, ref
 use Rattle.model_renaming.proofs.Common.{Run, run_more, run_one, Reaches, call_leads_on, KnownPlaces, PlacesLaws, BoundsScans, SnapState, snapshot}
 use Rattle.model_snapshot.specs.SnapCalls.{SnapCall, fresh_over, next, IsReply}
 use Rattle.model_snapshot.specs.Snapshot.{SnapObject, SnapBounds, bounds_over, new_object, observed, Allows, SnapshotSpec}
-use Rattle.model_snapshot.proofs.Following.{law_holds}
+use Rattle.model_snapshot.proofs.cited.Following.{law_holds}
 
 module _ {S H : Type 0} (next : S → H → S) (Right : S → H → Type 0) where
   -- the last call of a run

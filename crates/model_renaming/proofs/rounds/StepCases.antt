@@ -3,8 +3,8 @@ use Rattle.std.proofs.Common.{◌≡◌, ◌≢◌, ◌<◌, Bool, List, arith, 
 use Rattle.model_renaming.proofs.Common.{Participant, Refusal, NotBegun, NoMemory, index_of, participant_of, program_of, identities, beginner, begin_refusal, done_unless, participant_of-push, set_at-same, let_in, Client, SnapReply, SnapState, beginner_at, Round, stage_refusal, followed, KnownPlaces, Wish, Nothing, Update, Scan, outcome_with}
 use Rattle.model_renaming.specs.declared.reply.Reply.{Reply}
 use Rattle.model_renaming.specs.Taken.{snap_err, IsTaken}
-use Rattle.model_steps.proofs.DistinctParticipants.{distinct_set, identities-push, identities-set}
-use Rattle.model_steps.proofs.Found.{Found, found, none-index_of, index_of-below}
+use Rattle.model_steps.proofs.cited.DistinctParticipants.{distinct_set, identities-push, identities-set}
+use Rattle.model_steps.proofs.cited.Found.{Found, found, none-index_of, index_of-below}
 use Rattle.std.proofs.lemmas.List.{length-map, length-append, length-set, get_or_default, set-get_or}
 use Rattle.model_renaming.specs.Round.{first_wish, first_round}
 use Rattle.model_renaming.specs.RenameState.{RenameState, HasRoom}

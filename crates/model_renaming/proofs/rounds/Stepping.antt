@@ -2,7 +2,7 @@
 use Rattle.std.proofs.Common.{◌≡◌, ◌≢◌, ℕ, ◌+◌, ◌-◌, ◌*◌, ◌<◌, ◌≤◌, Bool, true, false, not, cond, List, length, Option, Some, Ok, inl, inr, refl, sym, ap, subst, ◌∙◌, arith, is_some, nat_lt, nat_le}
 use Rattle.model_renaming.proofs.Common.{eqb_tells, leb_tells, set_at, value_of, set_at-same, Participant, participant_of, done_unless, KnownPlaces, SnapReply, Silent, HasPlace, Written, Viewed, SnapState, after_scan, after_update, SnapCall, snap_next, IsSnapReply, ToPlace, ToScan, ToUpdate, Idle, Saw, Quiet, Placed, Proposed, Named, Spent, Round, Follow, Nothing, Update, Scan, Stage, Placing, Proposing, Looking, Settled, Over, is_taken, next_proposal, RenameState, after_wish, world_with, snap_step, snap_reported, ToGo, ToPropose, ToLook, StandsAt, GoesBusy, is_quiet, goes_idle}
 use Rattle.std.proofs.lemmas.Bool.{lt-ltb}
-use Rattle.model_steps.proofs.ParticipantLemmas.{some_begun}
+use Rattle.model_steps.proofs.cited.ParticipantLemmas.{some_begun}
 use Rattle.model_snapshot.specs.SnapCalls.SnapCall.{Updated, Scanned, Stepped as SnapStepped}
 use Rattle.model_snapshot.specs.Snapshot.{most_steps as snap_most, SnapObject, SnapBounds, Task, observed, Allows as SnapAllows, AllowsStep as SnapAllowsStep, since_of, stepped_to, asked_for, with_update, ShowsMoment, value_written, observed_step}
 use Rattle.model_renaming.specs.Round.{followed, decided, at_stage, number_of, standing_by, written_round, named_by, spent_by, saw_by}
@@ -11,7 +11,7 @@ use Rattle.model_renaming.specs.Pace.{Phase, Pace, IsStepOf, IsInTime, most_step
 use Rattle.model_renaming.proofs.rounds.Standing.{nobody_has, standing_elsewhere, name_small, standing_named, standing_proposed}
 use Rattle.model_renaming.proofs.Large.{both_large, snap_large, scan_large, update_large}
 use Rattle.model_renaming.proofs.rounds.Views.{taken_by, taken_not}
-use Rattle.model_asked.proofs.rounds_lemmas.Numbers.{next_small}
+use Rattle.model_asked.proofs.cited.rounds.Numbers.{next_small}
 use Rattle.model_renaming.proofs.rounds.Tied.{IsPlacing, IsProposing, IsLooking, IsAtStage, IsCounted, IsTied, IsStepped, spares_task, spares_stepped, tied_next}
 
 same_moment : (m n : ℕ → ℕ → Option ℕ) (l k : ℕ) (t : Task) (p value : ℕ) → m ≡ n → l ≡ k → t ≡ ToUpdate value → set_at m (l + 1) (set_at (m l) p (Some value)) ≡ set_at n (k + 1) (set_at (n k) p (value_written t))

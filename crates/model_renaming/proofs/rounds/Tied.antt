@@ -4,7 +4,7 @@ use Rattle.model_renaming.proofs.Common.{eqb_tells, set_at, set_at-same, set_at-
 use Rattle.model_snapshot.specs.Snapshot.{Task, SnapObject, since_of, with_task, observed_step}
 use Rattle.model_renaming.specs.Pace.Phase.{ToPlace as ToGo, ToPropose, ToLook, AtEnd}
 use Rattle.model_renaming.proofs.Large.{IsAsLarge}
-use Rattle.model_steps.proofs.DistinctParticipants.{distinct_put}
+use Rattle.model_steps.proofs.cited.DistinctParticipants.{distinct_put}
 use Rattle.model_renaming.proofs.rounds.Standing.{IsStanding, others_stand}
 
 -- p has neither a name nor used up its rounds

@@ -5,18 +5,18 @@ ghost use Rattle.model_steps.specs.declared.access.Access.TheVariants.{Read};
 ghost use Rattle.model_steps.specs.Steps.{answer_from};
 ghost use Rattle.model_renaming.specs.over.Grid.{fresh_grid, with_segments, register_of, after_access, grid_steps, grid_walker, most_in, grid_walk};
 ghost use Rattle.model_renaming.specs.over.GridTies.{IsEmptyGrid, grid_ties};
-ghost use Rattle.model_renaming.specs.over.GridProofs.{others_kept, grid_laws};
+ghost use Rattle.model_renaming.specs.lemmas.over.GridProofs.{others_kept, grid_laws};
 
 use crate::over::grid_register::{GridRegister, GridValue};
 use crate::over::grid_walk::GridWalk;
 use crate::over::grid_walker::GridWalker;
 use model_snapshot::{PlaceWalker, Places, SegmentWalk};
 use model_splitter::grid::{Door, Walker};
-use std::alloc::Allocator;
-use std::marker::Model;
 use model_steps::{
     Access, Answer, Memory, NoMemory, Note, Place, Refusal, Segment, StepMemory, StepProgram,
 };
+use std::alloc::Allocator;
+use std::marker::Model;
 
 /// The doors of a grid, with a segment at each. A segment is stored as the value of its register, so that it can be
 /// lent.

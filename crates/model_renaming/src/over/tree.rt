@@ -5,15 +5,15 @@ ghost use Rattle.model_steps.specs.declared.access.Access.TheVariants.{Read};
 ghost use Rattle.model_steps.specs.Steps.{answer_from};
 ghost use Rattle.model_renaming.specs.over.Tree.{new_tree, register_in, tree_after, tree_refuses, tree_places_steps, tree_most, tree_walker, tree_walk};
 ghost use Rattle.model_renaming.specs.over.TreeTies.{IsNewTree, tree_ties};
-ghost use Rattle.model_renaming.specs.over.TreeProofs.{tree_others_kept, tree_laws};
+ghost use Rattle.model_renaming.specs.lemmas.over.TreeProofs.{tree_others_kept, tree_laws};
 
 use crate::over::tree_walk::TreeWalk;
 use crate::over::tree_walker::TreeWalker;
 use model_snapshot::{PlaceWalker, Places, SegmentWalk};
 use model_splitter::tree::{CollectWalk, Tree, TreeRegister, TreeValue, Walker};
+use model_steps::{Access, Answer, NoMemory, Note, Place, Refusal, StepMemory};
 use std::alloc::Allocator;
 use std::marker::Model;
-use model_steps::{Access, Answer, NoMemory, Note, Place, Refusal, StepMemory};
 
 /// A tree of splitters with a segment at each node. The node at which a participant's walk stops is its place.
 ///

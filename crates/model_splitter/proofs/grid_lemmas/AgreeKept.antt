@@ -1,13 +1,13 @@
 -- what each access of a walk, and each beginning, keeps of the doors and the walks of a grid
 use Rattle.std.proofs.Common.{◌≡◌, ◌≢◌, ℕ, zero, suc, ◌<◌, ◌≤◌, Bool, true, false, cond, ◌==◌, ◌⊎◌, inl, inr, [], ◌∷◌, length, get_or, Option, Some, None, refl, sym, ap, subst, ◌∙◌, arith}
 use Rattle.model_splitter.proofs.grid_lemmas.Common.{eqb_tells, set_at, Stage, Outside, WroteX, SawClear, WroteY, Gone, has_entered, went_right, went_down, x_after, y_after, stage_after, Walker, door_number, number_of, door_at, walker_at, walk_of, visit_on}
-use Rattle.model_steps.proofs.SetAtLemmas.{set_at-same, set_at-other, set_at-cases}
+use Rattle.model_steps.proofs.cited.SetAtLemmas.{set_at-same, set_at-other, set_at-cases}
 use Rattle.model_splitter.specs.declared.way.Way.TheVariants.{Stop, Right, Down}
 use Rattle.model_splitter.specs.Invariant.{DoorSatisfiesSpec}
-use Rattle.model_splitter.proofs.DoorKept.{kept, lawful_new}
+use Rattle.model_splitter.proofs.cited.DoorKept.{kept, lawful_new}
 use Rattle.model_splitter.specs.grid.Invariant.{StandsAt, IsWalkOf, DoorsAgree}
 use Rattle.model_splitter.proofs.grid_lemmas.DepthBound.{tightened}
-use Rattle.model_splitter.proofs.grid_lemmas.Numbers.{number_depth, number_column}
+use Rattle.model_splitter.proofs.cited.grid.Numbers.{number_depth, number_column}
 
 -- one more door that was reached
 pub with_door : (ℕ → ℕ → Bool) → ℕ → ℕ → ℕ → ℕ → Bool

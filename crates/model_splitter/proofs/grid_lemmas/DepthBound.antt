@@ -2,9 +2,9 @@
 use Rattle.std.proofs.Common.{◌≡◌, ℕ, zero, suc, ◌<◌, ◌≤◌, Bool, true, false, ◌==◌, ◌&&◌, inl, inr, List, [], ◌∷◌, length, get_or, Option, Some, None, refl, sym, ap, ◌∙◌, arith}
 use Rattle.model_splitter.proofs.grid_lemmas.Common.{Decides-eqb, Walker, door_number, count_to, StandsAt, DoorsAgree}
 use Rattle.std.proofs.lemmas.Bool.{cases_Bool, or_left, or_right}
-use Rattle.model_splitter.proofs.StageLemmas.{gone_right, gone_down}
+use Rattle.model_splitter.proofs.cited.StageLemmas.{gone_right, gone_down}
 use Rattle.model_splitter.specs.Invariant.{IsSplitter}
-use Rattle.model_splitter.proofs.DoorKept.{law_of}
+use Rattle.model_splitter.proofs.cited.DoorKept.{law_of}
 use Rattle.model_splitter.proofs.grid_lemmas.Diagonals.{depth_bound, taken_bound, is_taken}
 
 -- where each stands

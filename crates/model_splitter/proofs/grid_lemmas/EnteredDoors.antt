@@ -6,12 +6,12 @@ use Rattle.model_steps.specs.Participant.{participant_of}
 use Rattle.model_steps.specs.World.{begin_refusal, begun_unless, after_begin, after_step_by, step_answer_by}
 use Rattle.model_steps.specs.Calls.{Call, next, IsReply, outcome_in, reply_of, lacked_memory}
 use Rattle.model_steps.specs.Machine.{Reaches}
-use Rattle.model_steps.proofs.MachineLemmas.{after_none, call_leads_on}
-use Rattle.model_steps.proofs.RunLemmas.{run_gathers}
-use Rattle.model_steps.proofs.WorldKeeps.{stepped}
+use Rattle.model_steps.proofs.cited.MachineLemmas.{after_none, call_leads_on}
+use Rattle.model_steps.proofs.cited.RunLemmas.{run_gathers}
+use Rattle.model_steps.proofs.cited.WorldKeeps.{stepped}
 use Rattle.model_splitter.specs.grid.Entered.{Enters, ShowsWhatWasEntered}
-use Rattle.model_splitter.proofs.grid_lemmas.ConsistentKept.{xs, registers_in, get_or-replicate_same}
-use Rattle.model_splitter.proofs.grid_lemmas.GridTied.{IsTied, grid_fits, tied_always, walkers}
+use Rattle.model_splitter.proofs.cited.grid.ConsistentKept.{xs, registers_in, get_or-replicate_same}
+use Rattle.model_splitter.proofs.cited.grid.GridTied.{IsTied, grid_fits, tied_always, walkers}
 
 module _ (most b : ℕ) (m : Registers ℕ) (walker : ℕ → Option Walker) (c : IsConsistent most b m walker) where
   -- where anyone has entered, an identity stands in X

@@ -3,7 +3,7 @@ use Rattle.std.proofs.Common.{◌≡◌, ℕ, Bool, true, false, cond, ◌⊎◌
 use Rattle.model_splitter.proofs.tree_lemmas.WorldCommon.{cases_Bool, eqb_tells, Decides-eqb, Read, Answer, Note, Quiet, Participant, Refusal, AlreadyBegun, NotBegun, Finished, NoMemory, set_at, MemorySteps, answer_from, done_unless, after_set, outcome_in, set_at-same, TreeRegister, TreeValue, Collect, Client, Task, Placing, Nothing, Collecting, Walker, next_access, walker_after, walker_note, place_of, collect_reads, collect_view, TreeState, asking_refusal, after_store, after_collect_begin, view_answer, after_collecting, may_lack_memory, next, IsReply, Stepped}
 use Rattle.model_steps.specs.Note.{ends}
 use Rattle.model_steps.specs.Participant.{participant_of, with_participant, beginner}
-use Rattle.model_steps.proofs.ParticipantLemmas.{participant_of-put, identity_of}
+use Rattle.model_steps.proofs.cited.ParticipantLemmas.{participant_of-put, identity_of}
 use Rattle.model_splitter.specs.tree.Client.{is_placing, is_idle, is_collecting, is_placed, placed_note, place_reported, view_reported, collected_note, collecting_after, storing, collecting, with_task, write_at, record_of}
 
 -- no participant's program ends

@@ -9,7 +9,7 @@ use Rattle.model_splitter.proofs.tree_lemmas.StoreLemmas.{store_goes_well}
 use Rattle.model_steps.specs.Calls.{reply_of}
 use Rattle.model_steps.specs.World.{step_answer, after_step, may_refuse_by, may_refuse_step, set_answer, set_answer_by}
 use Rattle.model_steps.specs.Locality.{Indistinguishable}
-use Rattle.model_steps.proofs.LocalityLemmas.{answers_alike}
+use Rattle.model_steps.proofs.cited.LocalityLemmas.{answers_alike}
 
 -- a read of a collect makes no node
 read_fits : (m : NodeMap) (c : Client) (task : Task) → is_collecting task ≡ true → may_refuse m (access_for c task) ≡ false

@@ -1,17 +1,17 @@
 -- each call of a tree's world keeps the tie, and is one that the law of collects allows
 use Rattle.std.proofs.Common.{◌≡◌, ◌≢◌, ℕ, ◌+◌, ◌-◌, ◌*◌, ◌≤◌, ◌==◌, Bool, true, false, cond, not, List, [], ◌∷◌, ◌++◌, length, length-append, Option, Some, None, Result, Ok, inl, inr, refl, sym, ap, subst, ◌∙◌, arith, is_some}
 use Rattle.model_splitter.proofs.tree_lemmas.WorldCommon.{cases_Bool, set_at, Run, MemorySteps, begin_refusal, begun_unless, done_unless, participant_of, beginner, Read, Participant, Refusal, let_in, TreeRegister, Mark, Contents, TreeValue, Walker, Collect, Client, Placing, Nothing, Collecting, IsTreeMemory, IsEmptyTree, segment_in, word_in, next_access, walker_note, place_of, place_by, collect_reads, first_collect, collect_after, collect_view, view_with, walk_is_over, client_of, is_placing, is_placed, collecting, collecting_after, record_of, task_after, TreeState, fresh_over, TreeCall, next, IsReply, Began, Stepped, Stored, CollectBegan, CollectStepped, collects_after, collects, marked_in, HasRead, walker_in, walkers, count_to, count_le}
-use Rattle.model_steps.proofs.ParticipantLemmas.{participant_of-push, length-with_participant, some_begun}
-use Rattle.model_steps.proofs.SetAtLemmas.{set_at-same, set_at-other, set_at-cases, same_in}
-use Rattle.model_steps.proofs.Roster.{eqb_flip}
-use Rattle.model_steps.proofs.RunLemmas.{run_keeps, run_more, run_one}
+use Rattle.model_steps.proofs.cited.ParticipantLemmas.{participant_of-push, length-with_participant, some_begun}
+use Rattle.model_steps.proofs.cited.SetAtLemmas.{set_at-same, set_at-other, set_at-cases, same_in}
+use Rattle.model_steps.proofs.cited.Roster.{eqb_flip}
+use Rattle.model_steps.proofs.cited.RunLemmas.{run_keeps, run_more, run_one}
 use Rattle.model_splitter.specs.tree.CollectLaw.{CollectObject, new_object, one_begun, goes_on, observed, ShowsValues, most_steps, AllowsStep, Allows, CollectSpec}
 use Rattle.model_splitter.proofs.tree_lemmas.CallCases.{IsStep, got_on, walked_on, read_by, turned, step_cases, store_cases, collect_begin_cases, collect_step_cases}
 use Rattle.model_splitter.proofs.tree_lemmas.DueTied.{IsCounted, collecting_in, collects_from-push, call_counted, counted_new}
-use Rattle.model_splitter.proofs.tree_lemmas.nodes.ConsistentKept.{segments}
+use Rattle.model_splitter.proofs.cited.tree.nodes.ConsistentKept.{segments}
 use Rattle.model_splitter.proofs.tree_lemmas.PlacesTied.{all_go, no_place, tree_of_tied, walkers_turned}
-use Rattle.model_splitter.proofs.tree_lemmas.collects.ReadCount.{reads_few, nodes_few}
-use Rattle.model_splitter.proofs.tree_lemmas.collects.PlacesAhead.{path_marked, marked_few, marks_grow}
+use Rattle.model_splitter.proofs.cited.tree.collects.ReadCount.{reads_few, nodes_few}
+use Rattle.model_splitter.proofs.cited.tree.collects.PlacesAhead.{path_marked, marked_few, marks_grow}
 use Rattle.model_splitter.proofs.tree_lemmas.UnderWay.{UnderWay, under_way_at_first, read_still, read_stored, read_rising, under_way_read, TellsOf}
 use Rattle.model_splitter.proofs.tree_lemmas.CollectTied.{collect_of, collect_in, place_now, some_is, few_begun, Agrees, tells, unstored, collects_turned, place_kept, stored}
 

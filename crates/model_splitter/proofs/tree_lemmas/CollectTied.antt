@@ -2,8 +2,8 @@
 use Rattle.std.proofs.Common.{◌≡◌, ◌≢◌, ℕ, ◌+◌, ◌≤◌, ◌==◌, Bool, true, false, List, [], ◌∷◌, length, Option, Some, None, inl, inr, refl, sym, ap, subst, ◌∙◌, arith, ne_eqb, is_some, IsSome}
 use Rattle.model_splitter.proofs.tree_lemmas.WorldCommon.{fun_ext, eqb_tells, leb_tells, Decides-eqb, set_at, MemorySteps, participant_of, beginner, Write, Participant, Record, length-with_participant, set_at-same, set_at-other, set_at-cases, TreeRegister, Mark, Contents, TreeValue, Held, Walker, Collect, Client, Task, Nothing, Collecting, IsTreeMemory, segment_at, segment_in, word_in, place_by, with_task, IsTree, count_to, place_read, collect_reads, marked_in, HasGrown, walkers, TreeState}
 use Rattle.model_splitter.specs.tree.CollectLaw.{CollectObject, with_moment}
-use Rattle.model_steps.proofs.CountLemmas.{count_none, count_set}
-use Rattle.model_splitter.proofs.tree_lemmas.collects.WalkLemmas.{place_from}
+use Rattle.model_steps.proofs.cited.CountLemmas.{count_none, count_set}
+use Rattle.model_splitter.proofs.cited.tree.collects.WalkLemmas.{place_from}
 use Rattle.model_splitter.proofs.tree_lemmas.UnderWay.{UnderWay, under_way_later, TellsOf}
 use Rattle.model_splitter.proofs.tree_lemmas.CallCases.{turned, turned_stands}
 use Rattle.model_splitter.proofs.tree_lemmas.PlacesTied.{walkers_kept}

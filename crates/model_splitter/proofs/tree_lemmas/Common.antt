@@ -9,11 +9,11 @@ pub use Rattle.model_steps.specs.declared.access.Answer.{Answer}
 pub use Rattle.model_steps.specs.SetAt.{set_at}
 pub use Rattle.model_steps.specs.Steps.{MemorySteps, answer_from, Spares}
 pub use Rattle.model_steps.specs.Calls.{outcome_in}
-pub use Rattle.model_steps.proofs.SetAtLemmas.{set_at-same, set_at-cases, set_at-other, set_at-as_is}
+pub use Rattle.model_steps.proofs.cited.SetAtLemmas.{set_at-same, set_at-cases, set_at-other, set_at-as_is}
 pub use Rattle.model_steps.specs.declared.record.Record.{Record}
 pub use Rattle.model_steps.specs.declared.access.Access.{Access}
 pub use Rattle.model_steps.specs.Count.{count_to}
-pub use Rattle.model_steps.proofs.CountLemmas.{count_le, count_none, count_more}
+pub use Rattle.model_steps.proofs.cited.CountLemmas.{count_le, count_none, count_more}
 pub use Rattle.model_splitter.specs.declared.stage.Stage.{Stage}
 pub use Rattle.model_splitter.specs.declared.stage.Stage.TheVariants.{Outside, Gone}
 pub use Rattle.model_splitter.specs.Visitor.{access_at, stage_by}

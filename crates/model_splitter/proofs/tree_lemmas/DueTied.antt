@@ -5,7 +5,7 @@ use Rattle.std.proofs.Math.Bool.{or-false}
 use Rattle.model_steps.specs.World.{begin_refusal, begun_unless, done_unless, may_refuse_by}
 use Rattle.model_steps.specs.Calls.Call.{Began, Stepped}
 use Rattle.model_steps.specs.Due.{has_begun, begin_due, step_due, RefusesAsDue}
-use Rattle.model_steps.proofs.DueLemmas.{due_more, has_begun-append, cut, nothing_cut, ended_with_outcome, ends_once}
+use Rattle.model_steps.proofs.cited.DueLemmas.{due_more, has_begun-append, cut, nothing_cut, ended_with_outcome, ends_once}
 use Rattle.model_splitter.specs.tree.Client.{client_of, client_steps, client_access, access_for, is_placing, is_idle, is_collecting, is_placed, collecting, collecting_after, with_task, write_at, record_of, task_after}
 use Rattle.model_splitter.specs.tree.TreeDue.{collects_after, collects_from, collects, has_place, asking_due, IsTreeRefusedAsDue, TreeRefusesAsDue}
 use Rattle.model_splitter.proofs.tree_lemmas.CallCases.{IsRefused, HindersHere, HindersStep, IsStep, IsCollectStep, got_on, walked_on, read_by, turned, turned_stands, step_cases, store_cases, collect_begin_cases, collect_step_cases}

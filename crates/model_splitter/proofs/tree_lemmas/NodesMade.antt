@@ -1,9 +1,9 @@
 -- just the nodes are marked that were made
 use Rattle.std.proofs.Common.{◌≡◌, ℕ, ◌≤◌, Bool, ◌⊎◌, inl, inr, List, [], length, Option, Some, None, Ok, Result, refl, sym, ap, ◌∙◌, ◌↔◌}
 use Rattle.model_splitter.proofs.tree_lemmas.WorldCommon.{fun_ext, Refusal, MemorySteps, begin_refusal, begun_unless, begun_in, TreeRegister, Mark, TreeValue, Walker, mark_at, word_in, IsTreeMemory, IsEmptyTree, place_of, client_of, record_of, collect_reads, TreeState, after_store, after_collect_begin, after_collecting, Run, fresh_over, TreeCall, next, IsReply, Began, Stepped, Stored, CollectBegan, CollectStepped, IsNodeWithin, way_calls, walker_in, walkers}
-use Rattle.model_steps.proofs.RunLemmas.{run_gathers}
+use Rattle.model_steps.proofs.cited.RunLemmas.{run_gathers}
 use Rattle.model_splitter.specs.tree.Made.{Marks, WasMade}
-use Rattle.model_splitter.proofs.tree_lemmas.nodes.ConsistentKept.{marks}
+use Rattle.model_splitter.proofs.cited.tree.nodes.ConsistentKept.{marks}
 use Rattle.model_splitter.proofs.tree_lemmas.CallCases.{IsStep, step_cases, store_cases, collect_begin_cases, collect_step_cases}
 use Rattle.model_splitter.proofs.tree_lemmas.PlacesTied.{SparesNodes, IsTied, all_go, call_kept, tied_new, tied_after, tree_of_tied, store_spares, read_spares}
 

@@ -4,13 +4,13 @@ use Rattle.model_splitter.proofs.tree_lemmas.WorldCommon.{fun_ext, Read, Answer,
 use Rattle.std.proofs.lemmas.List.{append-nil}
 use Rattle.model_steps.specs.Calls.{Call, steps_by, outcome_by, outcome_in, begun_in, begun_by}
 use Rattle.model_steps.specs.Calls.Call.{Began, Stepped}
-use Rattle.model_steps.proofs.SetAtLemmas.{set_at-cases, set_at-map, set_at-as_is}
+use Rattle.model_steps.proofs.cited.SetAtLemmas.{set_at-cases, set_at-map, set_at-as_is}
 use Rattle.model_steps.specs.Reported.{Tells}
-use Rattle.model_steps.proofs.ReportedLemmas.{reported_quiet, reported_begun, reported_stepped}
-use Rattle.model_steps.proofs.WorldKeeps.{begun_in-push, IsLetIn, let_in}
-use Rattle.model_splitter.proofs.tree_lemmas.nodes.ConsistentKept.{consistent_new, begun, gone_on, elsewhere}
-use Rattle.model_splitter.proofs.tree_lemmas.nodes.TreeLaw.{tree_law, nearer}
-use Rattle.model_splitter.proofs.tree_lemmas.nodes.WalkerLemmas.{place_is_reported}
+use Rattle.model_steps.proofs.cited.ReportedLemmas.{reported_quiet, reported_begun, reported_stepped}
+use Rattle.model_steps.proofs.cited.WorldKeeps.{begun_in-push, IsLetIn, let_in}
+use Rattle.model_splitter.proofs.cited.tree.nodes.ConsistentKept.{consistent_new, begun, gone_on, elsewhere}
+use Rattle.model_splitter.proofs.cited.tree.nodes.TreeLaw.{tree_law, nearer}
+use Rattle.model_splitter.proofs.cited.tree.nodes.WalkerLemmas.{place_is_reported}
 use Rattle.model_splitter.proofs.tree_lemmas.CallCases.{GoesOn, IsStep, got_on, walked_on, read_by, turned, turned_stands, step_cases, store_cases, collect_begin_cases, collect_step_cases}
 
 abbrev pub is_storing : Task → Bool

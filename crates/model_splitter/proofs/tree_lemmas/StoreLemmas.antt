@@ -4,7 +4,7 @@ use Rattle.model_splitter.proofs.tree_lemmas.WorldCommon.{Note, Participant, Rec
 use Rattle.model_steps.specs.declared.note.Note.TheVariants.{Said}
 use Rattle.model_steps.specs.Locality.{ChangesOnly}
 use Rattle.model_steps.specs.World.{after_set, step_answer, may_refuse_step}
-use Rattle.model_steps.proofs.StepLemmas.{lacks_or_not}
+use Rattle.model_steps.proofs.cited.StepLemmas.{lacks_or_not}
 use Rattle.model_splitter.specs.declared.tree.client.TreeReply.{TreeReply}
 use Rattle.model_splitter.specs.declared.tree.client.TreeReply.TheVariants.{Stored}
 use Rattle.model_splitter.specs.tree.TreeWorld.{TreeState, ChangesOnlyStore}

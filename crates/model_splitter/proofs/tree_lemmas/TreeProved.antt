@@ -6,17 +6,17 @@ use Rattle.model_splitter.specs.tree.TreeWorld.{TreeState, after_tree_begin, ask
 use Rattle.model_splitter.proofs.tree_lemmas.CollectSteps.{collect_law}
 use Rattle.model_splitter.proofs.tree_lemmas.PlacesTied.{IsTied, tied_after, tree_of_tied, way_calls-append}
 use Rattle.model_splitter.proofs.tree_lemmas.DueTied.{world_counted, places_law}
-use Rattle.model_splitter.proofs.tree_lemmas.TreeMemoryLemmas.{tree_memory, tree_empty}
+use Rattle.model_splitter.proofs.cited.tree.TreeMemoryLemmas.{tree_memory, tree_empty}
 use Rattle.model_steps.specs.Calls.{Call, outcome_of, lacked_memory, reply_of}
 use Rattle.model_steps.specs.Calls.Call.{Stepped as WayStepped}
 use Rattle.model_steps.specs.Machine.{Reaches, OnEveryHistory, SatisfiesSpec, Extends, RefusesWhereDue, IsProved}
 use Rattle.model_steps.specs.World.{begin_refusal, done_unless, step_answer, after_step}
 use Rattle.model_splitter.specs.tree.WorldLaws.{StaysAlikeOnWay, StaysAlikeCollecting}
-use Rattle.model_steps.proofs.StepLemmas.{lacks_none, lacks_or_not}
+use Rattle.model_steps.proofs.cited.StepLemmas.{lacks_none, lacks_or_not}
 use Rattle.model_steps.specs.Locality.{Indistinguishable, StandAlike}
-use Rattle.model_steps.proofs.LocalityLemmas.{stand_alike}
-use Rattle.model_steps.proofs.DueLemmas.{no_second_end}
-use Rattle.model_steps.proofs.MachineLemmas.{call_leads_on, machine_proved}
+use Rattle.model_steps.proofs.cited.LocalityLemmas.{stand_alike}
+use Rattle.model_steps.proofs.cited.DueLemmas.{no_second_end}
+use Rattle.model_steps.proofs.cited.MachineLemmas.{call_leads_on, machine_proved}
 
 module _ {S : Type 0} (memory : MemorySteps S TreeRegister TreeValue) where
   -- a world is tied to its calls

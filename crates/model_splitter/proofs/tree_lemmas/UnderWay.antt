@@ -2,9 +2,9 @@
 use Rattle.std.proofs.Common.{◌≡◌, ℕ, suc, ◌+◌, ◌<◌, ◌≤◌, ◌==◌, Bool, true, false, cond, List, length, Option, Some, None, ◌⊎◌, inl, inr, refl, sym, ap, subst, ◌∙◌, arith, is_some, IsSome}
 use Rattle.model_splitter.proofs.tree_lemmas.WorldCommon.{eqb_tells, leb_tells, Decides-eqb, set_at, Record, TreeValue, CollectWalk, Collect, segment_in, place_read, finds_mark, walk_resumed, walk_is_over, first_collect, view_with, collect_after, count_to, Sees, HasGrown, HasRead, IsPathMarked, IsUpcoming, IsAhead, count_le, count_more}
 use Rattle.model_steps.specs.View.{IsRising, value_of, inserted}
-use Rattle.model_steps.proofs.ViewLemmas.{IsRising-inserted, value_of-inserted, length-inserted}
-use Rattle.model_splitter.proofs.tree_lemmas.collects.WalkLemmas.{ahead_at_first, ahead_kept, ahead_resumed, upcoming_before, read_once}
-use Rattle.model_splitter.proofs.tree_lemmas.collects.ReadCount.{read_at_first, read_here, read_kept, read_resumed}
+use Rattle.model_steps.proofs.cited.ViewLemmas.{IsRising-inserted, value_of-inserted, length-inserted}
+use Rattle.model_splitter.proofs.cited.tree.collects.WalkLemmas.{ahead_at_first, ahead_kept, ahead_resumed, upcoming_before, read_once}
+use Rattle.model_splitter.proofs.cited.tree.collects.ReadCount.{read_at_first, read_here, read_kept, read_resumed}
 
 -- what a collect, since a moment and after so many steps, has come to. The places, the marks and the moments are those
 -- of now. Of each identity that has a pair it is known that its place lies behind

@@ -14,15 +14,15 @@ pub use Rattle.model_steps.specs.SetAt.{set_at}
 pub use Rattle.model_steps.specs.Steps.{MemorySteps, answer_from, Spares}
 pub use Rattle.model_steps.specs.World.{done_unless, after_set, begin_refusal, begun_unless}
 pub use Rattle.model_steps.specs.Calls.{outcome_in, begun_in}
-pub use Rattle.model_steps.proofs.ParticipantLemmas.{participant_of-put, participant_of-push, length-with_participant}
-pub use Rattle.model_steps.proofs.SetAtLemmas.{set_at-same, set_at-cases, set_at-other}
+pub use Rattle.model_steps.proofs.cited.ParticipantLemmas.{participant_of-put, participant_of-push, length-with_participant}
+pub use Rattle.model_steps.proofs.cited.SetAtLemmas.{set_at-same, set_at-cases, set_at-other}
 pub use Rattle.model_steps.specs.declared.record.Record.{Record}
 pub use Rattle.model_steps.specs.Due.{EndsOnce}
-pub use Rattle.model_steps.proofs.RunLemmas.{run_keeps}
+pub use Rattle.model_steps.proofs.cited.RunLemmas.{run_keeps}
 pub use Rattle.model_steps.specs.Runs.{Run}
-pub use Rattle.model_steps.proofs.WorldKeeps.{let_in}
+pub use Rattle.model_steps.proofs.cited.WorldKeeps.{let_in}
 pub use Rattle.model_steps.specs.Count.{count_to}
-pub use Rattle.model_steps.proofs.CountLemmas.{count_le, count_more}
+pub use Rattle.model_steps.proofs.cited.CountLemmas.{count_le, count_more}
 pub use Rattle.model_splitter.specs.declared.stage.Stage.{Stage}
 pub use Rattle.model_splitter.specs.declared.stage.Stage.TheVariants.{Outside}
 pub use Rattle.model_splitter.specs.declared.tree.register.TreeRegister.{TreeRegister}

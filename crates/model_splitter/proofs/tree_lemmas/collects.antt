@@ -2,6 +2,3 @@
 pub mod Climbing
 pub mod OrderLemmas
 pub mod OpenLemmas
-pub mod WalkLemmas
-pub mod ReadCount
-pub mod PlacesAhead

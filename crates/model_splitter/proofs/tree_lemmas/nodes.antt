@@ -7,6 +7,3 @@ pub mod Roots
 pub mod VisitsKept
 pub mod AgreeKept
 pub mod DepthBound
-pub mod ConsistentKept
-pub mod TreeLaw
-pub mod WalkerLemmas

@@ -16,9 +16,9 @@ ghost use Rattle.model_steps.specs.World.{after_begin, begin_refusal, done_unles
 
 use crate::grid::door::Door;
 use crate::grid::walker::Walker;
+use model_steps::{Memory, Note, Place, Refusal, World};
 use std::alloc::Allocator;
 use std::marker::Model;
-use model_steps::{Memory, Note, Place, Refusal, World};
 
 /// Participants that walk through one grid, each to a place of its own.
 #[derive(Drop)]
@@ -45,7 +45,7 @@ impl<A: Allocator + Clone> GridWorld<A> {
     ///
     /// - `OutOfRange`: `most` is not from 1 to 16.
     /// - `NoMemory`: an allocation failed.
-    #[tactic(auto, using(crate::proofs::grid_lemmas::GridTied::grid_contracts))]
+    #[tactic(auto, using(crate::proofs::cited::grid::GridTied::grid_contracts))]
     pub fn new(alloc: A, most: usize) -> Result<Self, Refusal>
         ensures fresh { IfOk result (λ w. w ≡ fresh most) }
         ensures after { IfOk result (λ w. Reaches grid most w []) }
@@ -69,7 +69,7 @@ impl<A: Allocator + Clone> GridWorld<A> {
     /// - `ZeroIdentity`: `id` is 0.
     /// - `AlreadyBegun`: `id` has begun.
     /// - `Full`: as many participants as the world takes have begun.
-    #[tactic(auto, using(crate::proofs::grid_lemmas::GridTied::grid_contracts))]
+    #[tactic(auto, using(crate::proofs::cited::grid::GridTied::grid_contracts))]
     pub fn begin(&mut self, id: u64) -> Result<(), Refusal>
         ensures answer { result ≡ done_unless (begin_refusal self.old id) }
         ensures state { self.new ≡ after_begin self.old id (walk_of id) }
@@ -95,7 +95,7 @@ impl<A: Allocator + Clone> GridWorld<A> {
     /// # Steps
     ///
     /// A walk makes at most `4b`, where `b` participants have begun (Moir and Anderson 1995).
-    #[tactic(auto, using(crate::proofs::grid_lemmas::GridTied::grid_contracts))]
+    #[tactic(auto, using(crate::proofs::cited::grid::GridTied::grid_contracts))]
     pub fn step(&mut self, id: u64) -> Result<Option<Place>, Refusal>
         ensures answer { result ≡ step_reply self.old id }
         ensures state { self.new ≡ world_after_step self.old id }

@@ -4,8 +4,8 @@ ghost use Rattle.std.specs.Prelude.{◌≡◌};
 ghost use Rattle.model_splitter.specs.declared.tree.register.TreeValue.TheVariants as value;
 
 use crate::tree::register::TreeValue;
-use std::marker::Model;
 use model_steps::Segment;
+use std::marker::Model;
 
 /// A segment, stored as the value of its register, so that it can be lent. Contracts see the segment.
 #[derive(Clone, Copy, Debug, Drop)]

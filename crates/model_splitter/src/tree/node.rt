@@ -8,8 +8,8 @@ ghost use Rattle.model_splitter.specs.tree.TreeSteps.{number_in, fresh_registers
 
 use crate::tree::node_registers::NodeRegisters;
 use crate::tree::register::{TreeRegister, WrittenValue};
-use std::alloc::Allocator;
 use model_steps::{NoMemory, Place};
+use std::alloc::Allocator;
 
 /// A node, or none.
 pub type Link<A> = Option<Box<Node<A>, A>>;

@@ -3,7 +3,7 @@
 ghost use Rattle.std.specs.Prelude.{◌≡◌, OnOk, OnErr, IfOk, IfSome, None, true, false, option_copied};
 ghost use Rattle.std.specs.FinMap as map;
 ghost use Rattle.model_splitter.specs.tree.TreeSteps.{tree_steps, empty_tree, value_in, answer_of, after_access, may_refuse, number_in};
-ghost use Rattle.model_splitter.specs.tree.TreeProofs.{others_kept};
+ghost use Rattle.model_splitter.specs.lemmas.tree.TreeProofs.{others_kept};
 ghost use Rattle.model_steps.specs.declared.access.Access.TheVariants.{Read};
 ghost use Rattle.model_steps.specs.Taken.{reported_in};
 ghost use Rattle.model_splitter.specs.declared.tree.register.TreeValue.TheVariants as value;
@@ -13,9 +13,9 @@ use crate::tree::node::{Link, find_from, write_from};
 use crate::tree::node_registers::NodeRegisters;
 use crate::tree::register::{MARKED, TreeRegister, TreeValue, WrittenValue};
 use crate::tree::walker::Walker;
+use model_steps::{Access, Answer, NoMemory, Note, Place, StepMemory, StepProgram};
 use std::alloc::Allocator;
 use std::marker::Model;
-use model_steps::{Access, Answer, NoMemory, Note, Place, StepMemory, StepProgram};
 
 /// A tree of splitters as a memory. Each node is allocated when it is made. Contracts see a map from numbers to nodes.
 #[derive(Drop)]

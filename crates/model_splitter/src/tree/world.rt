@@ -17,9 +17,9 @@ ghost use Rattle.model_steps.specs.World.{begin_refusal, done_unless};
 
 use crate::tree::Tree;
 use crate::tree::client::{Client, place_reported, view_reported};
+use model_steps::{Place, Refusal, View, World};
 use std::alloc::Allocator;
 use std::marker::Model;
-use model_steps::{Place, Refusal, View, World};
 
 /// Participants that walk down one tree, each to a place of its own, store values there, and collect what all have
 /// stored.

@@ -2,10 +2,10 @@
 
 ghost use Rattle.std.specs.Prelude.{◌≡◌};
 
+use model_steps::Refusal;
 use std::alloc::{AllocError, Global};
 use std::process::Abort;
 use std::thread::{self, Threads};
-use model_steps::Refusal;
 use words_names::{Dealer, FreshSeat, Names};
 
 /// What an integration test tells of what was made: whether it goes so; or why it was not made.
@@ -16,9 +16,9 @@ pub fn same(rt: &impl Abort, case: usize, reported: Reported, due: Reported) {
     assert_eq!(rt; reported, due, "case {case}");
 }
 
-/// An identity of 64 bits for a seat: the greatest first.
+/// An identity of 64 bits for a seat: the least first.
 pub fn identity_at(number: u64) -> u64 {
-    u64::MAX - number
+    (u64::MAX - 64).saturating_add(number)
 }
 
 /// The name of the next seat.
@@ -34,14 +34,8 @@ fn name_next(names: &Names<Global>, dealer: &mut Dealer) -> Option<u64>
 }
 
 /// Whether the last name is this, where so many seats are renamed one after another.
-fn last_is(
-    alloc: Global,
-    most: u64,
-    limit: u64,
-    count: u64,
-    due: Option<u64>,
-) -> Result<bool, Refusal> {
-    let (names, dealer) = Names::new(alloc, most, limit)?;
+fn last_is(alloc: Global, most: u64, count: u64, due: Option<u64>) -> Result<bool, Refusal> {
+    let (names, dealer) = Names::new(alloc, most)?;
     let mut dealer = dealer;
     let mut last = None;
     for _ in 0..count {
@@ -50,31 +44,51 @@ fn last_is(
     Ok(last == due)
 }
 
-/// For how many, with how many proposals each, how many come one after another; the last name, and whether it is that, or why
-/// there are no names. Where the k-th that comes is the k-th by identity, it proposes the k-th number that nobody has: `2k - 1`.
-/// With one proposal it is spent at the second seat, whose place is 1.
-const NAMED: [(u64, u64, u64, Option<u64>, Result<bool, Refusal>); 10] = [
-    (0, 1, 1, None, Err(Refusal::OutOfRange)),
-    (17, 1, 1, None, Err(Refusal::OutOfRange)),
-    (1, 0, 1, None, Err(Refusal::OutOfRange)),
-    (1, 1001, 1, None, Err(Refusal::OutOfRange)),
-    (1, 1, 1, Some(1), Ok(true)),
-    (1, 1, 2, None, Ok(true)),
-    (2, 2, 2, Some(3), Ok(true)),
-    (16, 64, 16, Some(31), Ok(true)),
-    (2, 1, 2, Some(5), Ok(true)),
-    (16, 1000, 3, Some(5), Ok(true)),
+/// For how many, how many come one after another; the last name, and whether it is that, or why there are no names. The k-th that
+/// comes has the greatest identity so far. So it is the last of the first instance where k come, and has the name `2k - 1`.
+const NAMED: [(u64, u64, Option<u64>, Result<bool, Refusal>); 8] = [
+    (0, 1, None, Err(Refusal::OutOfRange)),
+    (65, 1, None, Err(Refusal::OutOfRange)),
+    (1, 1, Some(1), Ok(true)),
+    (1, 2, None, Ok(true)),
+    (2, 2, Some(3), Ok(true)),
+    (16, 16, Some(31), Ok(true)),
+    (16, 3, Some(5), Ok(true)),
+    (64, 64, Some(127), Ok(true)),
 ];
 
 #[test]
 fn each_that_comes_later_has_the_next_odd_name(rt: HostRuntime) {
-    for (i, (most, limit, count, last, due)) in NAMED.iter().enumerate() {
-        same(
-            &rt,
-            i,
-            last_is(rt.alloc(), *most, *limit, *count, *last),
-            *due,
-        );
+    for (i, (most, count, last, due)) in NAMED.iter().enumerate() {
+        same(&rt, i, last_is(rt.alloc(), *most, *count, *last), *due);
+    }
+}
+
+/// Whether the last of these identities has this name, which are renamed one after another.
+fn last_of(alloc: Global, identities: &[u64], due: u64) -> Result<bool, Refusal> {
+    let (names, dealer) = Names::new(alloc, identities.len() as u64)?;
+    let mut dealer = dealer;
+    let mut last = 0;
+    for identity in identities {
+        let seat = names.deal(&mut dealer, *identity)?;
+        last = names.name(&names.rename(seat));
+    }
+    Ok(last == due)
+}
+
+/// Identities that come one after another, and the name of the last. The second of two has the last name of the first instance
+/// if its identity is the greater one. If not, it turns to the instance of one seat that goes down from 2.
+const ORDERED: [(&[u64], u64); 4] = [
+    (&[1, 2], 3),
+    (&[2, 1], 2),
+    (&[7, u64::MAX], 3),
+    (&[u64::MAX, 7], 2),
+];
+
+#[test]
+fn the_greater_identity_has_the_greater_name(rt: HostRuntime) {
+    for (i, (identities, last)) in ORDERED.iter().enumerate() {
+        same(&rt, i, last_of(rt.alloc(), identities, *last), Ok(true));
     }
 }
 
@@ -86,10 +100,10 @@ struct Caller<'a> {
     ghost ours: { seat.names ≡ names.now },
 }
 
-/// The name that the rounds of a seat give it.
-fn name_of(caller: Caller<'_>) -> Option<u64> {
+/// The name of a seat.
+fn name_of(caller: Caller<'_>) -> u64 {
     let Caller { names, seat } = caller;
-    names.rename(seat).named()
+    names.name(&names.rename(seat))
 }
 
 /// So many callers, each with a seat of its own, as far as there are seats.
@@ -111,35 +125,52 @@ fn callers_of<'a>(
     Ok(callers)
 }
 
-/// Whether these are so many names of rounds, each below twice their number and no two alike.
-fn are_names_of(names: &[Option<u64>], count: u64) -> bool {
+/// Whether these are so many names, each below twice their number and no two alike.
+fn are_names_of(names: &[u64], count: u64) -> bool {
     for (i, name) in names.iter().enumerate() {
-        let Some(own) = *name else {
-            return false;
-        };
-        if own < 1 || count.saturating_mul(2) <= own || names[..i].contains(name) {
+        if *name < 1 || count.saturating_mul(2) <= *name || names[..i].contains(name) {
             return false;
         }
     }
     names.len() as u64 == count
 }
 
-/// Whether so many threads that are renamed at once have names of their own below twice their number.
-fn have_names<R: Threads + Sync>(rt: &R, alloc: Global, count: u64) -> Result<bool, Refusal> {
-    let (names, dealer) = Names::new(alloc, count, 64)?;
+/// Whether so many threads that are renamed at once, of so many seats, have names of their own below twice their number.
+fn have_names<R: Threads + Sync>(
+    rt: &R,
+    alloc: Global,
+    most: u64,
+    count: u64,
+) -> Result<bool, Refusal> {
+    let (names, dealer) = Names::new(alloc, most)?;
     let callers = callers_of(alloc, &names, dealer, count)?;
     let reported = thread::map_vec(rt, callers, &|caller| name_of(caller))?;
     Ok(are_names_of(&reported, count))
 }
 
+/// In each hundredth race 64 threads.
 #[test]
 fn threads_have_names_of_their_own(rt: HostRuntime) {
-    for round in 0..1000u64 {
-        let count = 2 + round % 15;
+    for round in 0..10_000u64 {
+        let most = if round % 100 == 0 { 64 } else { 2 + round % 15 };
         same(
             &rt,
             round as usize,
-            have_names(&rt, rt.alloc(), count),
+            have_names(&rt, rt.alloc(), most, most),
+            Ok(true),
+        );
+    }
+}
+
+/// Of 64 seats few come: their names are below twice their number.
+#[test]
+fn few_of_many_have_low_names(rt: HostRuntime) {
+    for round in 0..100u64 {
+        let count = 1 + round % 8;
+        same(
+            &rt,
+            round as usize,
+            have_names(&rt, rt.alloc(), 64, count),
             Ok(true),
         );
     }
@@ -147,7 +178,7 @@ fn threads_have_names_of_their_own(rt: HostRuntime) {
 
 /// Why a seat is refused to an identity, where these were dealt one.
 fn refusal_after(alloc: Global, most: u64, known: &[u64], identity: u64) -> Result<bool, Refusal> {
-    let (names, dealer) = Names::new(alloc, most, 1)?;
+    let (names, dealer) = Names::new(alloc, most)?;
     let mut dealer = dealer;
     for other in known {
         names.deal(&mut dealer, *other)?;
@@ -164,7 +195,7 @@ const DEALT: [(u64, &[u64], u64, Result<bool, Refusal>); 7] = [
     (2, &[7, 8], 7, Err(Refusal::AlreadyBegun)),
     (2, &[7, 8], 9, Err(Refusal::Full)),
     (2, &[7, 8], 0, Err(Refusal::ZeroIdentity)),
-    (16, &[1, 2, 3], 4, Ok(true)),
+    (64, &[1, 2, 3], 4, Ok(true)),
 ];
 
 #[test]

@@ -4,22 +4,20 @@
 ghost use Rattle.std.specs.Prelude.{◌≡◌};
 
 use crate::names::names_tests::{identity_at, same};
-use model_asked::{Config, WorldKind};
+use model_recursion::{Cell, Namer};
+use model_steps::{Access, Answer, Note, Refusal, StepProgram};
 use rand_core::SeedableRng;
 use rand_core::utils::NextWord;
 use rand_pcg::Lcg64Xsh32;
-use model_renaming::{RenameWorld, Reply, Round, Stage, next_proposal};
-use model_renaming::over::Grid;
 use std::alloc::{AllocError, Global};
 use std::thread::{self, Threads};
-use model_steps::{Place, Refusal, View};
 use words_names::{Dealer, FreshSeat, Names, Renamed, Renaming};
 
-/// The step machine whose runs the threads' are compared with.
-type World = RenameWorld<Grid<Global>, Global>;
-
-/// The most steps of a run.
+/// The most accesses of a run.
 const MOST_STEPS: u64 = 60_000;
+
+/// The words of up to 15 seats, with room to spare.
+const WORDS: usize = 16 * 32 * 32;
 
 /// A seat that is being renamed, with its names.
 #[derive(Drop)]
@@ -37,11 +35,11 @@ struct Racer<'a> {
     ghost ours: { seat.names ≡ names.now },
 }
 
-/// A participant of both: its runner until that has a name, and the place that the machine's reply told.
+/// A participant of both: its runner until that has a name, and its program over simulated words.
 #[derive(Drop)]
 struct Lane<'a> {
     runner: Option<Runner<'a>>,
-    place: Option<Place>,
+    program: Namer,
 }
 
 /// One access of a runner: its seat once that is renamed, or the runner that goes on.
@@ -53,54 +51,42 @@ fn moved<'a>(runner: Runner<'a>) -> Result<Renamed, Runner<'a>> {
     }
 }
 
-/// Whether the machine's reply is that of an access which led from one round to the other.
-fn is_reply(reply: &Reply<View>, before: Round, after: Round, id: u64) -> bool {
-    match reply {
-        Reply::Quiet => before == after,
-        Reply::Placed(_) => before.stage == Stage::Placing && after.stage == Stage::Proposing(1),
-        Reply::Proposed(number) => after.stage == Stage::Looking && after.proposal == *number,
-        Reply::Saw(view) => {
-            before.stage == Stage::Looking
-                && after.stage == Stage::Proposing(next_proposal(view, id))
+/// The index of a simulated word.
+fn index_of(cell: Cell) -> usize {
+    (usize::from(cell.level) * 32 + usize::from(cell.first)) * 32 + usize::from(cell.seat)
+}
+
+/// Makes the next access of a program to simulated words.
+fn answered(words: &mut Vec<u64, Global>, program: &Namer) -> Answer<u64> {
+    match program.next() {
+        Access::Read(cell) => {
+            let found = words.get(index_of(cell));
+            Answer::Value(*found.unwrap_or(&0))
         }
-        Reply::Named(_, _) => false,
-        Reply::Spent => false,
+        Access::Write(cell, word) => {
+            if let Some(at) = words.get_mut(index_of(cell)) {
+                *at = word;
+            }
+            Answer::Done
+        }
+        Access::TestAndSet(_) => Answer::Done,
+        Access::Clear(_) => Answer::Done,
+        Access::Nothing => Answer::Done,
     }
 }
 
-/// Whether the machine's reply is that of an access by which a seat was renamed.
-fn is_end(reply: &Reply<View>, renamed: &Renamed) -> bool {
-    match reply {
-        Reply::Named(name, _) => renamed.named() == Some(*name),
-        Reply::Spent => renamed.named().is_none(),
-        Reply::Quiet => false,
-        Reply::Placed(_) => false,
-        Reply::Proposed(_) => false,
-        Reply::Saw(_) => false,
-    }
-}
-
-/// One step of the machine and one access of the thread, where it has no name yet; whether both say the same.
-fn step_both(lane: &mut Lane<'_>, world: &mut World, id: u64) -> bool {
+/// One step of the program over simulated words and one access of the thread, where it has no name yet; whether both say the same.
+fn step_both(lane: &mut Lane<'_>, words: &mut Vec<u64, Global>) -> bool {
     let Some(runner) = lane.runner.take() else {
         return true;
     };
-    let before = runner.renaming.round();
-    if runner.renaming.accesses() == 0 && world.begin(id).is_err() {
-        return false;
-    }
-    let Ok(reply) = world.step(id) else {
-        return false;
-    };
-    if let Reply::Placed(place) = &reply {
-        lane.place = Some(*place);
-    }
+    let got = answered(words, &lane.program);
+    let note = lane.program.resume(got);
     match moved(runner) {
-        Ok(renamed) => is_end(&reply, &renamed) && lane.place == Some(renamed.place()),
+        Ok(renamed) => note == Note::Ended(renamed.name() as u16),
         Err(runner) => {
-            let after = runner.renaming.round();
             lane.runner = Some(runner);
-            is_reply(&reply, before, after, id)
+            note == Note::Quiet
         }
     }
 }
@@ -110,18 +96,18 @@ fn lanes_of<'a>(
     alloc: Global,
     names: &'a Names<Global>,
     mut dealer: Dealer,
-    count: u64,
+    count: u8,
 ) -> Result<Vec<Lane<'a>, Global>, Refusal>
     requires ours { dealer.names ≡ names.now }
 {
     let mut lanes = Vec::new(alloc);
-    for _ in 0..count {
+    for number in 0..count {
         let identity = identity_at(dealer.dealt());
         let seat = names.deal(&mut dealer, identity)?;
         let renaming = names.begin(seat);
         let lane = Lane {
             runner: Some(Runner { names, renaming }),
-            place: None,
+            program: Namer::new(count, number.saturating_add(1), identity),
         };
         if let Err(e) = lanes.push(lane) {
             return Err(AllocError::from(e).into());
@@ -130,17 +116,17 @@ fn lanes_of<'a>(
     Ok(lanes)
 }
 
-/// Whether so many participants, of which the next word of a generator lets one at a time go on, are named as by the step machine, reply
-/// by reply.
-fn go_as_the_machine(alloc: Global, seed: u64, count: u64, limit: u64) -> Result<bool, Refusal> {
-    let (names, dealer) = Names::new(alloc, count, limit)?;
-    let mut world = World::new(alloc, Config::new(WorldKind::Rename, count, 1, limit)?)?;
+/// Whether so many participants, of which the next word of a generator lets one at a time go on, are named as by their programs
+/// over simulated words, access by access.
+fn go_as_the_programs(alloc: Global, seed: u64, count: u8) -> Result<bool, Refusal> {
+    let (names, dealer) = Names::new(alloc, u64::from(count))?;
+    let mut words = Vec::from_elem(alloc, 0u64, WORDS)?;
     let mut lanes = lanes_of(alloc, &names, dealer, count)?;
-    let mut words = Lcg64Xsh32::seed_from_u64(seed);
+    let mut drawn = Lcg64Xsh32::seed_from_u64(seed);
     for _ in 0..MOST_STEPS {
-        let index = words.next_word() as usize % lanes.len().max(1);
+        let index = drawn.next_word() as usize % lanes.len().max(1);
         if let Some(lane) = lanes.get_mut(index) {
-            if !step_both(lane, &mut world, index as u64 + 1) {
+            if !step_both(lane, &mut words) {
                 return Ok(false);
             }
         }
@@ -149,14 +135,13 @@ fn go_as_the_machine(alloc: Global, seed: u64, count: u64, limit: u64) -> Result
 }
 
 #[test]
-fn threads_in_turn_are_named_as_by_the_machine(rt: HostRuntime) {
-    for round in 0..24u64 {
-        let count = 1 + round % 6;
-        let limit = if round < 18 { 64 } else { 1 };
+fn threads_in_turn_are_named_as_by_the_programs(rt: HostRuntime) {
+    for round in 0..60u64 {
+        let count = 1 + (round % 15) as u8;
         same(
             &rt,
             round as usize,
-            go_as_the_machine(rt.alloc(), round, count, limit),
+            go_as_the_programs(rt.alloc(), round, count),
             Ok(true),
         );
     }
@@ -174,10 +159,10 @@ fn parked<'a>(runner: Runner<'a>, accesses: u64) -> Option<Runner<'a>> {
     Some(runner)
 }
 
-/// The name that the rounds of a seat give it.
-fn name_of(racer: Racer<'_>) -> Option<u64> {
+/// The name of a seat.
+fn name_of(racer: Racer<'_>) -> u64 {
     let Racer { names, seat } = racer;
-    names.rename(seat).named()
+    names.name(&names.rename(seat))
 }
 
 /// A racer for each seat but the first, as far as there are seats.
@@ -206,7 +191,7 @@ fn are_named_beside<R: Threads + Sync>(
     count: u64,
     accesses: u64,
 ) -> Result<bool, Refusal> {
-    let (names, dealer) = Names::new(alloc, count, 64)?;
+    let (names, dealer) = Names::new(alloc, count)?;
     let mut dealer = dealer;
     let seat = names.deal(&mut dealer, identity_at(0))?;
     let renaming = names.begin(seat);
@@ -224,12 +209,9 @@ fn are_named_beside<R: Threads + Sync>(
 }
 
 /// Whether these are names below twice this number, no two alike.
-fn are_distinct(named: &[Option<u64>], count: u64) -> bool {
+fn are_distinct(named: &[u64], count: u64) -> bool {
     for (i, name) in named.iter().enumerate() {
-        let Some(own) = *name else {
-            return false;
-        };
-        if own < 1 || count.saturating_mul(2) <= own || named[..i].contains(name) {
+        if *name < 1 || count.saturating_mul(2) <= *name || named[..i].contains(name) {
             return false;
         }
     }
@@ -241,7 +223,7 @@ fn a_thread_that_stops_holds_up_nobody(rt: HostRuntime) {
     let mut words = Lcg64Xsh32::seed_from_u64(7);
     for round in 0..200u64 {
         let count = 2 + round % 7;
-        let accesses = u64::from(words.next_word() % 300);
+        let accesses = u64::from(words.next_word() % 80);
         same(
             &rt,
             round as usize,

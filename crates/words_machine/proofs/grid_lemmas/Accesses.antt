@@ -6,9 +6,9 @@ use Rattle.model_steps.specs.declared.participant.Participant.{Participant}
 use Rattle.model_steps.specs.Machine.{Reaches}
 use Rattle.model_steps.specs.Participant.{participant_of, beginner}
 use Rattle.model_steps.specs.Registers.{memory_steps, answer_of}
-use Rattle.model_steps.proofs.ParticipantLemmas.{participant_of-push, participant_of-put}
-use Rattle.model_steps.proofs.SetAtLemmas.{set_at-cases}
-use Rattle.model_steps.proofs.WorldKeeps.{IsKept, moved, steps_of-push, world_keeps}
+use Rattle.model_steps.proofs.cited.ParticipantLemmas.{participant_of-push, participant_of-put}
+use Rattle.model_steps.proofs.cited.SetAtLemmas.{set_at-cases}
+use Rattle.model_steps.proofs.cited.WorldKeeps.{IsKept, moved, steps_of-push, world_keeps}
 use Rattle.std.proofs.lemmas.Bool.Decides.{Decides-eqb}
 use Rattle.std.proofs.Common.{ne_eqb}
 use Rattle.model_splitter.specs.declared.stage.Stage.{Stage}
@@ -21,8 +21,8 @@ use Rattle.model_splitter.specs.declared.grid.walker.Walker.{Walker}
 use Rattle.model_splitter.specs.grid.Door.{number_of}
 use Rattle.model_splitter.specs.grid.Machine.{GridState, grid, fresh}
 use Rattle.model_splitter.specs.grid.Walk.{walk_of, walker_steps, walked_to, walker_note, next_access}
-use Rattle.model_splitter.proofs.grid_lemmas.ConsistentKept.{deeper_is}
-use Rattle.model_splitter.proofs.grid_lemmas.GridTied.{IsTied, tie_kept, tied_new, walkers}
+use Rattle.model_splitter.proofs.cited.grid.ConsistentKept.{deeper_is}
+use Rattle.model_splitter.proofs.cited.grid.GridTied.{IsTied, tie_kept, tied_new, walkers}
 
 -- the accesses of a walk that stands here: two at each door that it left to the right, four at each that it left down, and
 -- those at its own. Its column is how often it went down, and its depth how many doors it left

@@ -2,16 +2,16 @@
 use Rattle.std.proofs.Common.{◌≡◌, ◌≢◌, ℕ, ◌+◌, ◌*◌, ◌/◌, ◌<◌, ◌≤◌, Some, subst, sym, refl, ap, ◌∙◌, arith, option_map}
 use Rattle.model_splitter.specs.declared.stage.Stage.TheVariants.{Gone}
 use Rattle.model_splitter.specs.declared.way.Way.TheVariants.{Stop}
-use Rattle.model_splitter.proofs.WalkLemmas.{place_is}
+use Rattle.model_splitter.proofs.cited.WalkLemmas.{place_is}
 use Rattle.model_splitter.specs.declared.grid.door.Door.{Door}
 use Rattle.model_splitter.specs.declared.grid.walker.Walker.{Walker}
 use Rattle.model_splitter.specs.grid.Door.{number_of, IsDoorWithin}
 use Rattle.model_splitter.specs.grid.Walk.{place_of, place_by}
-use Rattle.model_splitter.proofs.grid_lemmas.GridTied.{grid_proved, tied_always, place_always}
-use Rattle.model_splitter.proofs.grid_lemmas.Numbers.{number_low}
+use Rattle.model_splitter.proofs.cited.grid.GridTied.{grid_proved, tied_always, place_always}
+use Rattle.model_splitter.proofs.cited.grid.Numbers.{number_low}
 use Rattle.words_machine.specs.SeatViews.{own}
 use Rattle.words_machine.specs.Ids.{EndedRun, ClaimId, HasRun, HaveRun, HaveReported}
-use Rattle.words_machine.specs.Walks.{walk_law as walks}
+use Rattle.words_machine.specs.lemmas.Walks.{walk_law as walks}
 use Rattle.words_machine.specs.grid.Seats as seats
 use Rattle.words_machine.specs.grid.Seats.{EndedWalk, walk_of_run}
 use Rattle.words_machine.specs.grid.Law.{WalkSpec}
@@ -23,7 +23,7 @@ module _ (e : EndedRun Walker ℕ) (h : HasRun walks e) where
 
   -- the walk has a place: the one that its run ended with
   placed : place_of e.program ≡ Some e.outcome
-  placed = ap (λ o. place_by (option_map (λ v. v.program) o)) (sym h.stands) ∙ place_always h.w (own e.number) e.words.size.most h.r h.after ∙ h.outcome_is
+  placed = ap (λ o. place_by (option_map (λ v. v.program) o)) (sym h.stands) ∙ place_always h.w (own e.number) e.words.most h.r h.after ∙ h.outcome_is
 
   -- so it has stopped at its door
   stopped : e.program.visitor.stage ≡ Gone Stop
@@ -36,14 +36,14 @@ module _ (e : EndedRun Walker ℕ) (h : HasRun walks e) where
   -- and it keeps its law
   pub walk_law : WalkSpec (walk_of_run e)
   walk_law =
-      let t = tied_always h.w e.words.size.most h.r h.after in
+      let t = tied_always h.w e.words.most h.r h.after in
       let walk = t.consistent.agree.walks (own e.number) e.program (ap (option_map (λ v. v.program)) h.stands) in
       let inside = walk.inside in
       let low = t.consistent.agree.within door.depth door.column walk.arrived in
       let begun = t.begun_is in
       let as_many = h.entered_are in
       let made : e.accesses ≡ accesses_made (Some e.program) =
-      h.accesses_are ∙ steps_made e.words.size.most h.w h.r h.after (own e.number) ∙ ap (λ o. accesses_made (option_map (λ v. v.program) o)) h.stands in
+      h.accesses_are ∙ steps_made e.words.most h.w h.r h.after (own e.number) ∙ ap (λ o. accesses_made (option_map (λ v. v.program) o)) h.stands in
       let all : accesses_made (Some e.program) ≡ 2 * (door.depth + door.column) + 4 = rw stopped refl in
       let within : IsDoorWithin e.entered (number_of door) = record { depth = door.depth; column = door.column; inside = inside; within = omega arith; is = refl } in
       record { counted = h.counted; within = within; low = number_low e.entered (number_of door) within; accesses = omega arith; at_most = (let shallow = within.within in omega arith) }
@@ -63,7 +63,7 @@ within_more e dealt law few = let d = law.within in record { depth = d.depth; co
 -- two that met have two places
 pub distinct_places : (a b : EndedRun Walker ℕ) → HasRun walks a → HasRun walks b → HaveRun walks a b → seats.place_of (walk_of_run a) ≢ seats.place_of (walk_of_run b)
 distinct_places a b one other both same =
-    let law = grid_proved.law both.w a.words.size.most both.r both.after in
+    let law = grid_proved.law both.w a.words.most both.r both.after in
     let equal : b.outcome ≡ a.outcome = outcome_is_place b other ∙ sym same ∙ sym (outcome_is_place a one) in
     let identity = law.distinct (own a.number) (own b.number) a.outcome both.one (both.other ∙ ap Some equal) in
     both.apart (omega arith)
@@ -71,6 +71,6 @@ distinct_places a b one other both same =
 -- two claims of one place are of one seat
 pub one_seat : (a b : ClaimId ℕ) → HaveReported walks a b → a.outcome ≡ b.outcome → a.number ≡ b.number
 one_seat a b reported same =
-    let law = grid_proved.law reported.w a.words.size.most reported.r reported.after in
+    let law = grid_proved.law reported.w a.words.most reported.r reported.after in
     let identity = law.distinct (own a.number) (own b.number) a.outcome reported.one (reported.other ∙ ap Some (sym same)) in
     omega arith

@@ -4,11 +4,11 @@ use Rattle.std.proofs.lemmas.List.{ext_get_or}
 use Rattle.model_steps.specs.RegisterState.{Registers}
 use Rattle.model_splitter.specs.declared.stage.Stage.{Stage}
 use Rattle.model_splitter.specs.Stage.{has_entered, has_set, went_right, went_down}
-use Rattle.model_splitter.proofs.DoorKept.{law_of}
-use Rattle.model_splitter.proofs.StageLemmas.{gone_right, gone_down}
+use Rattle.model_splitter.proofs.cited.DoorKept.{law_of}
+use Rattle.model_splitter.proofs.cited.StageLemmas.{gone_right, gone_down}
 use Rattle.model_splitter.specs.declared.grid.walker.Walker.{Walker}
 use Rattle.model_splitter.specs.grid.Invariant.{DoorsAgree, x_in, y_in}
-use Rattle.model_splitter.proofs.grid_lemmas.GridTied.{grid_proved, tied_always, place_always}
+use Rattle.model_splitter.proofs.cited.grid.GridTied.{grid_proved, tied_always, place_always}
 use Rattle.words_machine.specs.grid.Law.{PlacesAreDistinct, PlacesAreLow, SplitsAtDoors, DoorsSplit}
 
 pub distinct_places : PlacesAreDistinct
@@ -46,4 +46,4 @@ doors_split most words views h =
     let t = tied_always h.w most h.r h.holds.after in
     let registers = h.holds.many in
     let all = h.as_many in
-    (ext_get_or 0 h.w.memory.values words (omega arith) (λ k low. h.spelled.each k (omega arith)), rw t.begun_is (splits_at_doors _ _ _ t.consistent.agree))
+    (ext_get_or 0 h.w.memory.values words (omega arith) (λ k low. h.spelled k (omega arith)), rw t.begun_is (splits_at_doors _ _ _ t.consistent.agree))

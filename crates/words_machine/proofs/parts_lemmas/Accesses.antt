@@ -7,7 +7,7 @@ use native.Mathlib.Decide.{ℕ_discrete}
 use lib.ListN.{get_elem?}
 use Rattle.model_splitter.specs.declared.stage.Stage.TheVariants.{Outside, WroteX, SawClear, WroteY, Gone}
 use Rattle.model_splitter.specs.Stage.{has_entered, has_set, x_after, y_after, stage_after}
-use Rattle.model_splitter.proofs.DoorKept.{kept}
+use Rattle.model_splitter.proofs.cited.DoorKept.{kept}
 use Rattle.words_machine.specs.parts.SplitterRule.{SatisfiesSpec, IsShown, IsAmong, IsLast, Meets, Shows, IsKept, KeepsRule}
 use Rattle.words_machine.specs.parts.SplitterSteps.{IsUnderRule, MovesOn, after_access, moved_on, turn_after, met_after}
 use Rattle.words_machine.proofs.parts_lemmas.Numbered.{each_map}

@@ -4,7 +4,7 @@ pub use Rattle.atomic_table.specs.Table.{Me, Step, Allows, keeps, step, Joins}
 pub use Rattle.atomic_table.proofs.Lists.{at_set, at_snoc, at_last, set_else, set_again, at_longer}
 pub use Rattle.atomic_table.specs.Seated.{TableId}
 pub use Rattle.model_steps.specs.SetAt.{set_at}
-pub use Rattle.model_steps.proofs.SetAtLemmas.{set_at-cases, set_at-same, set_at-other}
+pub use Rattle.model_steps.proofs.cited.SetAtLemmas.{set_at-cases, set_at-same, set_at-other}
 pub use Rattle.model_splitter.specs.declared.way.Way.TheVariants.{Stop, Right, Down}
 pub use Rattle.model_splitter.specs.declared.stage.Stage.{Stage}
 pub use Rattle.model_splitter.specs.declared.stage.Stage.TheVariants.{Outside, WroteX, WroteY, SawClear, Gone}

@@ -6,7 +6,7 @@ use mathlib.Core.Logic.{dite}
 use native.Mathlib.Decide.{ℕ_discrete}
 use lib.ListN.{get_elem?}
 use Rattle.atomic_table.specs.Table.{Me, Splits, opening}
-use Rattle.model_splitter.proofs.DoorKept.{lawful_new}
+use Rattle.model_splitter.proofs.cited.DoorKept.{lawful_new}
 use Rattle.words_machine.specs.parts.SplitterView.{fresh_visit, view_of, unbegun_from, undealt_from}
 use Rattle.words_machine.proofs.parts_lemmas.Views.{each_set, each_pushed, HoldsAt, at_after, at_longer_list, at_its_end}
 use Rattle.words_machine.proofs.parts_lemmas.Accesses.{Has}

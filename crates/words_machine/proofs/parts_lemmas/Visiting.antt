@@ -7,7 +7,7 @@ use Rattle.model_splitter.specs.declared.way.Way.{Way}
 use Rattle.model_splitter.specs.Law.{AtMostOneStopped, NotAllTook, IsSplit}
 use Rattle.model_splitter.specs.Invariant.{IsSplitter}
 use Rattle.model_splitter.specs.Stage.{has_entered, has_set}
-use Rattle.model_splitter.proofs.DoorKept.{law_of}
+use Rattle.model_splitter.proofs.cited.DoorKept.{law_of}
 use Rattle.words_machine.specs.parts.SplitterSteps.{IsUnderRule, HasEnded, after_access, accesses_by}
 use Rattle.words_machine.specs.parts.Seats.{SplitterId, EndedVisit, HasMet, MetBy, IsOfEnded, ended_visit, gone_at, seats_in, IsEither, EitherTook}
 use Rattle.words_machine.proofs.parts_lemmas.Accesses.{same_number}

@@ -12,8 +12,7 @@ use Rattle.model_splitter.specs.grid.Invariant.{DoorsAgree, x_in, y_in}
 use Rattle.model_splitter.specs.grid.Machine.{place_in}
 use Rattle.words_machine.specs.declared.seat_view.SeatView.{SeatView}
 use Rattle.words_machine.specs.RunRule.{IsRunning}
-use Rattle.words_machine.specs.Walks.{walk_law}
-use Rattle.words_machine.specs.grid.Seats.{grid_size}
+use Rattle.words_machine.specs.lemmas.Walks.{walk_law}
 use Rattle.words_machine.specs.grid.Seats.{EndedWalk, place_of}
 
 -- the accesses of a walk from the corner to the door at which it stops: two at each door that it left to the right, which
@@ -24,7 +23,7 @@ accesses_to door = 2 * (door.depth - door.column) + 4 * door.column + 4
 -- One walk, where b have begun when it ends, itself among them: its door is on one of the first b diagonals, so its place is among the first
 -- b(b + 1)/2, and it made at most 4b accesses; exactly, as many as lead to its door
 pub record WalkSpec (e : EndedWalk) : Type 0 where
-  pub counted : e.entered ≤ e.grid.size.most
+  pub counted : e.entered ≤ e.grid.most
   pub within : IsDoorWithin e.entered (place_of e)
   pub low : place_of e < e.entered * (e.entered + 1) / 2
   pub accesses : e.accesses ≡ accesses_to e.door
@@ -32,7 +31,7 @@ pub record WalkSpec (e : EndedWalk) : Type 0 where
 
 -- the rule of a grid's table: some list of calls of the grid's machine leads to registers that the words spell
 abbrev pub IsGridTable : ℕ → List ℕ → List (SeatView Walker ℕ) → Type 0
-IsGridTable most words views = IsRunning walk_law (grid_size most) words views
+IsGridTable most words views = IsRunning walk_law most words views
 
 -- the places at which walks have ended, in a table that keeps the rule: no two walks have one
 abbrev pub PlacesAreDistinct : Type 0

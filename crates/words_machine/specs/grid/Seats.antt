@@ -3,16 +3,11 @@ use Rattle.std.specs.Prelude.{ℕ}
 use Rattle.model_splitter.specs.declared.grid.door.Door.{Door}
 use Rattle.model_splitter.specs.declared.grid.walker.Walker.{Walker}
 use Rattle.model_splitter.specs.grid.Door.{number_of}
-use Rattle.words_machine.specs.declared.size.Size.{Size}
 use Rattle.words_machine.specs.Ids.{WordsId, EndedRun}
 
 -- which grid it is, and how many seats it has at most: which words they are
 abbrev pub GridId : Type 0
 GridId = WordsId
-
--- the size of the machine of a grid: so many participants, who write no record
-abbrev pub grid_size : ℕ → Size
-grid_size most = record { most = most; limit = 0 }
 
 -- the seats that are still to be dealt: of which grid, and how many were dealt
 pub record DealerId : Type 0 where

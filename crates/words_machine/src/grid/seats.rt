@@ -5,8 +5,8 @@ ghost use Rattle.words_machine.specs.grid.Seats.{place_of};
 ghost use Rattle.words_machine.specs.grid.Law.{WalkSpec};
 
 use model_splitter::grid::{Door, Walker};
-use std::marker::Model;
 use model_steps::Place;
+use std::marker::Model;
 
 /// The seats of a grid that are not dealt yet, by rising number.
 #[derive(Drop)]
@@ -63,7 +63,7 @@ pub struct EnteredSeat {
 impl Model for EnteredSeat {
     ghost use Rattle.words_machine.specs.grid.Seats.{EndedWalk, walk_of_run};
     ghost use Rattle.words_machine.specs.Ids.{HasRun};
-    ghost use Rattle.words_machine.specs.Walks.{walk_law};
+    ghost use Rattle.words_machine.specs.lemmas.Walks.{walk_law};
 
     ghost Value = { EndedWalk };
 

@@ -3,14 +3,14 @@
 ghost use Rattle.std.specs.Prelude.{◌≡◌, ◌≢◌, ◌<◌, ◌≤◌, ◌+◌, ◌*◌, ◌/◌, IfOk, IfErr, IfSome, IfNone, IsOk, IsSome, Err, ◌⊎◌, ◌↔◌};
 ghost use Rattle.model_splitter.specs.grid.Door.{IsDoorWithin};
 ghost use Rattle.words_machine.specs.grid.Law.{WalkSpec};
-ghost use Rattle.words_machine.specs.grid.Seats.{claim_of, dealer_of, grid_size, place_of, seat_of};
+ghost use Rattle.words_machine.specs.grid.Seats.{claim_of, dealer_of, place_of, seat_of};
 
+use crate::WordMachine;
 use crate::grid::seats::{Claim, Dealer, EnteredSeat, FreshSeat};
 use model_splitter::grid::Walker;
+use model_steps::Refusal;
 use std::alloc::Allocator;
 use std::marker::Model;
-use model_steps::Refusal;
-use crate::{Size, WordMachine};
 
 /// The most seats of a grid.
 const MOST_SEATS: u64 = 64;
@@ -37,7 +37,7 @@ impl<A: Allocator + Clone> WordGrid<A> {
     /// - `OutOfRange`: `most` is not from 1 to 64.
     /// - `NoMemory`: an allocation failed.
     pub fn new(alloc: A, most: u64) -> Result<(WordGrid<A>, Dealer), Refusal>
-        ensures grid { IfOk result (λ r. r.0.size ≡ grid_size most) }
+        ensures grid { IfOk result (λ r. r.0.most ≡ most) }
         ensures dealer { IfOk result (λ r. r.1 ≡ dealer_of r.0 0) }
         ensures range { IsOk result → (1 ≤ most) × (most ≤ 64) }
         ensures out_of_range { result ≡ Err Refusal.OutOfRange ↔ ((most < 1) ⊎ (64 < most)) }
@@ -46,7 +46,7 @@ impl<A: Allocator + Clone> WordGrid<A> {
         if most < 1 || MOST_SEATS < most {
             return Err(Refusal::OutOfRange);
         }
-        let (machine, dealer) = WordMachine::new(alloc, Size { most, limit: 0 })?;
+        let (machine, dealer) = WordMachine::new(alloc, most)?;
         Ok((WordGrid { machine }, Dealer { dealer }))
     }
 }
@@ -54,10 +54,10 @@ impl<A: Allocator + Clone> WordGrid<A> {
 impl<A: Allocator> WordGrid<A> {
     /// Returns the most seats: from 1 to 64.
     pub fn most(&self) -> u64
-        ensures count { result ≡ self.now.size.most }
+        ensures count { result ≡ self.now.most }
         ensures range { (1 ≤ result) × (result ≤ 64) }
     {
-        self.machine.size().most
+        self.machine.most()
     }
 
     /// Deals the seat of the least number that was not dealt, or returns `None` if all seats were dealt. The dealer is
@@ -65,7 +65,7 @@ impl<A: Allocator> WordGrid<A> {
     pub fn deal(&self, dealer: &mut Dealer) -> Option<FreshSeat>
         requires ours { dealer.old.grid ≡ self.now }
         ensures ours { dealer.new.grid ≡ self.now }
-        ensures some { IsSome result ↔ (dealer.old.dealt < self.now.size.most) }
+        ensures some { IsSome result ↔ (dealer.old.dealt < self.now.most) }
         ensures seat { IfSome result (λ s. (s ≡ seat_of self.now dealer.old.dealt) × (dealer.new.dealt ≡ dealer.old.dealt + 1)) }
         ensures none { IfNone result (dealer.new ≡ dealer.old) }
     {
@@ -89,7 +89,8 @@ impl<A: Allocator> WordGrid<A> {
         // If no other walk had begun when it ended, it has the place in the corner, by four accesses.
         ensures alone { result.entered ≡ 1 → (place_of result ≡ 0) × (result.accesses ≡ 4) }
     {
-        let seat = self.machine.enter(fresh.seat);
+        let own = self.machine.own_number(&fresh.seat);
+        let seat = self.machine.enter(fresh.seat, own);
         EnteredSeat { seat }
     }
 

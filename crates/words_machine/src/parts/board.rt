@@ -12,10 +12,10 @@ use crate::parts::board_seats::{Grant, LastRead, ReaderSeat};
 use crate::parts::board_steps::{Boarding, Find, Hand, LookOn, Part, Post, Read, Unite};
 use crate::parts::board_view::BoardView;
 use atomic_table::{Badge, Seat, Shared, Table};
+use model_steps::Refusal;
 use std::alloc::{AllocError, Allocator};
 use std::marker::Model;
 use std::mem;
-use model_steps::Refusal;
 
 /// The most names of a board, as many as 64 participants may get.
 const MOST_NAMES: u64 = 127;

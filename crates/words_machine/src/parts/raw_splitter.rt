@@ -13,10 +13,10 @@ use crate::parts::splitter_steps::{Access, Deal, Look, Splitting, Unite};
 use crate::parts::splitter_view::SplitterView;
 use atomic_table::{Badge, Seat, Shared, Table};
 use model_splitter::Way;
+use model_steps::Refusal;
 use std::alloc::{AllocError, Allocator};
 use std::marker::Model;
 use std::mem;
-use model_steps::Refusal;
 
 /// The most seats of a splitter.
 const MOST_SEATS: u64 = 64;

@@ -1,4 +1,4 @@
-use Rattle.model_pool.proofs.PoolKeeps.{may_widen, pool_proved}
+use Rattle.model_pool.proofs.cited.PoolKeeps.{may_widen, pool_proved}
 use Rattle.model_pool.proofs.laws.law_of_pool_calls.Goals as goal
 
 pub returns : goal.returns

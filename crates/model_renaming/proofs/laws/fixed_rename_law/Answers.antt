@@ -1,4 +1,4 @@
-use Rattle.model_renaming.proofs.PlacesLaw.{fixed_lawful}
+use Rattle.model_renaming.proofs.cited.PlacesLaw.{fixed_lawful}
 use Rattle.model_renaming.proofs.laws.fixed_rename_law.Goals as goal
 
 pub returns-clause-law : goal.returns-clause-law

@@ -1,4 +1,4 @@
-use Rattle.model_renaming.proofs.PlacesLaw.{grid_lawful, grid_begins_alike}
+use Rattle.model_renaming.proofs.cited.PlacesLaw.{grid_lawful, grid_begins_alike}
 use Rattle.model_renaming.proofs.laws.grid_rename_law.Goals as goal
 
 pub returns-clause-law : goal.returns-clause-law

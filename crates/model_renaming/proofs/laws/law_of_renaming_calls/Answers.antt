@@ -1,5 +1,5 @@
-use Rattle.model_renaming.proofs.Sizes.{next_sized}
-use Rattle.model_renaming.proofs.NamedPlaces.{renaming_proved, answers_unrefused}
+use Rattle.model_renaming.proofs.cited.Sizes.{next_sized}
+use Rattle.model_renaming.proofs.cited.NamedPlaces.{renaming_proved, answers_unrefused}
 use Rattle.model_snapshot.specs.Places.{KnownPlaces, places_by}
 use Rattle.model_renaming.proofs.laws.law_of_renaming_calls.Given.{Over}
 use Rattle.model_renaming.proofs.laws.law_of_renaming_calls.Goals as goal

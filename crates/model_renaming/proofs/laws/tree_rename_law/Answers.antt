@@ -1,4 +1,4 @@
-use Rattle.model_renaming.proofs.PlacesLaw.{tree_lawful, tree_lacks, tree_begins_alike}
+use Rattle.model_renaming.proofs.cited.PlacesLaw.{tree_lawful, tree_lacks, tree_begins_alike}
 use Rattle.model_renaming.proofs.laws.tree_rename_law.Goals as goal
 
 pub returns-clause-law : goal.returns-clause-law

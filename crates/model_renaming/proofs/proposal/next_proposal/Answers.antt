@@ -1,6 +1,6 @@
 use Rattle.std.proofs.Common.{◌≡◌, ◌≤◌, arith, length}
 use Rattle.model_asked.specs.rounds.Proposals.{rank}
-use Rattle.model_asked.proofs.rounds_lemmas.Numbers.{rank_few}
+use Rattle.model_asked.proofs.cited.rounds.Numbers.{rank_few}
 use Rattle.model_renaming.proofs.proposal.next_proposal.Goals as goal
 
 pub nth_free-requires-clause-few : goal.nth_free-requires-clause-few

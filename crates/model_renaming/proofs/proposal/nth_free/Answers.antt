@@ -1,6 +1,6 @@
 use Rattle.std.proofs.Common.{rules, ◌≡◌, ◌≤◌, ◌<◌, ℕ, List, ◌+◌, true, false, length, sym, ◌∙◌, arith}
 use Rattle.model_asked.specs.rounds.Proposals.{is_taken, free_up_to}
-use Rattle.model_asked.proofs.rounds_lemmas.Numbers.{free_or_taken, others_few, least_is}
+use Rattle.model_asked.proofs.cited.rounds.Numbers.{free_or_taken, others_few, least_is}
 use Rattle.model_renaming.proofs.proposal.nth_free.Goals as goal
 
 -- the next number that is looked at has a mark

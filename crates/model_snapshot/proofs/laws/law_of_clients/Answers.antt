@@ -1,4 +1,4 @@
-use Rattle.model_snapshot.proofs.Clients.{has_begun, goes_idle, goes_busy}
+use Rattle.model_snapshot.proofs.cited.Clients.{has_begun, goes_idle, goes_busy}
 use Rattle.model_snapshot.proofs.laws.law_of_clients.Goals as goal
 
 pub returns : goal.returns

@@ -1,8 +1,8 @@
-use Rattle.model_steps.proofs.RunLemmas.{run_splits}
+use Rattle.model_steps.proofs.cited.RunLemmas.{run_splits}
 use Rattle.model_snapshot.specs.Snapshot.{new_object, observed, Allows}
-use Rattle.model_snapshot.proofs.Following.{snapshot_proved, all_distinct, reported_holds, consistent_holds, own_access_holds, begins_the_same}
-use Rattle.model_snapshot.proofs.SureSteps.{lacks_on_way}
-use Rattle.model_snapshot.proofs.SnapWorldLemmas.{after_stepped, snap_alike, stays_alike}
+use Rattle.model_snapshot.proofs.cited.Following.{snapshot_proved, all_distinct, reported_holds, consistent_holds, own_access_holds, begins_the_same}
+use Rattle.model_snapshot.proofs.cited.SureSteps.{lacks_on_way}
+use Rattle.model_snapshot.proofs.cited.SnapWorldLemmas.{after_stepped, snap_alike, stays_alike}
 use Rattle.std.proofs.Common.{refl}
 use Rattle.model_snapshot.specs.Places.{KnownPlaces, places_by}
 use Rattle.model_snapshot.proofs.laws.law_of_snapshot_calls.Given.{Over}

@@ -1,4 +1,4 @@
-use Rattle.model_snapshot.proofs.Alone.{ends_soon_alone, ends_alike}
+use Rattle.model_snapshot.proofs.cited.Alone.{ends_soon_alone, ends_alike}
 use Rattle.model_snapshot.specs.Places.{KnownPlaces, places_by}
 use Rattle.model_snapshot.proofs.laws.law_of_steps_alone.Given.{Over}
 use Rattle.model_snapshot.proofs.laws.law_of_steps_alone.Goals as goal

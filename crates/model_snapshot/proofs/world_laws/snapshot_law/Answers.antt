@@ -1,4 +1,4 @@
-use Rattle.model_snapshot.proofs.FixedLaw.{fixed_law, fits_row, empty_row}
+use Rattle.model_snapshot.proofs.cited.FixedLaw.{fixed_law, fits_row, empty_row}
 use Rattle.model_snapshot.proofs.world_laws.snapshot_law.Goals as goal
 
 pub returns-clause-law : goal.returns-clause-law

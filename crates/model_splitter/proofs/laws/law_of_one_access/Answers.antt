@@ -1,4 +1,4 @@
-use Rattle.model_splitter.proofs.VisitorAccess.{is_access_of, own_access}
+use Rattle.model_splitter.proofs.cited.VisitorAccess.{is_access_of, own_access}
 use Rattle.model_splitter.proofs.laws.law_of_one_access.Goals as goal
 
 pub returns-clause-own : goal.returns-clause-own

@@ -1,5 +1,5 @@
 use Rattle.std.proofs.Common.{refl}
-use Rattle.model_splitter.proofs.DoorKept.{kept, law_of, lawful_new}
+use Rattle.model_splitter.proofs.cited.DoorKept.{kept, law_of, lawful_new}
 use Rattle.model_splitter.proofs.laws.law_of_one_door.Goals as goal
 
 pub returns-clause-fresh : goal.returns-clause-fresh

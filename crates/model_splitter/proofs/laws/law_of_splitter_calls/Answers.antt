@@ -1,4 +1,4 @@
-use Rattle.model_splitter.proofs.SplitterTied.{splitter_proved}
+use Rattle.model_splitter.proofs.cited.SplitterTied.{splitter_proved}
 use Rattle.model_splitter.proofs.laws.law_of_splitter_calls.Goals as goal
 
 pub returns : goal.returns

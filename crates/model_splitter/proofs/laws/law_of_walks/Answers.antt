@@ -1,4 +1,4 @@
-use Rattle.model_splitter.proofs.WalkLemmas.{goes_on, tells_place, ended_is, place_is, one_at_place, few_at_door, fourth_places, one_more}
+use Rattle.model_splitter.proofs.cited.WalkLemmas.{goes_on, tells_place, ended_is, place_is, one_at_place, few_at_door, fourth_places, one_more}
 use Rattle.model_splitter.proofs.laws.law_of_walks.Goals as goal
 
 pub returns-clause-on : goal.returns-clause-on

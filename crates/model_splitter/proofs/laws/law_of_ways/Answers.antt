@@ -1,4 +1,4 @@
-use Rattle.model_splitter.proofs.StageLemmas.{gone_right, gone_down}
+use Rattle.model_splitter.proofs.cited.StageLemmas.{gone_right, gone_down}
 use Rattle.model_splitter.proofs.laws.law_of_ways.Goals as goal
 
 pub returns-clause-right : goal.returns-clause-right

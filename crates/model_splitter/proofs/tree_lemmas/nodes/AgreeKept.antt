@@ -2,7 +2,7 @@
 use Rattle.std.proofs.Common.{◌≡◌, ◌≢◌, ℕ, zero, suc, ◌+◌, ◌*◌, ◌<◌, ◌≤◌, Bool, true, false, ◌⊎◌, inl, inr, [], ◌∷◌, Option, Some, None, refl, sym, ap, subst, ◌∙◌, arith}
 use Rattle.model_splitter.proofs.tree_lemmas.Common.{eqb_tells, set_at, set_at-same, set_at-other, set_at-cases, Right, Down, Stage, Outside, Gone, has_entered, went_right, went_down, x_after, y_after, stage_after, Walker, walker_at, walk_of, visit_on}
 use Rattle.model_splitter.specs.Invariant.{DoorSatisfiesSpec}
-use Rattle.model_splitter.proofs.DoorKept.{kept, lawful_new}
+use Rattle.model_splitter.proofs.cited.DoorKept.{kept, lawful_new}
 use Rattle.model_splitter.specs.tree.Invariant.{IsWalkOf, NodesAgree}
 use Rattle.model_splitter.proofs.tree_lemmas.nodes.VisitsKept.{with_visit, with_visit-node, with_visit-other_node, with_visit-own, with_visit-other, with_comer, with_comer-has, with_comer-keeps, with_comer-cases}
 

@@ -2,9 +2,9 @@
 use Rattle.std.proofs.Common.{◌≡◌, ℕ, zero, suc, ◌+◌, ◌-◌, ◌*◌, ◌/◌, ◌^◌, ◌<◌, ◌≤◌, min, Bool, true, false, ◌==◌, not, ◌⊎◌, inl, inr, List, [], ◌∷◌, length, get_or, Option, refl, sym, ap, subst, ◌∙◌, arith, if◌then◌else◌}
 use Rattle.model_splitter.proofs.tree_lemmas.Common.{cases_Bool, eqb_tells, leb_tells, Decides-eqb, nat_tests, Right, Down, Gone, Walker, left_child, right_child, count_to, count_le, pow_pos, NodesAgree}
 use Rattle.std.proofs.Math.Nat.{pow-succ'}
-use Rattle.model_splitter.proofs.StageLemmas.{gone_right, gone_down}
+use Rattle.model_splitter.proofs.cited.StageLemmas.{gone_right, gone_down}
 use Rattle.model_splitter.specs.Invariant.{IsSplitter}
-use Rattle.model_splitter.proofs.DoorKept.{law_of}
+use Rattle.model_splitter.proofs.cited.DoorKept.{law_of}
 use Rattle.model_splitter.specs.tree.Depth.{depth_in, depth_of}
 use Rattle.model_splitter.proofs.tree_lemmas.nodes.AgreeKept.{right_entered, down_entered}
 

@@ -10,7 +10,7 @@ use Rattle.std.proofs.Math.Pow.{shr_mod}
 use Rattle.model_splitter.specs.declared.tree.register.TreeValue.TheVariants as value
 use Rattle.model_splitter.specs.tree.Nodes.{entries_below, registers_below, LeadsTo, nodes_of, is_lacking, grown}
 use Rattle.model_splitter.specs.tree.TreeSteps.{NodeMap, number_in, fresh_registers, sets_mark, is_missing, makes_node, with_registers, written, after_write}
-use Rattle.model_splitter.specs.tree.TreeProofs.{get_written}
+use Rattle.model_splitter.specs.lemmas.tree.TreeProofs.{get_written}
 use Rattle.model_splitter.proofs.tree_lemmas.nodes.Ways.{from_le}
 use Rattle.model_splitter.proofs.tree_lemmas.nodes.Below.{absent_below}
 

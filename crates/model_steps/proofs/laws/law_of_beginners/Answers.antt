@@ -1,4 +1,4 @@
-use Rattle.model_steps.proofs.WorldKeeps.{let_in}
+use Rattle.model_steps.proofs.cited.WorldKeeps.{let_in}
 use Rattle.model_steps.proofs.laws.law_of_beginners.Goals as goal
 
 pub returns : goal.returns

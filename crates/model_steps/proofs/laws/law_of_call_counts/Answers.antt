@@ -1,4 +1,4 @@
-use Rattle.model_steps.proofs.WorldKeeps.{steps_of-push, begun_in-push, outcome_of-push, first_of-none}
+use Rattle.model_steps.proofs.cited.WorldKeeps.{steps_of-push, begun_in-push, outcome_of-push, first_of-none}
 use Rattle.model_steps.proofs.laws.law_of_call_counts.Goals as goal
 
 pub returns-clause-steps : goal.returns-clause-steps

@@ -1,4 +1,4 @@
-use Rattle.model_steps.proofs.CountLemmas.{count_to-le, count_to-lt, count_to-below, count_to-longer, count_to-mono, count_to-gain, count_none, count_more, count_set}
+use Rattle.model_steps.proofs.cited.CountLemmas.{count_to-le, count_to-lt, count_to-below, count_to-longer, count_to-mono, count_to-gain, count_none, count_more, count_set}
 use Rattle.model_steps.proofs.laws.law_of_counts.Goals as goal
 
 pub returns-clause-all : goal.returns-clause-all

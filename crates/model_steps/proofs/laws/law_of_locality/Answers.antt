@@ -1,4 +1,4 @@
-use Rattle.model_steps.proofs.LocalityLemmas.{answer_alike, answers_alike, stand_alike}
+use Rattle.model_steps.proofs.cited.LocalityLemmas.{answer_alike, answers_alike, stand_alike}
 use Rattle.model_steps.proofs.laws.law_of_locality.Goals as goal
 
 pub returns-clause-answer : goal.returns-clause-answer

@@ -1,4 +1,4 @@
-use Rattle.model_steps.proofs.SetAtLemmas.{set_at-same, set_at-other, set_at-as_is, set_at-is}
+use Rattle.model_steps.proofs.cited.SetAtLemmas.{set_at-same, set_at-other, set_at-as_is, set_at-is}
 use Rattle.model_steps.proofs.laws.law_of_one_place.Goals as goal
 
 pub returns-clause-same : goal.returns-clause-same

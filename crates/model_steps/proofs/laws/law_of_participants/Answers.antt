@@ -1,4 +1,4 @@
-use Rattle.model_steps.proofs.ParticipantLemmas.{participant_of-push, participant_of-put, length-with_participant, identity_of, some_begun}
+use Rattle.model_steps.proofs.cited.ParticipantLemmas.{participant_of-push, participant_of-put, length-with_participant, identity_of, some_begun}
 use Rattle.model_steps.proofs.laws.law_of_participants.Goals as goal
 
 pub returns-clause-begun : goal.returns-clause-begun

@@ -1,5 +1,5 @@
 use Rattle.std.proofs.Common.{sym}
-use Rattle.model_steps.proofs.DueLemmas.{ends_once, ended_with_outcome, no_second_end, not_first_refused, outcomes_tell, never_grows}
+use Rattle.model_steps.proofs.cited.DueLemmas.{ends_once, ended_with_outcome, no_second_end, not_first_refused, outcomes_tell, never_grows}
 use Rattle.model_steps.proofs.laws.law_of_refusals.Goals as goal
 
 pub returns-clause-once : goal.returns-clause-once

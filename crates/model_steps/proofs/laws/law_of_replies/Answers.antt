@@ -1,4 +1,4 @@
-use Rattle.model_steps.proofs.StepLemmas.{lacks_or_not, shows_what_is_mapped}
+use Rattle.model_steps.proofs.cited.StepLemmas.{lacks_or_not, shows_what_is_mapped}
 use Rattle.model_steps.proofs.laws.law_of_replies.Goals as goal
 
 pub returns-clause-either : goal.returns-clause-either

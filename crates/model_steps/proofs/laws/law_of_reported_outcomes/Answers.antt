@@ -1,4 +1,4 @@
-use Rattle.model_steps.proofs.ReportedLemmas.{reported_quiet, reported_begun, reported_stepped}
+use Rattle.model_steps.proofs.cited.ReportedLemmas.{reported_quiet, reported_begun, reported_stepped}
 use Rattle.model_steps.proofs.laws.law_of_reported_outcomes.Goals as goal
 
 pub returns-clause-quiet : goal.returns-clause-quiet

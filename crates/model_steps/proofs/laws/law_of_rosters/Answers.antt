@@ -1,4 +1,4 @@
-use Rattle.model_steps.proofs.Roster.{found, absent, is_some-index, seen-push, seen-put}
+use Rattle.model_steps.proofs.cited.Roster.{found, absent, is_some-index, seen-push, seen-put}
 use Rattle.model_steps.proofs.laws.law_of_rosters.Goals as goal
 
 pub returns-clause-found : goal.returns-clause-found

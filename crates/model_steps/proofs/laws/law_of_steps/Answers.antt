@@ -1,4 +1,4 @@
-use Rattle.model_steps.proofs.StepLemmas.{going_answer, going_after, most_stepped, lacks_none}
+use Rattle.model_steps.proofs.cited.StepLemmas.{going_answer, going_after, most_stepped, lacks_none}
 use Rattle.model_steps.proofs.laws.law_of_steps.Goals as goal
 
 pub returns-clause-answer : goal.returns-clause-answer

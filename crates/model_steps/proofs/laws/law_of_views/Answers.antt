@@ -1,4 +1,4 @@
-use Rattle.model_steps.proofs.ViewLemmas.{IsRising-inserted, value_of-inserted, length-inserted, equal_values, among_identities}
+use Rattle.model_steps.proofs.cited.ViewLemmas.{IsRising-inserted, value_of-inserted, length-inserted, equal_values, among_identities}
 use Rattle.model_steps.proofs.laws.law_of_views.Goals as goal
 
 pub returns-clause-rising : goal.returns-clause-rising

@@ -1,4 +1,4 @@
-use Rattle.model_steps.proofs.SetAtLemmas.{set_at-map, same_in}
+use Rattle.model_steps.proofs.cited.SetAtLemmas.{set_at-map, same_in}
 use Rattle.model_steps.proofs.laws.law_of_what_is_seen.Goals as goal
 
 pub returns-clause-same : goal.returns-clause-same

@@ -1,6 +1,6 @@
-use Rattle.model_steps.proofs.DueLemmas.{many_begun}
-use Rattle.model_steps.proofs.WorldKeeps.{most_kept}
-use Rattle.model_steps.proofs.WorldMachineLemmas.{any_world_proved, any_step_leads_on}
+use Rattle.model_steps.proofs.cited.DueLemmas.{many_begun}
+use Rattle.model_steps.proofs.cited.WorldKeeps.{most_kept}
+use Rattle.model_steps.proofs.cited.WorldMachineLemmas.{any_world_proved, any_step_leads_on}
 use Rattle.model_steps.proofs.laws.law_of_worlds.Goals as goal
 
 pub returns-clause-machine : goal.returns-clause-machine

@@ -1,6 +1,6 @@
 use Rattle.std.proofs.Common.{◌≡◌, ◌+◌, drop, set, length, ◌∙◌, arith, add-zero}
 use Rattle.std.proofs.lemmas.List.{length-set}
-use Rattle.model_steps.proofs.ViewLemmas.{put_equal, put_below, put_above, rest_set, rest_kept, drop_further, take_cut}
+use Rattle.model_steps.proofs.cited.ViewLemmas.{put_equal, put_below, put_above, rest_set, rest_kept, drop_further, take_cut}
 use Rattle.model_steps.proofs.view.put_in.Goals as goal
 use Rattle.model_steps.proofs.view.put_in.Goals.{Then-carried-here-2, then-carried-here+else-carried-here-2, else-carried-here}
 

@@ -1,5 +1,5 @@
 use Rattle.std.proofs.Common.{◌<◌, length, arith}
-use Rattle.model_steps.proofs.ViewLemmas.{replaced_here, ahead_next}
+use Rattle.model_steps.proofs.cited.ViewLemmas.{replaced_here, ahead_next}
 use Rattle.model_steps.proofs.view.replace_in.Goals as goal
 
 pub returns-then-pairs-i : goal.returns-then-pairs-i

@@ -1,5 +1,5 @@
 use Rattle.std.proofs.Common.{◌≡◌}
-use Rattle.model_steps.proofs.ViewLemmas.{IsAhead}
+use Rattle.model_steps.proofs.cited.ViewLemmas.{IsAhead}
 use Rattle.model_steps.proofs.view.replace_in.Given as goal
 
 -- nothing was changed so far, and the pair to replace is further on

@@ -1,6 +1,6 @@
 use Rattle.std.proofs.Common.{◌≡◌, Some, None, Err, refl, sym, ap, ◌∙◌}
 use Rattle.model_pool.proofs.Common.{enter_refusal, Entered, Gets}
-use Rattle.model_pool.proofs.PoolKeeps.{pool_law, pool_proved}
+use Rattle.model_pool.proofs.cited.PoolKeeps.{pool_law, pool_proved}
 use Rattle.model_pool.proofs.Acquiring.{acquired, acquired_after}
 use Rattle.model_pool.proofs.pool.Pool.acquire.Goals as goal
 

@@ -1,6 +1,6 @@
 use Rattle.std.proofs.Common.{rules, ◌≡◌, sym, ap, ◌∙◌}
 use Rattle.model_pool.specs.Competitors.{identities}
-use Rattle.model_pool.proofs.PoolKeeps.{tied_after}
+use Rattle.model_pool.proofs.cited.PoolKeeps.{tied_after}
 use Rattle.model_pool.proofs.pool.Pool.competitors.Goals as goal
 
 pub returns-clause-law : goal.returns-clause-law

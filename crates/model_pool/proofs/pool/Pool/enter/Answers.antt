@@ -1,6 +1,6 @@
 use Rattle.std.proofs.Common.{rules, Ok, Err}
 use Rattle.model_pool.specs.Calls.Call.{Entered}
-use Rattle.model_pool.proofs.PoolKeeps.{pool_law, pool_proved}
+use Rattle.model_pool.proofs.cited.PoolKeeps.{pool_law, pool_proved}
 use Rattle.model_pool.proofs.pool.Pool.enter.Goals as goal
 
 pub returns-in-Some-clause-after : goal.returns-in-Some-clause-after

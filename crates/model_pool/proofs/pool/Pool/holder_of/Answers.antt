@@ -1,6 +1,6 @@
 use Rattle.std.proofs.Common.{rules, ◌≡◌}
 use Rattle.model_pool.specs.Competitors.{holder_in}
-use Rattle.model_pool.proofs.PoolKeeps.{holder_after}
+use Rattle.model_pool.proofs.cited.PoolKeeps.{holder_after}
 use Rattle.model_pool.proofs.pool.Pool.holder_of.Goals as goal
 
 pub returns-clause-law : goal.returns-clause-law

@@ -3,7 +3,7 @@ use Rattle.model_pool.proofs.Common.{after_access, Settled, IsWithin, leave_acce
 use Rattle.std.proofs.lemmas.List.Elements.{All-filter}
 use Rattle.model_pool.proofs.CallLemmas.{settled_by, unsettled_after}
 use Rattle.model_pool.proofs.LocalityLemmas.{leave_local, leave_stands}
-use Rattle.model_pool.proofs.PoolKeeps.{pool_law, pool_proved}
+use Rattle.model_pool.proofs.cited.PoolKeeps.{pool_law, pool_proved}
 use Rattle.model_pool.proofs.pool.Pool.leave.Goals as goal
 
 pub returns-in_err-number-clause-after : goal.returns-in_err-number-clause-after

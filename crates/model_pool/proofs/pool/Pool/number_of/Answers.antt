@@ -1,6 +1,6 @@
 use Rattle.std.proofs.Common.{Some, sym, ap, ◌∙◌}
 use Rattle.model_pool.specs.Pool.{number_by}
-use Rattle.model_pool.proofs.PoolKeeps.{number_after}
+use Rattle.model_pool.proofs.cited.PoolKeeps.{number_after}
 use Rattle.model_pool.proofs.pool.Pool.number_of.Goals as goal
 
 pub returns-in-None-clause-law : goal.returns-in-None-clause-law

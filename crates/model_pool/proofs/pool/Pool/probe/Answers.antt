@@ -2,10 +2,10 @@ use Rattle.std.proofs.Common.{◌≡◌, None, Ok, Err, refl, sym, ap, ◌∙◌
 use Rattle.model_pool.proofs.Common.{NotCompeting, Holding, stay_of, after_access, probe_access, stay_probed, probe_reply, got_by, probe_answer, after_probe, Probed, PoolState}
 use Rattle.model_pool.proofs.CallLemmas.{going_answer, going_after}
 use Rattle.model_steps.specs.Roster.{StandsAt}
-use Rattle.model_steps.proofs.Roster as roster
+use Rattle.model_steps.proofs.cited.Roster as roster
 use Rattle.model_pool.proofs.LocalityLemmas.{refused_local, probe_local, probe_alike, probe_stands}
 use Rattle.model_pool.specs.Locality.{probe_steps}
-use Rattle.model_pool.proofs.PoolKeeps.{pool_law, pool_proved}
+use Rattle.model_pool.proofs.cited.PoolKeeps.{pool_law, pool_proved}
 use Rattle.model_pool.proofs.pool.Pool.probe.Goals as goal
 use Rattle.model_pool.proofs.pool.Pool.probe.Goals.{After-nth-stay}
 

@@ -1,5 +1,5 @@
 use Rattle.std.proofs.Common.{◌≡◌, refl, sym, ap, arith}
-use Rattle.model_steps.proofs.Roster as roster
+use Rattle.model_steps.proofs.cited.Roster as roster
 use Rattle.model_pool.specs.Stay.{IsWithin}
 use Rattle.model_pool.proofs.pool.Pool.stay_of.Goals as goal
 

@@ -1,5 +1,5 @@
 use Rattle.std.proofs.Common.{◌≡◌, Some, sym, ap, ◌∙◌, arith}
-use Rattle.model_steps.proofs.Roster as roster
+use Rattle.model_steps.proofs.cited.Roster as roster
 use Rattle.model_pool.specs.Competitors.{index_of, with_stay}
 use Rattle.model_pool.proofs.RosterLemmas.{distinct_put, noted_put, put_here}
 use Rattle.model_pool.proofs.roster.Roster.put.Goals as goal

@@ -1,4 +1,4 @@
-use Rattle.model_pool.proofs.slots_lemmas.SlotsKeep.{slots_proved, slot_there}
+use Rattle.model_pool.proofs.cited.slots.SlotsKeep.{slots_proved, slot_there}
 use Rattle.model_pool.proofs.slots.laws.law_of_slot_calls.Goals as goal
 
 pub returns-clause-machine : goal.returns-clause-machine

@@ -1,7 +1,7 @@
-use Rattle.model_snapshot.proofs.Following.{all_distinct}
+use Rattle.model_snapshot.proofs.cited.Following.{all_distinct}
 use Rattle.model_renaming.specs.over.GridTies.{grid_places}
-use Rattle.model_renaming.specs.over.GridProofs.{grid_laws}
-use Rattle.model_renaming.proofs.over_lemmas.GridLaw.{grid_law, fits_grid, grid_alike, empty_grid}
+use Rattle.model_renaming.specs.lemmas.over.GridProofs.{grid_laws}
+use Rattle.model_renaming.proofs.cited.over.GridLaw.{grid_law, fits_grid, grid_alike, empty_grid}
 use Rattle.model_renaming.proofs.over.laws.grid_snapshot_law.Goals as goal
 
 pub returns-clause-law : goal.returns-clause-law

@@ -1,7 +1,7 @@
-use Rattle.model_snapshot.proofs.Following.{all_distinct}
-use Rattle.model_snapshot.proofs.SureSteps.{lacks_on_way}
+use Rattle.model_snapshot.proofs.cited.Following.{all_distinct}
+use Rattle.model_snapshot.proofs.cited.SureSteps.{lacks_on_way}
 use Rattle.model_renaming.specs.over.TreeTies.{tree_places}
-use Rattle.model_renaming.specs.over.TreeProofs.{tree_laws}
+use Rattle.model_renaming.specs.lemmas.over.TreeProofs.{tree_laws}
 use Rattle.model_renaming.proofs.over_lemmas.TreeLaw.{tree_law, fits_tree, tree_nodes, tree_makes, tree_alike, is_new}
 use Rattle.model_renaming.proofs.over.laws.tree_snapshot_law.Goals as goal
 

@@ -1,5 +1,5 @@
 use Rattle.model_renaming.proofs.Common.{Began, call_leads_on, renaming, KnownPlaces, places_by}
-use Rattle.model_renaming.proofs.NamedPlaces.{law_always}
+use Rattle.model_renaming.proofs.cited.NamedPlaces.{law_always}
 use Rattle.model_renaming.proofs.world.RenameWorld.begin.Given.{Over}
 use Rattle.model_renaming.proofs.world.RenameWorld.begin.Goals as goal
 

@@ -1,6 +1,6 @@
 use Rattle.std.proofs.Common.{ap, ◌∙◌}
 use Rattle.model_renaming.proofs.Common.{name_by, program_of}
-use Rattle.model_renaming.proofs.NamedPlaces.{name_is}
+use Rattle.model_renaming.proofs.cited.NamedPlaces.{name_is}
 use Rattle.model_renaming.proofs.world.RenameWorld.name_of.Goals as goal
 
 pub returns-clause-value : goal.returns-clause-value

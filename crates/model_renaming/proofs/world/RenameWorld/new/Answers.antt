@@ -2,8 +2,8 @@ use Rattle.std.proofs.Common.{◌≡◌, ◌≤◌, true, false, inr, refl, sym,
 use Rattle.model_renaming.proofs.Common.{KnownPlaces, places_by}
 use Rattle.model_asked.specs.Config.{most_in, is_played_over}
 use Rattle.model_renaming.proofs.FreshWorlds.{are_fresh, are_started, are_lawful, only_for_memory, refused_for, never_both}
-use Rattle.model_asked.specs.ConfigProofs.{most_played}
-use Rattle.model_renaming.proofs.NamedPlaces.{law_always}
+use Rattle.model_asked.specs.lemmas.ConfigProofs.{most_played}
+use Rattle.model_renaming.proofs.cited.NamedPlaces.{law_always}
 use Rattle.model_renaming.proofs.world.RenameWorld.new.Given.{Over}
 use Rattle.model_renaming.proofs.world.RenameWorld.new.Goals as goal
 use Rattle.model_renaming.proofs.world.RenameWorld.new.Goals.{Else-not-is_played_over}

@@ -1,6 +1,6 @@
 use Rattle.std.proofs.Common.{ap, ◌∙◌}
 use Rattle.model_renaming.proofs.Common.{owner_by}
-use Rattle.model_renaming.proofs.NamedPlaces.{owner_is}
+use Rattle.model_renaming.proofs.cited.NamedPlaces.{owner_is}
 use Rattle.model_renaming.proofs.world.RenameWorld.owner_of.Goals as goal
 
 pub returns-clause-value : goal.returns-clause-value

@@ -1,6 +1,6 @@
 use Rattle.std.proofs.Common.{ap, ◌∙◌, []}
 use Rattle.model_renaming.proofs.Common.{shown_by}
-use Rattle.model_renaming.proofs.NamedPlaces.{last_moment}
+use Rattle.model_renaming.proofs.cited.NamedPlaces.{last_moment}
 use Rattle.model_renaming.proofs.world.RenameWorld.proposals.Goals as goal
 
 pub returns-clause-value : goal.returns-clause-value

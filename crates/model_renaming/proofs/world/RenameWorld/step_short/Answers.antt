@@ -1,8 +1,8 @@
 use Rattle.std.proofs.Common.{rules, ◌≡◌, Err}
 use Rattle.model_renaming.proofs.Common.{NoMemory, outcome_with, KnownPlaces, places_by}
-use Rattle.model_renaming.proofs.ReachesByCalls.{step_leads_on}
+use Rattle.model_renaming.proofs.cited.ReachesByCalls.{step_leads_on}
 use Rattle.model_renaming.proofs.ShortReplies.{refused_short, accepted_short}
-use Rattle.model_renaming.proofs.NamedPlaces.{law_always, own_access}
+use Rattle.model_renaming.proofs.cited.NamedPlaces.{law_always, own_access}
 use Rattle.model_renaming.proofs.LocalSteps.{local_call}
 use Rattle.model_renaming.proofs.world.RenameWorld.step_short.Given.{Over}
 use Rattle.model_renaming.proofs.world.RenameWorld.step_short.Goals as goal

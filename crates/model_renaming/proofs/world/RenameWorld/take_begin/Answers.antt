@@ -2,7 +2,7 @@ use Rattle.std.proofs.Common.{arith, rules, ◌≡◌, ◌∷◌, ◌++◌, [], 
 use Rattle.model_renaming.proofs.Common.{RenameState, has_place, beginner, begin_refusal, after_wish, let_in, KnownPlaces, places_by}
 use Rattle.std.proofs.lemmas.List.{length-append, length-map}
 use Rattle.model_snapshot.specs.SnapWorld.{after_snap_begin, place_in}
-use Rattle.model_steps.proofs.DistinctParticipants.{absent_alike, distinct_push, identities-push}
+use Rattle.model_steps.proofs.cited.DistinctParticipants.{absent_alike, distinct_push, identities-push}
 use Rattle.model_renaming.proofs.rounds.StepCases.{was_begun, begun_large, begun_state, begun_fits}
 use Rattle.model_renaming.proofs.world.RenameWorld.take_begin.Given.{Over}
 use Rattle.model_renaming.proofs.world.RenameWorld.take_begin.Goals as goal

@@ -1,6 +1,6 @@
 use Rattle.std.proofs.Common.{ℕ, ◌<◌, ◌≤◌, rules, sym, subst, arith}
 use Rattle.model_snapshot.specs.FixedTies.{IsEmptyRow}
-use Rattle.model_snapshot.proofs.FixedLaw.{empty_row}
+use Rattle.model_snapshot.proofs.cited.FixedLaw.{empty_row}
 use Rattle.model_snapshot.proofs.fixed.Fixed.new.Goals as goal
 
 pub returns-clause-empty : goal.returns-clause-empty

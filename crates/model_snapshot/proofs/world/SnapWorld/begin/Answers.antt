@@ -1,5 +1,5 @@
 use Rattle.std.proofs.Common.{rules}
-use Rattle.model_snapshot.proofs.Following.{law_holds}
+use Rattle.model_snapshot.proofs.cited.Following.{law_holds}
 use Rattle.model_snapshot.proofs.CallLemmas.{begun_leads_on}
 use Rattle.model_snapshot.specs.Places.{KnownPlaces, places_by}
 use Rattle.model_snapshot.proofs.world.SnapWorld.begin.Given.{Over}

@@ -1,4 +1,4 @@
-use Rattle.model_snapshot.proofs.Following.{law_holds}
+use Rattle.model_snapshot.proofs.cited.Following.{law_holds}
 use Rattle.model_snapshot.proofs.world.SnapWorld.new.Goals as goal
 
 pub returns-clause-law : goal.returns-clause-law

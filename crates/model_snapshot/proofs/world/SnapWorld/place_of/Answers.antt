@@ -1,4 +1,4 @@
-use Rattle.model_snapshot.proofs.Following.{all_distinct, reported_holds}
+use Rattle.model_snapshot.proofs.cited.Following.{all_distinct, reported_holds}
 use Rattle.model_snapshot.proofs.world.SnapWorld.place_of.Goals as goal
 
 pub returns-in_err-program-clause-distinct : goal.returns-in_err-program-clause-distinct

@@ -1,8 +1,8 @@
 use Rattle.std.proofs.Common.{Ok, sym, ◌∙◌}
 use Rattle.model_snapshot.specs.declared.client.SnapReply.TheVariants.{Quiet}
-use Rattle.model_snapshot.proofs.SnapWorldLemmas.{after_stepped}
+use Rattle.model_snapshot.proofs.cited.SnapWorldLemmas.{after_stepped}
 use Rattle.model_snapshot.proofs.CallLemmas.{reads_state, reads_answer}
-use Rattle.model_snapshot.proofs.Following.{law_holds}
+use Rattle.model_snapshot.proofs.cited.Following.{law_holds}
 use Rattle.model_snapshot.specs.Places.{KnownPlaces, places_by}
 use Rattle.model_snapshot.proofs.world.SnapWorld.read_on.Given.{Over}
 use Rattle.model_snapshot.proofs.world.SnapWorld.read_on.Goals as goal

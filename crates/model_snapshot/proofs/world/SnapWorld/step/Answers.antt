@@ -1,11 +1,11 @@
 use Rattle.std.proofs.Common.{rules, ◌≡◌, Ok, Err, refl, sym, ap, ◌∙◌}
 use Rattle.model_snapshot.proofs.WorldCommon.{NoMemory, clients_over, snap_answer, after_snap_step, reported_of_way, KnownPlaces, places_by}
 use Rattle.model_snapshot.specs.declared.client.SnapReply.TheVariants.{Quiet}
-use Rattle.model_snapshot.proofs.SnapWorldLemmas.{stays_alike, snap_alike}
+use Rattle.model_snapshot.proofs.cited.SnapWorldLemmas.{stays_alike, snap_alike}
 use Rattle.model_snapshot.proofs.CallLemmas.{after_step_call, no_lack, kept_at}
-use Rattle.model_steps.proofs.LocalityLemmas.{unchanged_local}
-use Rattle.model_snapshot.proofs.SureSteps.{lacks_on_way}
-use Rattle.model_snapshot.proofs.Following.{law_holds, own_access_holds}
+use Rattle.model_steps.proofs.cited.LocalityLemmas.{unchanged_local}
+use Rattle.model_snapshot.proofs.cited.SureSteps.{lacks_on_way}
+use Rattle.model_snapshot.proofs.cited.Following.{law_holds, own_access_holds}
 use Rattle.model_snapshot.proofs.world.SnapWorld.step.Given.{Over}
 use Rattle.model_snapshot.proofs.world.SnapWorld.step.Goals as goal
 use Rattle.model_snapshot.proofs.world.SnapWorld.step.Goals.{After-walk_on}

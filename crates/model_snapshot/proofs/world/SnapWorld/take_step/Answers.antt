@@ -1,7 +1,7 @@
 use Rattle.std.proofs.Common.{◌≡◌, Some, None, Ok, refl, sym, ap, ◌∙◌, option_copied}
 use Rattle.model_snapshot.proofs.WorldCommon.{KnownPlaces, places_by, program_of, reply_of, reported, clients_over}
-use Rattle.model_steps.proofs.LocalityLemmas.{unchanged_local}
-use Rattle.model_snapshot.proofs.SnapWorldLemmas.{snap_alike}
+use Rattle.model_steps.proofs.cited.LocalityLemmas.{unchanged_local}
+use Rattle.model_snapshot.proofs.cited.SnapWorldLemmas.{snap_alike}
 use Rattle.model_snapshot.proofs.CallLemmas.{no_step_of_nobody, no_step_of_idle, busy_step}
 use Rattle.model_snapshot.proofs.world.SnapWorld.take_step.Given.{Over}
 use Rattle.model_snapshot.proofs.world.SnapWorld.take_step.Goals as goal

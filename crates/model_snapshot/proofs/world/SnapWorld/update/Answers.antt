@@ -1,6 +1,6 @@
 use Rattle.std.proofs.Common.{◌≡◌, Some, None, refl, sym, ap, ◌∙◌, option_copied}
 use Rattle.model_snapshot.proofs.WorldCommon.{KnownPlaces, places_by, program_of}
-use Rattle.model_snapshot.proofs.Following.{law_holds}
+use Rattle.model_snapshot.proofs.cited.Following.{law_holds}
 use Rattle.model_snapshot.proofs.CallLemmas.{updated_leads_on}
 use Rattle.model_snapshot.proofs.AskedLemmas.{no_update_of_nobody, no_update_of_busy, no_update_of_spent, update_asked}
 use Rattle.model_snapshot.proofs.world.SnapWorld.update.Given.{Over}

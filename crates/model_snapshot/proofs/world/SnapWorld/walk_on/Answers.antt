@@ -1,9 +1,9 @@
 use Rattle.std.proofs.Common.{Ok, IfSome, Option, Some, None, sym, ◌∙◌}
 use Rattle.model_snapshot.proofs.WorldCommon.{reported_of_way, placed_note, KnownPlaces, places_by}
 use Rattle.model_steps.specs.Taken.{reported_in}
-use Rattle.model_snapshot.proofs.SnapWorldLemmas.{after_stepped}
+use Rattle.model_snapshot.proofs.cited.SnapWorldLemmas.{after_stepped}
 use Rattle.model_snapshot.proofs.CallLemmas.{way_state, way_answer}
-use Rattle.model_snapshot.proofs.Following.{law_holds}
+use Rattle.model_snapshot.proofs.cited.Following.{law_holds}
 use Rattle.model_snapshot.proofs.world.SnapWorld.walk_on.Given.{Over}
 use Rattle.model_snapshot.proofs.world.SnapWorld.walk_on.Goals as goal
 

@@ -1,7 +1,7 @@
 use Rattle.std.proofs.Common.{add-one}
-use Rattle.model_splitter.proofs.grid_lemmas.ConsistentKept.{consistent_new, begun, gone_on, elsewhere}
-use Rattle.model_splitter.proofs.grid_lemmas.GridLaw.{grid_law, nearer, unplaced, some_walk, ended_at_place}
-use Rattle.model_splitter.proofs.grid_lemmas.Numbers.{number_low}
+use Rattle.model_splitter.proofs.cited.grid.ConsistentKept.{consistent_new, begun, gone_on, elsewhere}
+use Rattle.model_splitter.proofs.cited.grid.GridLaw.{grid_law, nearer, unplaced, some_walk, ended_at_place}
+use Rattle.model_splitter.proofs.cited.grid.Numbers.{number_low}
 use Rattle.model_splitter.proofs.grid.laws.law_of_doors_and_walks.Goals as goal
 
 pub returns-clause-fresh : goal.returns-clause-fresh

@@ -1,7 +1,7 @@
-use Rattle.model_splitter.proofs.grid_lemmas.GridTied.{grid_proved, place_always, one_place_reported}
+use Rattle.model_splitter.proofs.cited.grid.GridTied.{grid_proved, place_always, one_place_reported}
 use Rattle.std.specs.Prelude.{is_some, false}
-use Rattle.model_steps.proofs.DueLemmas.{not_first_refused}
-use Rattle.model_splitter.proofs.VisitorAccess.{own_access}
+use Rattle.model_steps.proofs.cited.DueLemmas.{not_first_refused}
+use Rattle.model_splitter.proofs.cited.VisitorAccess.{own_access}
 use Rattle.model_splitter.proofs.grid.laws.law_of_grid_calls.Goals as goal
 
 pub returns-clause-machine : goal.returns-clause-machine

@@ -1,5 +1,5 @@
-use Rattle.model_splitter.proofs.tree_lemmas.collects.WalkLemmas.{ahead_at_first, ahead_kept, ahead_resumed, register_is, place_from, upcoming_before, read_once}
-use Rattle.model_splitter.proofs.tree_lemmas.collects.ReadCount.{read_at_first, read_here, read_kept, read_resumed, reads_few, nodes_few}
+use Rattle.model_splitter.proofs.cited.tree.collects.WalkLemmas.{ahead_at_first, ahead_kept, ahead_resumed, register_is, place_from, upcoming_before, read_once}
+use Rattle.model_splitter.proofs.cited.tree.collects.ReadCount.{read_at_first, read_here, read_kept, read_resumed, reads_few, nodes_few}
 use Rattle.model_splitter.proofs.tree.laws.law_of_collects.Goals as goal
 
 pub returns : goal.returns

@@ -1,4 +1,4 @@
-use Rattle.model_splitter.proofs.tree_lemmas.collects.PlacesAhead.{sees, marks_spared, path_marked, place_ahead, marked_few, walk_few, marks_grow}
+use Rattle.model_splitter.proofs.cited.tree.collects.PlacesAhead.{sees, marks_spared, path_marked, place_ahead, marked_few, walk_few, marks_grow}
 use Rattle.model_splitter.proofs.tree.laws.law_of_collects_at_places.Goals as goal
 
 pub returns : goal.returns

@@ -1,8 +1,8 @@
 use Rattle.std.proofs.Common.{add-one}
 use Rattle.std.proofs.Math.Path.{fun_ext}
-use Rattle.model_splitter.proofs.tree_lemmas.nodes.ConsistentKept.{consistent_new, begun, gone_on, elsewhere, segments, marks, refused}
-use Rattle.model_splitter.proofs.tree_lemmas.nodes.TreeLaw.{tree_law, nearer, unplaced}
-use Rattle.model_splitter.proofs.tree_lemmas.nodes.WalkerLemmas.{place_is_reported, ended_there}
+use Rattle.model_splitter.proofs.cited.tree.nodes.ConsistentKept.{consistent_new, begun, gone_on, elsewhere, segments, marks, refused}
+use Rattle.model_splitter.proofs.cited.tree.nodes.TreeLaw.{tree_law, nearer, unplaced}
+use Rattle.model_splitter.proofs.cited.tree.nodes.WalkerLemmas.{place_is_reported, ended_there}
 use Rattle.model_splitter.proofs.tree.laws.law_of_nodes_and_walks.Goals as goal
 
 pub returns : goal.returns

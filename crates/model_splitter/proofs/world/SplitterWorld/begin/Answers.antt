@@ -1,4 +1,4 @@
-use Rattle.model_splitter.proofs.SplitterTied.{splitter_law, splitter_due, splitter_begins}
+use Rattle.model_splitter.proofs.cited.SplitterTied.{splitter_law, splitter_due, splitter_begins}
 use Rattle.model_splitter.proofs.world.SplitterWorld.begin.Goals as goal
 
 pub returns-clause-answer : goal.returns-clause-answer

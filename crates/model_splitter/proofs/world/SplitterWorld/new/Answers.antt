@@ -1,7 +1,7 @@
 use Rattle.std.proofs.lemmas.Result.{IfOk-weaker, IfErr-weaker}
 use Rattle.std.proofs.Common.{inl}
-use Rattle.model_steps.proofs.WorldMachineLemmas.{within}
-use Rattle.model_splitter.proofs.SplitterTied.{splitter_law, splitter_opens}
+use Rattle.model_steps.proofs.cited.WorldMachineLemmas.{within}
+use Rattle.model_splitter.proofs.cited.SplitterTied.{splitter_law, splitter_opens}
 use Rattle.model_splitter.proofs.world.SplitterWorld.new.Goals as goal
 
 pub returns-clause-fresh : goal.returns-clause-fresh

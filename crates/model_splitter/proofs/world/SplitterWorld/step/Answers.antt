@@ -2,8 +2,8 @@ use Rattle.std.proofs.Common.{◌≡◌, ◌≢◌, ◌∙◌, ap, sym, Err}
 use Rattle.std.proofs.lemmas.Bool.{false≢true}
 use Rattle.model_steps.specs.Calls.{outcome_in, reply_of}
 use Rattle.model_steps.specs.declared.refusal.Refusal.TheVariants.{NoMemory}
-use Rattle.model_steps.proofs.StepLemmas.{shows_what_is_mapped}
-use Rattle.model_splitter.proofs.SplitterTied.{splitter_law, splitter_due, splitter_steps, splitter_stays, splitter_fits}
+use Rattle.model_steps.proofs.cited.StepLemmas.{shows_what_is_mapped}
+use Rattle.model_splitter.proofs.cited.SplitterTied.{splitter_law, splitter_due, splitter_steps, splitter_stays, splitter_fits}
 use Rattle.model_splitter.proofs.world.SplitterWorld.step.Goals as goal
 use Rattle.model_splitter.proofs.world.SplitterWorld.step.Goals.{After-map}
 

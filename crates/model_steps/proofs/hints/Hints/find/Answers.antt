@@ -1,5 +1,5 @@
 use Rattle.std.proofs.Common.{rules, ◌≡◌, ◌<◌, length, get_or, sym, ap, ◌∙◌}
-use Rattle.model_steps.proofs.DistinctParticipants.{first_at}
+use Rattle.model_steps.proofs.cited.DistinctParticipants.{first_at}
 use Rattle.model_steps.proofs.hints.Hints.find.Goals as goal
 
 pub returns-then-participants-hint-clause-answer : goal.returns-then-participants-hint-clause-answer

@@ -1,7 +1,7 @@
 use Rattle.std.proofs.Common.{◌≡◌, ◌<◌, ◌-◌, replicate, take, length, refl, sym, ap, ◌∙◌, arith, add-zero}
 use Rattle.std.proofs.lemmas.List.{length-take-le, take_all, drop_all}
 use Rattle.model_steps.specs.View.{IsRising, inserted}
-use Rattle.model_steps.proofs.ViewLemmas.{IsRising-inserted, zeros_next}
+use Rattle.model_steps.proofs.cited.ViewLemmas.{IsRising-inserted, zeros_next}
 use Rattle.model_steps.proofs.view.View.insert.Goals as goal
 
 -- a full view is its whole array, before and after

@@ -1,4 +1,4 @@
-use Rattle.model_steps.specs.ViewInside.{given_back}
+use Rattle.model_steps.specs.lemmas.ViewInside.{given_back}
 use Rattle.model_steps.proofs.view.View.pairs.Goals as goal
 
 pub returns-clause-few : goal.returns-clause-few

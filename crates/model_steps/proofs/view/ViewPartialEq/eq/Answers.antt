@@ -1,4 +1,4 @@
-use Rattle.model_steps.specs.ViewEq.{same_pairs_decides}
+use Rattle.model_steps.specs.lemmas.ViewEq.{same_pairs_decides}
 use Rattle.model_steps.proofs.view.ViewPartialEq.eq.Goals as goal
 
 pub returns-clause-answer : goal.returns-clause-answer

@@ -1,8 +1,8 @@
 use Rattle.std.proofs.Common.{◌≡◌, Some, None, refl, ap, ◌∙◌, option_map}
 use Rattle.model_steps.specs.Participant.{participant_of, program_of, beginner}
-use Rattle.model_steps.proofs.Found.{Found}
-use Rattle.model_steps.proofs.Roster as roster
-use Rattle.model_steps.proofs.DistinctParticipants.{distinct_there}
+use Rattle.model_steps.proofs.cited.Found.{Found}
+use Rattle.model_steps.proofs.cited.Roster as roster
+use Rattle.model_steps.proofs.cited.DistinctParticipants.{distinct_there}
 use Rattle.model_steps.proofs.world.World.ask.Goals as goal
 use Rattle.model_steps.proofs.world.World.ask.Goals.{In_default, After-index_mut}
 

@@ -1,7 +1,7 @@
 use Rattle.std.proofs.Common.{rules, ◌≡◌, ◌≤◌, [], ◌∷◌, ◌++◌, None, ap, vec_capacity}
 use Rattle.model_steps.proofs.Common.{beginner, begin_refusal}
-use Rattle.model_steps.proofs.DistinctParticipants.{distinct_push}
-use Rattle.model_steps.proofs.WorldKeeps.{let_in}
+use Rattle.model_steps.proofs.cited.DistinctParticipants.{distinct_push}
+use Rattle.model_steps.proofs.cited.WorldKeeps.{let_in}
 use Rattle.model_steps.proofs.world.World.begin.Goals as goal
 
 pub invariant_of-self : goal.invariant_of-self

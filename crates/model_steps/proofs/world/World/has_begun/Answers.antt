@@ -1,6 +1,6 @@
 use Rattle.std.proofs.Common.{◌≡◌, ap, ◌∙◌, is_some}
 use Rattle.model_steps.specs.Participant.{index_of}
-use Rattle.model_steps.proofs.Found.{is_some-index_of}
+use Rattle.model_steps.proofs.cited.Found.{is_some-index_of}
 use Rattle.model_steps.proofs.world.World.has_begun.Goals as goal
 
 pub returns : goal.returns

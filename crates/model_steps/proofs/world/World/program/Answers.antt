@@ -1,5 +1,5 @@
 use Rattle.std.proofs.Common.{refl, ap}
-use Rattle.model_steps.proofs.Roster as roster
+use Rattle.model_steps.proofs.cited.Roster as roster
 use Rattle.model_steps.proofs.world.World.program.Goals as goal
 
 pub returns-in_default : goal.returns-in_default

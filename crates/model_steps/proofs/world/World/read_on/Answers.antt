@@ -2,11 +2,11 @@ use Rattle.std.proofs.Common.{◌≡◌, ◌<◌, true, false, Ok, set, refl, sy
 use Rattle.model_steps.proofs.Common.{get_or_default, resumed, with_participant, got_by}
 use Rattle.model_steps.specs.declared.access.Access.TheVariants.{Read}
 use Rattle.model_steps.specs.declared.access.Answer.TheVariants.{Value}
-use Rattle.model_steps.proofs.LocalityLemmas.{step_local}
-use Rattle.model_steps.proofs.Found.{Found}
-use Rattle.model_steps.proofs.Roster as roster
-use Rattle.model_steps.proofs.StepLemmas.{going_answer, going_after}
-use Rattle.model_steps.proofs.DistinctParticipants.{distinct_there}
+use Rattle.model_steps.proofs.cited.LocalityLemmas.{step_local}
+use Rattle.model_steps.proofs.cited.Found.{Found}
+use Rattle.model_steps.proofs.cited.Roster as roster
+use Rattle.model_steps.proofs.cited.StepLemmas.{going_answer, going_after}
+use Rattle.model_steps.proofs.cited.DistinctParticipants.{distinct_there}
 use Rattle.model_steps.proofs.world.World.read_on.Goals as goal
 use Rattle.model_steps.proofs.world.World.read_on.Goals.{After-index-reader, After-read_on}
 

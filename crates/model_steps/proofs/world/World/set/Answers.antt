@@ -1,5 +1,5 @@
 use Rattle.std.proofs.Common.{◌∙◌}
-use Rattle.model_steps.proofs.ParticipantLemmas.{asked_anything}
+use Rattle.model_steps.proofs.cited.ParticipantLemmas.{asked_anything}
 use Rattle.model_steps.proofs.world.World.set.Goals as goal
 
 pub returns-clause-after : goal.returns-clause-after

@@ -1,10 +1,10 @@
 use Rattle.std.proofs.Common.{◌≡◌, ◌<◌, None, Ok, set, refl, sym, ap, ◌∙◌, length}
 use Rattle.model_steps.proofs.Common.{get_or_default, participant_of, resumed, with_participant, got_by}
-use Rattle.model_steps.proofs.Found.{Found}
-use Rattle.model_steps.proofs.Roster as roster
-use Rattle.model_steps.proofs.LocalityLemmas.{step_local, answers_alike}
-use Rattle.model_steps.proofs.StepLemmas.{absent_answer, absent_after, ended_answer, ended_after, going_answer, going_after, going_refused}
-use Rattle.model_steps.proofs.DistinctParticipants.{distinct_there}
+use Rattle.model_steps.proofs.cited.Found.{Found}
+use Rattle.model_steps.proofs.cited.Roster as roster
+use Rattle.model_steps.proofs.cited.LocalityLemmas.{step_local, answers_alike}
+use Rattle.model_steps.proofs.cited.StepLemmas.{absent_answer, absent_after, ended_answer, ended_after, going_answer, going_after, going_refused}
+use Rattle.model_steps.proofs.cited.DistinctParticipants.{distinct_there}
 use Rattle.model_steps.proofs.world.World.step.Goals as goal
 use Rattle.model_steps.proofs.world.World.step.Goals.{In_default, After-index-participant, After-resume}
 

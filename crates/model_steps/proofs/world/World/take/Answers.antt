@@ -3,11 +3,11 @@ use Rattle.model_steps.proofs.Common.{get_or_default, resumed, with_participant,
 use Rattle.std.proofs.lemmas.Option.{IfSome_then}
 use Rattle.std.proofs.lemmas.Result.{on_err_weaker}
 use Rattle.model_steps.specs.Taken.{reported_in}
-use Rattle.model_steps.proofs.LocalityLemmas.{step_local}
-use Rattle.model_steps.proofs.Found.{Found}
-use Rattle.model_steps.proofs.Roster as roster
-use Rattle.model_steps.proofs.StepLemmas.{going_answer, going_after, going_refused}
-use Rattle.model_steps.proofs.DistinctParticipants.{distinct_there}
+use Rattle.model_steps.proofs.cited.LocalityLemmas.{step_local}
+use Rattle.model_steps.proofs.cited.Found.{Found}
+use Rattle.model_steps.proofs.cited.Roster as roster
+use Rattle.model_steps.proofs.cited.StepLemmas.{going_answer, going_after, going_refused}
+use Rattle.model_steps.proofs.cited.DistinctParticipants.{distinct_there}
 use Rattle.model_steps.proofs.world.World.take.Goals as goal
 use Rattle.model_steps.proofs.world.World.take.Goals.{After-index-walker, After-take}
 

@@ -1,4 +1,4 @@
-use Rattle.model_splitter.proofs.DoorKept.{law_of}
+use Rattle.model_splitter.proofs.cited.DoorKept.{law_of}
 use Rattle.words_machine.proofs.parts.laws.law_of_the_rule.Goals as goal
 
 pub returns-clause-split : goal.returns-clause-split

@@ -22,4 +22,4 @@ returns-clause-reported g c =
     (ap (λ b. b.views) (sym c.replace.ensures.value) ∙ c.into_seat-left.ensures.2) in
     let right = claim_view _ _ _ _ c.args.other.now c.self.inside.words c.into_seat-right.result.me.0 c.other.invariant c.other.view_is (c.requires.other ∙ sym c.self.view_is)
     (ap (λ b. b.views) (sym c.replace-2.ensures.value) ∙ c.into_seat-right.ensures.2) in
-    have_reported g.P.WordProgram.law g.met.P.WordProgram.sound.after c.self.inside.words.size c.args.one.now c.args.other.now (ap (λ (w : WordsId). w.size) (c.requires.one ∙ sym c.self.view_is)) (rw (left, right) at c.compare-left.ensures.met)
+    have_reported g.P.WordProgram.law g.met.P.WordProgram.sound.after c.self.inside.words.most c.args.one.now c.args.other.now (ap (λ (w : WordsId). w.most) (c.requires.one ∙ sym c.self.view_is)) (rw (left, right) at c.compare-left.ensures.met)

@@ -1,6 +1,5 @@
 use Rattle.std.proofs.Common.{ap, sym, refl, ◌≡◌, ◌<◌, ◌+◌, ◌++◌, ◌∷◌, ◌∙◌, [], ℕ, List, length, take, slice_set, arith}
 use Rattle.std.proofs.lemmas.Grind.{take-set_at}
-use Rattle.words_machine.specs.declared.size.Size.{Size}
 use Rattle.words_names.specs.Seats.{DealerId, dealer_of}
 use Rattle.words_names.proofs.names.Names.deal.Goals as goal
 
@@ -11,7 +10,7 @@ returns-clause-dealt g c = λ _.
     let old = c.dealer.view_is in
     let last = c.in-Some.ensures.seat.1 in
     let long : c.dealt-dealt.result < length ids =
-    (let sized = c.dealer.told in let low = c.in-Some.ensures.some.0 refl in let few = c.size-most.ensures.may.few in let most = ap (λ (z : Size). z.most) c.size-most.ensures.count in omega arith) in
+    (let sized = c.dealer.told in let low = c.in-Some.ensures.some.0 refl in let few = c.most-most.ensures.may.few in let most = c.most-most.ensures.count in omega arith) in
     let words : c.deal.new.dealer.words ≡ c.args.self.now = c.in-Some.ensures.ours ∙ c.self.view_is in
     let dealt : c.deal.new.dealer.dealt ≡ c.args.dealer.now.dealt + 1 = last ∙ ap (λ (d : DealerId). d.dealt + 1) old in
     let known : take c.deal.new.dealer.dealt (slice_set ids c.dealt-dealt.result c.args.identity) ≡ c.args.dealer.now.known ++ c.args.identity ∷ [] =

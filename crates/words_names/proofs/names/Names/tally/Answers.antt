@@ -5,10 +5,9 @@ use Rattle.words_names.proofs.Naming.{name_law}
 use Rattle.words_names.proofs.names.Names.tally.Goals as goal
 
 pub returns-clause-low : goal.returns-clause-low
-returns-clause-low g c = λ n is.
+returns-clause-low g c =
     let few = c.tally.ensures.counted in
     let entered = ap (λ (e : RenamedId). e.entered) c.renamed.view_is in
     let dealt = ap (λ (d : DealerId). d.dealt) c.dealer.view_is in
-    let law = subst NameSpec c.renamed.view_is (name_law _ c.renamed.invariant _) in
-    let high = (law.named n is).1 in
+    let high = (subst NameSpec c.renamed.view_is (name_law _ c.renamed.invariant)).to in
     omega arith

@@ -22,4 +22,4 @@ walk_by_swaps-requires-clause-some g c =
     let same : c.self.inside.table.shared.table_id.words ≡ c.args.self.now.table.words = ap (λ (t : PoolId). t.table.words) c.self.view_is in
     let words = c.self.invariant.0.0 in
     let some = c.self.invariant.0.2 in
-    (omega arith, omega arith)
+    (omega arith, omega arith, omega arith)

@@ -2,7 +2,7 @@ use Rattle.std.proofs.Common.{rules, ◌≡◌, ◌-◌, ◌≤◌, ◌<◌, Ok,
 use Rattle.model_pool.proofs.slots_lemmas.Common.{Refusal, number_answer, Fetched, IsFetched, call_leads_on, slots}
 use Rattle.std.proofs.lemmas.Option.{slice_get_read}
 use Rattle.std.specs.Result.{result_map_both}
-use Rattle.model_pool.proofs.slots_lemmas.SlotsKeep.{slots_law}
+use Rattle.model_pool.proofs.cited.slots.SlotsKeep.{slots_law}
 use Rattle.model_pool.proofs.slots.slots.Slots.get.Goals as goal
 
 pub returns-in_err-number-clause-after : goal.returns-in_err-number-clause-after

@@ -1,6 +1,6 @@
 use Rattle.std.proofs.Common.{rules, ◌≡◌}
 use Rattle.model_pool.proofs.slots_lemmas.Common.{number_answer, Left, SlotsState, Pooled, call_leads_on, slots, slots_next}
-use Rattle.model_pool.proofs.slots_lemmas.SlotsKeep.{slots_law}
+use Rattle.model_pool.proofs.cited.slots.SlotsKeep.{slots_law}
 use Rattle.model_pool.proofs.slots.slots.Slots.leave.Goals as goal
 
 pub returns-clause-after : goal.returns-clause-after

@@ -1,5 +1,5 @@
 use Rattle.std.proofs.Common.{ap}
-use Rattle.model_pool.proofs.slots_lemmas.SlotsKeep.{pool_after}
+use Rattle.model_pool.proofs.cited.slots.SlotsKeep.{pool_after}
 use Rattle.model_pool.proofs.slots.slots.Slots.pool.Goals as goal
 
 pub returns-clause-after : goal.returns-clause-after

@@ -1,7 +1,7 @@
 use Rattle.std.proofs.Common.{rules, ◌≡◌}
 use Rattle.model_pool.proofs.slots_lemmas.Common.{Probed, SlotsState, Pooled, call_leads_on, slots, slots_next}
 use Rattle.model_pool.specs.Pool.{probe_answer}
-use Rattle.model_pool.proofs.slots_lemmas.SlotsKeep.{slots_law}
+use Rattle.model_pool.proofs.cited.slots.SlotsKeep.{slots_law}
 use Rattle.model_pool.proofs.slots.slots.Slots.probe.Goals as goal
 
 pub returns-clause-after : goal.returns-clause-after

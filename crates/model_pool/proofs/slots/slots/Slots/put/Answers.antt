@@ -1,7 +1,7 @@
 use Rattle.std.proofs.Common.{rules, ◌≡◌, ℕ, ◌≤◌, Ok, length, ap, ◌∙◌, arith}
 use Rattle.model_pool.proofs.slots_lemmas.Common.{number_answer, Stored, stored_reply, after_put, call_leads_on, slots}
 use Rattle.model_pool.proofs.slots_lemmas.SlotLemmas.{changes_own}
-use Rattle.model_pool.proofs.slots_lemmas.SlotsKeep.{slots_law}
+use Rattle.model_pool.proofs.cited.slots.SlotsKeep.{slots_law}
 use Rattle.model_pool.proofs.slots.slots.Slots.put.Goals as goal
 
 pub returns-in_err-number-clause-after : goal.returns-in_err-number-clause-after

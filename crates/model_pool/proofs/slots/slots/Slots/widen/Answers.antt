@@ -1,7 +1,7 @@
 use Rattle.std.proofs.Common.{rules, ◌≡◌, Ok, length, ap, arith}
 use Rattle.model_pool.proofs.slots_lemmas.Common.{widen_answer, SlotsState, Extended, after_extend, call_leads_on, slots}
 use Rattle.model_pool.proofs.slots_lemmas.SlotLemmas.{fills_new}
-use Rattle.model_pool.proofs.slots_lemmas.SlotsKeep.{slots_law}
+use Rattle.model_pool.proofs.cited.slots.SlotsKeep.{slots_law}
 use Rattle.model_pool.proofs.slots.slots.Slots.widen.Goals as goal
 
 pub returns-in_err-widen-clause-after : goal.returns-in_err-widen-clause-after

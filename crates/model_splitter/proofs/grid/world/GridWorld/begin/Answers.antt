@@ -1,4 +1,4 @@
-use Rattle.model_splitter.proofs.grid_lemmas.GridTied.{grid_law_of, grid_due, grid_begins}
+use Rattle.model_splitter.proofs.cited.grid.GridTied.{grid_law_of, grid_due, grid_begins}
 use Rattle.model_splitter.proofs.grid.world.GridWorld.begin.Goals as goal
 
 pub returns-clause-answer : goal.returns-clause-answer

@@ -1,6 +1,6 @@
 use Rattle.std.proofs.Common.{◌≡◌, ℕ, ap, subst, ◌∙◌}
 use Rattle.model_splitter.proofs.grid_lemmas.Common.{Registers, was_entered, count_to}
-use Rattle.model_splitter.proofs.grid_lemmas.GridTied.{grid_always}
+use Rattle.model_splitter.proofs.cited.grid.GridTied.{grid_always}
 use Rattle.model_splitter.proofs.grid_lemmas.EnteredDoors.{written_entered}
 use Rattle.model_splitter.proofs.grid.world.GridWorld.doors_entered.Goals as goal
 

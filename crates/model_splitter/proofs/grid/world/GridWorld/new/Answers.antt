@@ -1,7 +1,7 @@
 use Rattle.std.proofs.Common.{inl, arith}
 use Rattle.std.proofs.lemmas.Result.{IfOk-weaker, IfErr-weaker}
-use Rattle.model_steps.proofs.WorldMachineLemmas.{within}
-use Rattle.model_splitter.proofs.grid_lemmas.GridTied.{grid_law_of, grid_opens}
+use Rattle.model_steps.proofs.cited.WorldMachineLemmas.{within}
+use Rattle.model_splitter.proofs.cited.grid.GridTied.{grid_law_of, grid_opens}
 use Rattle.model_splitter.proofs.grid.world.GridWorld.new.Goals as goal
 
 pub returns-clause-fresh : goal.returns-clause-fresh

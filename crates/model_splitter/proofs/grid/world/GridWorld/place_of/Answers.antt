@@ -1,6 +1,6 @@
 use Rattle.std.proofs.Common.{rules, ◌≡◌, ◌∙◌}
 use Rattle.model_splitter.specs.grid.Machine.{place_in}
-use Rattle.model_splitter.proofs.grid_lemmas.GridTied.{place_always}
+use Rattle.model_splitter.proofs.cited.grid.GridTied.{place_always}
 use Rattle.model_splitter.proofs.grid.world.GridWorld.place_of.Goals as goal
 
 pub returns-in_err-program-clause-answered : goal.returns-in_err-program-clause-answered

@@ -2,8 +2,8 @@ use Rattle.std.proofs.Common.{◌≡◌, ◌≢◌, ◌∙◌, ap, sym, Err}
 use Rattle.std.proofs.lemmas.Bool.{false≢true}
 use Rattle.model_steps.specs.Calls.{outcome_in, reply_of}
 use Rattle.model_steps.specs.declared.refusal.Refusal.TheVariants.{NoMemory}
-use Rattle.model_steps.proofs.StepLemmas.{shows_what_is_mapped}
-use Rattle.model_splitter.proofs.grid_lemmas.GridTied.{grid_law_of, grid_due, grid_steps, grid_stays, grid_fits}
+use Rattle.model_steps.proofs.cited.StepLemmas.{shows_what_is_mapped}
+use Rattle.model_splitter.proofs.cited.grid.GridTied.{grid_law_of, grid_due, grid_steps, grid_stays, grid_fits}
 use Rattle.model_splitter.proofs.grid.world.GridWorld.step.Goals as goal
 use Rattle.model_splitter.proofs.grid.world.GridWorld.step.Goals.{After-map}
 

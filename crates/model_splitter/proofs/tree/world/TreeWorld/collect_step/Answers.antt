@@ -2,7 +2,7 @@ use Rattle.std.proofs.Common.{◌≡◌, Some, None, Ok, refl, sym, ap, ◌∙�
 use Rattle.model_splitter.proofs.tree_lemmas.WorldCommon.{program_of, client_steps, tree_steps}
 use Rattle.model_splitter.specs.tree.Client.{view_reported}
 use Rattle.model_steps.specs.Calls.{reply_of}
-use Rattle.model_steps.proofs.LocalityLemmas.{unchanged_local}
+use Rattle.model_steps.proofs.cited.LocalityLemmas.{unchanged_local}
 use Rattle.model_splitter.proofs.tree_lemmas.CallsAsked.{no_collect_of_nobody, no_collect_of_other, collect_step, view_alike, refused_too}
 use Rattle.model_splitter.proofs.tree_lemmas.TreeProved.{tree_law, tree_due, tree_reads_on, tree_stays_collecting}
 use Rattle.model_splitter.proofs.tree.world.TreeWorld.collect_step.Goals as goal

@@ -2,7 +2,7 @@ use Rattle.std.proofs.Common.{◌≡◌, Some, None, Ok, refl, sym, ap, ◌∙�
 use Rattle.model_splitter.proofs.tree_lemmas.WorldCommon.{program_of, client_steps, tree_steps}
 use Rattle.model_splitter.specs.tree.Client.{place_reported}
 use Rattle.model_steps.specs.Calls.{reply_of}
-use Rattle.model_steps.proofs.LocalityLemmas.{unchanged_local}
+use Rattle.model_steps.proofs.cited.LocalityLemmas.{unchanged_local}
 use Rattle.model_splitter.proofs.tree_lemmas.CallsAsked.{no_way_of_nobody, no_way_of_other, way_step, place_alike, lacked_too, kept_too, refused_too}
 use Rattle.model_splitter.proofs.tree_lemmas.TreeProved.{tree_law, tree_due, tree_nodes, tree_goes_on, tree_stays}
 use Rattle.model_splitter.proofs.tree.world.TreeWorld.step.Goals as goal

@@ -1,5 +1,5 @@
 use Rattle.std.proofs.Common.{subst, ap, arith}
-use Rattle.model_splitter.proofs.grid_lemmas.Numbers.{number_low}
+use Rattle.model_splitter.proofs.cited.grid.Numbers.{number_low}
 use Rattle.words_machine.specs.grid.Law.{WalkSpec}
 use Rattle.words_machine.specs.grid.Seats.{EndedWalk, DealerId}
 use Rattle.words_machine.proofs.grid_lemmas.Places.{walk_law, within_more}

@@ -1,0 +1,2 @@
+pub mod ConfigProofs
+pub mod KindProofs

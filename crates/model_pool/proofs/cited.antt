@@ -1,0 +1,2 @@
+pub mod PoolKeeps
+pub mod slots

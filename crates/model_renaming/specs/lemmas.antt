@@ -1,0 +1,3 @@
+pub mod Ample
+pub mod EmptyPlaces
+pub mod over

@@ -1,0 +1,2 @@
+pub mod GridProofs
+pub mod TreeProofs

@@ -1,0 +1,4 @@
+pub mod ConsistentKept
+pub mod GridLaw
+pub mod GridTied
+pub mod Numbers

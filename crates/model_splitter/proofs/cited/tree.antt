@@ -1,0 +1,3 @@
+pub mod TreeMemoryLemmas
+pub mod collects
+pub mod nodes

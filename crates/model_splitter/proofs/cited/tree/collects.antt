@@ -1,0 +1,3 @@
+pub mod PlacesAhead
+pub mod ReadCount
+pub mod WalkLemmas

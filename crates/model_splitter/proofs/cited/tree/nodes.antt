@@ -1,0 +1,3 @@
+pub mod ConsistentKept
+pub mod TreeLaw
+pub mod WalkerLemmas

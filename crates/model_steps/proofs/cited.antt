@@ -1,0 +1,16 @@
+pub mod CountLemmas
+pub mod DistinctParticipants
+pub mod DueLemmas
+pub mod Found
+pub mod LocalWorldLemmas
+pub mod LocalityLemmas
+pub mod MachineLemmas
+pub mod ParticipantLemmas
+pub mod ReportedLemmas
+pub mod Roster
+pub mod RunLemmas
+pub mod SetAtLemmas
+pub mod StepLemmas
+pub mod ViewLemmas
+pub mod WorldKeeps
+pub mod WorldMachineLemmas

@@ -1,0 +1,3 @@
+pub mod RegisterProofs
+pub mod ViewEq
+pub mod ViewInside

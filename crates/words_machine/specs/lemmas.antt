@@ -1,0 +1,4 @@
+pub mod NamesPlaces
+pub mod NamesSound
+pub mod Visits
+pub mod Walks
