@@ -3,7 +3,7 @@ use Rattle.std.proofs.Common.{◌≡◌, ℕ, ◌+◌, ◌-◌, false, List, [],
 use Rattle.service_follow.proofs.Common.{append-nil, take_all, WorldKind, ShownReply, Request, Take, OwnerOf, NoneRefusedGrowth, Runs, Turn, Answered, Reported, Ended, Misread, HallState, HallApplies, TakesBytes, behind_first_line, NotingState}
 use Rattle.std.proofs.Math.Seq.{take-add}
 use Rattle.text_player.specs.Progress.{Progress, after_byte, after_bytes, at_start}
-use Rattle.text_player.specs.RunProofs.{runs-append}
+use Rattle.text_player.specs.lemmas.RunProofs.{runs-append}
 use Rattle.text_player.specs.Says.{IsSilent, Says, Spoke}
 use Rattle.text_player.specs.ResponderState.{ResponderState}
 use Rattle.service_hall.specs.Reading.{Serves}

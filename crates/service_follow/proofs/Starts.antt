@@ -6,12 +6,12 @@ use Rattle.model_steps.specs.declared.refusal.Refusal.{Refusal}
 use Rattle.model_asked.specs.declared.event.Event.{Event}
 use Rattle.service_hall.specs.Halls.{HallMay, after_unless, hall_of, hall_refusal}
 use Rattle.service_hall.specs.Reading.{stored}
-use Rattle.service_hall.proofs.ReadingLemmas.{stored_run}
+use Rattle.service_hall.proofs.cited.ReadingLemmas.{stored_run}
 use Rattle.service_log.specs.Groups.{StaysAlike}
 use Rattle.service_log.specs.Places.{stands_in}
 use Rattle.service_log.specs.Replicas.{IsReplica, IsReplicaFrom, Leads}
 use Rattle.service_log.specs.ReplicaState.{ReplicaState}
-use Rattle.service_log.proofs.Late.{late_alike}
+use Rattle.service_log.proofs.cited.Late.{late_alike}
 use Rattle.service_follow.specs.Entries.{reads_of}
 use Rattle.service_follow.specs.Marks.{mark_of, next_in}
 use Rattle.service_follow.specs.Stays.{AppliesBy, EndsFrom, GoesOnFrom, LetsGo, ReadsPart, StayApplies, TakesIfKnown, TakesLines, blind_of, start_of, stays_of, told_by}

@@ -17,7 +17,7 @@ use Rattle.service_hall.specs.DeskParts.{is_renaming}
 use Rattle.service_hall.specs.Halls.{after_unless, desk_of, full_unless, hall_refusal, longer, reply_unless}
 use Rattle.service_hall.specs.Reading.{Serves, TakesPlainly, is_plain}
 use Rattle.service_hall.specs.declared.reads.Reads.{Reads}
-use Rattle.service_hall.proofs.Histories.{replay_push}
+use Rattle.service_hall.proofs.cited.Histories.{replay_push}
 use Rattle.service_log.specs.Replicas.{Leads}
 use Rattle.service_follow.specs.Batches.{next_count}
 use Rattle.service_follow.specs.Desks.{HasItsDesk, ByDesk, is_lines, lines_in}

@@ -1,7 +1,6 @@
 pub mod NotingState
 pub mod ReplyQueueState
 pub mod Said
-pub mod SaidProofs
 pub mod Entries
 pub mod Faults
 pub mod Hosted
@@ -18,3 +17,4 @@ pub mod Releases
 pub mod Decided
 pub mod Silence
 pub mod Pauses
+pub mod lemmas

@@ -3,10 +3,10 @@
 ghost use Rattle.std.specs.Prelude.{◌≡◌};
 ghost use Rattle.service_follow.specs.Faults.{fault_of, fault_of_cause, fault_of_store};
 
+use model_steps::Refusal;
 use service_log::{Cause, ServeFault, StoreFault};
 use std::error::Error;
 use std::fmt;
-use model_steps::Refusal;
 
 /// Why a hall over a log is not served, or no more. What was answered before stands in the log.
 #[derive(Clone, Copy, Debug, Drop, PartialEq, Eq)]

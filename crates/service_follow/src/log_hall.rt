@@ -16,11 +16,11 @@ use crate::front_end_stay::FrontEndStay;
 use crate::reply_queue::ReplyQueue;
 use crate::stay_machine::StayMachine;
 use model_asked::Config;
+use model_steps::Refusal;
 use service_hall::Hall;
 use service_log::{Cause, Replica, ServeFault, Step, Store, StoreFault, law_of_following};
 use std::alloc::Global;
 use std::marker::Model;
-use model_steps::Refusal;
 
 /// A hall of a config that follows a log: from a hall with no event it was led by the entries that stand in the log, each once, in their
 /// order, up to its place. If it started at a later place than the first, it was led by those from there on (`StayMachine`).

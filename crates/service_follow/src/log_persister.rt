@@ -24,12 +24,12 @@ use crate::reply_queue::ReplyQueue;
 use crate::sessions::Sessions;
 use crate::tallying::tally_of;
 use model_asked::Config;
-use service_loop::{Persist, Prefetch, Tally};
 use service_hall::{Hall, Reads};
+use service_log::{Cause, MOST_BATCH, MOST_PLACES, ServeFault, Step, Store, StoreFault};
+use service_loop::{Persist, Prefetch, Tally};
+use std::alloc::{AllocError, Allocator, Global};
 use text_lines::held::{HeldQuery, put_held};
 use text_player::Replies;
-use service_log::{Cause, MOST_BATCH, MOST_PLACES, ServeFault, Step, Store, StoreFault};
-use std::alloc::{AllocError, Allocator, Global};
 
 /// What ends a line.
 const LF: u8 = 10;

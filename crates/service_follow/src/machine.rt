@@ -10,12 +10,12 @@ use crate::marks::is_there;
 use crate::noting::Noting;
 use crate::reply_queue::ReplyQueue;
 use model_asked::Config;
+use model_steps::{Refusal, View};
 use service_hall::{Hall, Reads};
-use text_player::{AsReplies, Replies, Responder};
 use service_log::Machine;
 use std::alloc::{AllocError, Global};
 use std::marker::Model;
-use model_steps::{Refusal, View};
+use text_player::{AsReplies, Replies, Responder};
 
 /// What ends a line.
 const LF: u8 = 10;

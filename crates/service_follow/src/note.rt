@@ -7,8 +7,8 @@ ghost use Rattle.model_asked.specs.Replies.{with_view};
 ghost use Rattle.service_follow.specs.Said.{request_of, said_by, seen};
 
 use model_asked::{Event, Reply};
-use std::alloc::{AllocError, Global};
 use model_steps::{Refusal, View};
+use std::alloc::{AllocError, Global};
 
 /// A request that was asked.
 #[derive(Clone, Copy, Debug, Drop)]

@@ -8,16 +8,16 @@ ghost use Rattle.model_asked.specs.Replies.{with_view};
 ghost use Rattle.service_hall.specs.Halls.{hall_of};
 ghost use Rattle.service_hall.specs.declared.reads.Reads.TheVariants.{Logged};
 ghost use Rattle.service_follow.specs.Said.{NotingSays, request_of, said_by, reply_queue_of};
-ghost use Rattle.service_follow.specs.SaidProofs.{noting_answers};
+ghost use Rattle.service_follow.specs.lemmas.SaidProofs.{noting_answers};
 
 use crate::note::{Asked, Note, lacks_memory};
 use crate::reply_queue::ReplyQueue;
 use model_asked::{Config, Event, Reply};
+use model_steps::{Refusal, View};
 use service_hall::{Hall, Reads};
-use text_player::Service;
 use std::alloc::{AllocError, Global};
 use std::marker::Model;
-use model_steps::{Refusal, View};
+use text_player::Service;
 
 /// A hall of which each answer is noted, until memory is refused.
 #[derive(Drop)]

@@ -3,14 +3,14 @@
 ghost use Rattle.std.specs.Prelude.{◌≡◌, ◌↔◌, [], true, map};
 ghost use Rattle.model_asked.specs.Replies.{with_view};
 ghost use Rattle.service_follow.specs.Said.{ReplyQueueReplies, request_of, said_by, reply_queue_of};
-ghost use Rattle.service_follow.specs.SaidProofs.{reply_queue_answers};
+ghost use Rattle.service_follow.specs.lemmas.SaidProofs.{reply_queue_answers};
 
 use crate::note::{Asked, Note};
 use model_asked::{Event, Reply};
-use text_player::Service;
+use model_steps::{Refusal, View};
 use std::alloc::Global;
 use std::marker::Model;
-use model_steps::{Refusal, View};
+use text_player::Service;
 
 /// What was said to requests, in order. As a service it says it again, to whoever asks the same in the same order. Where another request is
 /// asked than the next, and only then, it is poisoned, and what it says then is to be sent to nobody. Contracts see the requests that are left, with what

@@ -15,11 +15,11 @@ use crate::machine::HallMachine;
 use crate::marks::{BEFORE, Mark, entries_in, head_at, kept_in, mark_of};
 use crate::reply_queue::ReplyQueue;
 use model_asked::Config;
+use model_steps::Refusal;
 use service_hall::{Hall, is_compacted};
 use service_log::Machine;
 use std::alloc::{AllocError, Global};
 use std::marker::Model;
-use model_steps::Refusal;
 
 /// A hall to which the entries of a log are applied (`HallMachine`), and which front end keeps each stay in its pool: whose entry said `enter`
 /// of it last and was answered `ok` or `refused 9`. The first 32 bytes of an entry are the token of its front end.

@@ -1,8 +1,8 @@
 //! How much there is of a hall.
 
 use model_asked::Reply;
-use service_loop::Tally;
 use service_hall::{Hall, MOST_EVENTS};
+use service_loop::Tally;
 
 /// The most numbers of a pool.
 const MOST_NUMBERS: u8 = 64;

@@ -1,12 +1,8 @@
 mod Common
-mod Logging
-pub mod Histories
-pub mod Sent
-mod Staying
-pub mod Serves
-pub mod HallLaws
-mod RowLemmas
-pub mod ReadingLemmas
-mod DeskLemmas
-mod RebuiltLemmas
 mod ConfigLemmas
+mod DeskLemmas
+mod Logging
+mod RebuiltLemmas
+mod RowLemmas
+mod Staying
+pub mod cited

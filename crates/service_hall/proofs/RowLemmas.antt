@@ -1,7 +1,7 @@
 -- competitors in a row
 use Rattle.std.proofs.Common.{◌≡◌, ℕ, zero, suc, ◌+◌, ◌<◌, List, [], ◌∷◌, Option, Some, None, length, get_or, set, inl, inr, refl, sym, ap, arith, option_map}
 use Rattle.std.proofs.lemmas.Bool.Decides.{eqb_tells}
-use Rattle.model_steps.proofs.Roster as roster
+use Rattle.model_steps.proofs.cited.Roster as roster
 use Rattle.model_pool.specs.declared.competitor.Competitor.{Competitor}
 use Rattle.model_pool.specs.declared.stay.Stay.{Stay}
 use Rattle.model_pool.specs.Competitors.{index_of, with_stay}

@@ -4,9 +4,7 @@ pub mod Replay
 pub mod HallState
 pub mod Halls
 pub mod Serving
-pub mod ServingProofs
 pub mod Reading
-pub mod ReadingProofs
 pub mod GoesOn
 pub mod Slots
 pub mod Copies
@@ -14,3 +12,4 @@ pub mod DeskParts
 pub mod Compactions
 pub mod Rebuilt
 pub mod Dues
+pub mod lemmas

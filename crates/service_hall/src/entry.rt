@@ -6,8 +6,8 @@ ghost use Rattle.model_asked.specs.Replies.{ShownReply};
 ghost use Rattle.model_asked.specs.Replies.{with_view};
 
 use model_asked::{Event, Reply};
-use std::alloc::Allocator;
 use model_steps::View;
+use std::alloc::Allocator;
 
 /// A reply of few bytes, or the index of one that shows a view or is of a rare kind.
 #[derive(Clone, Copy, Drop)]

@@ -15,11 +15,11 @@ ghost use Rattle.model_asked.specs.Requests.Request.{Take};
 use crate::log::Log;
 use crate::reads::Reads;
 use model_asked::{Config, Event, Exchange, Reply};
-use text_worlds::desk::Desk;
 use model_pool::slots::Slots;
+use model_steps::{Refusal, View};
 use std::alloc::Global;
 use std::marker::Model;
-use model_steps::{Refusal, View};
+use text_worlds::desk::Desk;
 
 /// The most events of a history.
 pub const MOST_EVENTS: usize = 1_000_000;

@@ -2,12 +2,12 @@
 
 ghost use Rattle.std.specs.Prelude.{true};
 ghost use Rattle.service_hall.specs.Serving.{HallServes};
-ghost use Rattle.service_hall.specs.ServingProofs.{hall_answers};
+ghost use Rattle.service_hall.specs.lemmas.ServingProofs.{hall_answers};
 
 use crate::hall::Hall;
 use model_asked::{Event, Reply};
-use text_player::Service;
 use model_steps::View;
+use text_player::Service;
 
 impl<R> Service<R> for Hall {
     ghost knows = { λ q. true };

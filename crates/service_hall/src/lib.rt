@@ -73,7 +73,7 @@ mod stuck;
 
 pub use compacting::{compacted, is_compacted};
 pub use compactor::Compactor;
-pub use service_hall::{Hall, MOST_EVENTS};
+pub use hall::{Hall, MOST_EVENTS};
 pub use laws::{law_of_events, law_of_hall, law_of_reads, law_of_serving};
 pub use log::Log;
 pub use reads::Reads;

@@ -7,9 +7,9 @@ ghost use Rattle.service_hall.specs.Logs.{log_of, all_inside};
 
 use crate::entry::{Entry, shorten, shown};
 use model_asked::{Event, Exchange, Reply};
+use model_steps::{NoMemory, View};
 use std::alloc::Allocator;
 use std::marker::Model;
-use model_steps::{NoMemory, View};
 
 /// Exchanges in order. Each takes 40 bytes, and a kilobyte more if its reply shows a view or is of a rare kind.
 #[derive(Drop)]

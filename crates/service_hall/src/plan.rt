@@ -7,8 +7,8 @@ use crate::helpers::Helpers;
 use crate::rebuilding::Rebuilding;
 use crate::slots_copy::SlotsCopy;
 use crate::stuck::Stuck;
-use model_pool::{Competitor, MOST_NUMBERS, Stay};
 use model_asked::{Event, Reply};
+use model_pool::{Competitor, MOST_NUMBERS, Stay};
 use std::alloc::Global;
 
 /// A helper with the number that it holds.

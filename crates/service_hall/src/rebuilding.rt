@@ -9,8 +9,8 @@ use crate::Hall;
 use crate::slots_copy::SlotsCopy;
 use crate::stuck::Stuck;
 use model_asked::{Config, Event, Reply};
-use std::alloc::Global;
 use model_steps::View;
+use std::alloc::Global;
 
 /// A hall, with a copy of its pool and slots.
 #[derive(Drop)]

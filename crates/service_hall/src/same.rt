@@ -23,7 +23,7 @@ pub fn is_same_event(a: Event, b: Event) -> bool
 }
 
 /// Returns true only if the two replies are equal.
-#[tactic(auto, using(model_steps::specs::ViewEq::same_pairs_decides))]
+#[tactic(auto, using(model_steps::specs::lemmas::ViewEq::same_pairs_decides))]
 fn is_same_reply(a: &Reply<View>, b: &Reply<View>) -> bool
     ensures { result ≡ true → a.now ≡ b.now }
 {

@@ -13,8 +13,8 @@ ghost use Rattle.service_hall.specs.Copies.{bits_in, slots_in};
 ghost use Rattle.service_hall.specs.Slots.{LetsIn, slots_after};
 
 use crate::stuck::Stuck;
-use model_pool::{Competitor, MOST_NUMBERS, Stay};
 use model_asked::Event;
+use model_pool::{Competitor, MOST_NUMBERS, Stay};
 use std::alloc::Global;
 
 /// A copy of a pool and its slots, which follows accepted events.

@@ -1,7 +1,7 @@
 //! Why a hall is not rebuilt.
 
-use std::alloc::{AllocError, AllocFailed};
 use model_steps::Refusal;
+use std::alloc::{AllocError, AllocFailed};
 
 /// An event was refused, or an allocation failed.
 #[derive(Clone, Copy, Debug, Drop, PartialEq, Eq)]

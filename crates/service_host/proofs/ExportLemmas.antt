@@ -4,7 +4,7 @@ use Rattle.std.proofs.lemmas.Grind.{flat_map-append}
 use Rattle.std.proofs.lemmas.List.{append-nil}
 use Rattle.std.specs.Io.KnownBytes.{Appends}
 use Rattle.model_asked.specs.declared.exchange.Exchange.{Exchange}
-use Rattle.text_lines.specs.WrittenProofs.{appends_more}
+use Rattle.text_lines.specs.lemmas.WrittenProofs.{appends_more}
 use Rattle.service_host.specs.Exports.{command_line, command_lines}
 
 -- one event more of a history

@@ -6,7 +6,7 @@ use Rattle.model_steps.specs.declared.access.Answer.TheVariants.{Value, WasSet, 
 use Rattle.model_steps.specs.declared.refusal.Refusal.{Refusal}
 use Rattle.model_steps.specs.declared.refusal.Refusal.TheVariants as refusal
 use Rattle.model_steps.specs.SetAt.{set_at}
-use Rattle.model_steps.proofs.Roster.{seen-put}
+use Rattle.model_steps.proofs.cited.Roster.{seen-put}
 use Rattle.model_pool.specs.declared.competitor.Competitor.{Competitor}
 use Rattle.model_pool.specs.declared.stay.Stay.{Stay}
 use Rattle.model_pool.specs.declared.stay.Stay.TheVariants.{Seeking, Settled}
@@ -21,7 +21,7 @@ use Rattle.model_asked.specs.Replies.{ShownReply, left_reply}
 use Rattle.model_asked.specs.Requests.{Request}
 use Rattle.model_asked.specs.Requests.Request.{Take}
 use Rattle.text_player.specs.Runs.{Runs}
-use Rattle.text_player.specs.RunProofs.{runs-cut}
+use Rattle.text_player.specs.lemmas.RunProofs.{runs-cut}
 use Rattle.text_player.specs.Turns.{Turn}
 use Rattle.text_worlds.specs.desk.Desk.{desk_after, desk_refusal, desk_reply, fresh_desk}
 use Rattle.text_worlds.specs.desk.DeskCalls.{exchange}
@@ -36,9 +36,9 @@ use Rattle.service_hall.specs.Reading.{Serves}
 use Rattle.service_hall.specs.Serving.{wants_room}
 use Rattle.service_hall.specs.declared.reads.Reads.{Reads}
 use Rattle.service_hall.specs.declared.reads.Reads.TheVariants.{Logged, Plain}
-use Rattle.service_hall.proofs.Histories.{replay_push}
+use Rattle.service_hall.proofs.cited.Histories.{replay_push}
 use Rattle.service_loop.specs.Releasing.{AreProbes, IsReleaseBy, ReleasesFree, TellsOfStays, is_freed, is_missed, lacks_number, leave_of, probe_of}
-use Rattle.service_loop.proofs.ReleaseLemmas.{AreSaid, said_releases}
+use Rattle.service_loop.proofs.cited.ReleaseLemmas.{AreSaid, said_releases}
 use Rattle.service_host.specs.Freeing.{FreesAll, ReleasesAsHall, WasRefusedRoom, competes_in, is_of_release}
 
 -- the competitors of a hall, and how many numbers its pool has

@@ -26,7 +26,7 @@ use Rattle.service_journal.specs.WriteAheads.{write_ahead_of, reported_record}
 use Rattle.service_journal.specs.Compactings.{MayCompact}
 use Rattle.service_journal.specs.Journals.{HasSynced, KeepsAtAnyMoment, KeepsHandedOn, Stands}
 use Rattle.service_loop.specs.Seats.{Seating, SeatSends, SeatTakes, LoopIteration}
-use Rattle.service_loop.specs.ConnectionBuffers.{after_taken}
+use Rattle.text_player.specs.Progress.{after_bytes}
 use Rattle.service_host.specs.declared.persisters.Recorded.{Recorded}
 use Rattle.service_host.specs.Kept.{IsKept, KeptBy, MayCompactHall, all_reported}
 use Rattle.service_host.specs.Hosting.{IsHosted, IsReported}
@@ -107,11 +107,10 @@ module _ {C : Type 0} (on : Seating C) where
         came = took.0.came;
         taken = takes.taken;
         rest = takes.rest;
-        ends = took.0.ends;
         sent = sent.sent;
         gave = subst (λ (l : Option (List ℕ)). Consumes (on.left a) l took.0.came) (sym sends.1) took.0.gave;
         parts = takes.parts;
-        goes_on = λ before p spoke. subst (λ (s : ResponderState). Spoke (before ++ turns) s (after_taken (on.buffers a).responder.kind takes.taken took.0.ends p)) (sym sent.responder_is) (takes.goes_on before p spoke);
+        goes_on = λ before p spoke. subst (λ (s : ResponderState). Spoke (before ++ turns) s (after_bytes (on.buffers a).responder.kind p takes.taken)) (sym sent.responder_is) (takes.goes_on before p spoke);
         gained = subst (λ (l : Option (List ℕ)). Appends l (on.gone d) sent.sent) took.1 sent.gained;
         text = λ whole. sym sent.parts ∙ (takes.kept (sent.whole whole)).1;
       }

@@ -1,8 +1,8 @@
 -- a turn of the loop over a write-ahead hall and its journal
-use Rattle.std.specs.Prelude.{◌≡◌, ◌≤◌, ℕ, List, ◌++◌, length, get_or, Bool, false, Option, Some, None}
+use Rattle.std.specs.Prelude.{◌≡◌, ◌≤◌, ℕ, List, ◌++◌, length, get_or, false, Option, Some, None}
 use Rattle.std.specs.Io.KnownBytes.{Appends, Consumes}
 use Rattle.service_journal.specs.DiskState.{DiskState}
-use Rattle.text_player.specs.Progress.{Progress}
+use Rattle.text_player.specs.Progress.{Progress, after_bytes}
 use Rattle.text_player.specs.Runs.{Runs}
 use Rattle.text_player.specs.Says.{Spoke}
 use Rattle.text_player.specs.Shared.{TurnLog, all_turns, turns_of}
@@ -18,21 +18,19 @@ use Rattle.service_journal.specs.WriteAheads.{write_ahead_of}
 use Rattle.service_journal.specs.Compactings.{KeepsWhenCompacted}
 use Rattle.service_journal.specs.Journals.{KeepsAtAnyMoment, KeepsHandedOn, Stands}
 use Rattle.service_loop.specs.Seats.{Seating}
-use Rattle.service_loop.specs.ConnectionBuffers.{after_taken}
 use Rattle.service_host.specs.Kept.{MayCompactHall}
 use Rattle.service_host.specs.declared.reading.Reading.{Reading}
 
--- these turns are those to the lines of one connection: behind what waited of its bytes others came, and a prefix of all was taken by
--- them. What was sent to it, and what waits to be, is what waited and the replies to them, where it is at no fault
+-- these turns are those to the lines of one connection that an LF ended: behind what waited of its bytes others came, and a prefix of all
+-- was taken by them. What was sent to it, and what waits to be, is what waited and the replies to them, where it is at no fault
 pub record IsReported {C : Type 0} (on : Seating C) (turns : List Turn) (a d : C) : Type 0 where
   pub came : List ℕ
   pub taken : List ℕ
   pub rest : List ℕ
-  pub ends : Bool
   pub sent : List ℕ
   pub gave : Consumes (on.left a) (on.left d) came
   pub parts : (on.buffers a).inbox ++ came ≡ taken ++ rest
-  pub goes_on : (before : List Turn) (p : Progress) → Spoke before (on.buffers a).responder p → Spoke (before ++ turns) (on.buffers d).responder (after_taken (on.buffers a).responder.kind taken ends p)
+  pub goes_on : (before : List Turn) (p : Progress) → Spoke before (on.buffers a).responder p → Spoke (before ++ turns) (on.buffers d).responder (after_bytes (on.buffers a).responder.kind p taken)
   pub gained : Appends (on.gone a) (on.gone d) sent
   pub text : (on.buffers d).broken ≡ false → sent ++ (on.buffers d).outbox ≡ (on.buffers a).outbox ++ replies_of turns
 

@@ -4,5 +4,5 @@ pub mod Exports
 pub mod Holders
 pub mod Keepers
 pub mod Readings
-pub mod ReadingProofs
 pub mod Freeing
+pub mod lemmas

@@ -7,9 +7,9 @@ ghost use Rattle.service_host.specs.Exports.{command_line, command_lines};
 use crate::failure::HostFailure;
 use model_asked::Exchange;
 use service_hall::Hall;
-use text_player::{Replies, print_event};
 use std::alloc::Global;
 use std::io::Write;
+use text_player::{Replies, print_event};
 
 // Writes the line that asks for an event.
 fn write_line<W: Write>(

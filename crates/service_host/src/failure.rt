@@ -1,13 +1,13 @@
 //! Why a hall is not hosted, or no more.
 
-use service_loop::HostFault;
+use model_steps::{NoMemory, Refusal};
 use service_follow::LogFault;
 use service_journal::{Disk, DiskFault, FileFault, JournalFault, NotOpened, OpenFault};
+use service_loop::HostFault;
 use service_watch::listeners::ListenFault;
-use text_checker::Verdict;
 use std::alloc::AllocError;
 use std::io::ErrorKind;
-use model_steps::{NoMemory, Refusal};
+use text_checker::Verdict;
 use thiserror::Error;
 
 /// Why a hall is not hosted, or no more. Its `Display` is the text for the operator.
@@ -40,6 +40,12 @@ pub enum HostFailure {
     /// The file of the journal has more than one name.
     #[error("journal fault: the file has more than one name (a hard link), and a compaction would part them")]
     Linked,
+    /// There is no journal at the path, and none was to be made.
+    #[error("journal: there is no such file; --new makes one, with no event (is the disk mounted that it is on?)")]
+    Missing,
+    /// There is a journal at the path, and one was to be made.
+    #[error("journal: --new makes no file where one is; leave it out to go on with that")]
+    Exists,
     /// The file of the journal was deleted, moved or cut short under the server.
     #[error("journal fault: the file was deleted, moved or cut short under the server; what was not synced was not answered")]
     Moved,
@@ -87,6 +93,8 @@ impl From<FileFault> for HostFailure {
             FileFault::InUse => HostFailure::InUse,
             FileFault::NotRegular => HostFailure::NotRegular,
             FileFault::Linked => HostFailure::Linked,
+            FileFault::Missing => HostFailure::Missing,
+            FileFault::Exists => HostFailure::Exists,
             FileFault::Failed(kind) => HostFailure::Journal(kind),
         }
     }

@@ -11,12 +11,12 @@ ghost use Rattle.service_host.specs.Holders.{IsOfHall, TellsHolders};
 use crate::failure::HostFailure;
 use model_asked::Config;
 use service_hall::Hall;
-use text_lines::held::{HeldQuery, put_held};
 use service_journal::opening::recovered;
-use text_player::{Replies, print_header};
-use text_records::read_header;
 use std::alloc::Global;
 use std::io::{Read, Write};
+use text_lines::held::{HeldQuery, put_held};
+use text_player::{Replies, print_header};
+use text_records::read_header;
 
 /// What ends a line.
 const LF: u8 = 10;

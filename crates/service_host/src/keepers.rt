@@ -6,8 +6,8 @@ ghost use Rattle.service_host.specs.Keepers.{stays_at_start};
 
 use crate::failure::HostFailure;
 use model_pool::Competitor;
-use service_hall::Hall;
 use model_pool::stays::Stays;
+use service_hall::Hall;
 use std::alloc::{AllocError, Global};
 
 /// The tick at which a server starts.

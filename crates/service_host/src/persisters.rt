@@ -8,13 +8,13 @@ ghost use Rattle.service_journal.specs.Journals.{Stands};
 ghost use Rattle.service_host.specs.Kept.{IsKept, KeptBy, MayCompactHall, Rests};
 
 use crate::reading::Reading;
-use service_loop::{Persist, Prefetch, Tally};
-use service_hall::{Compactor, Hall};
 use service_follow::tally_of;
-use text_lines::held::{HeldQuery, put_held};
+use service_hall::{Compactor, Hall};
 use service_journal::{Disk, Journal, JournalFault, WriteAhead, law_of_crashes};
-use text_player::Replies;
+use service_loop::{Persist, Prefetch, Tally};
 use std::alloc::{Allocator, Global};
+use text_lines::held::{HeldQuery, put_held};
+use text_player::Replies;
 
 /// Where so many bytes of lines wait they are kept before the next connection has its turn: the lines of one more turn, 64 KiB of the
 /// shortest commands, have room behind them, since a write-ahead hall refuses memory where a megabyte waits.

@@ -2,13 +2,13 @@
 
 ghost use Rattle.std.specs.Prelude.{true};
 ghost use Rattle.service_host.specs.Readings.{HallReads, ReadingServes};
-ghost use Rattle.service_host.specs.ReadingProofs.{hall_reading_answers, reading_answers};
+ghost use Rattle.service_host.specs.lemmas.ReadingProofs.{hall_reading_answers, reading_answers};
 
 use model_asked::{Event, Reply};
+use model_steps::View;
 use service_hall::{Hall, Reads};
 use service_journal::WriteAhead;
 use text_player::Service;
-use model_steps::View;
 
 /// A service, and whether the history stores its reads.
 #[derive(Drop)]

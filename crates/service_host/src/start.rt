@@ -7,14 +7,14 @@ use crate::log_plan::{LogPlan, MEMBER_SECONDS, Patience, fresh_token, members_of
 use crate::persisters::{Recorded, Unrecorded};
 use crate::reading::Reading;
 use model_asked::Config;
+use model_pool::stays::Stays;
+use service_follow::{LogPersister, Pause, ReplyQueue};
+use service_hall::{Compactor, Hall, Reads};
+use service_journal::{Disk, FileDisk, Journal, Opened};
+use service_log::Store;
 use service_log::etcd::{EtcdStore, TcpDial};
 use service_loop::{Attended, HostOptions, Hosted, host};
-use service_hall::{Compactor, Hall, Reads};
-use service_follow::{LogPersister, Pause, ReplyQueue};
-use service_journal::{Disk, FileDisk, Journal, Opened};
 use service_watch::listeners::{ListenPlan, Listening, SocketFile, listen};
-use service_log::Store;
-use model_pool::stays::Stays;
 use std::alloc::{AllocGlobal, Global};
 use std::fs::File;
 use std::io::Write;
@@ -31,8 +31,10 @@ const MOST_GRACE: u64 = 86_400;
 pub enum Keeping<'a> {
     /// Nowhere: it ends with the program.
     Nothing,
-    /// In the journal of this file.
+    /// In the journal of this file, which is there.
     Journal(&'a str),
+    /// In the journal of this file, which is made, and is not there yet.
+    NewJournal(&'a str),
     /// In a log, which other servers of the hall share.
     Log(LogPlan<'a>),
 }
@@ -88,14 +90,19 @@ fn ended<R: Files>(
     }
 }
 
-// Opens the journal of a path: a file that is missing is made, and one that another server has is refused.
+// Opens the journal of a path, or makes it where it is to be new. One that another server has is refused.
 fn open_journal<R: Clock + Files<File = File> + AllocGlobal + Copy + Drop>(
     rt: &R,
     alloc: Global,
     config: Config,
     path: &str,
+    new: bool,
 ) -> Result<Opened<FileDisk<R>>, HostFailure> {
-    let disk = FileDisk::open(rt, path)?;
+    let disk = if new {
+        FileDisk::create(rt, path)?
+    } else {
+        FileDisk::open(rt, path)?
+    };
     Ok(Journal::open(alloc, disk, config)?)
 }
 
@@ -105,13 +112,14 @@ fn host_journal<R, W: Write, E: Write>(
     alloc: Global,
     plan: &HostPlan<'_>,
     path: &str,
+    new: bool,
     output: &mut W,
     errors: &mut E,
 ) -> Result<(), HostFailure>
 where
     R: Net + Wait + Clock + Files<File = File> + AllocGlobal + Copy + Drop,
 {
-    match open_journal(rt, alloc, plan.config, path) {
+    match open_journal(rt, alloc, plan.config, path, new) {
         Ok(opened) => host_recorded(rt, alloc, plan, opened, output, errors),
         Err(failure) => Err(failure),
     }
@@ -317,7 +325,7 @@ fn export_followed<R: Files<File = File>, S: Store + Drop, P: Pause + Drop, W: W
 
 /// Serves a hall to clients until standard input ends where that is a pipe, or else until the program is killed.
 ///
-/// Where a journal is named, its file is made or read, and the hall is that of its record: a last line that was cut off by a crash is
+/// Where a journal is named, its file is read, or made where it is to be new, and the hall is that of its record: a last line that was cut off by a crash is
 /// dropped, and a file that is no record of a run of this config is refused, with nothing changed. Each accepted event is on the disk
 /// before its reply is sent.
 ///
@@ -339,7 +347,8 @@ where
 {
     match plan.keeping {
         Keeping::Nothing => host_unrecorded(rt, alloc, &plan, output, errors),
-        Keeping::Journal(path) => host_journal(rt, alloc, &plan, path, output, errors),
+        Keeping::Journal(path) => host_journal(rt, alloc, &plan, path, false, output, errors),
+        Keeping::NewJournal(path) => host_journal(rt, alloc, &plan, path, true, output, errors),
         Keeping::Log(log) => host_log(rt, alloc, &plan, log, output, errors),
     }
 }

@@ -3,7 +3,7 @@ use Rattle.std.proofs.Common.{◌≡◌, ◌==◌, ℕ, Bool, true, not, List, [
 use Rattle.service_journal.proofs.Common.{list_all, and_parts, nat_tests, Config, Event, Exchange, ShownReply, has_no_lf, with_ends, HallState, record_of_hall}
 use Rattle.std.proofs.lemmas.List.Folds.{list_all-append}
 use Rattle.model_asked.specs.Config.{world_name}
-use Rattle.model_asked.specs.KindProofs.{name_has}
+use Rattle.model_asked.specs.lemmas.KindProofs.{name_has}
 use Rattle.model_asked.specs.declared.kind.WorldKind.{WorldKind}
 use Rattle.model_asked.specs.declared.event.Event.TheVariants as event
 use Rattle.model_asked.specs.declared.reply.Reply.TheVariants as reply

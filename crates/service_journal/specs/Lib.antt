@@ -3,8 +3,8 @@ pub mod Disks
 pub mod Memories
 pub mod WriteAheadState
 pub mod WriteAheads
-pub mod WriteAheadProofs
 pub mod Journals
 pub mod Compactings
 pub mod Openings
 pub mod OpenFaults
+pub mod lemmas

@@ -24,6 +24,10 @@ pub enum FileFault {
     NotRegular,
     /// It has more than one name. The others would keep the old bytes after a `replace`.
     Linked,
+    /// There is no file of this path.
+    Missing,
+    /// There is a file of this path, where one was to be made.
+    Exists,
     /// The system failed, as it reported.
     Failed(ErrorKind),
 }
@@ -98,8 +102,13 @@ fn folder_of(path: &str) -> &str {
     }
 }
 
-/// Opens a file for reading all and writing at its end; one that is missing is made.
-fn opened<R: Files<File = File>>(rt: &R, path: &str) -> io::Result<File> {
+/// Opens a file for reading all and writing at its end.
+fn found<R: Files<File = File>>(rt: &R, path: &str) -> io::Result<File> {
+    File::options().read(true).append(true).open(rt, path)
+}
+
+/// The same of a file that is made where it is missing.
+fn made<R: Files<File = File>>(rt: &R, path: &str) -> io::Result<File> {
     File::options()
         .read(true)
         .append(true)
@@ -127,9 +136,9 @@ fn lock<R: Files<File = File>>(rt: &R, path: &str, file: &File) -> Result<(), Fi
     Ok(())
 }
 
-/// Opens and locks a regular file of one name; one that is missing is made, and its folder is synced.
+/// Opens and locks a regular file of one name, and syncs its folder.
 fn locked<R: Files<File = File>>(rt: &R, path: &str) -> Result<File, FileFault> {
-    let file = opened(rt, path)?;
+    let file = found(rt, path)?;
     let held = File::metadata(&file)?;
     if !held.is_file() {
         return Err(FileFault::NotRegular);
@@ -152,7 +161,7 @@ fn fill(file: &mut File, bytes: &[u8]) -> io::Result<()> {
 
 /// A file at this path with these bytes, all of them durable, and locked. Where it could not be written nothing is left there.
 fn written<R: Files<File = File>>(rt: &R, path: &str, bytes: &[u8]) -> io::Result<File> {
-    let mut file = opened(rt, path)?;
+    let mut file = made(rt, path)?;
     match fill(&mut file, bytes) {
         Ok(()) => Ok(file),
         Err(error) => {
@@ -170,7 +179,20 @@ fn write_beside<R: Files<File = File>>(rt: &R, path: &str, bytes: &[u8]) -> io::
 }
 
 impl<R: Files<File = File> + AllocGlobal + Copy> FileDisk<R> {
-    /// Opens a file and locks it. A file that is missing is made, with mode 0640.
+    /// Makes a file with no bytes and of mode 0640, and locks it. Where a link leads nowhere its file is made.
+    ///
+    /// # Errors
+    ///
+    /// `Exists`: a file is there, which is left as it is; and those of `open`, but for `Missing`.
+    pub fn create(rt: &R, path: &str) -> Result<FileDisk<R>, FileFault> {
+        if fs::metadata(rt, path).is_ok() {
+            return Err(FileFault::Exists);
+        }
+        let _ = made(rt, path)?;
+        FileDisk::open(rt, path)
+    }
+
+    /// Opens a file and locks it.
     ///
     /// A link is followed once, now: a later `replace` puts a new file in place of the one that the link names.
     ///
@@ -179,13 +201,16 @@ impl<R: Files<File = File> + AllocGlobal + Copy> FileDisk<R> {
     /// The first that applies is returned:
     ///
     /// - `Failed`: the system failed. It may do so at any point.
+    /// - `Missing`: there is no such file, nor a link to one.
     /// - `NotRegular`: the path names a device, a pipe or a socket.
     /// - `Linked`: the file has more than one name.
     /// - `InUse`: another program has locked the file, or has put another in its place.
     pub fn open(rt: &R, path: &str) -> Result<FileDisk<R>, FileFault> {
-        // A link that leads nowhere has its file made by this.
-        let _ = opened(rt, path)?;
-        let path = fs::canonicalize(rt, path)?.into_string();
+        let path = match fs::canonicalize(rt, path) {
+            Ok(path) => path.into_string(),
+            Err(error) if error.kind() == ErrorKind::NotFound => return Err(FileFault::Missing),
+            Err(error) => return Err(FileFault::from(error)),
+        };
         let file = locked(rt, &path)?;
         let folder = File::open(rt, folder_of(&path))?;
         let held = File::metadata(&file)?;

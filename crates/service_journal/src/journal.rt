@@ -16,8 +16,8 @@ use crate::write_ahead::WriteAhead;
 use crate::{Disk, DiskFault};
 use model_asked::Config;
 use service_hall::{Compactor, Hall};
-use text_player::{Replies, law_of_lines, print_header};
 use std::alloc::Global;
+use text_player::{Replies, law_of_lines, print_header};
 
 /// Why a call of a journal failed. The journal has ended: it never writes again.
 #[derive(Clone, Copy, Debug, Drop, PartialEq, Eq)]

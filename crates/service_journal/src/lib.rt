@@ -41,7 +41,7 @@ pub mod write_ahead;
 
 pub use disk::{Disk, DiskFault};
 pub use file_disk::{FileDisk, FileFault};
-pub use service_journal::{Journal, JournalFault, NotOpened, Opened};
+pub use journal::{Journal, JournalFault, NotOpened, Opened};
 pub use laws::{law_of_crashes, law_of_limits};
 pub use memory_disk::MemoryDisk;
 pub use opening::OpenFault;

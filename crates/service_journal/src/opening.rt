@@ -14,14 +14,14 @@ ghost use Rattle.text_checker.specs.Verdict.{IsVerdict};
 
 use crate::DiskFault;
 use crate::write_ahead::applied;
-use model_asked::{Config, Event, Reply, WorldKind};
-use service_hall::Hall;
 use memchr::memchr;
+use model_asked::{Config, Event, Reply, WorldKind};
+use model_steps::{NoMemory, Refusal, View};
+use service_hall::Hall;
+use std::alloc::{AllocError, Global};
+use text_checker::{Verdict, check};
 use text_player::{AsRecord, Form, Replies, after_front, law_of_lines, print_header};
 use text_records::{Version, read_line};
-use text_checker::{Verdict, check};
-use std::alloc::{AllocError, Global};
-use model_steps::{NoMemory, Refusal, View};
 
 /// Why `Journal::open` failed. The header is line 1.
 #[derive(Clone, Copy, Debug, Drop, PartialEq, Eq)]

@@ -4,10 +4,10 @@ ghost use Rattle.std.specs.Prelude.{◌≡◌, ◌+◌, IfOk, OnOk};
 ghost use Rattle.service_journal.specs.WriteAheads.{record_of_hall, hall_after_first};
 
 use crate::write_ahead::put_line;
-use service_hall::Hall;
-use text_player::{Replies, TURN_ROOM, print_header};
-use std::alloc::{AllocError, Global};
 use model_steps::{NoMemory, View};
+use service_hall::Hall;
+use std::alloc::{AllocError, Global};
+use text_player::{Replies, TURN_ROOM, print_header};
 
 /// Puts the line of the event at a place of a history behind others; an error where there is no such event, or no room.
 fn put_event(

@@ -8,14 +8,14 @@ ghost use Rattle.text_player.specs.Records.{exchange_line};
 ghost use Rattle.service_hall.specs.Compactions.{IsCompacted};
 ghost use Rattle.service_journal.specs.WriteAheads.{WriteAheadServes, write_ahead_of, waiting_of};
 ghost use Rattle.service_journal.specs.Compactings.{IsPacedAlone, MayCompact};
-ghost use Rattle.service_journal.specs.WriteAheadProofs.{write_ahead_answers};
+ghost use Rattle.service_journal.specs.lemmas.WriteAheadProofs.{write_ahead_answers};
 
 use model_asked::{Event, Reply};
+use model_steps::{NoMemory, Refusal, View};
 use service_hall::{Compactor, Hall, law_of_serving};
-use text_player::{AsRecord, Form, Replies, Service, TURN_ROOM};
 use std::alloc::Global;
 use std::marker::Model;
-use model_steps::{NoMemory, Refusal, View};
+use text_player::{AsRecord, Form, Replies, Service, TURN_ROOM};
 
 /// The most bytes that the pending lines may have.
 pub const MOST_WAITING: usize = 1_048_576;

@@ -1,5 +1,5 @@
 -- a session ends within so many turns
-use Rattle.std.proofs.Common.{◌≡◌, ℕ, ◌+◌, ◌*◌, ◌≤◌, ◌⊎◌, ◌==◌, ◌&&◌, not, cond, true, false, inl, inr, List, [], ◌∷◌, ◌++◌, refl, sym, ap, subst, arith}
+use Rattle.std.proofs.Common.{◌/◌, ◌≡◌, ℕ, ◌+◌, ◌*◌, ◌≤◌, ◌⊎◌, ◌==◌, ◌&&◌, not, cond, true, false, inl, inr, List, [], ◌∷◌, ◌++◌, refl, sym, ap, subst, arith}
 use Rattle.std.proofs.lemmas.Bool.Decides.{Decides-eqb}
 use Rattle.service_lock.proofs.Common.{Config, Step, Exchange, exchange, ShownReply, is_refusal, CallerState, IsTaken}
 use Rattle.std.proofs.lemmas.Nat.{mul-le}
@@ -14,11 +14,11 @@ use Rattle.text_worlds.specs.desk.DeskRun.{IsDeskRunOf, desk_bounds, desk_terms}
 use Rattle.text_worlds.specs.desk.NamedAlone.{stepped_more, steps_of}
 use Rattle.text_worlds.specs.desk.NamedAmong.{goes_on, EndsSoon}
 use Rattle.text_worlds.specs.desk.Names.{begun_in}
-use Rattle.text_worlds.proofs.desk_lemmas.NamedAmong.{names_soon_among}
+use Rattle.text_worlds.proofs.cited.desk.NamedAmong.{names_soon_among}
 use Rattle.service_hall.specs.Halls.{hall_of, SatisfiesSpec}
 use Rattle.service_hall.specs.GoesOn.{GoesOn}
-use Rattle.service_hall.proofs.HallLaws.{goes_on as hall_goes_on, goes_by}
-use Rattle.service_hall.proofs.Histories.{history_run}
+use Rattle.service_hall.proofs.cited.HallLaws.{goes_on as hall_goes_on, goes_by}
+use Rattle.service_hall.proofs.cited.Histories.{history_run}
 use Rattle.service_lock.specs.Renamed.{turns_among}
 
 more_by : (p : ℕ) (e : Event) (r : ShownReply) (a b : ℕ) → stepped_more p e r (a + b) ≡ stepped_more p e r a + b
@@ -66,7 +66,7 @@ gone_on c id count s t r k one on accepted =
     inr (record { lawful = m.lawful; before = one.answer.history; said = r; last = sym is; on = on; made = omega arith })
 
 some_steps : (bounds : SnapBounds) (b : ℕ) → 1 ≤ steps_among bounds b
-some_steps bounds b = let k = mul-le 1 1 (most_proposals b + 1) (2 * bounds.scanning b + 1) (omega arith) (omega arith) in omega arith
+some_steps bounds b = let k = mul-le 1 1 (most_proposals b / 2 + 2) (2 * bounds.scanning b + 1) (omega arith) (omega arith) in omega arith
 
 module _ (c : Config) (id turns : ℕ) (t : CallerState) where
   ends_soon : SatisfiesSpec (hall_of c t.seen) → EndsSoon (desk_terms c.m c.limit (is_tree c.world)) (desk_bounds (is_tree c.world) c.m) t.seen

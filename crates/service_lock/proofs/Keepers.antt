@@ -4,7 +4,7 @@ use Rattle.service_lock.proofs.Common.{append-nil, map-append, is_refusal, kept_
 use Rattle.service_lock.specs.Kepts.{IsTaken, IsReported, IsSound, Keeps, KeepsUnless}
 use Rattle.service_lock.specs.Serving.{ClerkServes, exchange_kept}
 use Rattle.service_hall.specs.Serving.{accepted}
-use Rattle.service_hall.proofs.Serves.{accepted-one}
+use Rattle.service_hall.proofs.cited.Serves.{accepted-one}
 use Rattle.service_lock.proofs.Standing.{sound_after}
 
 -- over one event

@@ -1,13 +1,13 @@
-mod Common
-pub mod Fronts
 pub mod Adds
-mod Keeping
-mod Places
-mod Marking
-mod FirstNames
-pub mod Standing
-mod Renames
+mod Common
 mod Ending
-pub mod Sent
+mod FirstNames
+pub mod Fronts
 mod Keepers
+mod Keeping
+mod Marking
+mod Places
+mod Renames
+pub mod Standing
+pub mod cited
 pub mod server_lemmas

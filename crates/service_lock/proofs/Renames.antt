@@ -8,7 +8,7 @@ use Rattle.text_worlds.specs.desk.NamedAmong.{goes_on}
 use Rattle.service_lock.specs.Renamed.{AreAbove, IsStepped, IsPlainStep}
 use Rattle.service_lock.specs.declared.kept.Kept.{Kept}
 use Rattle.service_lock.proofs.Fronts.{prefix_trans}
-use Rattle.service_lock.specs.ServingProofs.{prefix_self}
+use Rattle.service_lock.specs.lemmas.ServingProofs.{prefix_self}
 use Rattle.service_lock.proofs.Standing.{sound_after, seen_after}
 
 pub stepped_not : (c : Config) (id : ℕ) (s : CallerState) → IsStepped c id 0 s s

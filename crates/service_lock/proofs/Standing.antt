@@ -7,7 +7,7 @@ use mathlib.Core.List.{IsPrefix}
 use Rattle.service_lock.proofs.Fronts.{prefix_trans, prefix_get, prefix_length}
 use Rattle.service_hall.specs.GoesOn.{GoesOn}
 use Rattle.service_hall.specs.Serving.{accepted}
-use Rattle.service_hall.proofs.HallLaws.{goes_on, goes_by, stays_by}
+use Rattle.service_hall.proofs.cited.HallLaws.{goes_on, goes_by, stays_by}
 use Rattle.model_steps.specs.declared.refusal.Refusal.{Refusal}
 use Rattle.model_asked.specs.declared.reply.Reply.{Reply}
 use Rattle.model_asked.specs.declared.reply.Reply.TheVariants.{Refused}

@@ -11,5 +11,5 @@ pub mod KeptNames
 pub mod Words
 pub mod Renamed
 pub mod Serving
-pub mod ServingProofs
 pub mod server
+pub mod lemmas

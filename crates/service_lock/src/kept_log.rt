@@ -8,10 +8,10 @@ ghost use Rattle.service_lock.specs.KeptNames.{name_given, name_kept};
 
 use crate::kept::Kept;
 use model_asked::{Event, Reply};
+use model_steps::{NoMemory, View};
 use service_hall::Log;
 use std::alloc::Global;
 use std::marker::Model;
-use model_steps::{NoMemory, View};
 
 /// Accepted events in order, with the first name among their replies. An event takes 48 bytes, without its view.
 #[derive(Drop)]

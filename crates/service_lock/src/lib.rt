@@ -51,7 +51,6 @@
 //! ```
 #![tactic(auto)]
 
-pub mod server;
 pub mod act;
 pub mod book;
 pub mod callers;
@@ -66,13 +65,13 @@ pub mod names;
 pub mod parts;
 pub mod rename;
 pub mod rule;
+pub mod server;
 pub mod serving_clerk;
 mod telling;
 
 pub use act::Act;
 pub use book::{Book, Front, Naming, Opened};
 pub use closing::Missing;
-pub use service_hall::Hall;
 pub use kept::Kept;
 pub use kept_log::KeptLog;
 pub use laws::{law_of_answered_callers, law_of_clerks};
@@ -80,6 +79,7 @@ pub use lock::HallLock;
 pub use matching::Closed;
 pub use names::{agrees, post_name};
 pub use parts::{Clerk, LockName, Locked, Session};
-pub use text_player::Service;
 pub use rule::{Adding, Entries, Nothing};
+pub use service_hall::Hall;
 pub use serving_clerk::ServingClerk;
+pub use text_player::Service;

@@ -10,10 +10,10 @@ ghost use Rattle.service_lock.specs.Kepts.{IsOpened, IsTaken, IsReported};
 
 use crate::{Act, Clerk, LockName, Locked, Opened, Session};
 use model_asked::{Config, Event, Exchange, Reply};
+use model_steps::{Refusal, View};
 use std::alloc::Global;
 use std::sync::ledger::Blank;
 use std::sync::{Mutex, Wait};
-use model_steps::{Refusal, View};
 
 /// A hall behind a mutex, which threads share.
 #[derive(Drop)]

@@ -15,11 +15,11 @@ use crate::parts::{Clerk, LockName, Locked, MOST_CALLERS, Session};
 use crate::telling::{Reported, show, tell};
 use crate::{Front, Opened};
 use model_asked::{Config, Event, Exchange, Reply};
+use model_steps::{NoMemory, Refusal, View};
 use service_hall::Hall;
 use std::alloc::Global;
 use std::sync::Wait;
 use std::sync::ledger::{Blank, Share};
-use model_steps::{NoMemory, Refusal, View};
 
 impl<L: LockName> Clerk<L> {
     /// A clerk that has kept no event, and has seen the history so far.

@@ -11,8 +11,8 @@ use crate::matching::Closed;
 use crate::parts::{LockName, Session};
 use model_asked::Reply;
 use service_hall::Hall;
-use words_machine::parts::{Board, Grant, ReaderSeat};
 use std::alloc::Allocator;
+use words_machine::parts::{Board, Grant, ReaderSeat};
 
 /// Posts the identity of a session at its first name, as `Board::post` does, on a board of which the seat is. It takes
 /// no lock.

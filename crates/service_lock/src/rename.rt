@@ -7,8 +7,8 @@ ghost use Rattle.service_lock.specs.Renamed.{IsRenamed, turns_among};
 use crate::lock::HallLock;
 use crate::{Act, LockName, Session};
 use model_asked::Reply;
-use std::sync::Wait;
 use model_steps::{Refusal, View};
+use std::sync::Wait;
 
 impl<L: LockName> HallLock<L> {
     /// Makes steps of a session until it has a name, at most `turns`, and returns the name. Each step takes the lock

@@ -2,15 +2,15 @@
 
 ghost use Rattle.std.specs.Prelude.{◌≡◌, true};
 ghost use Rattle.service_lock.specs.Serving.{ClerkServes};
-ghost use Rattle.service_lock.specs.ServingProofs.{clerk_answers};
+ghost use Rattle.service_lock.specs.lemmas.ServingProofs.{clerk_answers};
 
 use crate::lock::HallLock;
 use crate::{Clerk, LockName};
 use model_asked::{Event, Reply};
-use text_player::Service;
+use model_steps::View;
 use std::marker::Model;
 use std::sync::Wait;
-use model_steps::View;
+use text_player::Service;
 
 /// A clerk with its lock, as a service: it applies each event under the lock.
 #[derive(Drop)]

@@ -11,10 +11,10 @@ ghost use Rattle.model_asked.specs.Replies.{with_view};
 
 use crate::parts::LockName;
 use crate::{Book, Front};
-use model_asked::{Event, Exchange, Reply};
 use logbook::Plain;
-use std::sync::Wait;
+use model_asked::{Event, Exchange, Reply};
 use model_steps::View;
+use std::sync::Wait;
 
 /// An event with its reply, and the reply's view.
 #[derive(Drop)]

@@ -1,6 +1,6 @@
 mod Chains
-pub mod Late
 mod LogPlaces
 mod Paces
 mod Shared
+pub mod cited
 pub mod etcd_lemmas

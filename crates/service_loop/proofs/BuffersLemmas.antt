@@ -5,15 +5,15 @@ use Rattle.std.proofs.lemmas.Grind.{flat_map-append}
 use Rattle.std.proofs.lemmas.List.{append-nil, take-append-drop, take-append-le, length-append}
 use Rattle.std.specs.Io.KnownBytes.{Consumes, IsAtEnd, Keeps, ReadConsumes}
 use Rattle.std.specs.Io.{ReadsAtMost}
-use Rattle.text_player.specs.Progress.{Progress, after_bytes, after_end}
+use Rattle.text_player.specs.Progress.{Progress, after_bytes}
 use Rattle.text_player.specs.Says.{Says, Spoke}
 use Rattle.text_player.specs.Texts.{turn_reply, replies_of}
 use Rattle.text_player.specs.ResponderState.{ResponderState}
-use Rattle.text_player.proofs.ProgressLemmas.{after_bytes-append}
+use Rattle.text_player.proofs.cited.ProgressLemmas.{after_bytes-append}
 use Rattle.text_player.specs.declared.form.TheConstants.{TURN_ROOM}
 use Rattle.service_loop.specs.Asking.{MayAsk}
 use Rattle.service_loop.specs.declared.buffers.TheConstants.{UNSENT_ROOM}
-use Rattle.service_loop.specs.ConnectionBuffers.{goes_on_in_line, IsFull, Takes, TakesEnd, TakesFirst, TakesPeeked, TakesOf, after_taken}
+use Rattle.service_loop.specs.ConnectionBuffers.{goes_on_in_line, IsFull, Takes, TakesEnd, TakesFirst, TakesPeeked, TakesOf}
 
 -- there is no room for a reply, or what waits may ask who holds numbers
 pub full_or_asks : (s : BuffersState) → (UNSENT_ROOM < length s.outbox + TURN_ROOM) ⊎ MayAsk s.inbox → IsFull s ⊎ MayAsk s.inbox
@@ -93,12 +93,12 @@ cut_first n k xs le = sym (ap (λ l. take n l) (sym (take-append-drop k xs)) ∙
 
 module _ {T : Type 0} (may : T → Request → ShownReply → T → Type 0) (w u : T) (s s' : BuffersState) (t t' : ResponderState) (out out' : List ℕ) (t_is : t ≡ s.responder) (t'_is : t' ≡ s'.responder) (none : out ≡ []) where
   -- what its talker, once t and now t', took of what waited then
-  abbrev took : (came taken rest : List ℕ) (ends : Bool) → Says may turn_reply w t out u t' out' (after_taken t.kind taken ends) → t'.kind ≡ t.kind → s.inbox ++ came ≡ taken ++ rest → s'.inbox ≡ rest → s'.ended ≡ (s.ended || ends) → s'.in_line ≡ goes_on_in_line s.in_line taken →
+  abbrev took : (came taken rest : List ℕ) (ends : Bool) → Says may turn_reply w t out u t' out' (λ p. after_bytes t.kind p taken) → t'.kind ≡ t.kind → s.inbox ++ came ≡ taken ++ rest → s'.inbox ≡ rest → s'.ended ≡ (s.ended || ends) → s'.in_line ≡ goes_on_in_line s.in_line taken →
       (s'.broken ≡ false → (s'.outbox ≡ s.outbox ++ out') × (s.broken ≡ false)) → (turns : List Turn) × Runs may w turns u × Takes turns came ends s s'
   took came taken rest ends says kind parts inbox ended in_line kept =
-      let said : Says may turn_reply w s.responder out u s'.responder out' (after_taken s.responder.kind taken ends) =
-      subst (λ (x : ResponderState). Says may turn_reply w s.responder out u x out' (after_taken s.responder.kind taken ends)) t'_is
-      (subst (λ (x : ResponderState). Says may turn_reply w x out u t' out' (after_taken x.kind taken ends)) t_is says) in (
+      let said : Says may turn_reply w s.responder out u s'.responder out' (λ p. after_bytes s.responder.kind p taken) =
+      subst (λ (x : ResponderState). Says may turn_reply w s.responder out u x out' (λ p. after_bytes s.responder.kind p taken)) t'_is
+      (subst (λ (x : ResponderState). Says may turn_reply w x out u t' out' (λ p. after_bytes x.kind p taken)) t_is says) in (
         said.0,
         said.1.run,
         record {
@@ -128,35 +128,39 @@ module _ {T : Type 0} (may : T → Request → ShownReply → T → Type 0) (w u
         record { takes = all.2; rest = drop n (take few s.inbox); within = ap (λ l. l ++ drop n (take few s.inbox)) (sym (cut_first n few s.inbox le)) ∙ take-append-drop n (take few s.inbox) ∙ same },
       )
 
-  -- and of the end, before which nothing waited
-  pub takes_end : s.inbox ≡ [] → Says may turn_reply w t out u t' out' (after_end t.kind) → t'.kind ≡ t.kind → s'.inbox ≡ s.inbox → s'.ended ≡ true → s'.in_line ≡ s.in_line → (s'.broken ≡ false → (s'.outbox ≡ s.outbox ++ out') × (s.broken ≡ false)) →
-      (turns : List Turn) × Runs may w turns u × Takes turns [] true s s'
-  takes_end empty says kind inbox ended in_line kept = took [] [] [] true says kind (ap (λ l. l ++ []) empty) (inbox ∙ empty) (ended ∙ or_true s.ended) in_line kept
-
-taken_after : (kind : WorldKind) (p : Progress) (xs ys : List ℕ) (ends : Bool) → after_taken kind ys ends (after_taken kind xs false p) ≡ after_taken kind (xs ++ ys) ends p
-taken_after kind p xs ys true = ap (after_end kind) (sym (after_bytes-append kind p xs ys))
-taken_after kind p xs ys false = sym (after_bytes-append kind p xs ys)
-
 nothing_in : (xs ys zs : List ℕ) → xs ≡ [] → xs ++ [] ≡ ys ++ zs → ys ≡ []
 nothing_in xs [] zs none is = refl
 nothing_in xs (y ∷ ys) zs none is = (let e : [] ≡ y ∷ (ys ++ zs) = sym (append-nil xs ∙ none) ∙ is in absurd cc)
 
+-- the end is taken, before which nothing waited
+pub takes_end : (s : BuffersState) → s.inbox ≡ [] → Takes [] [] true s (record s { ended = true })
+takes_end s empty = record {
+  taken = [];
+  rest = s.inbox;
+  parts = append-nil s.inbox;
+  goes_on = λ before p spoke. rw (append-nil before) spoke;
+  kind_is = refl;
+  ended_is = or_true s.ended;
+  in_line_is = refl;
+  kept = λ whole. (refl, sym (append-nil s.outbox), whole);
+}
+
 -- the end comes, and nothing before it
-pub takes_the_end : (turns : List Turn) (left left' : Option (List ℕ)) (s s' : BuffersState) → Consumes left left' [] → IsAtEnd left' → s.inbox ≡ [] → Takes turns [] true s s' → TakesEnd turns left s left' s'
-takes_the_end turns left left' s s' gave end empty t = record {
+pub takes_the_end : (left left' : Option (List ℕ)) (s s' : BuffersState) → Consumes left left' [] → IsAtEnd left' → s.inbox ≡ [] → Takes [] [] true s s' → TakesEnd left s left' s'
+takes_the_end left left' s s' gave end empty t = record {
   takes = record { came = []; ends = true; few = omega arith; gave = gave; at_end = λ h. end; takes = t };
   none = nothing_in s.inbox t.taken t.rest empty t.parts;
 }
 
 -- nothing comes
-pub takes_no_end : (left left' : Option (List ℕ)) (s s' : BuffersState) → Consumes left left' [] → s' ≡ record s { broken = s'.broken } → (s'.broken ≡ false → s.broken ≡ false) → TakesEnd [] left s left' s'
+pub takes_no_end : (left left' : Option (List ℕ)) (s s' : BuffersState) → Consumes left left' [] → s' ≡ record s { broken = s'.broken } → (s'.broken ≡ false → s.broken ≡ false) → TakesEnd left s left' s'
 takes_no_end left left' s s' gave is whole = record {
   takes = takes_none left left' s s' gave (ap (λ (q : BuffersState). q.responder) is) (ap (λ (q : BuffersState). q.ended) is) (ap (λ (q : BuffersState). q.in_line) is) (λ h. (ap (λ (q : BuffersState). q.inbox) is, ap (λ (q : BuffersState). q.outbox) is, whole h));
   none = refl;
 }
 
 -- what comes is not taken, and it is at fault
-pub takes_fault : (left left' : Option (List ℕ)) (came : List ℕ) (s s' : BuffersState) → length came ≤ 65536 → Consumes left left' came → s' ≡ record s { broken = true } → TakesEnd [] left s left' s'
+pub takes_fault : (left left' : Option (List ℕ)) (came : List ℕ) (s s' : BuffersState) → length came ≤ 65536 → Consumes left left' came → s' ≡ record s { broken = true } → TakesEnd left s left' s'
 takes_fault left left' came s s' few gave is = record {
   takes = record { came = came; ends = false; few = few; gave = gave; at_end = λ h. absurd cc; takes = takes_refused came s s' is };
   none = refl;
@@ -176,9 +180,9 @@ peeked_first turns peek left s s' first = record {
 }
 
 -- and then the end, where it was looked at
-pub peeked_end : (peek : Peek) (left left' : Option (List ℕ)) (s m s' : BuffersState) (ts us : List Turn) → peek.ends ≡ true → TakesFirst ts peek.bytes s m → m.broken ≡ false → m.inbox ≡ [] → TakesEnd us left m left' s' →
-    TakesPeeked (ts ++ us) (Some peek) left s left' s'
-peeked_end peek left left' s m s' ts us ends first whole empty end =
+pub peeked_end : (peek : Peek) (left left' : Option (List ℕ)) (s m s' : BuffersState) (ts : List Turn) → peek.ends ≡ true → TakesFirst ts peek.bytes s m → m.broken ≡ false → m.inbox ≡ [] → TakesEnd left m left' s' →
+    TakesPeeked ts (Some peek) left s left' s'
+peeked_end peek left left' s m s' ts ends first whole empty end =
     let a = first.takes in
     let k = a.kept whole in
     let none : a.rest ≡ [] = sym k.0 ∙ empty in
@@ -196,17 +200,15 @@ peeked_end peek left left' s m s' ts us ends first whole empty end =
           taken = a.taken;
           rest = t.rest;
           parts = ap (λ l. l ++ end.takes.came) all ∙ ap (λ l. a.taken ++ l) came;
-          goes_on = λ before p spoke. subst (λ (x : List Turn). Spoke x s'.responder (after_taken s.responder.kind a.taken end.takes.ends p)) (append_assoc before ts us)
-              (subst (λ (x : Progress). Spoke ((before ++ ts) ++ us) s'.responder x) (taken_after s.responder.kind p a.taken [] end.takes.ends ∙ ap (λ l. after_taken s.responder.kind l end.takes.ends p) (append-nil a.taken))
-              (subst (λ (k : WorldKind). Spoke ((before ++ ts) ++ us) s'.responder (after_taken k [] end.takes.ends (after_taken s.responder.kind a.taken false p))) a.kind_is
-              (subst (λ (l : List ℕ). Spoke ((before ++ ts) ++ us) s'.responder (after_taken m.responder.kind l end.takes.ends (after_taken s.responder.kind a.taken false p))) end.none
-              (t.goes_on (before ++ ts) (after_taken s.responder.kind a.taken false p) (a.goes_on before p spoke)))));
+          goes_on = λ before p spoke. subst (λ (x : List Turn). Spoke x s'.responder (after_bytes s.responder.kind p a.taken)) (append-nil (before ++ ts))
+              (subst (λ (l : List ℕ). Spoke ((before ++ ts) ++ []) s'.responder (after_bytes m.responder.kind (after_bytes s.responder.kind p a.taken) l)) end.none
+              (t.goes_on (before ++ ts) (after_bytes s.responder.kind p a.taken) (a.goes_on before p spoke)));
           kind_is = t.kind_is ∙ a.kind_is;
           ended_is = t.ended_is ∙ ap (λ e. e || end.takes.ends) (a.ended_is ∙ sym (or_false s.ended));
           in_line_is = t.in_line_is ∙ ap (λ l. goes_on_in_line m.in_line l) end.none ∙ a.in_line_is;
           kept = λ h.
               let l = t.kept h in
-              (l.0, l.1 ∙ ap (λ x. x ++ replies_of us) k.1 ∙ append_assoc s.outbox (replies_of ts) (replies_of us) ∙ ap (λ x. s.outbox ++ x) (sym (flat_map-append turn_reply ts us)), k.2);
+              (l.0, l.1 ∙ append-nil m.outbox ∙ k.1, k.2);
         };
       };
       rest = first.rest;

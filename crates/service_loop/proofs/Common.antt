@@ -9,9 +9,9 @@ pub use Rattle.model_asked.specs.Replies.{ShownReply}
 pub use Rattle.model_asked.specs.Requests.{Request}
 pub use Rattle.text_lines.specs.Lines.{with_ends}
 pub use Rattle.text_player.specs.Runs.{Runs}
-pub use Rattle.text_player.specs.RunProofs.{runs-append}
+pub use Rattle.text_player.specs.lemmas.RunProofs.{runs-append}
 pub use Rattle.text_player.specs.Shared.{TurnLog, turns_of, tagged}
-pub use Rattle.text_player.specs.SharedProofs.{all-append, all-tagged, of-append, of-same, of-other}
+pub use Rattle.text_player.specs.lemmas.SharedProofs.{all-append, all-tagged, of-append, of-same, of-other}
 pub use Rattle.text_player.specs.Turns.{Turn}
 pub use Rattle.service_loop.specs.Seats.{Seating, SeatIs, SeatIdle, EachIs, seats_of}
 pub use Rattle.service_loop.specs.BuffersState.{BuffersState}

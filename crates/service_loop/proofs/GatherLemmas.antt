@@ -1,7 +1,7 @@
 -- what is gathered of connections before their lines are taken
 use Rattle.std.proofs.Common.{◌≡◌, inl, inr, ℕ, ◌<◌, if◌then◌else◌, Bool, true, false, set, take, List, [], ◌++◌, length, get_or, Option, Some, None, refl, sym, ap, subst, ◌∙◌, append_assoc}
 use Rattle.service_loop.proofs.Common.{append-nil, get_or-set_same, get_or-set_other, length-set, cases_eq, Consumes, Peek, Turn, TurnLog, BuffersState, WorldKind, requests_seen, turns_of}
-use Rattle.service_loop.specs.Reported.{behind, bytes_of, ends_of, long_of, requests, requests_in}
+use Rattle.service_loop.specs.Reported.{behind, bytes_of, long_of, requests, requests_in}
 use Rattle.std.proofs.KnownBytes.{Consumes-nil, Consumes-trans}
 use Rattle.service_loop.specs.Seats.{NoneSent, Seating, SeatTakes}
 use Rattle.service_loop.specs.Gathering.{GathersOf, SeatGathers, Gathered}
@@ -110,7 +110,7 @@ no_line : (kind : WorldKind) (long : Bool) → requests kind (behind long []) �
 no_line kind true = refl
 no_line kind false = refl
 
--- where no byte was looked at, and no end, nothing was seen
-pub none_seen : (kind : WorldKind) (s : BuffersState) (peek : Option Peek) → bytes_of peek ≡ 0 → ends_of peek ≡ false → requests_seen kind s peek ≡ []
-none_seen kind s peek bytes ends = elim s.responder.over as (λ over. (if over then [] else requests_in kind (long_of peek) (take (bytes_of peek) s.inbox) (ends_of peek)) ≡ [])
-    [ true ↦ refl | false ↦ rw (bytes, ends) (no_line kind (long_of peek)) ]
+-- where no byte was looked at nothing was seen
+pub none_seen : (kind : WorldKind) (s : BuffersState) (peek : Option Peek) → bytes_of peek ≡ 0 → requests_seen kind s peek ≡ []
+none_seen kind s peek bytes = elim s.responder.over as (λ over. (if over then [] else requests_in kind (long_of peek) (take (bytes_of peek) s.inbox)) ≡ [])
+    [ true ↦ refl | false ↦ rw bytes (no_line kind (long_of peek)) ]

@@ -1,14 +1,15 @@
-mod Common
-mod BuffersLemmas
-mod SeatLemmas
+mod LfLemmas
 mod AnswerLemmas
+mod AttendedLemmas
+mod BuffersLemmas
+mod CallLemmas
+mod Common
 mod GatherLemmas
+mod LosingLemmas
 mod PeekLemmas
 mod ReportedLemmas
-mod CallLemmas
 mod RoundLemmas
-mod AttendedLemmas
-pub mod ReleaseLemmas
-mod LosingLemmas
+mod SeatLemmas
 mod TakingLemmas
 mod WaitingLemmas
+pub mod cited

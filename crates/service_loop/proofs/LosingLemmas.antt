@@ -5,7 +5,7 @@ use Rattle.std.proofs.lemmas.Bool.{eqb-true}
 use Rattle.memchr.specs.Find.{IsFirstByte, is_byte}
 use Rattle.text_lines.specs.Lines.{has_no_lf, rest_from, rest_of, whole_lines, whole_lines_from}
 use Rattle.text_lines.specs.Meaning.{meaning}
-use Rattle.text_lines.specs.PieceProofs.{nowhere-lacks}
+use Rattle.text_lines.specs.lemmas.PieceProofs.{nowhere-lacks}
 use Rattle.model_pool.specs.declared.stays.kept_stay.KeptStay.{KeptStay}
 use Rattle.model_pool.specs.stays.Stays.{Act, after_acts}
 use Rattle.service_loop.proofs.Common.{take-add, WorldKind}

@@ -4,9 +4,9 @@ use Rattle.service_loop.proofs.Common.{take-add, WorldKind}
 use Rattle.std.proofs.lemmas.List.{append-nil, length-drop, take_more, take_all, take-append-drop}
 use Rattle.std.proofs.lemmas.Bool.{eqb-true, and_parts, not-true}
 use Rattle.memchr.specs.Find.{IsFirstByte, is_byte}
-use Rattle.text_lines.specs.Lines.{has_no_lf, lines, rest_from, rest_of, unless_empty, whole_lines, whole_lines_from, with_ends}
+use Rattle.text_lines.specs.Lines.{has_no_lf, rest_from, rest_of, whole_lines, whole_lines_from, with_ends}
 use Rattle.text_lines.specs.Meaning.{meaning}
-use Rattle.text_lines.specs.PieceProofs.{nowhere-lacks}
+use Rattle.text_lines.specs.lemmas.PieceProofs.{nowhere-lacks}
 use Rattle.service_loop.specs.Reported.{is_request, requests, behind, requests_in, HasPeeked}
 
 -- lines of bytes behind bytes
@@ -95,7 +95,7 @@ module _ (kind : WorldKind) (long asks : Bool) (batch bytes : List ℕ) (at : �
       let parts : take (at + (end + 1)) bytes ≡ take at bytes ++ (line ++ 10 ∷ []) = take-add at (end + 1) bytes ∙ ap (λ l. take at bytes ++ l) (take_more (drop at bytes) end 0 lt ∙ ap (λ (b : ℕ). line ++ b ∷ []) lf) in
       let ls = whole_lines (take at bytes) in
       let whole : whole_lines (take (at + (end + 1)) bytes) ≡ ls ++ line ∷ [] = ap (λ l. whole_lines l) parts ∙ whole_with (line ++ 10 ∷ []) ∙ ap (λ l. ls ++ l) (whole_one line none) in
-      let all : requests_in kind long (take (at + (end + 1)) bytes) false ≡ requests_in kind long (take at bytes) false ++ requests kind (behind long' (line ∷ [])) =
+      let all : requests_in kind long (take (at + (end + 1)) bytes) ≡ requests_in kind long (take at bytes) ++ requests kind (behind long' (line ∷ [])) =
       ap (λ l. requests kind (behind long l)) whole ∙ ap (requests kind) (so.next line) ∙ requests_append kind (behind long ls) (behind long' (line ∷ [])) in
       let few : length (drop at bytes) ≡ length bytes - at = length-drop at bytes in
       subst (λ (n : ℕ). HasPeeked kind long asks batch bytes n long'' asks'' batch'') (sym at_is)
@@ -104,8 +104,8 @@ module _ (kind : WorldKind) (long asks : Bool) (batch bytes : List ℕ) (at : �
         inside = (let low = so.inside in omega (arith, few, lt, low));
         whole = ap (λ l. rest_of l) parts ∙ rest_with (line ++ 10 ∷ []) ∙ rest_one line none;
         added = added ∙ ap (λ l. l ++ with_ends (requests kind (behind long' (line ∷ [])))) so.added
-            ∙ append_assoc batch (with_ends (requests_in kind long (take at bytes) false)) (with_ends (requests kind (behind long' (line ∷ []))))
-            ∙ ap (λ l. batch ++ l) (sym (ends_append (requests_in kind long (take at bytes) false) (requests kind (behind long' (line ∷ []))))) ∙ ap (λ l. batch ++ with_ends l) (sym all);
+            ∙ append_assoc batch (with_ends (requests_in kind long (take at bytes))) (with_ends (requests kind (behind long' (line ∷ []))))
+            ∙ ap (λ l. batch ++ l) (sym (ends_append (requests_in kind long (take at bytes)) (requests kind (behind long' (line ∷ []))))) ∙ ap (λ l. batch ++ with_ends l) (sym all);
         asked = λ h. (let a = asked h in let b = so.asked a.0 in (b.0, all ∙ rw (b.1, a.1) refl));
         next = λ l. ap (λ (w : List (List ℕ)). behind long (w ++ l ∷ [])) whole ∙ behind_more long ls line l ∙ ap (λ (w : List (List ℕ)). behind long w ++ l ∷ []) (sym whole);
       })))
@@ -127,63 +127,19 @@ module _ (kind : WorldKind) (long asks : Bool) (batch bytes : List ℕ) (at : �
     whole_all : whole_lines (take (length bytes) bytes) ≡ whole_lines (take at bytes)
     whole_all = ap (λ l. whole_lines l) parts_all ∙ whole_with (drop at bytes) ∙ ap (λ l. whole_lines (take at bytes) ++ l) (whole_none [] (drop at bytes) none) ∙ append-nil (whole_lines (take at bytes))
 
-    rest_all : rest_of (take (length bytes) bytes) ≡ drop at bytes
-    rest_all = ap (λ l. rest_of l) parts_all ∙ rest_with (drop at bytes) ∙ rest_none [] (drop at bytes) none
-
-    pub peeked_all : requests_in kind long (take (length bytes) bytes) false ≡ requests_in kind long (take at bytes) false
+    pub peeked_all : requests_in kind long (take (length bytes) bytes) ≡ requests_in kind long (take at bytes)
     peeked_all = ap (λ l. requests kind (behind long l)) whole_all
-
-    behind_rest : (r : List ℕ) → behind long (whole_lines (take at bytes) ++ unless_empty r) ≡ behind long (whole_lines (take at bytes)) ++ behind long' (unless_empty r)
-    behind_rest [] = ap (behind long) (append-nil (whole_lines (take at bytes))) ∙ sym (append-nil (behind long (whole_lines (take at bytes)))) ∙ ap (λ l. behind long (whole_lines (take at bytes)) ++ l) (sym (behind_none long'))
-    behind_rest (b ∷ bs) = so.next (b ∷ bs)
-
-    peeked_lines : lines (take (length bytes) bytes) ≡ whole_lines (take at bytes) ++ unless_empty (drop at bytes)
-    peeked_lines = ap (λ l. l ++ unless_empty (rest_of (take (length bytes) bytes))) whole_all ∙ ap (λ l. whole_lines (take at bytes) ++ unless_empty l) rest_all
-
-    pub peeked_end : requests_in kind long (take (length bytes) bytes) true ≡ requests_in kind long (take at bytes) false ++ requests kind (behind long' (unless_empty (drop at bytes)))
-    peeked_end = ap (λ l. requests kind (behind long l)) peeked_lines ∙ ap (requests kind) (behind_rest (drop at bytes)) ∙ requests_append kind (behind long (whole_lines (take at bytes))) (behind long' (unless_empty (drop at bytes)))
 
 pub no_lf_in : (bytes rest : List ℕ) → rest ≡ bytes → IsFirstByte (is_byte 10) rest None → has_no_lf bytes ≡ true
 no_lf_in bytes rest same = subst (λ (l : List ℕ). IsFirstByte (is_byte 10) l None → has_no_lf bytes ≡ true) (sym same)
     (λ nowhere. subst (λ (l : List ℕ). has_no_lf l ≡ true) (take_all (length bytes) bytes (omega arith)) (nowhere-lacks 10 bytes (length bytes) nowhere))
 
--- all that waits is looked at, with the end
-pub peeked_to_end : (kind kind' : WorldKind) (long asks : Bool) (batch bytes : List ℕ) (at : ℕ) (long' asks' : Bool) (batch' : List ℕ) (at'' : ℕ) (ends asks'' : Bool) (batch'' : List ℕ) → HasPeeked kind long asks batch bytes at long' asks' batch' →
-    has_no_lf (drop at bytes) ≡ true → kind' ≡ kind → at'' ≡ length bytes → ends ≡ true → batch'' ≡ batch' ++ with_ends (requests kind' (behind long' (unless_empty (drop at bytes)))) →
-    (asks'' ≡ false → (asks' ≡ false) × (requests kind' (behind long' (unless_empty (drop at bytes))) ≡ [])) →
-    (batch'' ≡ batch ++ with_ends (requests_in kind long (take at'' bytes) ends)) × (asks'' ≡ false → (asks ≡ false) × (requests_in kind long (take at'' bytes) ends ≡ []))
-peeked_to_end kind kind' long asks batch bytes at long' asks' batch' at'' ends asks'' batch'' so none kind_is at_is ends_is =
-    subst (λ (k : WorldKind). batch'' ≡ batch' ++ with_ends (requests k (behind long' (unless_empty (drop at bytes)))) → (asks'' ≡ false → (asks' ≡ false) × (requests k (behind long' (unless_empty (drop at bytes))) ≡ [])) →
-    (batch'' ≡ batch ++ with_ends (requests_in kind long (take at'' bytes) ends)) × (asks'' ≡ false → (asks ≡ false) × (requests_in kind long (take at'' bytes) ends ≡ []))) (sym kind_is) (λ added asked.
-    let all : requests_in kind long (take at'' bytes) ends ≡ requests_in kind long (take at bytes) false ++ requests kind (behind long' (unless_empty (drop at bytes))) =
-    rw (at_is, ends_is) (peeked_end kind long asks batch bytes at long' asks' batch' so none) in
-    let r = requests kind (behind long' (unless_empty (drop at bytes))) in (
-      added ∙ ap (λ l. l ++ with_ends r) so.added ∙ append_assoc batch (with_ends (requests_in kind long (take at bytes) false)) (with_ends r)
-          ∙ ap (λ l. batch ++ l) (sym (ends_append (requests_in kind long (take at bytes) false) r)) ∙ ap (λ l. batch ++ with_ends l) (sym all),
-      λ h. (let a = asked h in let b = so.asked a.0 in (b.0, all ∙ rw (b.1, a.1) refl)),
-    ))
-
--- or without it, as the prefix of one line
-pub peeked_long : (kind : WorldKind) (long asks : Bool) (batch bytes : List ℕ) (at : ℕ) (long' asks' ends : Bool) (batch' : List ℕ) → HasPeeked kind long asks batch bytes at long' asks' batch' → has_no_lf (drop at bytes) ≡ true → ends ≡ false →
-    (batch' ≡ batch ++ with_ends (requests_in kind long (take (length bytes) bytes) ends)) × (asks' ≡ false → (asks ≡ false) × (requests_in kind long (take (length bytes) bytes) ends ≡ []))
-peeked_long kind long asks batch bytes at long' asks' ends batch' so none ends_is =
-    let all : requests_in kind long (take (length bytes) bytes) ends ≡ requests_in kind long (take at bytes) false = rw ends_is (peeked_all kind long asks batch bytes at long' asks' batch' so none) in
+-- all that waits is looked at: behind the whole lines nothing is asked
+pub peeked_long : (kind : WorldKind) (long asks : Bool) (batch bytes : List ℕ) (at : ℕ) (long' asks' : Bool) (batch' : List ℕ) → HasPeeked kind long asks batch bytes at long' asks' batch' → has_no_lf (drop at bytes) ≡ true →
+    (batch' ≡ batch ++ with_ends (requests_in kind long (take (length bytes) bytes))) × (asks' ≡ false → (asks ≡ false) × (requests_in kind long (take (length bytes) bytes) ≡ []))
+peeked_long kind long asks batch bytes at long' asks' batch' so none =
+    let all : requests_in kind long (take (length bytes) bytes) ≡ requests_in kind long (take at bytes) = peeked_all kind long asks batch bytes at long' asks' batch' so none in
     (so.added ∙ ap (λ l. batch ++ with_ends l) (sym all), λ h. (let b = so.asked h in (b.0, all ∙ b.1)))
-
--- what no LF ends is a line, unless it is empty
-some_line : (rest : List ℕ) → (length rest == 0) ≡ false → unless_empty rest ≡ rest ∷ []
-some_line [] some = absurd cc
-some_line (b ∷ bs) some = refl
-
-pub last_line : (bytes rest : List ℕ) → rest ≡ bytes → (length rest == 0) ≡ false → unless_empty bytes ≡ rest ∷ []
-last_line bytes rest same some = ap unless_empty (sym same) ∙ some_line rest some
-
-empty_line : (rest : List ℕ) → (length rest == 0) ≡ true → unless_empty rest ≡ []
-empty_line [] none = refl
-empty_line (b ∷ bs) none = absurd (let same = eqb-true (length (b ∷ bs)) 0 none in omega (arith, same))
-
-pub no_last_line : (bytes rest : List ℕ) → rest ≡ bytes → (length rest == 0) ≡ true → unless_empty bytes ≡ []
-no_last_line bytes rest same none = ap unless_empty (sym same) ∙ empty_line rest none
 
 -- what a batch holds more than before
 pub kept_by : (old new xs : List ℕ) → new ≡ old ++ xs → (more : List ℕ) × (new ≡ old ++ more)

@@ -4,7 +4,7 @@ use Rattle.std.proofs.lemmas.List.{length-take-le}
 use Rattle.std.proofs.lemmas.Bool.{eqb-true}
 use Rattle.memchr.specs.Find.{IsFirstByte, is_byte}
 use Rattle.text_lines.specs.Lines.{has_no_lf, whole_lines}
-use Rattle.text_lines.specs.PieceProofs.{nowhere-lacks, parted_at}
+use Rattle.text_lines.specs.lemmas.PieceProofs.{nowhere-lacks, parted_at}
 use Rattle.service_loop.proofs.Common.{BuffersState}
 use Rattle.service_loop.proofs.PeekLemmas.{no_lf_in, rest_none, whole_append, whole_none}
 use Rattle.service_loop.specs.Seats.{Seating}

@@ -1,18 +1,18 @@
--- the lines of connections that ask who holds numbers are answered, after a turn of the loop
+-- the lines of connections that ask who holds numbers, or the terms, are answered, after a turn of the loop
 use Rattle.std.specs.Prelude.{◌≡◌, ℕ, List, length, get_or, Option, Some, None}
-use Rattle.model_pool.specs.slots.SlotsState.{SlotsState}
 use Rattle.service_loop.specs.Asking.{MayAnswer}
 use Rattle.service_loop.specs.Seats.{RepliesSent, Seating}
+use Rattle.service_loop.specs.declared.terms.Query.{Query}
 
-module _ {C : Type 0} (on : Seating C) (slots : SlotsState ℕ) where
+module _ {C : Type 0} (on : Seating C) (answer : Query → List ℕ) where
   -- a connection is answered, and nothing is read or sent; an empty seat stays empty
   abbrev pub SeatAnswers : Option C → Option C → Type 0
   SeatAnswers None None = Unit {0}
   SeatAnswers None (Some c) = ⊥
   SeatAnswers (Some c) None = ⊥
-  SeatAnswers (Some c) (Some d) = MayAnswer slots (on.buffers c) (on.buffers d) × (on.left d ≡ on.left c) × (on.gone d ≡ on.gone c)
+  SeatAnswers (Some c) (Some d) = MayAnswer answer (on.buffers c) (on.buffers d) × (on.left d ≡ on.left c) × (on.gone d ≡ on.gone c)
 
-  -- each is answered from these slots, or is as it was
+  -- each is answered so, or is as it was
   pub record QueriesAnswered (seats seats' : List (Option C)) : Type 0 where
     pub each : (i : ℕ) → SeatAnswers (get_or seats i None) (get_or seats' i None)
     pub many : length seats' ≡ length seats

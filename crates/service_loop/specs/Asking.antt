@@ -1,20 +1,20 @@
--- lines that a server answers by itself, among what waits of a connection: those that ask who holds numbers, and those that take a number
+-- lines that a server answers by itself, among what waits of a connection: those that ask who holds numbers or the terms, and those that take a
+-- number
 use Rattle.std.specs.Prelude.{◌≡◌, ◌⊎◌, ◌≤◌, ◌<◌, ℕ, ◌++◌, List, length, take, drop, get_or, suc, if◌then◌else◌, true, false, Option, Some, None, codes}
 use Rattle.text_lines.specs.Lines.{has_no_lf}
 use Rattle.text_lines.specs.Meaning.{number_in, same_bytes}
-use Rattle.model_pool.specs.slots.SlotsState.{SlotsState}
-use Rattle.text_lines.specs.held.Held.{held_query, held_text}
-use Rattle.text_lines.specs.declared.held.query.HeldQuery.{HeldQuery}
 use Rattle.text_lines.specs.declared.held.query.TheConstants.{QUERY_MAX}
 use Rattle.service_loop.specs.BuffersState.{BuffersState}
+use Rattle.service_loop.specs.Queries.{query_of}
+use Rattle.service_loop.specs.declared.terms.Query.{Query}
 
 -- the first so many of these bytes are a line that asks this, and its LF
-pub record IsQueryOf (bytes : List ℕ) (query : HeldQuery) (count : ℕ) : Type 0 where
+pub record IsQueryOf (bytes : List ℕ) (query : Query) (count : ℕ) : Type 0 where
   pub end : ℕ
   pub count_is : count ≡ suc end
   pub inside : end < length bytes
   pub ends : get_or bytes end 0 ≡ 10
-  pub asks : held_query (take end bytes) ≡ Some query
+  pub asks : query_of (take end bytes) ≡ Some query
 
 -- the identity for which a line takes a number: `take ID`
 abbrev pub taking_of : List ℕ → Option ℕ
@@ -28,26 +28,26 @@ pub record IsTakingOf (bytes : List ℕ) (identity count : ℕ) : Type 0 where
   pub ends : get_or bytes end 0 ≡ 10
   pub asks : taking_of (take end bytes) ≡ Some identity
 
--- so few bytes, none of them an LF, begin with the letter of either word
+-- so few bytes, none of them an LF, begin with the letter of one of the words
 abbrev pub IsPrefixOf : List ℕ → Type 0
 IsPrefixOf bytes = ((get_or bytes 0 0 ≡ 104) ⊎ (get_or bytes 0 0 ≡ 116)) × (length bytes ≤ QUERY_MAX) × (has_no_lf bytes ≡ true)
 
--- they begin with a line that asks who holds numbers or takes one, or may come to be such a line
+-- they begin with a line that asks or takes a number so, or may come to be such a line
 abbrev pub MayAsk : List ℕ → Type 0
-MayAsk bytes = ((query : HeldQuery) × (count : ℕ) × IsQueryOf bytes query count) ⊎ ((identity : ℕ) × (count : ℕ) × IsTakingOf bytes identity count) ⊎ IsPrefixOf bytes
+MayAsk bytes = ((query : Query) × (count : ℕ) × IsQueryOf bytes query count) ⊎ ((identity : ℕ) × (count : ℕ) × IsTakingOf bytes identity count) ⊎ IsPrefixOf bytes
 
--- The line that waits first asks who holds numbers: it is taken, and the answer waits behind what waited to be sent. The transcript, and whatever else
+-- The line that waits first asks who holds numbers, or the terms: it is taken, and the answer to it waits behind what waited to be sent. The transcript, and whatever else
 -- waits, is as it was, but where it is at fault
-pub record AnswersQuery (slots : SlotsState ℕ) (s s' : BuffersState) : Type 0 where
-  pub query : HeldQuery
+pub record AnswersQuery (answer : Query → List ℕ) (s s' : BuffersState) : Type 0 where
+  pub query : Query
   pub count : ℕ
   pub asks : IsQueryOf s.inbox query count
   pub responder_is : s'.responder ≡ s.responder
   pub ended_is : s'.ended ≡ s.ended
   pub in_line_is : s'.in_line ≡ s.in_line
   pub inbox_is : s'.inbox ≡ drop count s.inbox
-  pub kept : s'.broken ≡ false → (s'.outbox ≡ s.outbox ++ held_text slots query) × (s.broken ≡ false)
+  pub kept : s'.broken ≡ false → (s'.outbox ≡ s.outbox ++ answer query) × (s.broken ≡ false)
 
 -- it is answered, or nothing changes
-abbrev pub MayAnswer : SlotsState ℕ → BuffersState → BuffersState → Type 0
-MayAnswer slots s s' = (s' ≡ s) ⊎ AnswersQuery slots s s'
+abbrev pub MayAnswer : (Query → List ℕ) → BuffersState → BuffersState → Type 0
+MayAnswer answer s s' = (s' ≡ s) ⊎ AnswersQuery answer s s'

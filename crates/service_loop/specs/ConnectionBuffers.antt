@@ -4,7 +4,8 @@ use Rattle.std.specs.Io.KnownBytes.{Appends, Consumes, IsAtEnd}
 use Rattle.model_asked.specs.declared.kind.WorldKind.{WorldKind}
 use Rattle.model_asked.specs.Replies.{ShownReply}
 use Rattle.model_asked.specs.Requests.{Request}
-use Rattle.text_player.specs.Progress.{Progress, after_bytes, after_end}
+use Rattle.text_lines.specs.Lines.{has_no_lf}
+use Rattle.text_player.specs.Progress.{Progress, after_bytes}
 use Rattle.text_player.specs.Runs.{Runs}
 use Rattle.text_player.specs.Says.{Spoke, IsSilent}
 use Rattle.text_player.specs.Texts.{replies_of}
@@ -25,25 +26,27 @@ pub record AreNewBuffers (kind : WorldKind) (s : BuffersState) : Type 0 where
   pub broken : s.broken ≡ false
   pub in_line : s.in_line ≡ false
 
--- where a transcript stands once these bytes are taken, and then the end where it came
-abbrev pub after_taken : WorldKind → List ℕ → Bool → Progress → Progress
-after_taken kind taken ends p = if ends then after_end kind (after_bytes kind p taken) else after_bytes kind p taken
-
 -- whether a line was begun, and not ended, once these bytes were taken
 abbrev pub goes_on_in_line : Bool → List ℕ → Bool
 goes_on_in_line in_line bytes = if length bytes == 0 then in_line else not (get_or bytes (length bytes - 1) 0 == 10)
 
--- behind what waited to be taken these bytes came, and the end where it says so. A prefix of all that is taken, by these turns; the
--- rest waits, and so do the replies to them, behind those that waited to be sent, but where it is at fault
+-- behind what waited to be taken these bytes came, and the end where it says so. A prefix of all that is taken, by these turns: those of the
+-- lines that an LF ends, and no other. The rest waits, and so do the replies to them, behind those that waited to be sent, but where it is at
+-- fault. Once the end is taken nothing more is, and a line that no LF has ended is dropped
 pub record Takes (turns : List Turn) (came : List ℕ) (ends : Bool) (s s' : BuffersState) : Type 0 where
   pub taken : List ℕ
   pub rest : List ℕ
   pub parts : s.inbox ++ came ≡ taken ++ rest
-  pub goes_on : (before : List Turn) (p : Progress) → Spoke before s.responder p → Spoke (before ++ turns) s'.responder (after_taken s.responder.kind taken ends p)
+  pub goes_on : (before : List Turn) (p : Progress) → Spoke before s.responder p → Spoke (before ++ turns) s'.responder (after_bytes s.responder.kind p taken)
   pub kind_is : s'.responder.kind ≡ s.responder.kind
   pub ended_is : s'.ended ≡ (s.ended || ends)
   pub in_line_is : s'.in_line ≡ goes_on_in_line s.in_line taken
   pub kept : s'.broken ≡ false → (s'.inbox ≡ rest) × (s'.outbox ≡ s.outbox ++ replies_of turns) × (s.broken ≡ false)
+
+-- with no LF among the bytes that are taken there is no turn, whatever this side has said before: a line is answered once its LF is taken
+abbrev pub NeedsLf : Type 0
+NeedsLf = (turns before : List Turn) (came : List ℕ) (ends : Bool) (s s' : BuffersState) (p : Progress) →
+    (t : Takes turns came ends s s') → Spoke before s.responder p → has_no_lf t.taken ≡ true → turns ≡ []
 
 -- the same, where the bytes came of a stream that had so much left: at most 64 KiB, and the end only where it had no more
 pub record TakesOf (turns : List Turn) (left : Option (List ℕ)) (s : BuffersState) (left' : Option (List ℕ)) (s' : BuffersState) : Type 0 where
@@ -84,9 +87,9 @@ pub record TakesFirst (turns : List Turn) (count : ℕ) (s s' : BuffersState) : 
   pub rest : List ℕ
   pub within : takes.taken ++ rest ≡ take count s.inbox
 
--- nothing is taken but the end, if it comes
-pub record TakesEnd (turns : List Turn) (left : Option (List ℕ)) (s : BuffersState) (left' : Option (List ℕ)) (s' : BuffersState) : Type 0 where
-  pub takes : TakesOf turns left s left' s'
+-- nothing is taken but the end, if it comes, and nothing is said
+pub record TakesEnd (left : Option (List ℕ)) (s : BuffersState) (left' : Option (List ℕ)) (s' : BuffersState) : Type 0 where
+  pub takes : TakesOf [] left s left' s'
   pub none : takes.takes.taken ≡ []
 
 -- a prefix is taken of what was looked at, and nothing else: the end only where it was looked at, behind all that waited

@@ -5,6 +5,7 @@ pub mod Seats
 pub mod Gathering
 pub mod Reported
 pub mod Rounds
+pub mod Queries
 pub mod Asking
 pub mod Answering
 pub mod Attending

@@ -4,7 +4,7 @@ use Rattle.model_asked.specs.declared.bad.Bad.{Bad}
 use Rattle.model_asked.specs.declared.command.Command.{Command}
 use Rattle.model_asked.specs.declared.command.Command.TheVariants as command
 use Rattle.model_asked.specs.declared.kind.WorldKind.{WorldKind}
-use Rattle.text_lines.specs.Lines.{lines, rest_of, whole_lines, with_ends}
+use Rattle.text_lines.specs.Lines.{rest_of, whole_lines, with_ends}
 use Rattle.text_lines.specs.Meaning.{meaning}
 use Rattle.text_player.specs.Shared.{numbered, unnumbered}
 use Rattle.service_loop.specs.BuffersState.{BuffersState}
@@ -28,22 +28,17 @@ behind false ls = ls
 behind true [] = []
 behind true (l ∷ ls) = ls
 
--- the lines that are taken with these bytes: at the end of what comes, what no LF ends is one too
-abbrev pub lines_in : List ℕ → Bool → List (List ℕ)
-lines_in bytes false = whole_lines bytes
-lines_in bytes true = lines bytes
-
--- the requests among them
-abbrev pub requests_in : WorldKind → Bool → List ℕ → Bool → List (List ℕ)
-requests_in kind long bytes ends = requests kind (behind long (lines_in bytes ends))
+-- the requests among the lines of these bytes: what no LF ends is none
+abbrev pub requests_in : WorldKind → Bool → List ℕ → List (List ℕ)
+requests_in kind long bytes = requests kind (behind long (whole_lines bytes))
 
 -- So many of the bytes were looked at, up to where a line ends: the requests among their lines stand behind what stood in the batch, and are
 -- noted; and whether the next line is the end of a longer one
 pub record HasPeeked (kind : WorldKind) (long asks : Bool) (batch bytes : List ℕ) (at : ℕ) (long' asks' : Bool) (batch' : List ℕ) : Type 0 where
   pub inside : at ≤ length bytes
   pub whole : rest_of (take at bytes) ≡ []
-  pub added : batch' ≡ batch ++ with_ends (requests_in kind long (take at bytes) false)
-  pub asked : asks' ≡ false → (asks ≡ false) × (requests_in kind long (take at bytes) false ≡ [])
+  pub added : batch' ≡ batch ++ with_ends (requests_in kind long (take at bytes))
+  pub asked : asks' ≡ false → (asks ≡ false) × (requests_in kind long (take at bytes) ≡ [])
   pub next : (line : List ℕ) → behind long (whole_lines (take at bytes) ++ line ∷ []) ≡ behind long (whole_lines (take at bytes)) ++ behind long' (line ∷ [])
 
 -- what was looked at of a connection, if anything was: so many bytes of what waits, and whether the end of what comes is behind them
@@ -84,7 +79,7 @@ IsSameGrant a b = (bytes_of b ≡ bytes_of a) × (ends_of b ≡ ends_of a) × (l
 
 -- the requests among what was looked at; there is none once `quit` was answered
 abbrev pub requests_seen : WorldKind → BuffersState → Option Peek → List (List ℕ)
-requests_seen kind s peek = if s.responder.over then [] else requests_in kind (long_of peek) (take (bytes_of peek) s.inbox) (ends_of peek)
+requests_seen kind s peek = if s.responder.over then [] else requests_in kind (long_of peek) (take (bytes_of peek) s.inbox)
 
 -- lines, each with the seat whose it is: those of one seat, and all
 abbrev pub SeatLines : Type 0

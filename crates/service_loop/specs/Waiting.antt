@@ -1,12 +1,12 @@
 -- what waits first of a connection: a line that the server answers by itself, or the beginning of one
 use Rattle.std.specs.Prelude.{ℕ, ◌+◌, ◌||◌, ◌&&◌, ◌==◌, nat_le, not, if◌then◌else◌, Bool, List, [], ◌∷◌, length, get_or, Option, Some, None, is_some}
 use Rattle.text_lines.specs.Lines.{has_no_lf, whole_lines}
-use Rattle.text_lines.specs.held.Held.{held_query}
-use Rattle.text_lines.specs.declared.held.query.HeldQuery.{HeldQuery}
 use Rattle.text_lines.specs.declared.held.query.TheConstants.{QUERY_MAX}
 use Rattle.text_player.specs.declared.form.TheConstants.{TURN_ROOM}
 use Rattle.service_loop.specs.Asking.{taking_of}
 use Rattle.service_loop.specs.BuffersState.{BuffersState}
+use Rattle.service_loop.specs.Queries.{query_of}
+use Rattle.service_loop.specs.declared.terms.Query.{Query}
 use Rattle.service_loop.specs.declared.buffers.TheConstants.{UNSENT_ROOM, MOST_LINES}
 
 -- what a line says, and how many bytes it has with its LF
@@ -19,9 +19,9 @@ abbrev pub first_of : {A : Type 0} → (List ℕ → Option A) → List (List �
 first_of read [] = None
 first_of read (line ∷ ls) = with_count line (read line)
 
--- what the first whole line of these bytes asks, where it asks who holds numbers
-abbrev pub first_query : List ℕ → Option (HeldQuery × ℕ)
-first_query bytes = first_of held_query (whole_lines bytes)
+-- what the first whole line of these bytes asks, where it asks who holds numbers or the terms
+abbrev pub first_query : List ℕ → Option (Query × ℕ)
+first_query bytes = first_of query_of (whole_lines bytes)
 
 -- for which identity it takes a number, where it takes one
 abbrev pub first_taking : List ℕ → Option (ℕ × ℕ)
@@ -44,7 +44,7 @@ abbrev pub waits_for_more : BuffersState → Bool
 waits_for_more s = (length s.inbox == 0) || (is_at_line s && is_prefix_of s.inbox)
 
 -- what is asked by the line that waits first
-abbrev pub waiting_query : BuffersState → Option (HeldQuery × ℕ)
+abbrev pub waiting_query : BuffersState → Option (Query × ℕ)
 waiting_query s = if is_at_line s then first_query s.inbox else None
 
 -- for which identity it takes a number

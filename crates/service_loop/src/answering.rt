@@ -1,7 +1,8 @@
-//! Lines that ask who holds numbers, after a turn of the loop.
+//! Lines that ask who holds numbers, or the terms, after a turn of the loop.
 
 ghost use Rattle.std.specs.Prelude.{◌≡◌, ◌⊎◌, ℕ, get_or, None};
 ghost use Rattle.service_loop.specs.Answering.{AnsweredAndSent, QueriesAnswered, SeatAnswered};
+ghost use Rattle.service_loop.specs.Queries.{query_text};
 ghost use Rattle.service_loop.specs.SharedBuffers.{AreShared};
 ghost use Rattle.service_loop.specs.Seats.{seats_of};
 
@@ -9,6 +10,7 @@ use crate::connection::{Connection, Stage};
 use crate::persist::Persist;
 use crate::shared::SharedBuffers;
 use crate::stream::Stream;
+use crate::terms::Terms;
 use crate::turns::send_replies;
 use std::alloc::Allocator;
 
@@ -16,19 +18,20 @@ use std::alloc::Allocator;
 fn answer_at<D, K: Persist<D>, S: Stream, A: Allocator, B: Allocator>(
     service: &D,
     persister: &K,
+    terms: Terms,
     shared: &mut SharedBuffers<B>,
     seats: &mut [Option<Connection<S, A>>],
     key: usize,
 )
     requires { AreShared shared.old }
     ensures answered { (seats.new ≡ seats.old) ⊎
-        SeatAnswered (seats_of S.left S.gone) (K.holds persister.now service.now) (λ c. c.stage ≡ Stage.Idle) key seats.old seats.new }
+        SeatAnswered (seats_of S.left S.gone) (query_text terms (K.holds persister.now service.now)) (λ c. c.stage ≡ Stage.Idle) key seats.old seats.new }
     ensures room { AreShared shared.new }
 {
     if key < seats.len() {
         if let Some(connection) = &mut seats[key] {
             if let Stage::Idle = connection.stage {
-                connection.answer(service, persister, shared);
+                connection.answer(service, persister, terms, shared);
             }
         }
     }
@@ -38,32 +41,34 @@ fn answer_at<D, K: Persist<D>, S: Stream, A: Allocator, B: Allocator>(
 fn answer_all<D, K: Persist<D>, S: Stream, A: Allocator, B: Allocator>(
     service: &D,
     persister: &K,
+    terms: Terms,
     shared: &mut SharedBuffers<B>,
     seats: &mut [Option<Connection<S, A>>],
     called: &[usize],
 )
     requires { AreShared shared.old }
-    ensures answered { QueriesAnswered (seats_of S.left S.gone) (K.holds persister.now service.now) seats.old seats.new }
+    ensures answered { QueriesAnswered (seats_of S.left S.gone) (query_text terms (K.holds persister.now service.now)) seats.old seats.new }
     ensures room { AreShared shared.new }
 {
     for key in called {
-        answer_at(service, persister, shared, seats, *key);
+        answer_at(service, persister, terms, shared, seats, *key);
     }
 }
 
-/// After a turn of the loop: of each of these seats the line that waits first is answered, where it asks who holds numbers, and the answer is sent
-/// as far as its stream takes it now. What is reported is what the persister holds to be so then: no other line was taken since the last was kept.
+/// After a turn of the loop: of each of these seats the line that waits first is answered, where it asks who holds numbers or the terms, and the answer is
+/// sent as far as its stream takes it now. Who holds numbers is what the persister holds to be so then: no other line was taken since the last was kept.
 pub fn answer_queries<D, K: Persist<D>, S: Stream, A: Allocator, B: Allocator>(
     service: &D,
     persister: &K,
+    terms: Terms,
     shared: &mut SharedBuffers<B>,
     seats: &mut [Option<Connection<S, A>>],
     called: &[usize],
 )
     requires { AreShared shared.old }
-    ensures answered { AnsweredAndSent (seats_of S.left S.gone) (K.holds persister.now service.now) seats.old seats.new }
+    ensures answered { AnsweredAndSent (seats_of S.left S.gone) (query_text terms (K.holds persister.now service.now)) seats.old seats.new }
     ensures room { AreShared shared.new }
 {
-    answer_all(service, persister, shared, seats, called);
+    answer_all(service, persister, terms, shared, seats, called);
     send_replies(seats, called);
 }

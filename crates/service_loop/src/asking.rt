@@ -1,15 +1,15 @@
-//! Lines that the server answers by itself, among bytes: those that ask who holds numbers, and those that take a number.
+//! Lines that the server answers by itself, among bytes: those that ask who holds numbers or the terms, and those that take a number.
 
 ghost use Rattle.std.specs.Prelude.{◌≡◌, ◌⊎◌, ◌≤◌, ◌<◌, ℕ, true, length, drop, get_or, IfSome};
 ghost use Rattle.text_lines.specs.Lines.{has_no_lf};
-ghost use Rattle.text_lines.specs.declared.held.query.HeldQuery.{HeldQuery};
 ghost use Rattle.text_lines.specs.declared.held.query.TheConstants.{QUERY_MAX};
 ghost use Rattle.service_loop.specs.Asking.{IsPrefixOf, IsQueryOf, IsTakingOf, MayAsk, taking_of};
 ghost use Rattle.service_loop.specs.Waiting.{begins, first_query, first_taking, is_prefix_of};
 
-use text_lines::words::{is_word, number};
-use text_lines::held::{HeldQuery, QUERY_MAX, held_query};
+use crate::terms::{Query, query_of};
 use memchr::{memchr, memrchr};
+use text_lines::held::QUERY_MAX;
+use text_lines::words::{is_word, number};
 
 /// What ends a line.
 const LF: u8 = 10;
@@ -17,19 +17,22 @@ const LF: u8 = 10;
 /// What each line that asks who holds numbers begins with, and no command. No command has it at all.
 const ASKS: u8 = b'h';
 
-/// What each line that takes a number begins with, and no command.
+/// What each line that takes a number begins with, and the one that asks for the terms, and no command.
 const TAKES: u8 = b't';
 
 /// A letter of each line that takes a number, and of no command.
 const INSIDE: u8 = b'k';
 
-/// What the first line of these bytes asks, where it asks who holds numbers, and how many bytes it has with its LF.
-pub(crate) fn first_query(bytes: &[u8]) -> Option<(HeldQuery, usize)>
+/// A letter of the line that asks for the terms, and of no command.
+const AMID: u8 = b'm';
+
+/// What the first line of these bytes asks, where it asks who holds numbers or the terms, and how many bytes it has with its LF.
+pub(crate) fn first_query(bytes: &[u8]) -> Option<(Query, usize)>
     ensures exact { result ≡ first_query bytes.now }
     ensures asks { IfSome result (λ r. IsQueryOf bytes.now r.0 r.1) }
 {
     let end = memchr(LF, bytes)?;
-    let query = held_query(&bytes[..end])?;
+    let query = query_of(&bytes[..end])?;
     Some((query, end + 1))
 }
 
@@ -56,7 +59,7 @@ pub(crate) fn first_taking(bytes: &[u8]) -> Option<(u64, usize)>
 
 /// Whether a line, without its LF, is one that the server answers by itself.
 pub(crate) fn is_own(line: &[u8]) -> bool {
-    held_query(line).is_some() || taking_of(line).is_some()
+    query_of(line).is_some() || taking_of(line).is_some()
 }
 
 // Whether the first of these bytes is that of a line that the server answers by itself.
@@ -80,7 +83,7 @@ fn lacks_end(bytes: &[u8]) -> bool
     }
 }
 
-/// Whether these bytes are the beginning of a line that may ask who holds numbers, or take one, with no LF.
+/// Whether these bytes are the beginning of a line that may ask so, or take a number, with no LF.
 pub(crate) fn is_prefix_of(bytes: &[u8]) -> bool
     ensures exact { result ≡ is_prefix_of bytes.now }
     ensures prefix { result ≡ true → IsPrefixOf bytes.now }
@@ -88,9 +91,9 @@ pub(crate) fn is_prefix_of(bytes: &[u8]) -> bool
     begins(bytes) && bytes.len() <= QUERY_MAX && lacks_end(bytes)
 }
 
-// Whether these bytes begin with a line that asks who holds numbers.
+// Whether these bytes begin with a line that asks who holds numbers, or the terms.
 fn asks_first(bytes: &[u8]) -> bool
-    ensures { result ≡ true → (query : HeldQuery) × (count : ℕ) × IsQueryOf bytes.now query count }
+    ensures { result ≡ true → (query : Query) × (count : ℕ) × IsQueryOf bytes.now query count }
 {
     match first_query(bytes) {
         Some(_) => true,
@@ -150,10 +153,12 @@ fn last_line(begins: bool, bytes: &[u8]) -> usize
 // Whether none of these bytes is a letter that lines have which the server answers by itself, and no command has. Every byte of clients comes by
 // here. Two looks for one letter each take less than half the time of one look for either (`memchr2`).
 fn lacks_letters(bytes: &[u8]) -> bool {
-    memchr(ASKS, bytes).is_none() && memchr(INSIDE, bytes).is_none()
+    memchr(ASKS, bytes).is_none()
+        && memchr(INSIDE, bytes).is_none()
+        && memchr(AMID, bytes).is_none()
 }
 
-/// How many of these bytes stand before the first line that asks who holds numbers or takes one, or may come to be such a line. The first of them
+/// How many of these bytes stand before the first line that the server answers by itself, or that may come to be such a line. The first of them
 /// begins a line, where it says so.
 pub(crate) fn before_query(begins: bool, bytes: &[u8]) -> usize
     ensures inside { result ≤ length bytes.now }

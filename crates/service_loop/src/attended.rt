@@ -9,9 +9,9 @@ ghost use Rattle.service_loop.specs.Losing.{lost_act};
 ghost use Rattle.service_loop.specs.AttendingProofs.{attended_answers};
 
 use model_asked::{Event, Reply};
-use text_player::Service;
 use model_pool::stays::Stays;
 use model_steps::{Refusal, View};
+use text_player::Service;
 
 /// The number of no connection. It keeps a stay that may have begun, though no connection may be answered so.
 pub const NOBODY: u64 = 0;

@@ -11,12 +11,12 @@ ghost use Rattle.service_loop.specs.ConnectionBuffers.{goes_on_in_line, IsFull, 
 ghost use Rattle.service_loop.specs.Waiting.{has_room, is_at_line, is_prefix_of, waiting_query, waiting_taking, waits_for_more};
 
 use crate::asking::{before_query, first_query, first_taking, is_prefix_of};
+use crate::terms::Query;
 use model_asked::WorldKind;
-use text_lines::held::HeldQuery;
-use text_player::{AsReplies, Replies, Responder, Service, TURN_ROOM};
+use model_steps::{NoMemory, View};
 use std::alloc::Allocator;
 use std::marker::Model;
-use model_steps::{NoMemory, View};
+use text_player::{AsReplies, Replies, Responder, Service, TURN_ROOM};
 
 /// No more bytes of replies wait to be sent. Where there is no room for one reply more, no line is taken.
 pub const UNSENT_ROOM: usize = 65_536;
@@ -175,8 +175,8 @@ impl<A: Allocator> Buffers<A> {
         self.is_at_line() && is_prefix_of(&self.inbox)
     }
 
-    /// What is asked by the line that waits first, where that asks who holds numbers, and how many bytes the line has with its LF.
-    pub fn query(&self) -> Option<(HeldQuery, usize)>
+    /// What is asked by the line that waits first, where that asks who holds numbers or the terms, and how many bytes the line has with its LF.
+    pub fn query(&self) -> Option<(Query, usize)>
         ensures exact { result ≡ waiting_query self.now }
         ensures asks { IfSome result (λ r. IsQueryOf self.now.inbox r.0 r.1) }
     {
@@ -234,7 +234,7 @@ impl<A: Allocator> Buffers<A> {
     }
 
     /// Takes lines of what waits and of these bytes, which came behind it, as long as there is room for one reply more, up to a line that
-    /// asks who holds numbers or takes one; where they are the last that come, that one too. The rest waits. Where memory is refused it is at fault.
+    /// asks who holds numbers or takes one; where they are the last that come, past that too. The rest waits. Where memory is refused it is at fault.
     pub fn take<R, D: Service<R>, B: Allocator>(
         &mut self,
         rt: &R,
@@ -266,25 +266,12 @@ impl<A: Allocator> Buffers<A> {
         self.note_taken(taken);
     }
 
-    /// Takes the end of what comes, before which nothing waits to be taken.
-    pub fn finish<R, D: Service<R>, B: Allocator>(
-        &mut self,
-        rt: &R,
-        service: &mut D,
-        view: &mut View,
-        replies: &mut Replies<B>,
-    )
-        requires knows { Knows D.knows self.old.responder.kind }
-        requires whole { self.old.broken ≡ false }
-        requires none { self.old.inbox ≡ [] }
-        requires room { length self.old.outbox + TURN_ROOM ≤ UNSENT_ROOM }
-        requires count { self.old.responder.summary.lines ≤ MOST_LINES }
-        requires empty { replies.old ≡ [] }
-        ensures takes { (turns : List Turn) × Runs D.may service.old turns service.new × Takes turns [] true self.old self.new }
-        ensures empty { replies.new ≡ [] }
+    /// Takes the end of what comes, before which nothing waits to be taken. A line that no LF has ended is not answered: it may be the first part of
+    /// another, as of a client that was cut off.
+    pub fn finish(&mut self)
+        requires { self.old.inbox ≡ [] }
+        ensures { Takes [] [] true self.old self.new }
     {
-        self.responder.finish(rt, service, view, replies);
-        self.hold(replies);
         self.ended = true;
     }
 

@@ -12,6 +12,7 @@ ghost use Rattle.service_loop.specs.SharedBuffers.{AreShared};
 ghost use Rattle.service_loop.specs.Reported.{asks_of, holds_of, more_of, requests_seen, IsSameGrant};
 ghost use Rattle.text_lines.specs.declared.held.query.TheConstants.{QUERY_MAX};
 ghost use Rattle.service_loop.specs.Asking.{MayAnswer, MayAsk};
+ghost use Rattle.service_loop.specs.Queries.{query_text};
 ghost use Rattle.service_loop.specs.ConnectionBuffers.{is_done, CanSend, CanTake, HasTakenAll, SomeTaken, Takes, TakesEnd, TakesPeeked, SendsTo};
 ghost use Rattle.service_loop.specs.Gathering.{GathersOf};
 ghost use Rattle.service_loop.specs.Taking.{MayTakeNumber};
@@ -25,12 +26,13 @@ use crate::persist::Persist;
 use crate::shared::{READ_ROOM, SharedBuffers};
 use crate::stream::Stream;
 use crate::taking::say_taking;
-use text_lines::print_reply;
+use crate::terms::{Query, Terms, put_answer};
 use model_asked::WorldKind;
-use text_lines::held::QUERY_MAX;
-use text_player::{Service, TURN_ROOM};
 use std::alloc::Allocator;
 use std::io::{self, ErrorKind};
+use text_lines::held::QUERY_MAX;
+use text_lines::print_reply;
+use text_player::{Service, TURN_ROOM};
 
 /// So many bytes are read at most, behind the beginning of a line that may ask who holds numbers, or take one.
 const MOST_READ: usize = READ_ROOM - QUERY_MAX;
@@ -220,44 +222,31 @@ impl<S: Stream, A: Allocator> Connection<S, A> {
             &mut shared.replies,
         );
         if peek.ends && self.may_read() {
-            self.take_end(rt, service, shared);
+            self.take_end(shared);
         }
     }
 
     // Takes the end, which was read before: a stream that was at its end tells it again. One that gives more is at fault.
-    fn take_end<R, D: Service<R>, B: Allocator>(
-        &mut self,
-        rt: &R,
-        service: &mut D,
-        shared: &mut SharedBuffers<B>,
-    )
-        requires knows { (q : Request) → D.knows q ≡ true }
+    fn take_end<B: Allocator>(&mut self, shared: &mut SharedBuffers<B>)
         requires whole { self.old.buffers.broken ≡ false }
         requires none { self.old.buffers.inbox ≡ [] }
-        requires reply { length self.old.buffers.outbox + TURN_ROOM ≤ UNSENT_ROOM }
-        requires count { self.old.buffers.responder.summary.lines ≤ MOST_LINES }
         requires room { AreShared shared.old }
-        ensures takes { (turns : List Turn) × Runs D.may service.old turns service.new ×
-            TakesEnd turns (S.left self.old.stream) self.old.buffers (S.left self.new.stream) self.new.buffers }
+        ensures takes { TakesEnd (S.left self.old.stream) self.old.buffers (S.left self.new.stream) self.new.buffers }
         ensures unsent { S.gone self.new.stream ≡ S.gone self.old.stream }
         ensures stage { self.new.stage ≡ self.old.stage }
         ensures room { AreShared shared.new }
     {
         match read_into(&mut self.stream, shared, READ_ROOM) {
-            Ok(0) => self
-                .buffers
-                .finish(rt, service, &mut shared.view, &mut shared.replies),
+            Ok(0) => self.buffers.finish(),
             Ok(_) => self.buffers.fail(),
             Err(fault) => note_fault(&fault, &mut self.readable, &mut self.buffers),
         }
     }
 
-    // Whether all that came is taken, and there is room for a reply to the end.
+    // Whether all that came is taken, and more may be.
     fn may_read(&self) -> bool
         ensures whole { IsTrue result → self.now.buffers.broken ≡ false }
         ensures none { IsTrue result → self.now.buffers.inbox ≡ [] }
-        ensures reply { IsTrue result → length self.now.buffers.outbox + TURN_ROOM ≤ UNSENT_ROOM }
-        ensures count { IsTrue result → self.now.buffers.responder.summary.lines ≤ MOST_LINES }
     {
         self.may_take() && !self.buffers.has_input()
     }
@@ -453,40 +442,42 @@ impl<S: Stream, A: Allocator> Connection<S, A> {
                 &mut shared.replies,
             );
         } else {
-            self.buffers
-                .finish(rt, service, &mut shared.view, &mut shared.replies);
+            self.buffers.finish();
         }
     }
 
-    /// Answers the line that waits first, where that asks who holds numbers and there is room: where the service prefetches its answers, only
-    /// if the line was looked at. The persister tells who holds them.
+    /// Answers the line that waits first, where that asks who holds numbers or the terms and there is room. Who holds numbers the persister tells:
+    /// where the service prefetches its answers, only if the line was looked at.
     pub fn answer<D, K: Persist<D>, B: Allocator>(
         &mut self,
         service: &D,
         persister: &K,
+        terms: Terms,
         shared: &mut SharedBuffers<B>,
     )
         requires room { AreShared shared.old }
-        ensures answers { MayAnswer (K.holds persister.now service.now) self.old.buffers self.new.buffers }
+        ensures answers { MayAnswer (query_text terms (K.holds persister.now service.now)) self.old.buffers self.new.buffers }
         ensures stream { self.new.stream ≡ self.old.stream }
         ensures stage { self.new.stage ≡ Stage.Taken }
         ensures room { AreShared shared.new }
     {
         self.stage = Stage::Taken;
-        if !self.may_take() || !self.may_ask() {
+        if !self.may_take() {
             return;
         }
         if let Some((query, count)) = self.buffers.query() {
-            persister.put_held(service, query, &mut shared.replies);
-            self.buffers.answer(count, &mut shared.replies);
+            if self.may_ask(query) {
+                put_answer(service, persister, terms, query, &mut shared.replies);
+                self.buffers.answer(count, &mut shared.replies);
+            }
         }
     }
 
-    // Whether a line that asks who holds numbers may be answered in this turn.
-    fn may_ask(&self) -> bool {
-        match self.peek {
-            Some(peek) => peek.holds,
-            None => true,
+    // Whether a line that asks this may be answered in this turn: who holds numbers only where all is known that was kept before.
+    fn may_ask(&self, query: Query) -> bool {
+        match (self.peek, query) {
+            (Some(peek), Query::Holders(_)) => peek.holds,
+            _ => true,
         }
     }
 

@@ -1,9 +1,9 @@
 //! The listeners for clients, and who waits there.
 
 use crate::socket::Socket;
-use service_watch::listeners::LocalListener;
 use mio::net::TcpListener;
 use mio::{Interest, Poll, Token};
+use service_watch::listeners::LocalListener;
 use std::io;
 use std::io::ErrorKind;
 use std::net::SocketAddr;

@@ -20,8 +20,8 @@ use crate::shared::SharedBuffers;
 use crate::stream::Stream;
 use crate::turns::{number_at, send_replies};
 use model_asked::WorldKind;
-use text_player::Service;
 use std::alloc::Allocator;
+use text_player::Service;
 
 /// What goes to a persister before a turn takes it.
 #[derive(Drop)]

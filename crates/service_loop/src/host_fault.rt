@@ -1,8 +1,8 @@
 //! Why a server did not come to its end.
 
+use model_steps::NoMemory;
 use std::alloc::{AllocError, AllocFailed};
 use std::io::{self, ErrorKind};
-use model_steps::NoMemory;
 
 /// Why a host did not come to its end. A fault of one connection is none of these.
 #[derive(Debug, Drop)]

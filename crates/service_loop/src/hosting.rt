@@ -18,22 +18,23 @@ use crate::shared::SharedBuffers;
 use crate::socket::Socket;
 use crate::taking::{prefetch_takings, serve_takings};
 use crate::teller::Teller;
+use crate::terms::Terms;
 use crate::turns::iterate;
 use crate::watching::{LoopNumbers, Watch};
-use model_asked::WorldKind;
-use service_watch::listeners::Listeners;
-use service_watch::Scrapers;
 use mio::event::Event;
 use mio::net::TcpListener;
 use mio::unix::SourceFd;
 use mio::{Events, Interest, Poll, Token};
-use text_player::Service;
+use model_asked::WorldKind;
+use service_watch::Scrapers;
+use service_watch::listeners::Listeners;
 use std::alloc::{AllocError, Global};
 use std::io::{self, Write};
 use std::net::Net;
 use std::rt::Clock;
 use std::sync::Wait;
 use std::time::{Duration, Instant};
+use text_player::Service;
 
 /// The token of standard input; no seat has it.
 const STOPPER: Token = Token((1 << 60) + 1);
@@ -64,6 +65,18 @@ pub struct HostOptions {
     pub grace: Option<u64>,
     /// Whether a line at first and then one a minute tells how much there is.
     pub reports: bool,
+}
+
+impl HostOptions {
+    // What a client is told that asks for the terms.
+    fn terms(&self) -> Terms
+        ensures { (result.grace ≡ self.now.grace) × (result.idle ≡ self.now.idle) }
+    {
+        Terms {
+            grace: self.grace,
+            idle: self.idle,
+        }
+    }
 }
 
 /// What was served.
@@ -530,7 +543,7 @@ impl Hosting {
         }
     }
 
-    // Answers who asks who holds numbers.
+    // Answers who asks who holds numbers, or the terms.
     fn answer<D, K: Persist<D>>(
         &mut self,
         service: &D,
@@ -545,9 +558,10 @@ impl Hosting {
             return;
         }
         if let Called::Served(count) = called {
+            let terms = self.options.terms();
             let ConnectionTable { seats, ready, .. } = &mut self.connections;
             let few = count.min(ready.len());
-            answer_queries(service, persister, shared, seats, &ready[..few]);
+            answer_queries(service, persister, terms, shared, seats, &ready[..few]);
         }
     }
 

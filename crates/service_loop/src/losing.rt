@@ -7,8 +7,8 @@ ghost use Rattle.service_loop.specs.Attending.{Hears};
 ghost use Rattle.service_loop.specs.Losing.{entered_by, enters, lost_act, lost_acts};
 
 use crate::attended::Attended;
-use model_asked::{Command, Event, WorldKind};
 use memchr::memchr;
+use model_asked::{Command, Event, WorldKind};
 use text_player::parse_line;
 
 /// What ends a line.

@@ -1,17 +1,17 @@
 //! What is seen of a connection's lines before its turn takes them.
 
 ghost use Rattle.std.specs.Prelude.{◌≡◌, ◌++◌, ◌≤◌, ◌-◌, ◌↔◌, List, ℕ, true, false, [], ◌∷◌, length, take, drop, IfOk, IsTrue};
-ghost use Rattle.text_lines.specs.Lines.{has_no_lf, unless_empty, with_ends};
+ghost use Rattle.text_lines.specs.Lines.{has_no_lf, with_ends};
 ghost use Rattle.service_loop.specs.declared.peek.TheConstants.{REQUEST_ROOM};
 ghost use Rattle.service_loop.specs.Reported.{requests, behind, requests_in, takes_any, HasPeeked};
 
 use crate::asking::is_own;
 use crate::buffers::UNSENT_ROOM;
-use model_asked::{Command, Event, WorldKind};
-use text_lines::held::held_query;
 use memchr::memchr;
-use text_player::{REPLY_ROOM, TURN_ROOM, parse_line};
+use model_asked::{Command, Event, WorldKind};
 use std::alloc::{AllocError, Allocator};
+use text_lines::held::held_query;
+use text_player::{REPLY_ROOM, TURN_ROOM, parse_line};
 
 /// What ends a line.
 const LF: u8 = 10;
@@ -163,7 +163,7 @@ impl Peek {
     }
 
     /// Looks at what waits, as far as there is room, and up to a line that the server answers by itself: the next turn takes its whole lines, and the
-    /// requests of those are added to the batch.
+    /// requests of those are added to the batch. What no LF ends asks for nothing, at the end of what comes neither.
     pub fn peek_over<B: Allocator>(
         &mut self,
         bytes: &[u8],
@@ -171,9 +171,9 @@ impl Peek {
         batch: &mut Vec<u8, B>,
     ) -> Result<(), AllocError>
         ensures reported { IfOk result (λ done.
-            batch.new.items ≡ batch.old.items ++ with_ends (requests_in limits.old.kind self.old.long (take self.new.bytes bytes.now) self.new.ends)) }
+            batch.new.items ≡ batch.old.items ++ with_ends (requests_in limits.old.kind self.old.long (take self.new.bytes bytes.now))) }
         ensures asks { IfOk result (λ done. self.new.asks ≡ false →
-            (self.old.asks ≡ false) × (requests_in limits.old.kind self.old.long (take self.new.bytes bytes.now) self.new.ends ≡ [])) }
+            (self.old.asks ≡ false) × (requests_in limits.old.kind self.old.long (take self.new.bytes bytes.now) ≡ [])) }
         ensures long { self.new.long ≡ self.old.long }
         ensures kept { (more : List ℕ) × (batch.new.items ≡ batch.old.items ++ more) }
     {
@@ -183,11 +183,11 @@ impl Peek {
             return Ok(());
         }
         self.more = false;
-        if self.at_end {
-            self.peek_end(bytes, limits, batch)?;
-        } else if MOST_WAITING <= bytes.len() && self.bytes == 0 {
+        let ends = self.at_end;
+        if ends || (MOST_WAITING <= bytes.len() && self.bytes == 0) {
             self.bytes = bytes.len();
             self.goes_on = true;
+            self.ends = ends;
         }
         Ok(())
     }
@@ -232,32 +232,6 @@ impl Peek {
             }
         }
         Ok(false)
-    }
-
-    // Looks at the end, before which what no LF ends is a line too.
-    fn peek_end<B: Allocator>(
-        &mut self,
-        bytes: &[u8],
-        limits: &mut Limits,
-        batch: &mut Vec<u8, B>,
-    ) -> Result<(), AllocError>
-        requires { self.old.bytes ≤ length bytes.now }
-        ensures reported { IfOk result (λ done. batch.new.items ≡ batch.old.items ++
-            with_ends (requests limits.old.kind (behind self.old.goes_on (unless_empty (drop self.old.bytes bytes.now))))) }
-        ensures asks { IfOk result (λ done. self.new.asks ≡ false →
-            (self.old.asks ≡ false) × (requests limits.old.kind (behind self.old.goes_on (unless_empty (drop self.old.bytes bytes.now))) ≡ [])) }
-        ensures end { IfOk result (λ done. (self.new.bytes ≡ length bytes.now) × (self.new.ends ≡ true)) }
-        ensures long { self.new.long ≡ self.old.long }
-        ensures kept { (more : List ℕ) × (batch.new.items ≡ batch.old.items ++ more) }
-    {
-        let rest = &bytes[self.bytes..];
-        self.bytes = bytes.len();
-        self.ends = true;
-        if rest.is_empty() {
-            return Ok(());
-        }
-        self.take_line(rest, limits, batch)?;
-        Ok(())
     }
 
     // One line more is taken: a request is added to the batch. Says whether to look on.

@@ -7,10 +7,10 @@ ghost use Rattle.model_pool.specs.slots.SlotsState.{SlotsState};
 ghost use Rattle.text_lines.specs.held.Held.{held_text};
 ghost use Rattle.text_lines.specs.declared.held.telling.TheConstants.{HELD_ROOM};
 
-use text_lines::{HELD_REPLIES, Replies};
 use service_watch::durations::DurationHistogram;
-use text_lines::held::{HELD_ROOM, HeldQuery};
 use std::alloc::Allocator;
+use text_lines::held::{HELD_ROOM, HeldQuery};
+use text_lines::{HELD_REPLIES, Replies};
 
 /// What a service and its persister tell of themselves to whoever looks on. What does not apply there, or is not known, is none.
 #[derive(Clone, Copy, Debug, Drop, PartialEq, Eq)]

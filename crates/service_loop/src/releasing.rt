@@ -14,11 +14,11 @@ ghost use Rattle.model_pool.specs.stays.Stays.{all_due};
 use crate::attended::Attended;
 use crate::host_fault::HostFault;
 use crate::persist::Persist;
-use model_pool::MOST_NUMBERS;
 use model_asked::{Event, Reply};
-use text_player::Service;
-use std::alloc::Global;
+use model_pool::MOST_NUMBERS;
 use model_steps::{Refusal, View};
+use std::alloc::Global;
+use text_player::Service;
 
 // Whether a `probe` was missed, by the reply to it.
 fn is_missed(reply: &Reply<()>) -> bool

@@ -4,9 +4,9 @@ ghost use Rattle.std.specs.Prelude.{◌≡◌, ◌≤◌, ◌||◌, IfOk, false}
 ghost use Rattle.service_loop.specs.SharedBuffers.{AreShared};
 ghost use Rattle.service_loop.specs.declared.shared.TheConstants.{LEAST_READ, READ_ROOM};
 
-use text_player::Replies;
-use std::alloc::Allocator;
 use model_steps::{NoMemory, View};
+use std::alloc::Allocator;
+use text_player::Replies;
 
 /// The most bytes that are read of a connection in a turn.
 pub const READ_ROOM: usize = 65_536;

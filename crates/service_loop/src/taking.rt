@@ -23,12 +23,12 @@ use crate::persist::{Persist, Prefetch};
 use crate::shared::SharedBuffers;
 use crate::stream::Stream;
 use crate::turns::{number_at, send_replies};
-use model_pool::MOST_NUMBERS;
-use text_lines::{Replies, print_event};
 use model_asked::{Event, Reply};
-use text_player::Service;
-use std::alloc::{AllocError, Allocator};
+use model_pool::MOST_NUMBERS;
 use model_steps::View;
+use std::alloc::{AllocError, Allocator};
+use text_lines::{Replies, print_event};
+use text_player::Service;
 
 /// What ends a line.
 const LF: u8 = 10;

@@ -13,8 +13,8 @@ use crate::connection::{Connection, Stage};
 use crate::persist::Persist;
 use crate::shared::SharedBuffers;
 use crate::stream::Stream;
-use text_player::Service;
 use std::alloc::Allocator;
+use text_player::Service;
 
 // The number of the connection of a seat.
 pub(crate) fn number_at(numbers: &[u64], key: usize) -> u64

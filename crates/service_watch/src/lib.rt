@@ -18,9 +18,9 @@
 //! ```
 #![tactic(auto)]
 
-pub mod listeners;
-pub mod durations;
 pub mod answer;
+pub mod durations;
+pub mod listeners;
 pub mod numbers;
 pub mod page;
 pub mod request;

@@ -2,8 +2,8 @@
 
 ghost use Rattle.std.specs.Prelude.{◌≡◌, ◌++◌, codes, decimal, OnOk};
 
-use crate::numbers::Numbers;
 use crate::durations::{Bucket, DurationHistogram};
+use crate::numbers::Numbers;
 use itoa::Buffer;
 use std::alloc::AllocError;
 

@@ -12,6 +12,13 @@ use std::net::Shutdown;
 /// How many bytes are read at once.
 const READ_ROOM: usize = 2_048;
 
+/// What one is answered who is refused, since others came.
+const REFUSAL: &[u8] =
+    b"HTTP/1.1 503 Service Unavailable\r\nContent-Length: 0\r\nConnection: close\r\n\r\n";
+
+/// Whoever asked is refused behind all who did not.
+const ASKED: u64 = 1 << 62;
+
 /// The most reads in one turn, so that whoever sends much holds up nobody.
 const MOST_READS: u32 = 8;
 
@@ -71,6 +78,26 @@ impl Scraper {
     /// How many ticks it has been there.
     pub fn age(&self, tick: u64) -> u64 {
         tick.saturating_sub(self.since)
+    }
+
+    /// How soon it is refused where one more comes: the sooner, the lower. It is above 0.
+    pub fn rank(&self) -> u64 {
+        let age = self.since.saturating_add(1);
+        if self.asked.is_some() {
+            age.saturating_add(ASKED)
+        } else {
+            age
+        }
+    }
+
+    /// Answers that it is refused, as far as its stream takes that now.
+    pub fn refuse(&mut self) {
+        if self.answered {
+            return;
+        }
+        let mut stream = &self.stream;
+        let _ = stream.write(REFUSAL);
+        let _ = stream.shutdown(Shutdown::Write);
     }
 
     /// Whether it asked and has no answer.

@@ -9,11 +9,11 @@ use std::alloc::{AllocError, Global};
 use std::io::{self, ErrorKind};
 use std::net::SocketAddr;
 
-/// How many ask at once; others wait to be accepted.
-pub const MOST_SCRAPERS: usize = 8;
+/// How many ask at once. Where one more comes, another is refused, the oldest first of those that have not asked yet.
+pub const MOST_SCRAPERS: usize = 32;
 
-/// For how many ticks one may be there.
-const MOST_TICKS: u64 = 10;
+/// For how many ticks one may be there: two seconds are over then, and less than three.
+const MOST_TICKS: u64 = 3;
 
 /// The token of their listener. Those of the seats follow it.
 const LISTENER: usize = 1 << 61;
@@ -41,6 +41,14 @@ fn wants_answer(seat: &Option<Scraper>) -> bool {
     match seat {
         Some(scraper) => scraper.wants_answer(),
         None => false,
+    }
+}
+
+// How soon whoever sits there is refused where one more comes: the sooner, the lower. An empty seat comes first.
+fn rank(seat: &Option<Scraper>) -> u64 {
+    match seat {
+        Some(scraper) => scraper.rank(),
+        None => 0,
     }
 }
 
@@ -108,7 +116,7 @@ impl Scrapers {
 
     /// Whether any may go on with no word of the system.
     pub fn is_due(&self) -> bool {
-        (self.waiting && self.seats.iter().any(is_empty)) || self.seats.iter().any(is_due)
+        self.waiting || self.seats.iter().any(is_due)
     }
 
     /// Whether nobody is there.
@@ -133,10 +141,38 @@ impl Scrapers {
         }
     }
 
+    // The seat for one more: an empty one, or else that of the one who is refused.
+    fn next_seat(&self) -> usize {
+        let mut next = 0;
+        let mut lowest = u64::MAX;
+        for at in 0..self.seats.len() {
+            let rank = rank(&self.seats[at]);
+            if rank < lowest {
+                lowest = rank;
+                next = at;
+            }
+        }
+        next
+    }
+
+    // Refuses whoever sits there.
+    fn refuse(&mut self, at: usize) {
+        if let Some(seat) = self.seats.get_mut(at) {
+            if let Some(scraper) = seat {
+                scraper.refuse();
+            }
+            *seat = None;
+        }
+    }
+
     // Accepts one, if one waits. Where the system has no room for it, they wait for the next tick.
-    fn accept(&mut self, poll: &Poll, at: usize, tick: u64) {
+    fn accept(&mut self, poll: &Poll, tick: u64) {
         match self.listener.accept() {
-            Ok((stream, _)) => self.admit(poll, at, stream, tick),
+            Ok((stream, _)) => {
+                let at = self.next_seat();
+                self.refuse(at);
+                self.admit(poll, at, stream, tick);
+            }
             Err(error) => match error.kind() {
                 ErrorKind::Interrupted | ErrorKind::ConnectionAborted => {}
                 _ => self.waiting = false,
@@ -144,19 +180,17 @@ impl Scrapers {
         }
     }
 
-    // Accepts who waits, as far as there are seats.
+    // Accepts who waits, as many as there are seats.
     fn accept_all(&mut self, poll: &Poll, tick: u64) {
-        for at in 0..MOST_SCRAPERS {
+        for _ in 0..MOST_SCRAPERS {
             if !self.waiting {
                 break;
             }
-            if let Some(None) = self.seats.get(at) {
-                self.accept(poll, at, tick);
-            }
+            self.accept(poll, tick);
         }
     }
 
-    /// Accepts who waits, as far as there are seats, and reads what came of their requests.
+    /// Accepts who waits, as many as there are seats, and reads what came of their requests: so who asks waits for nobody who does not.
     pub fn read(&mut self, poll: &Poll, tick: u64) {
         self.accept_all(poll, tick);
         for seat in &mut self.seats {
@@ -177,7 +211,7 @@ impl Scrapers {
         }
     }
 
-    /// Sends what waits, as far as the streams take it now, and closes who is over or has been there for ten ticks.
+    /// Sends what waits, as far as the streams take it now, and closes who is over or has been there for two seconds.
     pub fn send(&mut self, tick: u64) {
         for seat in &mut self.seats {
             if is_left(seat, tick) {

@@ -1,5 +1,5 @@
-use crate::{Asked, Numbers, asked_by, put_answer, put_page};
 use crate::durations::DurationHistogram;
+use crate::{Asked, Numbers, asked_by, put_answer, put_page};
 use std::time::Duration;
 
 // The numbers of a server that knows nothing but what each knows.

@@ -4,7 +4,7 @@
 //! the standard output. `slotctl serve` answers the commands of connections over one hall, and `slotctl host` those of a hall
 //! that outlives it. What the words of the command line ask for is done by `program` of `tool_work`, over any reader and
 //! writer, but to race, which is `race`, to serve, which is `serve` of `service_lock::server`, and to host, which is `host_hall` of `service_host`. The status is 0
-//! where it was done and for help, 1 where a record is none of a run, 2 where the words are refused, and 3 at a fault or for
+//! where it was done and for help, 1 where a record is none of a run or a journal is not there, 2 where the words are refused, and 3 at a fault or for
 //! an allocation failure; at 2 and 3, and where a page was asked for at 1, a text on the standard error says why.
 #![tactic(auto)]
 
@@ -13,16 +13,12 @@ ghost use Rattle.std.specs.Prelude.{◌≡◌};
 mod race;
 
 use service_hall::Reads;
-use service_host::{HostFailure, HostPlan, Keeping, LogPlan, export_hall, host_hall, write_holders};
-use service_watch::listeners::{ListenPlan, SocketPlan};
-use service_lock::Opened;
-use text_player::{Fault, Tried};
-use tool_work::program::{program, report};
-use tool_work::{
-    Endpoints, Failure, Holding, Hosting, Keeping as KeepingWords, LogWords, Misuse, Outcome,
-    Serving, in_sight, may_take_long, refused,
+use service_host::{
+    HostFailure, HostPlan, Keeping, LogPlan, export_hall, host_hall, write_holders,
 };
+use service_lock::Opened;
 use service_lock::server::{Plan, ServeFault, serve};
+use service_watch::listeners::{ListenPlan, SocketPlan};
 use std::alloc::{AllocGlobal, Global};
 use std::env;
 use std::fmt::Display;
@@ -35,6 +31,12 @@ use std::rt::{Clock, Files};
 use std::sync::Wait;
 use std::sync::ledger::Blank;
 use std::thread::Threads;
+use text_player::{Fault, Tried};
+use tool_work::program::{program, report};
+use tool_work::{
+    Endpoints, Failure, Holding, Hosting, Keeping as KeepingWords, LogWords, Misuse, Outcome,
+    Serving, in_sight, may_take_long, refused,
+};
 
 // What is reported where `--etcd` names no members.
 const MEMBERS_WANTED: &str =
@@ -112,6 +114,7 @@ fn keeping_of<'a>(words: KeepingWords<'a>) -> Keeping<'a> {
     match words {
         KeepingWords::Nothing => Keeping::Nothing,
         KeepingWords::Journal(path) => Keeping::Journal(path),
+        KeepingWords::NewJournal(path) => Keeping::NewJournal(path),
         KeepingWords::Log(log) => Keeping::Log(log_plan_of(log)),
     }
 }
@@ -194,6 +197,11 @@ fn report_hosted<W: Write, E: Write>(
         }
         HostFailure::BadRecord(line) => {
             return report_judged(Failure::BadRecord(line), failure, output, errors);
+        }
+        // To start again would change neither.
+        HostFailure::Missing | HostFailure::Exists => {
+            let _ = tell(&failure, errors);
+            return 1;
         }
         HostFailure::Input => Failure::Fault(Fault::Read),
         HostFailure::Output => Failure::Fault(Fault::Write),

@@ -2,18 +2,15 @@
 
 ghost use Rattle.std.specs.Prelude.{◌≡◌, ◌<◌, ◌≤◌};
 
-use text_player::Fault;
-use tool_work::Racing;
 use rand_core::SeedableRng;
 use rand_core::utils::NextWord;
 use rand_pcg::Lcg64Xsh32;
 use std::alloc::{AllocError, Global};
 use std::io::Write;
 use std::thread::{self, Threads};
+use text_player::Fault;
+use tool_work::Racing;
 use words_names::{Dealer, FreshSeat, Names};
-
-/// The most proposals of a thread. Where one is spent, which no race has shown, its name is above the bound, and the race says so.
-const MOST_PROPOSALS: u64 = 64;
 
 /// One thread's part of a race.
 #[derive(Drop)]
@@ -31,13 +28,13 @@ struct Finish {
     accesses: u64,
 }
 
-/// A drawn identity for the thread of a number: of 64 bits, never 0, and another for each number below 32.
+/// A drawn identity for the thread of a number: of 64 bits, never 0, and another for each number below 64.
 fn draw_identity(words: &mut Lcg64Xsh32, number: u64) -> u64
-    requires { number < 16 }
+    requires { number < 64 }
 {
     let high = u64::from(words.next_word());
     let low = u64::from(words.next_word());
-    (high * 4_294_967_296 + low) / 32 * 32 + number + 1
+    (high * 4_294_967_296 + low) / 128 * 128 + number + 1
 }
 
 /// So many racers, each with a seat and an identity of its own.
@@ -49,7 +46,7 @@ fn racers_of<'a>(
     words: &mut Lcg64Xsh32,
 ) -> Result<Vec<Racer<'a>, Global>, AllocError>
     requires ours { dealer.names ≡ names.now }
-    requires few { threads ≤ 16 }
+    requires few { threads ≤ 64 }
 {
     let mut racers = Vec::new(alloc);
     for number in 0..threads {
@@ -84,7 +81,7 @@ fn are_lawful(finishes: &[Finish], threads: u64, bound: u64) -> bool {
 
 /// Writes how each thread came out of a round, and whether the names are as promised; answers whether they are.
 fn tell_round<W: Write>(finishes: &[Finish], threads: u64, output: &mut W) -> Result<bool, Fault>
-    requires few { threads ≤ 16 }
+    requires few { threads ≤ 64 }
 {
     for finish in finishes {
         let Finish {
@@ -130,7 +127,7 @@ pub fn race<T: Threads + Sync, W: Write>(
     let mut words = Lcg64Xsh32::seed_from_u64(seed);
     let mut lawful = true;
     for _ in 0..rounds {
-        let Ok((names, dealer)) = Names::new(alloc, threads, MOST_PROPOSALS) else {
+        let Ok((names, dealer)) = Names::new(alloc, threads) else {
             return Err(Fault::Memory);
         };
         let Ok(racers) = racers_of(alloc, &names, dealer, threads, &mut words) else {

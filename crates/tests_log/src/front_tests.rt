@@ -5,12 +5,12 @@ ghost use Rattle.text_player.specs.Knows.{Knows};
 
 use crate::log_doubles::Lossy;
 use model_asked::{Config, WorldKind};
-use service_hall::Hall;
 use service_follow::{HallMachine, ReplyQueue};
-use text_player::{Service, Tried, play_on};
+use service_hall::Hall;
 use service_log::{Cause, MemoryStore, Replica, Step, StoreFault};
 use std::alloc::{AllocError, Global};
 use tests_doubles::{FaultyReader, FaultyWriter};
+use text_player::{Service, Tried, play_on};
 
 /// How many steps all halls make together.
 const STEPS: usize = 900;

@@ -2,8 +2,8 @@
 
 ghost use Rattle.std.specs.Prelude.{◌≡◌, ◌%◌, ◌∷◌, length, OnOk};
 
-use service_log::etcd::Dial;
 use service_follow::Pause;
+use service_log::etcd::Dial;
 use service_log::{Machine, MemoryStore, Put, Store, StoreFault};
 use std::alloc::{AllocError, Global};
 use std::cell::{Cell, RefCell};

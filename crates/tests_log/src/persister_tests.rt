@@ -2,10 +2,10 @@
 
 use crate::front_tests::{answers, config};
 use crate::log_doubles::{Lossy, Tries};
-use service_loop::{Persist, Prefetch};
-use service_hall::Reads;
 use service_follow::{LogFault, LogPersister, Pause, ReplyQueue};
+use service_hall::Reads;
 use service_log::{MemoryStore, Store, StoreFault};
+use service_loop::{Persist, Prefetch};
 use std::alloc::Global;
 
 /// How the log of a hall of the config begins.

@@ -3,8 +3,8 @@
 use crate::front_tests::{answers, config};
 use crate::log_doubles::{HandClock, SharedLog};
 use crate::persister_tests::reported;
-use service_hall::Hall;
 use service_follow::{LogPersister, ReplyQueue};
+use service_hall::Hall;
 use service_log::{MemoryStore, Store};
 use std::alloc::{AllocError, Global};
 use std::cell::{Cell, RefCell};

@@ -4,13 +4,13 @@ ghost use Rattle.std.specs.Prelude.{None, true, ⊤, []};
 ghost use Rattle.model_asked.specs.declared.reply.Reply.TheVariants.{Ok as Accepted};
 
 use model_asked::{Command, Event, Reply, WorldKind};
+use model_steps::View;
 use service_loop::{Persist, Prefetch, Stream, Tally};
-use text_lines::held::HeldQuery;
-use text_player::{Replies, Service, parse_line};
 use std::alloc::{Allocator, Global};
 use std::io;
 use std::io::{Error, ErrorKind};
-use model_steps::View;
+use text_lines::held::HeldQuery;
+use text_player::{Replies, Service, parse_line};
 
 /// A stream that gives bytes in pieces, with a pause after each, and takes some at each write.
 #[derive(Drop)]

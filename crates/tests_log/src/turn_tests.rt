@@ -2,10 +2,10 @@
 
 use crate::turn_doubles::{Piped, Reported, Teller};
 use model_asked::WorldKind;
+use model_pool::stays::Stays;
 use service_loop::{
     Attended, Batch, Buffers, Called, Connection, SharedBuffers, Stage, iterate_prefetched,
 };
-use model_pool::stays::Stays;
 use std::alloc::{AllocError, Global};
 use std::process::Abort;
 

@@ -1,17 +1,17 @@
-//! What docs/USING.md shows: sessions of a lock, each in a thread, that post their names on a board.
+//! Sessions of a lock, each in a thread, that post their names on a board.
 
 ghost use Rattle.std.specs.Prelude.{◌≡◌, All, IfSome};
 
 use crate::opening::{Opening, opened};
 use model_asked::WorldKind;
 use service_lock::{Closed, HallLock, LockName, Session, agrees, post_name};
-use words_machine::parts::{Board, Grant, ReaderSeat};
 use std::alloc::Global;
 use std::marker::Brand;
 use std::process::Abort;
 use std::sync::Wait;
 use std::thread;
 use std::thread::Threads;
+use words_machine::parts::{Board, Grant, ReaderSeat};
 
 /// What a thread is given: a session, and a seat of the board.
 #[derive(Drop)]

@@ -22,7 +22,9 @@ fn is_replaced<D: Disk>(alloc: Global, disk: &mut D) -> bool {
 #[test]
 fn a_file_is_replaced_and_stays_locked(rt: HostRuntime) -> Result<(), Fail> {
     let _ = fs::remove_file(&rt, PATH);
-    let mut disk = FileDisk::open(&rt, PATH).map_err(|_| "not opened")?;
+    let is_missing = matches!(FileDisk::open(&rt, PATH), Err(FileFault::Missing));
+    let mut disk = FileDisk::create(&rt, PATH).map_err(|_| "not made")?;
+    let is_there_once = matches!(FileDisk::create(&rt, PATH), Err(FileFault::Exists));
     let is_replaced = is_replaced(rt.alloc(), &mut disk);
     let is_locked = matches!(FileDisk::open(&rt, PATH), Err(FileFault::InUse));
     let is_appended = disk.append(b"four\n").is_ok();
@@ -31,6 +33,6 @@ fn a_file_is_replaced_and_stays_locked(rt: HostRuntime) -> Result<(), Fail> {
         Err(_) => false,
     };
     let _ = fs::remove_file(&rt, PATH);
-    assert!(rt; is_replaced && is_locked && is_appended && is_there);
+    assert!(rt; is_missing && is_there_once && is_replaced && is_locked && is_appended && is_there);
     Ok(())
 }

@@ -5,9 +5,9 @@ use crate::journals::{
 };
 use model_asked::Event;
 use service_journal::{DiskFault, MemoryDisk, OpenFault};
-use text_checker::{Reason, Verdict};
 use std::alloc::{AllocError, Global};
 use std::test::Fail;
+use text_checker::{Reason, Verdict};
 
 /// The run, of which two events are committed at a time.
 const COMMITS: [Act; 10] = [

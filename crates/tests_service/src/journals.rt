@@ -1,11 +1,11 @@
 //! Journals on disks in memory, what is done with them, and a short run with its record.
 
 use model_asked::{Config, Event, Reply, WorldKind};
+use model_steps::{Refusal, View};
 use service_hall::{Compactor, compacted};
 use service_journal::{Journal, MOST_WAITING, MemoryDisk, OpenFault, Opened, WriteAhead};
-use text_worlds::Service;
 use std::alloc::{AllocError, Global};
-use model_steps::{Refusal, View};
+use text_worlds::Service;
 
 /// No call of such a disk fails.
 pub(crate) const ALL_CALLS: usize = 1 << 60;

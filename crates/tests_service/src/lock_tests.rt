@@ -4,13 +4,13 @@ ghost use Rattle.std.specs.Prelude.{◌≡◌};
 
 use crate::opening::{Opening, opened};
 use model_asked::{Config, Event, Reply, WorldKind};
+use model_steps::{Refusal, View};
 use service_hall::{Hall, Reads};
 use service_lock::{Act, Clerk, HallLock, LockName, Missing, Session};
 use std::alloc::Global;
 use std::marker::Brand;
 use std::process::Abort;
 use std::sync::Wait;
-use model_steps::{Refusal, View};
 
 /// A hall for one participant and one number.
 fn hall(rt: &impl Abort, alloc: Global) -> Hall {

@@ -5,11 +5,11 @@ ghost use Rattle.std.specs.Prelude.{◌≡◌, IfSome};
 use crate::opening::{Opening, opened};
 use model_asked::WorldKind;
 use service_lock::{Closed, HallLock, LockName, Session, agrees, post_name};
-use words_machine::parts::{Board, Grant, ReaderSeat};
 use std::alloc::Global;
 use std::marker::Brand;
 use std::process::Abort;
 use std::sync::Wait;
+use words_machine::parts::{Board, Grant, ReaderSeat};
 
 /// Whose name it is, by a grant, if there is one.
 fn granted(grant: Option<Grant>) -> Option<(u64, u64)> {

@@ -4,10 +4,10 @@ ghost use Rattle.std.specs.Prelude.{◌≡◌};
 
 use crate::opening::{Opening, opened};
 use model_asked::Reply;
+use model_steps::Refusal;
 use service_hall::Hall;
-use service_lock::{Clerk, HallLock, LockName};
-use text_player::{Event, WorldKind};
 use service_lock::server::{Gate, Served, serve_many};
+use service_lock::{Clerk, HallLock, LockName};
 use std::alloc::Global;
 use std::io::{Read, Write};
 use std::marker::Brand;
@@ -17,7 +17,7 @@ use std::sync::Wait;
 use std::sync::atomic::{AtomicU64, Ordering};
 use std::thread;
 use std::thread::Threads;
-use model_steps::Refusal;
+use text_player::{Event, WorldKind};
 
 /// Whether the history of a hall has just these events.
 pub(crate) fn has_just(hall: &Hall, events: &[Event]) -> bool {

@@ -5,16 +5,16 @@ ghost use Rattle.std.specs.Prelude.{◌≡◌, ◌<◌, ◌^◌};
 use crate::opening::{Opening, opened};
 use crate::server_tests::has_just;
 use model_asked::Reply;
+use model_steps::Refusal;
 use service_hall::Hall;
-use service_lock::{HallLock, LockName, ServingClerk};
-use text_player::{Config, Event, Fault, Sink, Source, Summary, Tried, WorldKind};
 use service_lock::server::serve_one;
+use service_lock::{HallLock, LockName, ServingClerk};
 use std::alloc::Global;
 use std::marker::Brand;
 use std::process::Abort;
 use std::sync::Wait;
-use model_steps::Refusal;
 use tests_doubles::{FaultyReader, FaultyWriter};
+use text_player::{Config, Event, Fault, Sink, Source, Summary, Tried, WorldKind};
 
 /// A hall for one participant and four numbers.
 fn hall_for_one(rt: &impl Abort, alloc: Global) -> Hall {

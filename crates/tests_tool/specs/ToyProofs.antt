@@ -8,12 +8,12 @@ use Rattle.text_worlds.specs.Transcripts.{AreOwnersReported}
 use Rattle.model_asked.specs.Requests.{Request}
 use Rattle.model_asked.specs.Requests.Request.{Take, OwnerOf}
 use Rattle.text_player.specs.Runs.{Runs}
-use Rattle.text_player.specs.RunProofs.{runs-cut}
+use Rattle.text_player.specs.lemmas.RunProofs.{runs-cut}
 use Rattle.tests_tool.specs.Toys.{ShelfMay, IsShelfRun}
 use Rattle.text_player.specs.Turns.{Turn, exchanges}
 use Rattle.text_player.specs.Turns.Turn.{Answered, Reported, Ended, Misread}
 use Rattle.text_worlds.specs.Visits.{knows_visits}
-use Rattle.text_worlds.specs.VisitProofs.{no_name, no_name_right, one_no_name}
+use Rattle.text_worlds.specs.lemmas.VisitProofs.{no_name, no_name_right, one_no_name}
 
 pub shelf_answers : (w : ℕ) (q : Request) → knows_visits q ≡ true → (r : ShownReply) × (u : ℕ) × ShelfMay w q r u
 shelf_answers w (Take e) known = (reply.Ok, w + 1, inl (refl, refl))

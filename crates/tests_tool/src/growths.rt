@@ -2,9 +2,9 @@
 
 use crate::playing_tests::{Case, Played, first_lines, run};
 use crate::record_tests::{put_line, put_pieces};
-use text_worlds::Fault;
 use std::alloc::Global;
 use std::process::Abort;
+use text_worlds::Fault;
 
 /// No run here makes as many growths.
 const MOST_GROWTHS: u64 = 1_000;

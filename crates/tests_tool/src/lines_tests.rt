@@ -2,8 +2,8 @@
 //! have no views but those that are well spelled.
 
 use model_asked::{Config, Event, WorldKind};
-use text_checker::{Line, Pairs, Reason, Reported, first_fault};
 use std::alloc::Global;
+use text_checker::{Line, Pairs, Reason, Reported, first_fault};
 
 /// What a step answers that saw a view of these pairs.
 fn seen(alloc: Global, pairs: &[(u64, u64)]) -> Option<Reported> {

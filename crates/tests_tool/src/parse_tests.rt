@@ -1,8 +1,8 @@
 //! What lines mean, whole and as they come byte by byte.
 
 use model_asked::Event;
-use text_worlds::{Bad, Command, LineBuffer, WorldKind, parse_line};
 use std::alloc::Global;
+use text_worlds::{Bad, Command, LineBuffer, WorldKind, parse_line};
 
 /// A line, and what it means.
 type Row = (&'static [u8], Result<Command, Bad>);

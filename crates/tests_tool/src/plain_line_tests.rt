@@ -1,9 +1,9 @@
 //! Lines that are spelled as records are written, which are read without a reader of JSON.
 
 use model_asked::WorldKind;
+use std::alloc::Global;
 use text_records::Version;
 use text_records::plain_line::plain_line;
-use std::alloc::Global;
 
 /// Lines of a record of version 2 that are read so.
 const READ: [&[u8]; 13] = [

@@ -3,13 +3,13 @@
 ghost use Rattle.std.specs.Prelude.{◌≡◌, ◌<◌, ◌^◌, true};
 
 use crate::toys::Shelf;
+use std::alloc::Global;
+use std::process::Abort;
+use tests_doubles::{FailingAllocator, FaultyReader, FaultyWriter};
 use text_worlds::{
     Config, Fault, MOST_READS, READ_BYTES, Sink, Source, Tried, World, WorldKind, play, play_in,
     record,
 };
-use std::alloc::Global;
-use std::process::Abort;
-use tests_doubles::{FailingAllocator, FaultyReader, FaultyWriter};
 
 /// A run that is played, or recorded where it is kept: what it is asked, and what is written.
 #[derive(Drop)]

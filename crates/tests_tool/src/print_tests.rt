@@ -1,9 +1,9 @@
 //! The texts of replies, and the numbers of faults. Those of bad lines are in `playing_tests`.
 
 use model_asked::Reply;
-use text_worlds::{Fault, REPLY_ROOM, Replies, print_reply};
-use std::alloc::Global;
 use model_steps::{Refusal, View};
+use std::alloc::Global;
+use text_worlds::{Fault, REPLY_ROOM, Replies, print_reply};
 
 /// Replies, most of which no run of the other integration tests has, with a view of two pairs where they have one, and their texts.
 const REPLIES: [(Reply<()>, &[u8]); 6] = [

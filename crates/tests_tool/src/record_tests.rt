@@ -2,9 +2,9 @@
 
 use crate::playing_tests::{Case, calls_fail_in_turn, config, first_lines, is_run};
 use crate::worlds_tests::{Row, spelled};
-use text_worlds::{Config, WorldKind};
 use std::alloc::{AllocError, Global};
 use std::process::Abort;
+use text_worlds::{Config, WorldKind};
 
 /// Appends these pieces.
 pub(crate) fn put_pieces(text: &mut Vec<u8>, pieces: &[&[u8]]) -> Result<(), AllocError> {

@@ -5,10 +5,10 @@ ghost use Rattle.model_asked.specs.Config.{gives_names};
 ghost use Rattle.text_checker.specs.Recorded.{events_in};
 
 use model_asked::{Config, WorldKind};
-use text_checker::{Verdict, check, law_of_recording};
-use text_worlds::{Fault, Tried, record};
 use std::alloc::Global;
 use std::process::Abort;
+use text_checker::{Verdict, check, law_of_recording};
+use text_worlds::{Fault, Tried, record};
 
 /// The verdict on the record of the run of an input: `Yes` where it asks for at most a million events and memory is given.
 fn checked_record(alloc: Global, config: Config, input: &[u8]) -> Result<Verdict, Fault>

@@ -4,15 +4,15 @@ ghost use Rattle.std.specs.Prelude.{ℕ, ◌≡◌};
 ghost use Rattle.std.proofs.Common.{refl};
 ghost use Rattle.model_asked.specs.Config.{is_kind};
 ghost use Rattle.model_asked.specs.declared.kind.WorldKind.TheVariants.{Splitter};
-ghost use Rattle.text_worlds.specs.VisitProofs.{kind_meant};
+ghost use Rattle.text_worlds.specs.lemmas.VisitProofs.{kind_meant};
 ghost use Rattle.tests_tool.specs.Toys.{ShelfMay, IsShelfRun};
 ghost use Rattle.tests_tool.specs.ToyProofs.{shelf_answers, shelf_lawful, shelf_tells, one_shelf_fresh, one_shelf_reply};
 ghost use Rattle.text_worlds.specs.Visits.{knows_visits};
 
 use model_asked::{Config, Event, Reply};
-use text_worlds::{Service, World};
-use std::marker::Model;
 use model_steps::{Refusal, View};
+use std::marker::Model;
+use text_worlds::{Service, World};
 
 /// Counts its events, and wants memory for each, which is refused at every third asking.
 #[derive(Drop)]

@@ -2,9 +2,9 @@
 //! program, by `tests/program`.
 
 use model_asked::WorldKind;
-use tool_work::{Ask, Endpoints, Keeping, Misuse, ask};
 use std::alloc::Global;
 use std::net::{IpAddr, Ipv4Addr, Ipv6Addr};
+use tool_work::{Ask, Endpoints, Keeping, Misuse, ask};
 
 // The words of a line; none where memory is refused.
 fn words_of<'a>(alloc: Global, line: &'a str) -> Vec<&'a str> {
@@ -90,7 +90,7 @@ fn serving(alloc: Global, line: &str) -> Option<(WorldKind, u64, u64, u64)> {
 fn is_kept(keeping: &Keeping<'_>, text: &str) -> bool {
     match keeping {
         Keeping::Nothing => text.is_empty(),
-        Keeping::Journal(path) => *path == text,
+        Keeping::Journal(path) | Keeping::NewJournal(path) => *path == text,
         Keeping::Log(log) => log.members == text,
     }
 }
@@ -151,17 +151,17 @@ fn drawings_and_servings_are_read(rt: HostRuntime) {
 
 #[test]
 fn races_are_read(rt: HostRuntime) {
-    let most = "slotctl race --threads 16 --rounds 1000000 --seed 18446744073709551615";
+    let most = "slotctl race --threads 64 --rounds 1000000 --seed 18446744073709551615";
     let reported = [
         racing(rt.alloc(), "slotctl race"),
         racing(rt.alloc(), most),
         racing(rt.alloc(), "slotctl race --threads 0"),
-        racing(rt.alloc(), "slotctl race --threads 17"),
+        racing(rt.alloc(), "slotctl race --threads 65"),
         racing(rt.alloc(), "slotctl race --rounds 1000001"),
     ];
     let due = [
         Some((4, 1, 1)),
-        Some((16, 1_000_000, u64::MAX)),
+        Some((64, 1_000_000, u64::MAX)),
         None,
         None,
         None,
@@ -179,13 +179,17 @@ fn hostings_are_read(rt: HostRuntime) {
         hosting(rt.alloc(), "slotctl host", ""),
         hosting(rt.alloc(), line, ""),
         hosting(rt.alloc(), "slotctl host --journal a/b", "a/b"),
+        hosting(rt.alloc(), "slotctl host --journal a/b --new", "a/b"),
         hosting(rt.alloc(), log, "10.0.0.1:1,10.0.0.2:1"),
+        hosting(rt.alloc(), "slotctl host --hold connection", ""),
+        hosting(rt.alloc(), "slotctl host --new", ""),
     ];
     let here = IpAddr::V4(Ipv4Addr::new(127, 0, 0, 1));
     let loopback = IpAddr::V6(Ipv6Addr::new(0, 0, 0, 0, 0, 0, 0, 1));
     let plain = Some((here, None, 10_000, 600, false));
     let verbose = Some((loopback, Some(65_535), 1_000_000, 31_536_000, true));
-    assert!(rt; reported == [plain, verbose, plain, plain]);
+    let held = Some((here, None, 10_000, 30, false));
+    assert!(rt; reported == [plain, verbose, plain, plain, plain, held, None]);
 }
 
 // What a hall is reached by, so far as the words name it.

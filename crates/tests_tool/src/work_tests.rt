@@ -4,16 +4,16 @@
 
 ghost use Rattle.std.specs.Prelude.{◌<◌, ◌^◌};
 
-use tool_work::program::program;
-use tool_work::progress::tell_until;
-use tool_work::{Outcome, may_take_long};
-use text_worlds::{Sink, Source, Tried};
 use std::alloc::Global;
 use std::io;
 use std::sync::atomic::{AtomicBool, AtomicU64, Ordering};
 use std::thread::Threads;
 use std::time::{Clock, Duration};
 use tests_doubles::{FaultyReader, FaultyWriter};
+use text_worlds::{Sink, Source, Tried};
+use tool_work::program::program;
+use tool_work::progress::tell_until;
+use tool_work::{Outcome, may_take_long};
 
 // Words, the input, how much each read gives at most and which fails, the same of the writes, the status with which the
 // program ends, or 100 where it is left to serve, and what it writes and tells on the standard error.

@@ -3,9 +3,9 @@
 use crate::growths::growths_refused_in_turn;
 use crate::playing_tests::{Case, calls_fail_in_turn, is_run};
 use crate::record_tests::record_text;
-use text_worlds::{Config, WorldKind};
 use std::alloc::{AllocError, Global};
 use std::process::Abort;
+use text_worlds::{Config, WorldKind};
 
 /// An input and what is written for it: lines, in order, each with how often it comes.
 #[derive(Drop)]

@@ -7,12 +7,12 @@
 ghost use Rattle.std.specs.Prelude.{◌<◌, ◌^◌};
 
 use model_asked::{Config, WorldKind};
-use tool_work::drawn::{draw, play_drawn};
-use text_checker::{Verdict, migrate};
-use text_worlds::{Fault, Sink, Tried};
 use std::alloc::Global;
 use std::process::Abort;
 use tests_doubles::FaultyWriter;
+use text_checker::{Verdict, migrate};
+use text_worlds::{Fault, Sink, Tried};
+use tool_work::drawn::{draw, play_drawn};
 
 /// How many bytes a writer below takes a write.
 const PIECE: usize = 3;

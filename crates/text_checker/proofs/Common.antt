@@ -12,7 +12,7 @@ pub use Rattle.model_steps.specs.Runs.{Run}
 pub use Rattle.model_steps.specs.declared.refusal.Refusal.{Refusal}
 pub use Rattle.model_steps.specs.World.{done_unless}
 pub use Rattle.model_steps.specs.SetAt.{set_at}
-pub use Rattle.model_steps.proofs.RunLemmas.{run_more, run_one, run_splits}
+pub use Rattle.model_steps.proofs.cited.RunLemmas.{run_more, run_one, run_splits}
 pub use Rattle.model_asked.specs.declared.exchange.Exchange.{Exchange}
 pub use Rattle.model_asked.specs.declared.event.Event.{Event}
 pub use Rattle.model_asked.specs.declared.config.Config.{Config}
@@ -24,10 +24,10 @@ pub use Rattle.text_player.specs.Turns.Turn.{Answered, Reported, Ended, Misread}
 pub use Rattle.model_snapshot.specs.Snapshot.{IsMoment}
 pub use Rattle.model_renaming.specs.RenameObject.{RenameTerms, RenameObject, IsRecent, ShowsSole, no_begin, no_step, ShowsConflict}
 pub use Rattle.model_renaming.specs.Reply.{StepReply}
-pub use Rattle.model_asked.specs.ConfigProofs.{few_take_part}
+pub use Rattle.model_asked.specs.lemmas.ConfigProofs.{few_take_part}
 pub use Rattle.model_pool.specs.Calls.Call.{Entered, Probed, Widened, Left}
 pub use Rattle.model_pool.specs.PoolObject.{number_in, competes}
-pub use Rattle.model_pool.proofs.PoolKeeps.{may_widen}
+pub use Rattle.model_pool.proofs.cited.PoolKeeps.{may_widen}
 pub use Rattle.model_pool.specs.slots.SlotCalls.SlotCall.{Pooled, Stored, Fetched, Extended}
 pub use Rattle.model_pool.specs.slots.Slots.{stored_reply, stored_in, IsFetched}
 pub use Rattle.text_worlds.specs.desk.DeskCalls.{DeskCall, exchange_of}
@@ -39,7 +39,7 @@ pub use Rattle.text_records.specs.Records.{record_lines, lines_left, IsRecordOf,
 pub use Rattle.text_records.specs.declared.header.Header.{Header}
 pub use Rattle.text_records.specs.RecordLine.{FindsLine, IsEventLine, IsHeaderLine}
 pub use Rattle.text_records.specs.declared.header.Version.{Version}
-pub use Rattle.text_records.proofs.written.Lines.{record_is}
+pub use Rattle.text_records.proofs.cited.written.Lines.{record_is}
 pub use Rattle.text_checker.specs.ObjectRun.{AllowsCall, after_call, IsObjectRun, DeskObject, fresh_desk_object}
 pub use Rattle.text_checker.specs.Lines.{CanFollow, after_line, AreLinesOfRun}
 pub use Rattle.text_checker.specs.declared.reason.Reason.{Reason}

@@ -7,7 +7,7 @@ use Rattle.std.proofs.Math.Pow.{pow_mono}
 use Rattle.model_steps.specs.Calls.{Call, lacked_memory}
 use Rattle.model_steps.specs.World.{begin_refusal, done_unless}
 use Rattle.model_steps.specs.Machine.{Reaches}
-use Rattle.model_steps.proofs.MachineLemmas.{call_leads_on}
+use Rattle.model_steps.proofs.cited.MachineLemmas.{call_leads_on}
 use Rattle.model_snapshot.specs.Machine.{snapshot}
 use Rattle.model_snapshot.specs.declared.client.Client.{Client}
 use Rattle.model_snapshot.specs.declared.client.SnapReply.{SnapReply}
@@ -16,21 +16,21 @@ use Rattle.model_snapshot.specs.Places.{KnownPlaces, PlacesLaws}
 use Rattle.model_snapshot.specs.SnapCalls.{SnapCall, next as snap_next, IsReply as IsSnapReply}
 use Rattle.model_snapshot.specs.SnapCalls.SnapCall.{Began as SnapBegan, Updated, Scanned, Stepped as SnapStepped}
 use Rattle.model_snapshot.specs.SnapWorld.{SnapState, place_in, ways_of, way_now, scan_refusal, update_refusal, after_snap_step}
-use Rattle.model_snapshot.proofs.Following.{reported_holds, consistent_holds}
+use Rattle.model_snapshot.proofs.cited.Following.{reported_holds, consistent_holds}
 use Rattle.model_splitter.specs.grid.Door.{IsDoorWithin}
 use Rattle.model_splitter.specs.grid.Walk as walk
-use Rattle.model_splitter.proofs.grid_lemmas.GridLaw.{grid_law}
-use Rattle.model_splitter.proofs.grid_lemmas.Numbers.{number_low}
+use Rattle.model_splitter.proofs.cited.grid.GridLaw.{grid_law}
+use Rattle.model_splitter.proofs.cited.grid.Numbers.{number_low}
 use Rattle.model_splitter.specs.tree.TreeSteps.{tree_steps}
 use Rattle.model_splitter.specs.tree.Walk as tree_walk
-use Rattle.model_splitter.proofs.tree_lemmas.nodes.TreeLaw.{tree_law}
+use Rattle.model_splitter.proofs.cited.tree.nodes.TreeLaw.{tree_law}
 use Rattle.model_renaming.specs.declared.over.grid_walker.GridWalker.{GridWalker}
 use Rattle.model_renaming.specs.declared.over.tree_walker.TreeWalker.{TreeWalker}
 use Rattle.model_renaming.specs.over.GridState.{GridState}
 use Rattle.model_renaming.specs.over.Tree.{TreeState}
-use Rattle.model_renaming.specs.over.GridProofs.{grid_laws}
+use Rattle.model_renaming.specs.lemmas.over.GridProofs.{grid_laws}
 use Rattle.model_renaming.specs.over.GridTies.{grid_places, walks_of}
-use Rattle.model_renaming.specs.over.TreeProofs.{tree_laws}
+use Rattle.model_renaming.specs.lemmas.over.TreeProofs.{tree_laws}
 use Rattle.model_renaming.specs.over.TreeTies.{tree_places, walks_of as tree_walks_of}
 use Rattle.model_renaming.specs.declared.reply.Reply.TheVariants as step
 use Rattle.model_renaming.specs.declared.round.Round.{Round}

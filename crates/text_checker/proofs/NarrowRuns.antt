@@ -10,7 +10,7 @@ use Rattle.model_renaming.specs.declared.reply.Reply.TheVariants as step
 use Rattle.model_renaming.specs.RenameObject.{RenameTerms, RenameObject, no_begin, no_step, AllowsStep}
 use Rattle.model_pool.specs.declared.probe.Probe.TheVariants as probe
 use Rattle.model_asked.specs.declared.reply.Reply.TheVariants as reply
-use Rattle.model_steps.proofs.ViewLemmas.{among_identities}
+use Rattle.model_steps.proofs.cited.ViewLemmas.{among_identities}
 use Rattle.text_checker.proofs.judges_lemmas.Views.{here, said_further}
 use Rattle.text_records.specs.Narrow.{IsNarrowEvent, AreNarrow, IsShort, IsNarrowReply, AreNarrowExchanges}
 

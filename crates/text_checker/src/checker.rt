@@ -13,13 +13,13 @@ ghost use Rattle.text_records.specs.Lines.{line};
 ghost use Rattle.text_checker.specs.Judged.{HoldsDesk, Judges, JudgesWithRoom, HasRoom, HasTaken, TakesMore, MayBegin, MayStep, MayEnter, MayProbe, MayWiden, HoldsNumber, IsDueSo};
 
 use crate::fault::Fault;
+use crate::judges::{Names, Stays};
 use crate::reason::Reason;
 use model_asked::{Config, Event};
+use model_steps::{Place, Refusal};
+use std::alloc::{AllocError, Global};
 use text_records::reported::is_step;
 use text_records::{Line, Pairs, Reported};
-use crate::judges::{Names, Stays};
-use std::alloc::{AllocError, Global};
-use model_steps::{Place, Refusal};
 
 /// The state of the objects after the lines so far: the renaming object, the pool and the slots.
 pub struct Checker {

@@ -5,8 +5,8 @@ ghost use Rattle.model_asked.specs.declared.config.Config.{Config};
 ghost use Rattle.text_records.specs.declared.line.Line.{Line};
 ghost use Rattle.text_checker.specs.Gathered.{Gathers};
 
-use text_records::Line;
 use std::alloc::AllocError;
+use text_records::Line;
 
 /// What is built of the lines that can follow those before them.
 pub trait Gather {

@@ -8,9 +8,9 @@ ghost use Rattle.text_checker.specs.Verdict.{IsSaid};
 
 use crate::row_judge::RowJudge;
 use crate::verdict::Verdict;
+use std::alloc::{AllocError, Global};
 use text_lines::words::cut;
 use text_records::read_header;
-use std::alloc::{AllocError, Global};
 
 /// How far the lines of a record are judged.
 #[derive(Drop)]

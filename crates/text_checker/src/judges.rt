@@ -31,4 +31,4 @@ pub mod stays;
 pub use firsts::Firsts;
 pub use laws::law_of_first_pairs;
 pub use names::Names;
-pub use model_pool::stays::Stays;
+pub use stays::Stays;

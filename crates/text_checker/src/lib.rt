@@ -61,11 +61,11 @@
 //! ```
 #![tactic(auto)]
 
-pub mod judges;
 pub mod checker;
 mod fault;
 pub mod gather;
 pub mod judge;
+pub mod judges;
 pub mod laws;
 pub mod lines;
 pub mod migrating;

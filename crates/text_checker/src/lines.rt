@@ -8,8 +8,8 @@ ghost use Rattle.text_checker.specs.Judged.{IsFirstFaultOrNone};
 use crate::checker::Checker;
 use crate::reason::Reason;
 use model_asked::Config;
-use text_records::Line;
 use std::alloc::{AllocError, Global};
+use text_records::Line;
 
 /// Returns the index, from 0, of the first line that cannot follow those before it, with the least reason that fits.
 ///

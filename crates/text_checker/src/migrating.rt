@@ -9,10 +9,10 @@ ghost use Rattle.text_checker.specs.Verdict.{IsSaid};
 use crate::migration::Migration;
 use crate::record::{judge_rows, opened};
 use crate::verdict::Verdict;
+use std::alloc::{AllocError, Global};
 use text_lines::put_all;
 use text_player::{Fault, Sink};
 use text_records::Text;
-use std::alloc::{AllocError, Global};
 
 /// The text of a record in version 2, or the verdict on it if that is not `Yes`.
 fn migrated(alloc: Global, bytes: &[u8]) -> Result<Result<Text, Verdict>, AllocError>

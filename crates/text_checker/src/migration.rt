@@ -4,10 +4,10 @@ ghost use Rattle.std.specs.Prelude.{◌≡◌, [], IfOk, OnOk};
 ghost use Rattle.text_checker.specs.Migrated.{first_of, proposal_of, shown_in, GoesOn, HasMigrated};
 
 use crate::gather::Gather;
-use model_asked::{Config, Event};
-use text_records::{Line, Reported, Text, put_header, put_line};
 use crate::judges::Firsts;
+use model_asked::{Config, Event};
 use std::alloc::{AllocError, Global};
+use text_records::{Line, Reported, Text, put_header, put_line};
 
 /// The lines of a record in version 2, with the first moments by which names may have been given.
 #[derive(Drop)]

@@ -11,8 +11,8 @@ ghost use Rattle.text_checker.specs.Verdict.{HasHeader, IsSaid, IsSaidOfRows, Is
 use crate::Checker;
 use crate::gather::{Gather, Nothing};
 use crate::verdict::Verdict;
-use text_records::{Header, Line, next_line, read_header, read_line};
 use std::alloc::{AllocError, Global};
+use text_records::{Header, Line, next_line, read_header, read_line};
 
 /// The number of the first line that is one too many: a header and a million lines precede it.
 pub const LINES_END: u64 = 1_000_002;

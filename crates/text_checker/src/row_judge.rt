@@ -6,8 +6,8 @@ ghost use Rattle.text_checker.specs.Stages.{HasJudged, JudgesRow};
 use crate::Checker;
 use crate::record::taken;
 use crate::verdict::Verdict;
-use text_records::Header;
 use std::alloc::{AllocError, Global};
+use text_records::Header;
 
 /// Judges the event lines of a record one by one.
 #[derive(Drop)]

@@ -8,4 +8,3 @@ mod LineLemmas
 mod QuickLemmas
 mod FrontLemmas
 mod EightDigits
-pub mod held_lemmas

@@ -2,7 +2,7 @@
 use Rattle.std.proofs.Common.{◌≡◌, ℕ, ◌+◌, ◌-◌, ◌*◌, ◌<◌, ◌≤◌, length, get_or, drop, ap, ◌∙◌, List, Some, None, arith}
 use Rattle.text_lines.proofs.Common.{nat_tests, decimal_from, if_below}
 use Rattle.std.proofs.lemmas.List.{at_drop_more, at_drop_all}
-use Rattle.text_lines.specs.NumberProofs.{decimal_from-grows}
+use Rattle.text_lines.specs.lemmas.NumberProofs.{decimal_from-grows}
 
 -- a number that does not fit with the digits so far and one more does not fit with them all
 pub too_large : (bound n : ℕ) (word : List ℕ) (i : ℕ) → i < length word → bound ≤ n * 10 + (get_or word i 0 - 48) → if_below bound (decimal_from n (drop i word)) ≡ None

@@ -6,7 +6,7 @@ use Rattle.std.proofs.lemmas.List.Folds.{list_all-append, list_all_more}
 use Rattle.std.proofs.Math.Nat.{pow-suc, pow-le-pow_right}
 use Rattle.text_lines.specs.Digits.{DigitsSoFar}
 use Rattle.text_lines.specs.Quick.{IsNumberBefore, IsCommandBefore, is_of_words, word_of_four}
-use Rattle.text_lines.specs.PieceProofs.{passes_too, lacks, pieces-cut, pieces-last}
+use Rattle.text_lines.specs.lemmas.PieceProofs.{passes_too, lacks, pieces-cut, pieces-last}
 
 -- the bytes past a prefix, as a slice gives them
 pub rest_of-slice : (bytes : List ℕ) (n : ℕ) → take (length bytes - n) (drop n bytes) ≡ drop n bytes

@@ -2,7 +2,7 @@
 use Rattle.std.proofs.Common.{◌≡◌, ℕ, ◌++◌, List, [], length, take, Option, refl, sym, ap, subst, ◌∙◌, append_assoc, length-append, arith, ◌+◌}
 use Rattle.text_lines.proofs.Common.{take-append-le, take-append-add, Appends, HasPartOf}
 use Rattle.text_lines.specs.UnderWay.{IsUnderWay}
-use Rattle.text_lines.specs.WrittenProofs.{appends_more}
+use Rattle.text_lines.specs.lemmas.WrittenProofs.{appends_more}
 
 module _ (text : List ℕ) (before : Option (List ℕ)) where
   -- what was held is written

@@ -32,10 +32,10 @@
 //! ```
 #![tactic(auto)]
 
-pub mod held;
 pub mod events;
 pub mod fault;
 pub mod front;
+pub mod held;
 pub mod laws;
 pub mod line_buffer;
 pub mod parse;
@@ -45,12 +45,12 @@ pub mod replies;
 pub mod sink;
 pub mod words;
 
-pub use model_asked::{Bad, Command, Event, Reply, WorldKind};
 pub use events::{EVENT_ROOM, print_event};
 pub use fault::Fault;
 pub use front::after_front;
 pub use laws::law_of_lines;
 pub use line_buffer::LineBuffer;
+pub use model_asked::{Bad, Command, Event, Reply, WorldKind};
 pub use parse::parse_line;
 pub use print::{REPLY_ROOM, print_bad, print_reply, print_words, put_number, put_shown, put_word};
 pub use quick::{quick_command, quick_number};

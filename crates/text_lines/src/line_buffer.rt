@@ -6,9 +6,9 @@ ghost use Rattle.text_lines.specs.Meaning.{meaning};
 
 use crate::parse::{LINE_MAX, parse_line};
 use model_asked::{Bad, Command, WorldKind};
+use model_steps::NoMemory;
 use std::alloc::Allocator;
 use std::marker::Model;
-use model_steps::NoMemory;
 
 /// A line that a reader gives byte by byte. Its room of 100 bytes is allocated once.
 ///

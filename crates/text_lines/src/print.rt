@@ -6,10 +6,10 @@ ghost use Rattle.model_asked.specs.declared.reply.Reply.TheVariants as reply;
 ghost use Rattle.text_lines.specs.Replies.{owner_words, pair_word, pair_words, view_words, reply_words, reply_text, bad_text};
 
 use crate::replies::{HELD_REPLIES, Replies};
-use model_asked::{Bad, Reply};
 use itoa::Buffer;
-use std::alloc::Allocator;
+use model_asked::{Bad, Reply};
 use model_steps::{Place, Refusal, View};
+use std::alloc::Allocator;
 
 /// The most bytes of a reply's text or of the answer to a bad line, its LF included: those of a view of 64 pairs.
 pub const REPLY_ROOM: usize = 2_692;

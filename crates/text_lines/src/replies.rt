@@ -7,9 +7,9 @@ ghost use Rattle.text_lines.specs.Written.{HasPartOf};
 
 use crate::fault::Fault;
 use crate::sink::{Sink, put_all};
+use model_steps::NoMemory;
 use std::alloc::Allocator;
 use std::marker::Model;
-use model_steps::NoMemory;
 
 /// The most bytes that are held before they are written.
 pub const HELD_REPLIES: usize = 65_536;

@@ -20,7 +20,7 @@ pub use Rattle.text_player.specs.Progress.{Progress, with_line, after_meaning, a
 pub use Rattle.text_player.specs.Turns.{Turn, answers_of, asked}
 pub use Rattle.text_player.specs.Turns.Turn.{Answered, Reported, Ended, Misread}
 pub use Rattle.text_player.specs.Runs.{Runs, CanRun}
-pub use Rattle.text_player.specs.RunProofs.{runs-append}
+pub use Rattle.text_player.specs.lemmas.RunProofs.{runs-append}
 pub use Rattle.text_player.specs.PlayerState.{PlayerState}
 pub use Rattle.text_player.specs.Stands.{Stands, StandsPart}
 pub use Rattle.text_player.specs.declared.summary.Summary.{Summary}

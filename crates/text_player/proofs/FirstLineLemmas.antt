@@ -1,8 +1,8 @@
 -- the first line of some bytes, and what a run makes of it
 use Rattle.std.proofs.Common.{◌≡◌, ℕ, ◌+◌, ◌<◌, ◌==◌, true, false, cond, not, List, [], ◌∷◌, ◌++◌, length, take, get_or, Some, Ok, Err, Result, refl, ap, ◌∙◌, arith, append_assoc, nat_lt}
-use Rattle.text_lines.specs.PieceProofs.{nowhere-lacks, passes_too}
+use Rattle.text_lines.specs.lemmas.PieceProofs.{nowhere-lacks, passes_too}
 use Rattle.text_player.proofs.Common.{list_all, append-nil, take_more, Bad, Command, WorldKind, nat_tests, and_parts, eqb-true, not-true, not_from_false, TooLong, NotPrintable, meaning, is_printable, command_in, words, Progress, with_line, after_meaning, after_line, after_bytes, has_no_lf}
-use Rattle.text_player.proofs.ProgressLemmas.{after_bytes-append}
+use Rattle.text_player.proofs.cited.ProgressLemmas.{after_bytes-append}
 use Rattle.memchr.specs.Find.{IsFirstByte, is_byte}
 
 printable-no_lf : (b : ℕ) → is_printable b ≡ true → (b == 10) ≡ false

@@ -4,7 +4,7 @@ use Rattle.text_player.proofs.Common.{map-append, Bad, Command, WorldKind, Shown
 use Rattle.model_asked.specs.declared.command.Command.TheVariants as command
 use Rattle.model_asked.specs.declared.exchange.Exchange.{Exchange}
 use Rattle.text_player.specs.Knows.{Knows, KnowsMeant}
-use Rattle.text_player.proofs.ProgressLemmas.{until_first}
+use Rattle.text_player.proofs.cited.ProgressLemmas.{until_first}
 use Rattle.model_asked.specs.Requests.Request.{Take, OwnerOf}
 
 -- each request that is asked for is known

@@ -1,8 +1,8 @@
 mod Common
-pub mod ProgressLemmas
-pub mod SaysLemmas
-pub mod StandsLemmas
 mod FirstLineLemmas
 mod GoesOnLemmas
 mod PlayedLemmas
 mod RecordedLemmas
+pub mod SaysLemmas
+pub mod StandsLemmas
+pub mod cited

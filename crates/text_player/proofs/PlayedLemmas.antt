@@ -7,9 +7,9 @@ use Rattle.text_player.specs.declared.playing.TheConstants.{MOST_READS, READ_BYT
 use Rattle.text_player.specs.Runs.{IsRunTo, CanRun}
 use Rattle.text_player.specs.Knows.{Knows}
 use Rattle.text_player.specs.Played.{Reading, Writing, IsInput, IsReported, HasRead, IsPlayed}
-use Rattle.text_player.specs.PlayedProofs.{as_played}
+use Rattle.text_player.specs.lemmas.PlayedProofs.{as_played}
 use Rattle.text_player.proofs.GoesOnLemmas.{goes_on}
-use Rattle.text_player.proofs.ProgressLemmas.{asked-whole, asked-all, asked-over, over-whole}
+use Rattle.text_player.proofs.cited.ProgressLemmas.{asked-whole, asked-all, asked-over, over-whole}
 
 -- the input, and what of it is left
 input_of : (had left : Option (List ℕ)) (got : List ℕ) → Consumes had left got → (input : List ℕ) × (more : List ℕ) × IsInput had input × (input ≡ got ++ more) × (IsAtEnd left → input ≡ got)

@@ -3,7 +3,7 @@ use Rattle.std.proofs.Common.{◌≡◌, flat_map, List, Result, Err, inl}
 use Rattle.text_player.proofs.Common.{Appends, Fault, Memory, Summary, Turn}
 use Rattle.model_asked.specs.declared.config.Config.{Config}
 use Rattle.text_player.specs.Played.{Reading, Writing, writing_from, IsPlayed}
-use Rattle.text_player.specs.PlayedProofs.{played_after, unplayed}
+use Rattle.text_player.specs.lemmas.PlayedProofs.{played_after, unplayed}
 use Rattle.text_player.specs.Recorded.{IsRecordedOn, end_of}
 use Rattle.text_player.specs.Records.{header_line, record_of, turn_record}
 

@@ -1,6 +1,6 @@
 -- where a player stands, one call after another
 use Rattle.std.proofs.Common.{◌≡◌, ℕ, List, [], ◌++◌, flat_map, Result, Option, refl, sym, ap, subst, ◌∙◌, append_assoc}
-use Rattle.text_lines.specs.WrittenProofs.{appends_more, part_after}
+use Rattle.text_lines.specs.lemmas.WrittenProofs.{appends_more, part_after}
 use Rattle.text_player.proofs.Common.{append-nil, flat_map-append, Appends, Bad, Command, WorldKind, ShownReply, Summary, Turn, answers_of, CountsAnswers, ResponderState, Progress, at_start, Request, runs-append, Says, HasPartOf}
 use Rattle.std.proofs.KnownBytes.{Appends-nil}
 use Rattle.text_player.specs.PlayerState.{PlayerState, player_of}

@@ -9,11 +9,9 @@ pub mod Progress
 pub mod ResponderState
 pub mod PlayerState
 pub mod Runs
-pub mod RunProofs
 pub mod Says
 pub mod Shared
-pub mod SharedProofs
 pub mod Stands
 pub mod Played
-pub mod PlayedProofs
 pub mod Recorded
+pub mod lemmas

@@ -6,12 +6,12 @@ ghost use Rattle.model_asked.specs.Config.{world_name};
 ghost use Rattle.text_player.specs.Records.{header_line, name_view, replied, turn_record};
 
 use crate::form::Form;
+use model_asked::{Bad, Config, Event, Reply, WorldKind};
+use model_steps::View;
+use std::alloc::Allocator;
 use text_lines::{
     HELD_REPLIES, Replies, print_event, print_words, put_number, put_shown, put_word,
 };
-use model_asked::{Bad, Config, Event, Reply, WorldKind};
-use std::alloc::Allocator;
-use model_steps::View;
 
 /// The most bytes of the first line of a record.
 pub const HEADER_ROOM: usize = 135;

@@ -3,10 +3,10 @@
 ghost use Rattle.text_player.specs.Texts.{turn_reply};
 
 use crate::form::Form;
-use text_lines::{Replies, print_bad, print_reply};
 use model_asked::{Bad, Event, Reply};
-use std::alloc::Allocator;
 use model_steps::View;
+use std::alloc::Allocator;
+use text_lines::{Replies, print_bad, print_reply};
 
 /// The form of replies: each turn has the text of its reply, or of the answer to a bad line.
 #[derive(Drop)]

@@ -6,10 +6,10 @@ ghost use Rattle.text_lines.specs.Events.{event_words};
 ghost use Rattle.text_player.specs.Turns.{Turn};
 ghost use Rattle.text_player.specs.Turns.Turn.{Answered, Reported, Ended, Misread};
 
-use text_lines::{EVENT_ROOM, HELD_REPLIES, Replies};
 use model_asked::{Bad, Event, Reply};
-use std::alloc::Allocator;
 use model_steps::View;
+use std::alloc::Allocator;
+use text_lines::{EVENT_ROOM, HELD_REPLIES, Replies};
 
 /// The most bytes of the text of a turn: a command, a reply, and a view of 64 pairs.
 pub const TURN_ROOM: usize = 5_460;

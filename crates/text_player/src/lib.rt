@@ -52,18 +52,18 @@ pub mod tried;
 
 pub use as_record::{AsRecord, HEADER_ROOM, print_header};
 pub use as_replies::AsReplies;
-pub use text_lines::{
-    EVENT_ROOM, Fault, HELD_REPLIES, LineBuffer, REPLY_ROOM, Replies, Sink, after_front,
-    law_of_lines, parse_line, print_bad, print_event, print_reply, print_words, put_number,
-    put_word, quick_command, quick_number,
-};
-pub use model_asked::{Bad, Command, Config, Event, Exchange, Reply, WorldKind};
 pub use form::{Form, TURN_ROOM};
 pub use laws::{law_of_fresh_players, law_of_limits, law_of_progress, law_of_sharing};
+pub use model_asked::{Bad, Command, Config, Event, Exchange, Reply, WorldKind};
 pub use playing::{MOST_READS, READ_BYTES, play_on};
 pub use recording::record_on;
 pub use responder::Responder;
 pub use service::Service;
 pub use source::Source;
 pub use summary::Summary;
+pub use text_lines::{
+    EVENT_ROOM, Fault, HELD_REPLIES, LineBuffer, REPLY_ROOM, Replies, Sink, after_front,
+    law_of_lines, parse_line, print_bad, print_event, print_reply, print_words, put_number,
+    put_word, quick_command, quick_number,
+};
 pub use tried::Tried;

@@ -16,11 +16,11 @@ use crate::form::{Form, TURN_ROOM};
 use crate::responder::Responder;
 use crate::service::Service;
 use crate::summary::Summary;
-use text_lines::{Fault, HELD_REPLIES, Replies, Sink};
 use model_asked::{Config, WorldKind};
+use model_steps::{NoMemory, View};
 use std::alloc::Allocator;
 use std::marker::Model;
-use model_steps::{NoMemory, View};
+use text_lines::{Fault, HELD_REPLIES, Replies, Sink};
 
 /// A run under way: one side of a transcript, with the replies that it has not written yet.
 pub struct Player<A: Allocator, F: Form> {

@@ -15,12 +15,12 @@ ghost use Rattle.text_player.specs.declared.form.TheConstants.{TURN_ROOM};
 use crate::form::{Form, TURN_ROOM};
 use crate::service::Service;
 use crate::summary::Summary;
-use text_lines::{EVENT_ROOM, HELD_REPLIES, LineBuffer, Replies, parse_line, quick_command};
-use model_asked::{Bad, Command, Event, Reply, WorldKind};
 use memchr::memchr;
+use model_asked::{Bad, Command, Event, Reply, WorldKind};
+use model_steps::{NoMemory, View};
 use std::alloc::Allocator;
 use std::marker::{Model, PhantomData};
-use model_steps::{NoMemory, View};
+use text_lines::{EVENT_ROOM, HELD_REPLIES, LineBuffer, Replies, parse_line, quick_command};
 
 /// The byte that ends a line.
 const LF: u8 = 10;

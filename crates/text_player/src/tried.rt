@@ -3,9 +3,9 @@
 ghost use Rattle.std.specs.Prelude.{◌≡◌, ◌≤◌};
 
 use crate::source::Source;
-use text_lines::Sink;
 use std::io;
 use std::io::{Read, Write};
+use text_lines::Sink;
 
 /// A reader or writer of std, with counts of its calls and of those that failed.
 ///

@@ -17,11 +17,11 @@ pub use Rattle.model_asked.specs.Config.{gives_names}
 pub use Rattle.model_asked.specs.declared.kind.WorldKind.{WorldKind}
 pub use Rattle.model_asked.specs.declared.event.Event.{Event}
 pub use Rattle.model_asked.specs.declared.event.Event.TheVariants.{Begin, Step, Enter, Probe, Leave, Put, Get, Widen}
-pub use Rattle.model_asked.specs.KindProofs.{named_apart}
+pub use Rattle.model_asked.specs.lemmas.KindProofs.{named_apart}
 pub use Rattle.model_asked.specs.Replies.{ShownReply}
 pub use Rattle.text_lines.specs.Lines.{pieces_from, pieces_left, has_no_lf, with_ends}
 pub use Rattle.text_lines.specs.Meaning.{same_bytes, is_digit, is_printable, decimal_from, number_in, command_in, words, meaning, number_below}
-pub use Rattle.text_lines.specs.PieceProofs.{pieces-cut, lacks, pieces-last}
+pub use Rattle.text_lines.specs.lemmas.PieceProofs.{pieces-cut, lacks, pieces-last}
 pub use Rattle.text_lines.specs.Replies.{reply_words}
 pub use Rattle.text_lines.specs.Events.{event_words}
 pub use Rattle.text_records.specs.declared.header.Header.{Header}

@@ -1,13 +1,11 @@
 mod Common
-mod PairLemmas
-mod WordLemmas
-mod ReportedWords
-mod JsonLemmas
-mod QuickReplies
-pub mod written
-mod Pieces
 mod Cut
+mod JsonLemmas
+mod PairLemmas
+mod Pieces
+mod QuickReplies
+mod ReportedWords
 mod Values
-pub mod Once
-pub mod Headers
-pub mod Narrow
+mod WordLemmas
+pub mod cited
+pub mod written

@@ -4,4 +4,3 @@ pub mod PlainLines
 pub mod Numbers
 pub mod Words
 pub mod Replies
-pub mod Lines

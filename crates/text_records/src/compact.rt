@@ -13,10 +13,10 @@ ghost use Rattle.text_records.specs.ReportedWords.{reported_words};
 use crate::line::Line;
 use crate::reported::Reported;
 use crate::text::Text;
-use model_asked::{Config, Event, WorldKind};
 use itoa::Buffer;
-use std::alloc::AllocError;
+use model_asked::{Config, Event, WorldKind};
 use model_steps::Place;
+use std::alloc::AllocError;
 
 /// Appends the words of the line that asks for an event.
 ///

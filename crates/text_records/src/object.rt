@@ -10,9 +10,9 @@ ghost use Rattle.text_records.specs.declared.header.Header.{Header};
 ghost use Rattle.text_records.specs.declared.header.Version.{Version};
 
 use crate::header::{Header, Version};
-use text_lines::words::is_word;
 use model_asked::{Config, WorldKind};
 use serde_json::Value;
+use text_lines::words::is_word;
 
 /// The number of keys of an object.
 fn keys(value: &Value) -> Option<usize>

@@ -11,10 +11,10 @@ use crate::line::Line;
 use crate::quick_reply::quick_reported;
 use crate::reply_text::reported_of;
 use crate::reported::Reported;
-use text_lines::words::is_word;
 use model_asked::{Event, WorldKind};
-use text_player::{Command, after_front, quick_command};
 use std::alloc::{AllocError, Global};
+use text_lines::words::is_word;
+use text_player::{Command, after_front, quick_command};
 
 /// Whether a byte stands for itself in a JSON string.
 fn is_plain(byte: u8) -> bool

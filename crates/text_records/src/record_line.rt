@@ -14,9 +14,9 @@ use crate::object::{header, texts};
 use crate::plain_line::plain_line;
 use crate::reply_text::reported_of;
 use model_asked::{Event, WorldKind};
-use text_player::{Command, parse_line};
 use serde_json::Value;
 use std::alloc::{AllocError, Global};
+use text_player::{Command, parse_line};
 
 /// The most bytes of a record's line, without its LF.
 pub const LINE_MOST: usize = 8192;

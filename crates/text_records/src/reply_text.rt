@@ -9,8 +9,8 @@ ghost use Rattle.text_records.specs.ReplyText.{pair_in, pairs_in, word_alone, ow
 use crate::header::Version;
 use crate::pairs::Pairs;
 use crate::reported::Reported;
-use text_lines::words::{cut, is_word, number, wide_number};
 use std::alloc::{AllocError, Global};
+use text_lines::words::{cut, is_word, number, wide_number};
 
 /// The pair that a word writes: an identity and a number, with a colon between them.
 fn pair(word: &[u8]) -> Option<(u64, u64)>

@@ -31,10 +31,10 @@ use Rattle.text_worlds.specs.desk.DeskState.{DeskState}
 use Rattle.text_worlds.specs.desk.DeskValue.{DeskValue}
 use Rattle.text_worlds.specs.desk.DeskValue.DeskValue.{OverGrid, OverTree}
 use Rattle.text_worlds.specs.desk.Rules.{may_by}
-use Rattle.text_worlds.proofs.desk_lemmas.DeskLaws as desk
+use Rattle.text_worlds.specs.lemmas.desk.DeskLaws as desk
 use Rattle.text_worlds.specs.DeskWorld.{DeskWorldMay, IsDeskTranscript}
 use Rattle.text_worlds.proofs.TranscriptLemmas.{desk_transcript}
-use Rattle.text_worlds.specs.IsTranscriptProofs.{is_desk_transcript}
+use Rattle.text_worlds.specs.lemmas.IsTranscriptProofs.{is_desk_transcript}
 use Rattle.text_worlds.specs.Granted.{is_of_memory, is_lack, granted}
 use Rattle.text_worlds.specs.IsTranscript.{IsTranscriptByKind}
 use Rattle.text_player.specs.Runs.{Runs, NoneRefusedGrowth}

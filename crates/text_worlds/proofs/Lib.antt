@@ -1,4 +1,5 @@
-mod TranscriptLemmas
-mod RecordedLemmas
 mod GrowthLemmas
+mod RecordedLemmas
+mod TranscriptLemmas
+pub mod cited
 pub mod desk_lemmas

@@ -7,7 +7,7 @@ use Rattle.text_worlds.specs.desk.DeskValue.{DeskValue}
 use Rattle.text_lines.specs.declared.fault.Fault.{Fault}
 use Rattle.text_lines.specs.declared.fault.Fault.TheVariants.{Memory}
 use Rattle.text_player.specs.Played.{Reading, Writing}
-use Rattle.text_player.specs.PlayedProofs.{played_weaker, unplayed}
+use Rattle.text_player.specs.lemmas.PlayedProofs.{played_weaker, unplayed}
 use Rattle.text_player.specs.Recorded.{IsRecordedOn}
 use Rattle.text_player.specs.Records.{record_of}
 use Rattle.text_player.specs.Runs.{IsRunTo, CanRun}

@@ -3,14 +3,14 @@ use Rattle.std.proofs.Common.{◌≡◌, ℕ, true, List}
 use Rattle.model_asked.specs.declared.exchange.Exchange.{Exchange}
 use Rattle.model_asked.specs.Replies.{ShownReply}
 use Rattle.model_asked.specs.Config.{gives_names}
-use Rattle.model_asked.specs.KindProofs.{where_named}
+use Rattle.model_asked.specs.lemmas.KindProofs.{where_named}
 use Rattle.text_worlds.specs.desk.Desk.{IsFreshDesk}
 use Rattle.text_worlds.specs.desk.DeskRun.{IsDeskRunOf}
 use Rattle.text_worlds.specs.desk.DeskValue.{DeskValue}
 use Rattle.model_asked.specs.declared.config.Config.{Config}
 use Rattle.model_asked.specs.declared.kind.WorldKind.{WorldKind}
 use Rattle.text_worlds.specs.DeskWorld.{DeskWorldMay}
-use Rattle.text_worlds.specs.DeskWorldProofs.{desk_lawful, desk_tells}
+use Rattle.text_worlds.specs.lemmas.DeskWorldProofs.{desk_lawful, desk_tells}
 use Rattle.text_worlds.specs.IsTranscript.{IsTranscriptByKind}
 use Rattle.model_asked.specs.Requests.{Request}
 use Rattle.text_player.specs.Runs.{Runs}

@@ -9,7 +9,7 @@ use Rattle.model_asked.specs.Replies.{ShownReply}
 use Rattle.model_asked.specs.declared.reply.Reply.TheVariants as reply
 use Rattle.text_worlds.specs.Transcripts.{IsTranscriptOf}
 use Rattle.text_player.specs.Turns.{Turn}
-use Rattle.text_worlds.specs.WorldRuns.{fits_in}
+use Rattle.text_worlds.specs.lemmas.WorldRuns.{fits_in}
 use Rattle.text_worlds.specs.Visits.{IsCallRun, VisitRules, visit_may, world_rules}
 
 -- what a step of a walk is shown as

@@ -1,15 +1,11 @@
 pub mod Granted
 pub mod OneTranscript
-pub mod OneTranscriptProofs
 pub mod Transcripts
 pub mod Visits
 pub mod SplitterWorld
 pub mod GridWorld
-pub mod VisitProofs
 pub mod DeskWorld
-pub mod DeskWorldProofs
-pub mod WorldRuns
 pub mod IsTranscript
-pub mod IsTranscriptProofs
 pub mod Recorded
 pub mod desk
+pub mod lemmas

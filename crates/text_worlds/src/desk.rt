@@ -40,6 +40,6 @@ mod outcomes;
 mod over;
 
 pub use coming::{Coming, Register};
-pub use model_asked::{Event, Exchange, Reply};
-pub use crate::desk::Desk;
+pub use desk::Desk;
 pub use laws::{law_of_desk, law_of_names};
+pub use model_asked::{Event, Exchange, Reply};

@@ -5,15 +5,15 @@ ghost use Rattle.model_asked.specs.Config.{gives_names};
 ghost use Rattle.text_worlds.specs.desk.Desk.{IsFreshDesk};
 ghost use Rattle.text_worlds.specs.desk.DeskRun.{IsDeskRunOf};
 ghost use Rattle.text_worlds.specs.DeskWorld.{DeskWorldMay};
-ghost use Rattle.text_worlds.specs.DeskWorldProofs.{desk_answers, desk_lawful, desk_tells, one_desk_fresh, one_desk_reply};
+ghost use Rattle.text_worlds.specs.lemmas.DeskWorldProofs.{desk_answers, desk_lawful, desk_tells, one_desk_fresh, one_desk_reply};
 ghost use Rattle.std.proofs.Common.{refl};
 
+use crate::desk::Desk;
 use crate::world::{Unshared, World};
 use model_asked::{Config, Event, Reply};
-use crate::desk::Desk;
-use text_player::Service;
-use std::alloc::Allocator;
 use model_steps::{Refusal, View};
+use std::alloc::Allocator;
+use text_player::Service;
 
 impl<A: Allocator + Clone> Service<Unshared> for Desk<A> {
     ghost knows = { λ q. true };

@@ -41,8 +41,10 @@ pub mod recording;
 mod splitter_world;
 pub mod world;
 
-pub use model_asked::{Bad, Command, Config, Event, Exchange, Reply, WorldKind};
 pub use laws::{law_of_growths, law_of_play, law_of_world};
+pub use model_asked::{Bad, Command, Config, Event, Exchange, Reply, WorldKind};
+pub use playing::{play, play_in};
+pub use recording::record;
 pub use text_player::{
     AsRecord, AsReplies, EVENT_ROOM, Fault, Form, HEADER_ROOM, HELD_REPLIES, LineBuffer,
     MOST_READS, READ_BYTES, REPLY_ROOM, Replies, Responder, Service, Sink, Source, Summary,
@@ -50,6 +52,4 @@ pub use text_player::{
     print_header, print_reply, print_words, put_number, put_word, quick_command, quick_number,
     record_on,
 };
-pub use playing::{play, play_in};
-pub use recording::record;
 pub use world::{Unshared, World};

@@ -9,13 +9,13 @@ ghost use Rattle.text_worlds.specs.IsTranscript.{IsTranscript};
 ghost use Rattle.text_worlds.specs.SplitterWorld.{IsSplitterTranscript};
 ghost use Rattle.text_worlds.specs.Transcripts.{IsTranscriptOf};
 
+use crate::desk::Desk;
 use crate::world::{Unshared, World};
 use model_asked::{Config, WorldKind};
-use crate::desk::Desk;
-use text_player::{Fault, Sink, Source, Summary, play_on};
 use model_splitter::SplitterWorld;
 use model_splitter::grid::GridWorld;
 use std::alloc::Allocator;
+use text_player::{Fault, Sink, Source, Summary, play_on};
 
 /// Plays the commands of a reader, one a line, in a fresh world of the configuration, and writes the replies, one a
 /// line.

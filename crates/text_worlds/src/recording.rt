@@ -5,12 +5,12 @@ ghost use Rattle.model_asked.specs.Config.{gives_names};
 ghost use Rattle.text_player.specs.Played.{reading, writing};
 ghost use Rattle.text_worlds.specs.Recorded.{IsRecorded};
 
+use crate::desk::Desk;
 use crate::playing::opened;
 use crate::world::Unshared;
 use model_asked::Config;
-use crate::desk::Desk;
-use text_player::{Fault, Sink, Source, record_on};
 use std::alloc::Allocator;
+use text_player::{Fault, Sink, Source, record_on};
 
 /// Plays the commands of a reader as `play` does, and writes the record of the run in place of the replies.
 ///

@@ -3,20 +3,20 @@
 ghost use Rattle.std.proofs.Common.{refl};
 ghost use Rattle.model_asked.specs.Config.{is_kind};
 ghost use Rattle.model_asked.specs.declared.kind.WorldKind.TheVariants.{Splitter};
-ghost use Rattle.model_splitter.proofs.SplitterTied.{splitter_proved};
+ghost use Rattle.model_splitter.proofs.cited.SplitterTied.{splitter_proved};
 ghost use Rattle.model_splitter.specs.Machine.{splitter_parts};
-ghost use Rattle.text_worlds.specs.WorldRuns.{world_lawful};
+ghost use Rattle.text_worlds.specs.lemmas.WorldRuns.{world_lawful};
 ghost use Rattle.text_worlds.specs.Visits.{visit_may, knows_visits};
-ghost use Rattle.text_worlds.specs.VisitProofs.{kind_meant, visit_answers, one_visit, visits_tell};
+ghost use Rattle.text_worlds.specs.lemmas.VisitProofs.{kind_meant, visit_answers, one_visit, visits_tell};
 ghost use Rattle.text_worlds.specs.SplitterWorld.{splitter_rules, way_reply, IsSplitterRun, splitter_fresh, one_splitter_fresh};
 
 use crate::outcomes::visit_reply;
 use crate::world::{Unshared, World};
 use model_asked::{Config, Event, Reply};
-use text_player::Service;
 use model_splitter::SplitterWorld;
-use std::alloc::Allocator;
 use model_steps::{Refusal, View};
+use std::alloc::Allocator;
+use text_player::Service;
 
 impl<A: Allocator + Clone> Service<Unshared> for SplitterWorld<A> {
     ghost knows = { knows_visits };
@@ -39,7 +39,7 @@ impl<A: Allocator + Clone> Service<Unshared> for SplitterWorld<A> {
         }
     }
 
-    #[tactic(auto, using(crate::specs::VisitProofs::no_name))]
+    #[tactic(auto, using(crate::specs::lemmas::VisitProofs::no_name))]
     fn owner(&mut self, _rt: &Unshared, _n: u64) -> Reply<View> {
         Reply::Refused(Refusal::OutOfRange)
     }
@@ -52,7 +52,7 @@ impl<A: Allocator + Clone> World<A, Unshared> for SplitterWorld<A> {
 
     ghost IsRunIn = { λ c. IsSplitterRun };
 
-    #[tactic(auto, using(model_asked::specs::KindProofs::one_kind))]
+    #[tactic(auto, using(model_asked::specs::lemmas::KindProofs::one_kind))]
     fn open(alloc: A, config: Config) -> Result<Self, Refusal> {
         SplitterWorld::new(alloc, config.m as usize)
     }

@@ -14,8 +14,8 @@ ghost use Rattle.text_player.specs.Runs.{Runs};
 ghost use Rattle.text_player.specs.Turns.{Turn, exchanges};
 
 use model_asked::Config;
-use text_player::Service;
 use model_steps::Refusal;
+use text_player::Service;
 
 /// What a splitter, a grid or a desk waits for: nothing, since one caller owns it.
 ///

@@ -5,11 +5,11 @@ use Rattle.std.specs.Str.Parse.{ParsesUnsigned, digits_value, without_leading_pl
 use Rattle.clap.specs.Words.{ReadsOne, Row, first_of, one_of}
 use Rattle.model_asked.specs.Config.{world_name}
 use Rattle.model_asked.specs.Ranges.{IsConfigRange}
-use Rattle.model_asked.specs.ConfigProofs.{few_take_part}
+use Rattle.model_asked.specs.lemmas.ConfigProofs.{few_take_part}
 use Rattle.model_steps.specs.declared.refusal.Refusal.{Refusal}
 use Rattle.model_asked.specs.declared.kind.WorldKind.{WorldKind}
 use Rattle.tool_work.specs.Asked.{HasNumber, HasWorld, IsConfigOf, IsDrawingOf, IsPlayingOf, IsRacingOf, IsServingOf, IsShowingOf, asks_flag}
-use Rattle.model_asked.specs.KindProofs.{named_apart}
+use Rattle.model_asked.specs.lemmas.KindProofs.{named_apart}
 use Rattle.tool_work.specs.Ranges.{CanBeWritten, IsDrawingRange, IsRacingRange, IsServingRange, IsShowingRange}
 
 pub unless_some : {T : Type 0} (o : Option T) (P : Type 0) (Q : T → Type 0) → o ≡ None → P → MatchOption o P Q

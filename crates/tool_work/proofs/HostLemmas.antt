@@ -1,17 +1,17 @@
 -- when no hosting has the matched options
-use Rattle.std.proofs.Common.{ap, arith, inl, inr, sym, subst, ◌≡◌, ◌∙◌, ◌<◌, ◌≤◌, ◌^◌, ℕ, List, Option, Some, None, Result, Ok, Err, ◌↔◌, Bool, MatchOption, IfSome, IsSome, codes, true, false}
+use Rattle.std.proofs.Common.{ap, arith, inl, inr, refl, sym, subst, ◌≡◌, ◌∙◌, ◌<◌, ◌≤◌, ◌^◌, ℕ, List, Option, Some, None, Result, Ok, Err, ◌↔◌, Bool, MatchOption, IfSome, IsSome, codes, true, false}
 use Rattle.tool_work.proofs.Common.{result_ok, same_Some, Row, first_of, Config, Hosting}
 use Rattle.std.specs.Borrow.{Bor}
 use Rattle.std.specs.Net.Grammar.{IsIpText, Parses}
 use Rattle.std.specs.Str.Parse.{IsNumeral, ParsesUnsigned, digits_value, without_leading_plus}
 use Rattle.std.specs.declared.net.ip_addr.IpAddr.{IpAddr}
-use Rattle.tool_work.specs.Asked.{AreEndpointsOf, HasAddress, HasMode, HasNumber, HasText, MayHavePort, IsConfigOf, IsGraceOf, IsHoldingOf, IsHostingOf, IsKeepingOf, IsLogOf, StoreReads, asks_flag, asks_log}
+use Rattle.tool_work.specs.Asked.{AreEndpointsOf, HasAddress, HasMode, HasNumber, HasText, MayHavePort, IsConfigOf, IsGraceOf, IsHoldingOf, IsHostingOf, IsIdleOf, IsKeepingOf, IsLogOf, StoreReads, asks_flag, asks_log, idle_of}
 use Rattle.tool_work.specs.Ranges.{IsHostingRange, IsModeRange}
 use Rattle.tool_work.specs.declared.asked.Endpoints.{Endpoints}
 use Rattle.tool_work.specs.declared.asked.Keeping.{Keeping}
 use Rattle.tool_work.specs.declared.asked.Holding.{Holding}
 use Rattle.tool_work.specs.declared.asked.Holding.TheVariants.{Forever, Connection}
-use Rattle.tool_work.specs.declared.asked.Keeping.TheVariants.{Nothing, Journal, Log}
+use Rattle.tool_work.specs.declared.asked.Keeping.TheVariants.{Nothing, Journal, NewJournal, Log}
 use Rattle.tool_work.specs.declared.asked.LogWords.{LogWords}
 use Rattle.tool_work.proofs.ConfigLemmas.{same_number, same_world}
 
@@ -75,26 +75,39 @@ reached rows address metrics_address port metrics path mode None has_address has
     let bad : false ≡ true = range.1 (rw alike at fits) in
     cc
 
+-- two holdings that are matched have one idle time
+same_idle_of : (rows : List Row) (a b : Holding) → IsHoldingOf rows a → IsHoldingOf rows b → idle_of a ≡ idle_of b
+same_idle_of rows Forever Forever h k = refl
+same_idle_of rows Forever (Connection g) h k = let bad : codes "forever" ≡ codes "connection" = same_Some (codes "forever") (codes "connection") (sym h.0 ∙ k.0) in absurd cc
+same_idle_of rows (Connection g) Forever h k = let bad : codes "connection" ≡ codes "forever" = same_Some (codes "connection") (codes "forever") (sym h.0 ∙ k.0) in absurd cc
+same_idle_of rows (Connection f) (Connection g) h k = refl
+
+same_idle_by : (rows : List Row) (a b : Holding) (m n : ℕ) → IsHoldingOf rows a → IsHoldingOf rows b → m < 2 ^ 64 → n < 2 ^ 64 → IsIdleOf rows a m → IsIdleOf rows b n → m ≡ n
+same_idle_by rows a b m n held held' small small' (inl h) (inl k) = same_number rows (codes "idle") m n h k
+same_idle_by rows a b m n held held' small small' (inl h) (inr k) = absurd (k.0 m small h)
+same_idle_by rows a b m n held held' small small' (inr h) (inl k) = absurd (h.0 n small' k)
+same_idle_by rows a b m n held held' small small' (inr h) (inr k) = h.1 ∙ same_idle_of rows a b held held' ∙ sym k.1
+
 -- what is made of the matched values is the hosting, where there is one
 pub hosted : (rows : List Row) (c : Config) (endpoints : Endpoints) (clients idle : ℕ) (holding : Holding) (stores : Bool) (keeping : Keeping) (verbose : Bool) (o : Option Hosting)
-    → IsConfigOf rows c → AreEndpointsOf rows endpoints → HasNumber rows (codes "clients") clients → HasNumber rows (codes "idle") idle
+    → IsConfigOf rows c → AreEndpointsOf rows endpoints → HasNumber rows (codes "clients") clients → IsIdleOf rows holding idle
     → IsHoldingOf rows holding → StoreReads rows stores → IsKeepingOf rows keeping → verbose ≡ asks_flag (codes "verbose") rows
     → IfSome o (λ h. (h.config ≡ c) × (h.clients ≡ clients) × (h.idle ≡ idle)) → IfSome o (λ h. (h.endpoints ≡ endpoints) × (h.keeping ≡ keeping) × (h.verbose ≡ verbose) × (h.holding ≡ holding) × (h.stores_reads ≡ stores))
-    → (IsSome o ↔ IsHostingRange c.world clients idle)
+    → (IsSome o ↔ IsHostingRange c.world clients idle) → idle < 2 ^ 64
     → MatchOption o ((h : Hosting) → IsHostingOf rows h → ⊥) (IsHostingOf rows)
-hosted rows c endpoints clients idle holding stores keeping verbose (Some h) config has_endpoints has_clients has_idle has_holding has_reads has_keeping asks sizes others range = record {
+hosted rows c endpoints clients idle holding stores keeping verbose (Some h) config has_endpoints has_clients has_idle has_holding has_reads has_keeping asks sizes others range small = record {
   config = subst (λ (x : Config). IsConfigOf rows x) (sym sizes.0) config;
   endpoints = subst (λ (x : Endpoints). AreEndpointsOf rows x) (sym others.0) has_endpoints;
   clients = subst (λ x. HasNumber rows (codes "clients") x) (sym sizes.1) has_clients;
-  idle = subst (λ x. HasNumber rows (codes "idle") x) (sym sizes.2) has_idle;
+  idle = subst (λ (x : Holding). IsIdleOf rows x h.idle) (sym others.3) (subst (λ (x : ℕ). IsIdleOf rows holding x) (sym sizes.2) has_idle);
   keeping = subst (λ (x : Keeping). IsKeepingOf rows x) (sym others.1) has_keeping;
   verbose = others.2 ∙ asks;
   holding = subst (λ (x : Holding). IsHoldingOf rows x) (sym others.3) has_holding;
   reads = subst (λ (x : Bool). StoreReads rows x) (sym others.4) has_reads;
 }
-hosted rows c endpoints clients idle holding stores keeping verbose None config has_endpoints has_clients has_idle has_holding has_reads has_keeping asks sizes others range = λ h is.
+hosted rows c endpoints clients idle holding stores keeping verbose None config has_endpoints has_clients has_idle has_holding has_reads has_keeping asks sizes others range small = λ h is.
     let same_clients : h.clients ≡ clients = same_number rows (codes "clients") h.clients clients is.clients has_clients in
-    let same_idle : h.idle ≡ idle = same_number rows (codes "idle") h.idle idle is.idle has_idle in
+    let same_idle : h.idle ≡ idle = same_idle_by rows h.holding holding h.idle idle is.holding has_holding (let fits = h.in_range in omega arith) small is.idle has_idle in
     let same_kind : h.config.world ≡ c.world = same_world rows h.config.world c.world is.config.world config.world in
     let fits = h.in_range in
     let bad : false ≡ true = range.1 (rw (same_clients, same_idle, same_kind) at fits) in
@@ -107,8 +120,16 @@ no_members rows none l h = let bad : None ≡ Some l.members.now = none ∙ h.me
 -- a journal and a log together are neither
 pub not_both : (rows : List Row) (path : List ℕ) → Some path ≡ first_of (codes "journal") rows → asks_log rows ≡ true → (k : Keeping) → IsKeepingOf rows k → ⊥
 not_both rows path has asks Nothing h = let bad : Some path ≡ None = has ∙ h.0 in cc
-not_both rows path has asks (Journal other) h = let bad : true ≡ false = sym asks ∙ h.1 in cc
+not_both rows path has asks (Journal other) h = let bad : true ≡ false = sym asks ∙ h.2 in cc
+not_both rows path has asks (NewJournal other) h = let bad : true ≡ false = sym asks ∙ h.2 in cc
 not_both rows path has asks (Log l) h = let bad : Some path ≡ None = has ∙ h.0 in cc
+
+-- `--new` with no journal is nothing
+pub not_new : (rows : List Row) → None ≡ first_of (codes "journal") rows → asks_flag (codes "new") rows ≡ true → (k : Keeping) → IsKeepingOf rows k → ⊥
+not_new rows none new Nothing h = let bad : true ≡ false = sym new ∙ h.1 in cc
+not_new rows none new (Journal path) h = let bad : None ≡ Some path.now = none ∙ h.0 in cc
+not_new rows none new (NewJournal path) h = let bad : None ≡ Some path.now = none ∙ h.0 in cc
+not_new rows none new (Log l) h = let bad : true ≡ false = sym new ∙ h.1 in cc
 
 -- a number outside its range is no grace time
 pub no_grace : (rows : List Row) (n : ℕ) → n < 2 ^ 64 → HasNumber rows (codes "grace") n → 86400 < n → (g : ℕ) → IsGraceOf rows g → ⊥

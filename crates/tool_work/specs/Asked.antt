@@ -21,7 +21,7 @@ use Rattle.tool_work.specs.declared.asked.Drawing.{Drawing}
 use Rattle.tool_work.specs.declared.asked.Endpoints.{Endpoints}
 use Rattle.tool_work.specs.declared.asked.Hosting.{Hosting}
 use Rattle.tool_work.specs.declared.asked.Keeping.{Keeping}
-use Rattle.tool_work.specs.declared.asked.Keeping.TheVariants.{Nothing, Journal, Log}
+use Rattle.tool_work.specs.declared.asked.Keeping.TheVariants.{Nothing, Journal, NewJournal, Log}
 use Rattle.tool_work.specs.declared.asked.Holding.{Holding}
 use Rattle.tool_work.specs.declared.asked.Holding.TheVariants.{Forever, Connection}
 use Rattle.tool_work.specs.declared.asked.LogWords.{LogWords}
@@ -123,11 +123,13 @@ pub record IsLogOf (rows : List Row) (l : LogWords) : Type 0 where
 abbrev pub asks_log : List Row → Bool
 asks_log rows = is_some (first_of (codes "etcd") rows) || is_some (first_of (codes "prefix") rows) || asks_flag (codes "export") rows
 
--- the history is kept so by the options of `host`: in a log, in a journal, or not at all, and in no two of these
+-- the history is kept so by the options of `host`: in a log, in a journal, which is new where that is asked, or not at all, and in no two of
+-- these
 abbrev pub IsKeepingOf : List Row → Keeping → Type 0
-IsKeepingOf rows Nothing = (first_of (codes "journal") rows ≡ None) × (asks_log rows ≡ false)
-IsKeepingOf rows (Journal path) = (first_of (codes "journal") rows ≡ Some path.now) × (asks_log rows ≡ false)
-IsKeepingOf rows (Log l) = (first_of (codes "journal") rows ≡ None) × IsLogOf rows l
+IsKeepingOf rows Nothing = (first_of (codes "journal") rows ≡ None) × (asks_flag (codes "new") rows ≡ false) × (asks_log rows ≡ false)
+IsKeepingOf rows (Journal path) = (first_of (codes "journal") rows ≡ Some path.now) × (asks_flag (codes "new") rows ≡ false) × (asks_log rows ≡ false)
+IsKeepingOf rows (NewJournal path) = (first_of (codes "journal") rows ≡ Some path.now) × (asks_flag (codes "new") rows ≡ true) × (asks_log rows ≡ false)
+IsKeepingOf rows (Log l) = (first_of (codes "journal") rows ≡ None) × (asks_flag (codes "new") rows ≡ false) × IsLogOf rows l
 
 -- what the options of `host` have the hall reached by: a port where one is named, a socket where a path is, and a port for those who watch where
 -- one is
@@ -152,6 +154,15 @@ abbrev pub IsHoldingOf : List Row → Holding → Type 0
 IsHoldingOf rows Forever = (first_of (codes "hold") rows ≡ Some (codes "forever")) × HasNoNumber rows (codes "grace")
 IsHoldingOf rows (Connection g) = (first_of (codes "hold") rows ≡ Some (codes "connection")) × IsGraceOf rows g
 
+-- after how many seconds a silent client is closed, where none are matched
+abbrev pub idle_of : Holding → ℕ
+idle_of Forever = 600
+idle_of (Connection g) = 30
+
+-- and by the options of `host`
+abbrev pub IsIdleOf : List Row → Holding → ℕ → Type 0
+IsIdleOf rows holding idle = HasNumber rows (codes "idle") idle ⊎ (HasNoNumber rows (codes "idle") × (idle ≡ idle_of holding))
+
 -- the history stores reads, or it does not, by the options of `host`
 abbrev pub StoreReads : List Row → Bool → Type 0
 StoreReads rows true = first_of (codes "reads") rows ≡ Some (codes "logged")
@@ -162,7 +173,7 @@ pub record IsHostingOf (rows : List Row) (h : Hosting) : Type 0 where
   pub config : IsConfigOf rows h.config
   pub endpoints : AreEndpointsOf rows h.endpoints
   pub clients : HasNumber rows (codes "clients") h.clients
-  pub idle : HasNumber rows (codes "idle") h.idle
+  pub idle : IsIdleOf rows h.holding h.idle
   pub holding : IsHoldingOf rows h.holding
   pub reads : StoreReads rows h.stores_reads
   pub keeping : IsKeepingOf rows h.keeping

@@ -108,9 +108,9 @@ draw_app = with_options (codes "draw")
     ∷ number_option (codes "runs") 0 1000 (codes "0") ∷ number_option (codes "jobs") 0 64 (codes "0")
     ∷ world_option ∷ m_option ∷ limit_option ∷ [])
 
--- `--threads NUMBER`, from 1 to 16, or 4; `--rounds NUMBER`, from 1 to 1,000,000, or 1; `--seed NUMBER`, or 1
+-- `--threads NUMBER`, from 1 to 64, or 4; `--rounds NUMBER`, from 1 to 1,000,000, or 1; `--seed NUMBER`, or 1
 abbrev pub race_app : App
-race_app = with_options (codes "race") (number_option (codes "threads") 1 16 (codes "4") ∷ number_option (codes "rounds") 1 1000000 (codes "1")
+race_app = with_options (codes "race") (number_option (codes "threads") 1 64 (codes "4") ∷ number_option (codes "rounds") 1 1000000 (codes "1")
     ∷ number_option (codes "seed") 0 18446744073709551615 (codes "1") ∷ [])
 
 -- `--workers NUMBER`, from 1 to 16, or 2; `--count NUMBER`, from 1 to 1,000,000, or 1
@@ -119,15 +119,15 @@ serve_app = with_options (codes "serve") (world_option ∷ m_option ∷ k_option
     ∷ number_option (codes "workers") 1 16 (codes "2") ∷ number_option (codes "count") 1 1000000 (codes "1") ∷ [])
 
 -- `--address ADDRESS`, or 127.0.0.1; `--port NUMBER`, of 16 bits, or none; `--unix PATH`, or none; `--mode BITS`, or 660; `--metrics NUMBER`, of 16
--- bits, or none; `--metrics-address ADDRESS`, or 127.0.0.1; `--clients NUMBER`, from 1 to 1,000,000, or 10000; `--idle NUMBER`, at most 31,536,000, or 600; `--hold
--- HOW`, or forever; `--grace NUMBER`, from 1 to 86,400, or none; `--reads HOW`, or plain; `--journal FILE`, `--etcd MEMBERS` and `--prefix NAME`, or none; `--patience NUMBER`, from 1 to 3,600, or 10
+-- bits, or none; `--metrics-address ADDRESS`, or 127.0.0.1; `--clients NUMBER`, from 1 to 1,000,000, or 10000; `--idle NUMBER`, at most 31,536,000, or none; `--hold
+-- HOW`, or forever; `--grace NUMBER`, from 1 to 86,400, or none; `--reads HOW`, or plain; `--journal FILE`, and with it `--new`; `--etcd MEMBERS` and `--prefix NAME`, or none; `--patience NUMBER`, from 1 to 3,600, or 10
 abbrev pub host_app : App
 host_app = with_options (codes "host") (world_option ∷ m_option ∷ k_option ∷ limit_option
     ∷ chosen_option (codes "address") (codes "127.0.0.1") ∷ some_number_option (codes "port") 0 65535
     ∷ text_option (codes "unix") ∷ chosen_option (codes "mode") (codes "660")
     ∷ some_number_option (codes "metrics") 0 65535 ∷ chosen_option (codes "metrics-address") (codes "127.0.0.1") ∷ number_option (codes "clients") 1 1000000 (codes "10000")
-    ∷ number_option (codes "idle") 0 31536000 (codes "600") ∷ chosen_option (codes "hold") (codes "forever") ∷ some_number_option (codes "grace") 1 86400
-    ∷ chosen_option (codes "reads") (codes "plain") ∷ text_option (codes "journal") ∷ text_option (codes "etcd") ∷ text_option (codes "prefix")
+    ∷ some_number_option (codes "idle") 0 31536000 ∷ chosen_option (codes "hold") (codes "forever") ∷ some_number_option (codes "grace") 1 86400
+    ∷ chosen_option (codes "reads") (codes "plain") ∷ text_option (codes "journal") ∷ flag (codes "new") ∷ text_option (codes "etcd") ∷ text_option (codes "prefix")
     ∷ number_option (codes "patience") 1 3600 (codes "10") ∷ flag (codes "export") ∷ flag (codes "verbose") ∷ [])
 
 -- `held` has no options

@@ -1,5 +1,5 @@
 -- what is done for the words of a command line
-use Rattle.std.specs.Prelude.{◌≡◌, ◌⊎◌, ◌<◌, Bool, true, false, ℕ, zero, suc, List, Option, Result, Ok, Err, IfOk, IfErr}
+use Rattle.std.specs.Prelude.{◌≡◌, ◌⊎◌, ◌<◌, ⊤, Bool, true, false, ℕ, zero, suc, List, Option, Result, Ok, Err, IfOk, IfErr}
 use Rattle.std.specs.Io.KnownBytes.{Appends}
 use Rattle.tool_work.specs.drawn.Runs.{HasDrawn, HasDrawnPart}
 use Rattle.tool_work.specs.drawn.Schedule.{schedule}
@@ -64,6 +64,14 @@ IsWorked Check reading writing status = IsChecked reading writing status
 IsWorked Migrate reading writing status = IsRewritten reading writing status
 IsWorked (Draw drawing) reading writing status = (reading.new ≡ reading.old) × IsDrawnBy drawing writing status
 IsWorked a reading writing status = ⊥
+
+-- this is asked for: to play, to check, to migrate or to draw
+abbrev pub IsWork : Ask → Type 0
+IsWork (Play playing) = ⊤
+IsWork Check = ⊤
+IsWork Migrate = ⊤
+IsWork (Draw drawing) = ⊤
+IsWork a = ⊥
 
 -- it is done so, and this is the outcome
 abbrev pub HasWorked : {R W : Type 0} → Ask → Reading R → Writing W → Result Outcome Failure → Type 0

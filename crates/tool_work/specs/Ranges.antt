@@ -8,9 +8,9 @@ use Rattle.model_asked.specs.Config.{gives_names}
 abbrev pub IsDrawingRange : ℕ → ℕ → ℕ → ℕ → ℕ → WorldKind → Type 0
 IsDrawingRange seed ids steps runs jobs world = (seed < 2 ^ 64) × (1 ≤ ids) × (ids ≤ 64) × (steps ≤ 1000000) × (runs ≤ 1000) × (jobs ≤ 64) × (gives_names world ≡ true)
 
--- there are 1 to 16 threads and 1 to 1,000,000 rounds, and the seed has 64 bits
+-- there are 1 to 64 threads and 1 to 1,000,000 rounds, and the seed has 64 bits
 abbrev pub IsRacingRange : ℕ → ℕ → ℕ → Type 0
-IsRacingRange threads rounds seed = (1 ≤ threads) × (threads ≤ 16) × (1 ≤ rounds) × (rounds ≤ 1000000) × (seed < 2 ^ 64)
+IsRacingRange threads rounds seed = (1 ≤ threads) × (threads ≤ 64) × (1 ≤ rounds) × (rounds ≤ 1000000) × (seed < 2 ^ 64)
 
 -- the port has 16 bits, there are 1 to 16 workers and 1 to 1,000,000 connections, and names are given in the world
 abbrev pub IsServingRange : WorldKind → ℕ → ℕ → ℕ → Type 0

@@ -126,7 +126,7 @@ impl Drawing {
 /// Threads that race for names over shared atomic words, in rounds, each with identities of its own.
 #[derive(Clone, Copy, Drop)]
 pub struct Racing {
-    /// How many threads there are, from 1 to 16.
+    /// How many threads there are, from 1 to 64.
     pub threads: u64,
     /// How many rounds, from 1 to 1,000,000.
     pub rounds: u64,
@@ -141,7 +141,7 @@ impl Racing {
         ensures values { IfSome result (λ r. (r.threads ≡ threads) × (r.rounds ≡ rounds) × (r.seed ≡ seed)) }
         ensures range { IsSome result ↔ IsRacingRange threads rounds seed }
     {
-        if threads < 1 || 16 < threads || rounds < 1 || 1_000_000 < rounds {
+        if threads < 1 || 64 < threads || rounds < 1 || 1_000_000 < rounds {
             return None;
         }
         Some(Racing {
@@ -230,8 +230,10 @@ impl<'a> LogWords<'a> {
 pub enum Keeping<'a> {
     /// Nowhere: it ends with the program.
     Nothing,
-    /// In the journal of this file.
+    /// In the journal of this file, which is there.
     Journal(&'a str),
+    /// In the journal of this file, which is to be made.
+    NewJournal(&'a str),
     /// In a log.
     Log(LogWords<'a>),
 }

@@ -5,10 +5,10 @@ ghost use Rattle.text_player.specs.Played.{reading, writing};
 ghost use Rattle.text_checker.specs.declared.verdict.Verdict.{Verdict};
 ghost use Rattle.tool_work.specs.Checked.{HasFailedRead, IsChecked, IsJudgedWhole, IsWhole, verdict_status, verdict_text};
 
+use std::alloc::{Allocator, Global};
+use text_checker::{Judge, Verdict};
 use text_lines::put_all;
 use text_player::{Fault, MOST_READS, READ_BYTES, Replies, Sink, Source, put_word};
-use text_checker::{Judge, Verdict};
-use std::alloc::{Allocator, Global};
 
 /// Returns all that the reader gives. It reads by way of `chunk`.
 ///

@@ -44,7 +44,7 @@ struct Manual {
 }
 
 // The text of `--version` behind the name.
-const VERSION: &str = "0.3, proved with rattle-kit-13f logic dac8208d650f15bf";
+const VERSION: &str = "0.4, rattle-kit-13f logic dac8208d650f15bf";
 
 // `--world NAME`, of the worlds that give names.
 const WORLD_OF_NAMES: Choice = Choice {
@@ -198,8 +198,8 @@ const RACE: Manual = Manual {
     choices: &[
         Choice {
             name: "threads",
-            takes: Takes::Number(1, 16, "4"),
-            help: "how many threads, from 1 to 16",
+            takes: Takes::Number(1, 64, "4"),
+            help: "how many threads, from 1 to 64",
         },
         Choice {
             name: "rounds",
@@ -245,7 +245,7 @@ const HOST: Manual = Manual {
     name: "host",
     about: "Hosts a hall: clients of a socket in one thread, with a journal or a log",
     examples: "Examples:
-  slotctl host --port 7070 --journal slots.record
+  slotctl host --port 7070 --journal slots.record --new
   slotctl host --unix /run/slotctl/socket --mode 660 --metrics 9470 --journal slots.record
   slotctl host --port 7070 --hold connection --grace 30
   slotctl host --port 7070 --etcd 10.0.0.1:2379,10.0.0.2:2379 --prefix slots/
@@ -292,8 +292,8 @@ const HOST: Manual = Manual {
         },
         Choice {
             name: "idle",
-            takes: Takes::Number(0, 31_536_000, "600"),
-            help: "after how many seconds a client that says nothing is closed, or 0 for never; an empty line, answered bad 3, keeps it and adds nothing",
+            takes: Takes::SomeNumber(0, 31_536_000),
+            help: "after how many seconds a client that says nothing is closed, or 0 for never; without this 30 with --hold connection, and else 600; an empty line, answered bad 3, keeps it and adds nothing",
         },
         Choice {
             name: "hold",
@@ -313,7 +313,12 @@ const HOST: Manual = Manual {
         Choice {
             name: "journal",
             takes: Takes::Text("FILE"),
-            help: "the file of the journal, made where it is missing; without one the history ends with the program",
+            help: "the file of the journal, which is there; without this the history ends with the program",
+        },
+        Choice {
+            name: "new",
+            takes: Takes::Nothing,
+            help: "makes the file of the journal, where none is: for the first start alone, since all numbers are free then",
         },
         Choice {
             name: "etcd",

@@ -6,9 +6,9 @@ ghost use Rattle.tool_work.specs.Done.{IsDrawnBy};
 
 use crate::Drawing;
 use crate::drawn::{Schedule, draw_schedule, play_drawn_by};
-use text_player::{Fault, Sink};
 use std::alloc::Global;
 use std::thread::Threads;
+use text_player::{Fault, Sink};
 
 /// Writes what is drawn, and returns 0. It is a schedule, or the lines of runs, which threads share.
 ///

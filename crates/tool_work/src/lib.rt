@@ -34,16 +34,16 @@
 //! ```
 #![tactic(auto)]
 
-pub mod page;
-pub mod drawn;
 pub mod asked;
 pub mod checking;
 pub mod command_line;
 pub mod drawing;
+pub mod drawn;
 pub mod failure;
 pub mod migrating;
 pub mod misuse;
 pub mod outcome;
+pub mod page;
 pub mod program;
 pub mod progress;
 pub mod showing;

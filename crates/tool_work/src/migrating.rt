@@ -5,10 +5,10 @@ ghost use Rattle.text_player.specs.Played.{reading, writing};
 ghost use Rattle.tool_work.specs.Checked.{IsRewritten};
 
 use crate::checking::{put_verdict, read_whole};
+use std::alloc::Global;
+use text_checker::{Verdict, migrate};
 use text_lines::put_all;
 use text_player::{Fault, READ_BYTES, Replies, Sink, Source};
-use text_checker::{Verdict, migrate};
-use std::alloc::Global;
 
 /// Reads a record to its end, and writes it again in version 2 if its verdict is `Yes`, or else the line of its verdict.
 ///

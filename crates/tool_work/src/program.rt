@@ -3,7 +3,7 @@
 ghost use Rattle.std.specs.Prelude.{◌≡◌, ◌⊎◌, ◌<◌, ◌^◌, Result, map};
 ghost use Rattle.text_player.specs.Played.{reading, writing};
 ghost use Rattle.tool_work.specs.Asked.{IsRead};
-ghost use Rattle.tool_work.specs.Done.{IsAnswered, IsDone, outcome_of};
+ghost use Rattle.tool_work.specs.Done.{IsAnswered, IsDone, IsWork, IsWorked, outcome_of};
 ghost use Rattle.tool_work.specs.declared.asked.Ask.{Ask};
 ghost use Rattle.tool_work.specs.declared.failure.Failure.{Failure};
 ghost use Rattle.tool_work.specs.declared.misuse.Misuse.{Misuse};
@@ -17,12 +17,12 @@ use crate::migrating::migrate_for;
 use crate::outcome::Outcome;
 use crate::showing::{after_showing, show_for};
 use crate::{Ask, Misuse, Playing, ask};
-use text_player::{Fault, Sink, Source};
-use text_worlds::{play, record};
 use std::alloc::Global;
 use std::convert::AsStr;
 use std::io::Write;
 use std::thread::Threads;
+use text_player::{Fault, Sink, Source};
+use text_worlds::{play, record};
 
 /// Does what the words of a command line ask for, and returns the status of the program. The first word is the program's name.
 ///
@@ -84,21 +84,54 @@ pub fn done<'a, T: Threads + Sync, S: AsStr, R: Source, W: Sink>(
         Err(misuse) => return Err(Failure::Misuse(misuse)),
     };
     match asked {
-        Ask::Play(Playing { config, recorded }) => {
-            if recorded {
-                after_run(record(alloc, input, output, config))
-            } else {
-                after_run(play(alloc, input, output, config))
-            }
-        }
-        Ask::Check => after(check_for(alloc, input, output)),
-        Ask::Migrate => after(migrate_for(alloc, input, output)),
+        Ask::Play(playing) => after(work(rt, alloc, Ask::Play(playing), input, output)),
+        Ask::Check => after(work(rt, alloc, Ask::Check, input, output)),
+        Ask::Migrate => after(work(rt, alloc, Ask::Migrate, input, output)),
         Ask::Show(showing) => after_showing(show_for(alloc, showing, input, output)),
-        Ask::Draw(drawing) => after(draw_for(rt, alloc, drawing, output)),
+        Ask::Draw(drawing) => after(work(rt, alloc, Ask::Draw(drawing), input, output)),
         Ask::Race(racing) => Ok(Outcome::Race(racing)),
         Ask::Serve(serving) => Ok(Outcome::Serve(serving)),
         Ask::Host(hosting) => Ok(Outcome::Host(hosting)),
         Ask::Held => Ok(Outcome::Held),
+    }
+}
+
+/// Plays, checks, migrates or draws over any reader and writer, as was asked for. Returns the status: 1 if a verdict is other
+/// than `Yes`, otherwise 0.
+///
+/// # Errors
+///
+/// - `Fault::Read`: the reader failed, or was read 2^40 times.
+/// - `Fault::Memory`: an allocation failed. `check`, `migrate` and `play` have written nothing then, and `play` has read nothing.
+/// - `Fault::Write`: the writer failed or took no byte. A prefix is written.
+pub fn work<'a, T: Threads + Sync, R: Source, W: Sink>(
+    rt: &T,
+    alloc: Global,
+    ask: Ask<'a>,
+    input: &mut R,
+    output: &mut W,
+) -> Result<u8, Fault>
+    requires kind { IsWork ask }
+    requires reads { R.calls input.old < 2 ^ 64 }
+    requires writes { W.calls output.old < 2 ^ 64 }
+    ensures { IsWorked ask.entry (reading R.remaining R.calls R.failed input.old input.new) (writing W.contents W.failed output.old output.new) result }
+{
+    match ask {
+        Ask::Play(Playing { config, recorded }) => {
+            if recorded {
+                status_of_run(record(alloc, input, output, config))
+            } else {
+                status_of_run(play(alloc, input, output, config))
+            }
+        }
+        Ask::Check => check_for(alloc, input, output),
+        Ask::Migrate => migrate_for(alloc, input, output),
+        Ask::Draw(drawing) => draw_for(rt, alloc, drawing, output),
+        Ask::Show(_) => unreachable!(),
+        Ask::Race(_) => unreachable!(),
+        Ask::Serve(_) => unreachable!(),
+        Ask::Host(_) => unreachable!(),
+        Ask::Held => unreachable!(),
     }
 }
 
@@ -112,13 +145,13 @@ fn after<'a>(status: Result<u8, Fault>) -> Result<Outcome<'a>, Failure>
     }
 }
 
-// Returns how the program ends once a run was played: with status 0, or by a fault.
-fn after_run<'a, T: Drop>(run: Result<T, Fault>) -> Result<Outcome<'a>, Failure>
-    ensures { result ≡ outcome_of (status_after run) }
+// Returns status 0 once a run was played, or its fault.
+fn status_of_run<T: Drop>(run: Result<T, Fault>) -> Result<u8, Fault>
+    ensures { result ≡ status_after run }
 {
     match run {
-        Ok(_) => Ok(Outcome::Ended(0)),
-        Err(fault) => Err(Failure::Fault(fault)),
+        Ok(_) => Ok(0),
+        Err(fault) => Err(fault),
     }
 }
 

@@ -8,10 +8,10 @@ use crate::Showing;
 use crate::checking::read_whole;
 use crate::failure::Failure;
 use crate::outcome::Outcome;
-use text_player::{Fault, READ_BYTES, Sink, Source};
-use text_checker::Verdict;
 use crate::page::{Stretch, show};
 use std::alloc::Global;
+use text_checker::Verdict;
+use text_player::{Fault, READ_BYTES, Sink, Source};
 
 // Returns the stretch that is asked for.
 fn stretch_asked(showing: Showing) -> Stretch

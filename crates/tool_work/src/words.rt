@@ -1,8 +1,8 @@
 //! What the words of a command line ask for.
 
-ghost use Rattle.std.specs.Prelude.{◌≡◌, ℕ, Bool, ◌<◌, ◌^◌, MatchOption, Some, map};
+ghost use Rattle.std.specs.Prelude.{◌≡◌, ℕ, Bool, true, ◌<◌, ◌^◌, MatchOption, Some, map};
 ghost use Rattle.clap.specs.Words.{found_of, kind_of, rows_of, subcommand_rows_of};
-ghost use Rattle.tool_work.specs.Asked.{AreEndpointsOf, HasMode, HasNumber, HasWorld, IsAsked, IsConfigOf, HasAddress, HasText, MayHavePort, IsDrawingOf, IsGraceOf, IsHoldingOf, IsHostingOf, IsKeepingOf, IsLogOf, IsMisuseOf, IsPlayingOf, IsRacingOf, IsRead, IsRefusal, IsServingOf, IsShowingOf, StoreReads, asks_flag, asks_log};
+ghost use Rattle.tool_work.specs.Asked.{AreEndpointsOf, HasMode, HasNumber, HasWorld, IsAsked, IsConfigOf, HasAddress, HasText, MayHavePort, IsDrawingOf, IsGraceOf, IsHoldingOf, IsHostingOf, IsIdleOf, IsKeepingOf, IsLogOf, IsMisuseOf, IsPlayingOf, IsRacingOf, IsRead, IsRefusal, IsServingOf, IsShowingOf, StoreReads, asks_flag, asks_log};
 ghost use Rattle.model_asked.specs.declared.config.Config.{Config};
 ghost use Rattle.model_asked.specs.declared.kind.WorldKind.{WorldKind};
 ghost use Rattle.tool_work.specs.declared.asked.Drawing.{Drawing};
@@ -178,20 +178,41 @@ fn log_given<'a>(matches: &ArgMatches<'a>) -> Option<LogWords<'a>>
     LogWords::new(members, prefix, patience, exported)
 }
 
+// The same, where an option is matched that only a log has.
+fn log_kept<'a>(matches: &ArgMatches<'a>) -> Option<Keeping<'a>>
+    requires { asks_log (rows_of (found_of matches.now)) ≡ true }
+    ensures { MatchOption result ((k : Keeping) → IsKeepingOf (rows_of (found_of matches.now)) k → ⊥) (IsKeepingOf (rows_of (found_of matches.now))) }
+{
+    match (text_given(matches, "journal"), flag_given(matches, "new")) {
+        (None, false) => Some(Keeping::Log(log_given(matches)?)),
+        (Some(_), _) => None,
+        (None, true) => None,
+    }
+}
+
 // Where the options of `host` have the history kept, where they say so in one way.
 fn keeping_given<'a>(matches: &ArgMatches<'a>) -> Option<Keeping<'a>>
     ensures { MatchOption result ((k : Keeping) → IsKeepingOf (rows_of (found_of matches.now)) k → ⊥) (IsKeepingOf (rows_of (found_of matches.now))) }
 {
-    match (text_given(matches, "journal"), log_asked(matches)) {
+    if log_asked(matches) {
+        return log_kept(matches);
+    }
+    match (text_given(matches, "journal"), flag_given(matches, "new")) {
         (None, false) => Some(Keeping::Nothing),
         (Some(path), false) => Some(Keeping::Journal(path)),
-        (None, true) => Some(Keeping::Log(log_given(matches)?)),
-        (Some(_), true) => None,
+        (Some(path), true) => Some(Keeping::NewJournal(path)),
+        (None, true) => None,
     }
 }
 
 /// How many seconds of grace a connection has, where they are not given.
 const GRACE: u64 = 10;
+
+/// After how many seconds a silent client is closed, where they are not given.
+const IDLE: u64 = 600;
+
+/// The same, where stays are held by connections: who holds a number says something in time, and of who vanished no word comes else.
+const IDLE_OF_HOLDERS: u64 = 30;
 
 /// The most seconds of grace: a day.
 const MOST_GRACE: u64 = 86_400;
@@ -218,6 +239,17 @@ fn holding_given(matches: &ArgMatches<'_>) -> Option<Holding>
         },
         "connection" => Some(Holding::Connection(grace_given(matches)?)),
         _ => None,
+    }
+}
+
+// After how many seconds the options of `host` have a silent client closed.
+fn idle_given(matches: &ArgMatches<'_>, holding: Holding) -> u64
+    ensures { IsIdleOf (rows_of (found_of matches.now)) holding result }
+{
+    match (number_given(matches, "idle"), holding) {
+        (Some(idle), _) => idle,
+        (None, Holding::Forever) => IDLE,
+        (None, Holding::Connection(_)) => IDLE_OF_HOLDERS,
     }
 }
 
@@ -252,8 +284,8 @@ fn host_given<'a>(matches: &ArgMatches<'a>) -> Option<Hosting<'a>>
     let config = config_given(matches)?;
     let endpoints = endpoints_given(matches)?;
     let clients = number_given(matches, "clients")?;
-    let idle = number_given(matches, "idle")?;
     let holding = holding_given(matches)?;
+    let idle = idle_given(matches, holding);
     let stores_reads = reads_given(matches)?;
     let keeping = keeping_given(matches)?;
     let verbose = flag_given(matches, "verbose");
@@ -321,6 +353,9 @@ fn why_nothing_in(world: WorldKind, options: &ArgMatches<'_>) -> &'static str {
     }
     if text_given(options, "journal").is_some() {
         return "error: '--journal' goes with none of '--etcd', '--prefix' and '--export'\n";
+    }
+    if flag_given(options, "new") {
+        return "error: '--new' goes with '--journal' alone\n";
     }
     "error: '--etcd' and '--prefix' go together, and '--export' wants both\n"
 }

@@ -2,7 +2,7 @@
 use Rattle.std.proofs.Common.{◌≡◌, ℕ, ◌<◌, List, ◌++◌, length, get_or, sym, subst, ◌∙◌}
 use Rattle.std.proofs.lemmas.Option.{slice_get_within, get_or_from_slice_get}
 use Rattle.model_asked.specs.declared.config.Config.{Config}
-use Rattle.text_player.specs.RunProofs.{runs-append}
+use Rattle.text_player.specs.lemmas.RunProofs.{runs-append}
 use Rattle.service_lock.specs.CallerState.{CallerState}
 use Rattle.service_lock.specs.Serving.{ClerkServes, ClerkGoesOn}
 use Rattle.service_lock.specs.server.Clerks.{ClerksGoOn}

@@ -6,8 +6,8 @@ ghost use Rattle.text_player.specs.Played.{IsPlayed, reading, writing};
 ghost use Rattle.text_player.specs.Texts.{replies_of};
 ghost use Rattle.text_player.specs.Runs.{IsRunTo, CanRun};
 
-use text_player::{Fault, Service, Sink, Source, Summary, WorldKind, play_on};
 use std::alloc::Allocator;
+use text_player::{Fault, Service, Sink, Source, Summary, WorldKind, play_on};
 
 /// Plays the commands of a reader by a service, one a line, and writes the replies, one a line.
 ///

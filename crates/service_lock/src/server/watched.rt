@@ -3,9 +3,9 @@
 ghost use Rattle.std.specs.Prelude.{◌≡◌};
 
 use crate::server::gate::Gate;
-use text_player::{Sink, Source};
 use std::io;
 use std::io::{Read, Write};
+use text_player::{Sink, Source};
 
 /// The byte that ends a line.
 const LF: u8 = 10;

@@ -10,7 +10,6 @@ use crate::server::server_fault::ServerFault;
 use crate::server::serving::serve_one;
 use crate::server::watched::Watched;
 use crate::{Clerk, HallLock, LockName, ServingClerk};
-use text_player::{Sink, Source, Tried};
 use std::alloc::Global;
 use std::io::Read;
 use std::net::{Shutdown, TcpListener, TcpStream};
@@ -18,6 +17,7 @@ use std::sync::{Mutex, Wait};
 use std::thread;
 use std::thread::Threads;
 use std::time::Duration;
+use text_player::{Sink, Source, Tried};
 
 /// What `serve_many` served.
 #[derive(Drop)]

@@ -12,10 +12,10 @@ ghost use Rattle.service_log.specs.etcd.Faults.{IsOverNetwork};
 ghost use Rattle.service_log.specs.etcd.Found.{HasUnread, IsUnread, SaysAll, SaysFound, SaysFrom, is_written};
 
 use crate::etcd::key::{hint_key64, key64};
+use crate::{Put, StoreFault};
 use base64::DecodeAllocError;
 use base64::engine::general_purpose::STANDARD;
 use json::{Error, Scratch, Value};
-use crate::{Put, StoreFault};
 use std::alloc::Global;
 
 /// Returns whether a transaction put its value, or `None` if the JSON is no answer to a transaction.

@@ -9,9 +9,11 @@ ghost use Rattle.service_log.specs.etcd.Faults.{IsOverNetwork};
 use crate::etcd::answer::{read_get, read_hint, read_put};
 use crate::etcd::dial::Dial;
 use crate::etcd::exchange::exchange;
-use crate::etcd::request::{get_text, hint_text, one_text, put_behind_text, put_hint_text, put_text};
-use http1::{Client, Limits};
+use crate::etcd::request::{
+    get_text, hint_text, one_text, put_behind_text, put_hint_text, put_text,
+};
 use crate::{MOST_PLACES, Put, Store, StoreFault};
+use http1::{Client, Limits};
 use std::alloc::Global;
 
 /// The status of a response that answers.

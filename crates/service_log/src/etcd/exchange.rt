@@ -3,9 +3,9 @@
 ghost use Rattle.std.specs.Prelude.{◌≤◌, length, IfOk, IfErr, vec_len};
 ghost use Rattle.service_log.specs.etcd.Faults.{IsOverNetwork};
 
+use crate::StoreFault;
 use http1::{BodySize, Client, Event, Header};
 use httparse::spans::EMPTY_HEADER_SPAN;
-use crate::StoreFault;
 use std::alloc::Global;
 use std::io::{Read, Write};
 

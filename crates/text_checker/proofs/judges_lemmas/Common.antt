@@ -10,14 +10,14 @@ pub use Rattle.std.proofs.Math.Path.{fun_ext}
 pub use Rattle.model_steps.specs.declared.participant.Participant.{Participant}
 pub use Rattle.model_steps.specs.Participant.{participant_of, program_of, AreDistinct, beginner, with_participant}
 pub use Rattle.model_steps.specs.View.{IsRising, value_of, inserted}
-pub use Rattle.model_steps.proofs.ViewLemmas.{IsRising-inserted, value_of-inserted}
+pub use Rattle.model_steps.proofs.cited.ViewLemmas.{IsRising-inserted, value_of-inserted}
 pub use Rattle.model_steps.specs.Calls.Call.{Began}
 pub use Rattle.model_steps.specs.SetAt.{set_at}
-pub use Rattle.model_steps.proofs.SetAtLemmas.{set_at-same, set_at-other, set_at-cases, set_at-is, set_at-map}
+pub use Rattle.model_steps.proofs.cited.SetAtLemmas.{set_at-same, set_at-other, set_at-cases, set_at-is, set_at-map}
 pub use Rattle.model_snapshot.specs.Snapshot.{IsMoment}
 pub use Rattle.model_renaming.specs.RenameObject.{RenameTerms, RenameObject, IsRecent, IsConflict, IsSole, IsFreeName, ShowsConflict, ShowsSole}
 pub use Rattle.model_pool.specs.Calls.Call.{Entered, Probed, Left}
-pub use Rattle.model_pool.proofs.PoolKeeps.{may_widen}
+pub use Rattle.model_pool.proofs.cited.PoolKeeps.{may_widen}
 pub use Rattle.model_pool.specs.slots.SlotCalls.SlotCall.{Pooled}
 pub use Rattle.text_checker.specs.declared.judges.names.Names.{Names}
 pub use Rattle.text_checker.specs.declared.judges.standing.Standing.{Standing}

@@ -3,7 +3,7 @@ use Rattle.std.proofs.Common.{◌≡◌, ◌≢◌, ℕ, ◌+◌, ◌-◌, ◌<�
 use Rattle.text_checker.proofs.judges_lemmas.Common.{list_any, cases_Bool, ne_eqb, eqb_tells, Participant, set_at, set_at-same, set_at-other, set_at-cases, set_at-is, set_at-map, Entered, Probed, Left, may_widen, Pooled}
 use Rattle.std.proofs.lemmas.List.{length-map, length-replicate, take_all}
 use Rattle.model_steps.specs.Participant.{AreDistinct, beginner, identities, participant_of, program_of, with_participant}
-use Rattle.model_steps.proofs.DistinctParticipants.{distinct_put, distinct_push, identities-put, identities-push}
+use Rattle.model_steps.proofs.cited.DistinctParticipants.{distinct_put, distinct_push, identities-put, identities-push}
 use Rattle.model_pool.specs.PoolObject.{competes, no_entry, no_probe, IsFree}
 use Rattle.model_pool.specs.Widening.{widen_refusal}
 use Rattle.model_pool.specs.declared.probe.Probe.TheVariants as probe

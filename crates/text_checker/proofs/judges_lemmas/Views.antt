@@ -1,7 +1,7 @@
 -- what a rising view says of its first pair and of those further on
 use Rattle.std.proofs.Common.{◌≡◌, ◌≢◌, ℕ, List, ◌∷◌, Some, None, refl, sym, ap, ◌∙◌, arith, eq-eqb}
 use Rattle.text_checker.proofs.judges_lemmas.Common.{ne_eqb, IsRising, value_of}
-use Rattle.model_steps.proofs.ViewLemmas.{value_of-below}
+use Rattle.model_steps.proofs.cited.ViewLemmas.{value_of-below}
 
 module _ (x : ℕ × ℕ) (xs : List (ℕ × ℕ)) where
   pub here : value_of x.0 (x ∷ xs) ≡ Some x.1

@@ -7,8 +7,8 @@ use Rattle.text_player.specs.Turns.{exchanges}
 use Rattle.text_checker.specs.Recorded.{IsYes}
 use Rattle.text_checker.proofs.NarrowRuns.{FitsPlace, AreWritable, run_narrow}
 use Rattle.text_records.specs.Narrow.{FitsReported, IsNarrowEvent}
-use Rattle.text_records.proofs.Narrow.{line_fits}
-use Rattle.text_records.proofs.Headers.{header_named}
+use Rattle.text_records.proofs.cited.Narrow.{line_fits}
+use Rattle.text_records.proofs.cited.Headers.{header_named}
 use Rattle.text_checker.proofs.records.Recording.{yes_by, record_said}
 use Rattle.text_checker.proofs.records.Rows.{read_length}
 

@@ -4,7 +4,7 @@ use Rattle.text_checker.proofs.Common.{WorldKind, RenameTerms, Header, Version, 
 use Rattle.model_asked.specs.Config.{is_tree}
 use Rattle.text_checker.specs.declared.verdict.Verdict.TheVariants.{Yes, No, BadRecord, NoMemory}
 use Rattle.text_records.specs.Records.{AreRead, AreSame}
-use Rattle.text_records.proofs.Once.{line_once, header_once}
+use Rattle.text_records.proofs.cited.Once.{line_once, header_once}
 use Rattle.text_checker.proofs.Runs.{at_fault}
 
 module _ (kind : WorldKind) (version : Version) where

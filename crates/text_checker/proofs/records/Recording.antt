@@ -1,12 +1,12 @@
 -- what `record` writes spells the run that was played
 use Rattle.std.proofs.Common.{◌≡◌, ℕ, true, List, [], ◌∷◌, map, length, Option, Some, Ok, Err, inl, inr, refl, sym, ap, ◌∙◌, subst, arith, ◌≤◌}
 use Rattle.text_checker.proofs.Common.{Appends, Config, record_of, Answered, Reported, Ended, Misread, Yes, terms_of, IsRecordOf, record_lines, IsSaid, IsSaidAfter, few_take_part, record_is, length-map, Exchange, line_of, IsObjectRun}
-use Rattle.text_worlds.proofs.desk_lemmas.DeskLaws as desk
+use Rattle.text_worlds.specs.lemmas.desk.DeskLaws as desk
 use Rattle.text_lines.specs.Lines.{lines}
 use Rattle.text_player.specs.declared.summary.Summary.{Summary}
 use Rattle.text_player.specs.Asked.{asked_by}
 use Rattle.text_worlds.specs.IsTranscript.{IsTranscript}
-use Rattle.text_worlds.specs.IsTranscriptProofs.{is_desk_transcript}
+use Rattle.text_worlds.specs.lemmas.IsTranscriptProofs.{is_desk_transcript}
 use Rattle.text_player.specs.Played.{Reading, Writing, IsInput, PlayedToEnd}
 use Rattle.text_worlds.specs.Recorded.{IsRecorded}
 use Rattle.text_player.specs.Turns.{Turn, asked, exchanges}

@@ -4,7 +4,7 @@ use Rattle.text_checker.proofs.Common.{Config, WorldKind, Event, ShownReply, Des
 use Rattle.model_asked.specs.declared.reply.Reply.TheVariants as reply
 use Rattle.text_worlds.specs.desk.Desk.{desk_rules, IsAfterDesk}
 use Rattle.text_worlds.specs.desk.Rules.{may_by}
-use Rattle.text_worlds.proofs.desk_lemmas.DeskLaws as desk
+use Rattle.text_worlds.specs.lemmas.desk.DeskLaws as desk
 use Rattle.model_asked.specs.declared.bad.Bad.{Bad}
 use Rattle.model_asked.specs.declared.command.Command.{Command}
 use Rattle.model_asked.specs.declared.command.Command.TheVariants as command
@@ -13,7 +13,7 @@ use Rattle.text_player.specs.Asked.{until_quit, asked_by}
 use Rattle.text_worlds.specs.DeskWorld.{DeskWorldMay}
 use Rattle.text_player.specs.Runs.{Runs}
 use Rattle.text_player.specs.Turns.{Turn, asked, exchanges}
-use Rattle.text_records.proofs.Narrow.{line_narrow}
+use Rattle.text_records.proofs.cited.Narrow.{line_narrow}
 use Rattle.text_checker.proofs.LowPlaces.{desk_low}
 use Rattle.text_checker.proofs.NarrowRuns.{FitsPlace, AreWritable}
 use Rattle.text_records.specs.Narrow.{IsNarrow}

@@ -8,9 +8,9 @@ ghost use Rattle.model_renaming.specs.RenameObject.{RenameObject, new_object};
 ghost use Rattle.text_checker.specs.judges.Firsts.{sole_in, view_at, noted, HoldsFirsts};
 ghost use Rattle.text_checker.specs.judges.Standing.{proposed_by};
 
-use text_records::Pairs;
 use std::alloc::{AllocError, Global};
 use std::collections::HashMap;
+use text_records::Pairs;
 
 /// The last moment of the memory, as a view, and one earlier moment for each participant.
 ///

@@ -14,9 +14,9 @@ ghost use Rattle.text_checker.specs.judges.Named.{MayBeNamed};
 use crate::judges::moments::{Moments, NUMBERS, Row, is_crowded, with_number};
 use crate::judges::people::{find, put};
 use crate::judges::standing::{Standing, Turn};
-use text_records::Pairs;
-use std::alloc::{AllocError, Global};
 use model_steps::{Participant, Place, Refusal};
+use std::alloc::{AllocError, Global};
+use text_records::Pairs;
 
 /// The state of the renaming object: the participants that have begun, what they have, and the moments.
 #[derive(Drop)]

@@ -13,8 +13,8 @@ ghost use Rattle.text_checker.specs.judges.Stays.{HoldsSlots, OfSlots, missed_by
 
 use crate::judges::names::is_number;
 use crate::judges::people::{find, put};
-use std::alloc::{AllocError, Global};
 use model_steps::{Participant, Refusal};
+use std::alloc::{AllocError, Global};
 
 /// The present stay of a competitor.
 #[derive(Clone, Copy, Drop)]

@@ -5,8 +5,8 @@ ghost use Rattle.text_lines.specs.declared.replies.TheConstants.{HELD_REPLIES};
 ghost use Rattle.text_lines.specs.held.Held.{held_text, holder_line, held_lines, line_of_number, text_of_one};
 
 use crate::held::query::HeldQuery;
-use model_pool::MOST_NUMBERS;
 use crate::{HELD_REPLIES, Replies, put_number};
+use model_pool::MOST_NUMBERS;
 use model_pool::slots::Slots;
 use std::alloc::Allocator;
 

@@ -9,7 +9,7 @@ use Rattle.model_asked.specs.declared.reply.Reply.TheVariants as reply
 use Rattle.text_lines.specs.Replies.{pair_word, pair_words, view_words, reply_words}
 use Rattle.text_records.specs.declared.reported.Reported.TheVariants as reported
 use Rattle.text_records.specs.ReplyText.{pair_in, pair_of, pairs_after, pairs_in, reported_in, reported_of_words, reported_with, saw_of}
-use Rattle.text_lines.specs.PieceProofs.{lacks, pieces-pass, pieces-last, pieces-cut}
+use Rattle.text_lines.specs.lemmas.PieceProofs.{lacks, pieces-pass, pieces-last, pieces-cut}
 use Rattle.text_records.proofs.written.Numbers.{read_decimal, number_in-decimal}
 use Rattle.text_records.proofs.written.Texts.{shown_text}
 use Rattle.text_records.specs.Narrow.{AreNarrow, IsShort, IsNarrowReply}

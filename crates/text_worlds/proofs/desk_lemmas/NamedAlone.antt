@@ -1,8 +1,8 @@
 -- who alone steps is soon named, by exchanges alone
 use Rattle.std.proofs.Common.{◌≡◌, ℕ, ◌+◌, ◌⊎◌, Bool, true, false, cond, ◌&&◌, ◌==◌, inl, inr, List, [], ◌∷◌, ◌++◌, map, Some, None, Ok, Err, refl, sym, ap, subst, ◌∙◌, arith, is_some}
-use Rattle.text_worlds.proofs.desk_lemmas.Common.{eqb_tells, Decides-eqb, Run, Began, Stepped, StepReply, Quiet, Placed, Proposed, Saw, Named, Spent, Entered, SlotCall, Pooled, Event, Exchange, DeskCall, rename_calls, exchange, exchange_of, Renamed, Slotted}
+use Rattle.text_worlds.specs.lemmas.desk.Common.{eqb_tells, Decides-eqb, Run, Began, Stepped, StepReply, Quiet, Placed, Proposed, Saw, Named, Spent, Entered, SlotCall, Pooled, Event, Exchange, DeskCall, rename_calls, exchange, exchange_of, Renamed, Slotted}
 use Rattle.model_steps.specs.Calls.{Call, steps_of as call_steps}
-use Rattle.model_steps.proofs.RunLemmas.{run_splits}
+use Rattle.model_steps.proofs.cited.RunLemmas.{run_splits}
 use Rattle.model_renaming.specs.Alone.{HasTwoLeft as HasTwoCalls, StepsAlone as CallsAlone}
 use Rattle.model_renaming.specs.RenameObject.{RenameTerms, RenameObject, new_object, Allows, after, IsRun}
 use Rattle.model_asked.specs.declared.event.Event.TheVariants as event
@@ -10,7 +10,7 @@ use Rattle.model_asked.specs.declared.reply.Reply.TheVariants as reply
 use Rattle.text_worlds.specs.desk.NamedAlone.{IsAmong, HasBegun, WasSpent, proposed_more, proposals_of, stepped_more, steps_of, StepsAlone, HasTwoLeft, HasName, NamesSoonAlone}
 use Rattle.model_asked.specs.Replies.{is_refusal}
 use Rattle.text_worlds.specs.desk.Replies.{shown_step}
-use Rattle.text_worlds.proofs.desk_lemmas.NamesGiven.{was_given, shown_by, has_named}
+use Rattle.text_worlds.specs.lemmas.desk.NamesGiven.{was_given, shown_by, has_named}
 
 -- where a list of calls is shown as two parts of exchanges, it has two parts
 pub record AreParts (calls : List DeskCall) (before more : List Exchange) : Type 0 where

@@ -1,6 +1,6 @@
 -- how soon a participant is named, whatever the others do, by exchanges alone (the problem and the algorithm, which is
 -- wait-free: Attiya et al. 1990; this bound: this project's own)
-use Rattle.std.specs.Prelude.{◌≡◌, ℕ, ◌+◌, ◌<◌, ◌≤◌, ◌⊎◌, Bool, true, false, List, [], ◌∷◌, ◌++◌}
+use Rattle.std.specs.Prelude.{◌≡◌, ℕ, ◌+◌, ◌*◌, ◌<◌, ◌≤◌, ◌⊎◌, Bool, true, false, List, [], ◌∷◌, ◌++◌}
 use Rattle.model_steps.specs.declared.refusal.Refusal.TheVariants as refusal
 use Rattle.model_snapshot.specs.Snapshot.{SnapBounds}
 use Rattle.model_asked.specs.rounds.Rounds.{most_proposals}
@@ -37,7 +37,7 @@ goes_on said = true
 -- No more have begun than may. If at most b have, all together have made at most as many proposals as b identities
 -- make. A participant that has made `steps_among` accepted steps has a name or is spent, whatever the others did. So
 -- one that goes on with the last of these exchanges has made fewer. If the round limit is above that number of
--- proposals, no participant is spent, and no step is refused for it
+-- proposals, or above half of it and one, no participant is spent, and no step is refused for it
 pub record EndsSoon (terms : RenameTerms) (bounds : SnapBounds) (r : List Exchange) : Type 0 where
   pub roomy : begun_in r ≤ terms.most
   pub few : (b : ℕ) → begun_in r ≤ b → all_proposals r ≤ most_proposals b
@@ -45,6 +45,8 @@ pub record EndsSoon (terms : RenameTerms) (bounds : SnapBounds) (r : List Exchan
   pub early : (b p : ℕ) (before : List Exchange) (said : ShownReply) → begun_in r ≤ b → before ++ exchange (Step p) said ∷ [] ≡ r → goes_on said ≡ true → steps_of p r < steps_among bounds b
   pub unspent : (b p : ℕ) → begun_in r ≤ b → most_proposals b < terms.limit → WasSpent p r → ⊥
   pub unrefused : (b p : ℕ) → begun_in r ≤ b → most_proposals b < terms.limit → IsAmong (exchange (Step p) (reply.Refused refusal.Spent)) r → ⊥
+  pub sure : (b p : ℕ) → begun_in r ≤ b → most_proposals b + 2 < 2 * terms.limit → WasSpent p r → ⊥
+  pub sure_unrefused : (b p : ℕ) → begun_in r ≤ b → most_proposals b + 2 < 2 * terms.limit → IsAmong (exchange (Step p) (reply.Refused refusal.Spent)) r → ⊥
 
 -- so in each run
 abbrev pub NamesSoonAmong : Type 0

@@ -15,9 +15,9 @@ use crate::desk::over::DeskOver;
 use model_asked::{Config, Event, Reply};
 use model_pool::slots::Slots;
 use model_renaming::over::{Grid, TreePlaces};
+use model_steps::{Place, Refusal, View};
 use std::alloc::Allocator;
 use std::marker::Model;
-use model_steps::{Place, Refusal, View};
 
 /// A desk over a grid, or one over a tree.
 #[derive(Drop)]

@@ -31,7 +31,7 @@ pub fn law_of_desk()
 ///   left. If no other makes an accepted step after the cut, it is named within `steps_alone` accepted steps after it,
 ///   and is not spent before. Others may begin, and compete for the pool.
 /// - All together make at most 3(5^b - 1)/4 proposals. A participant that has made `steps_among` accepted steps has a
-///   name or is spent. If the round limit is above that number of proposals, nobody is spent.
+///   name or is spent. If the round limit is above that number, or above half of it and one, nobody is spent.
 pub fn law_of_names()
     ensures one_each { InEachRun (λ r. (p n m : ℕ) → WasNamed p n r → WasNamed p m r → n ≡ m) }
     ensures small { InEachRun (λ r. (p n : ℕ) → WasNamed p n r → (1 ≤ n) × (n ≤ 2 * begun_in r - 1)) }

@@ -5,8 +5,8 @@ ghost use Rattle.model_asked.specs.Replies.{with_view};
 ghost use Rattle.text_worlds.specs.desk.Replies.{step_reply, probe_reply};
 ghost use Rattle.model_renaming.specs.Reply.{outcome_with};
 
-use model_pool::Probe;
 use model_asked::Reply;
+use model_pool::Probe;
 use model_renaming::Reply as Step;
 use model_steps::Refusal;
 

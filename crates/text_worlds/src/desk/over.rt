@@ -12,14 +12,14 @@ ghost use Rattle.model_snapshot.specs.SnapWorld.{place_in};
 ghost use Rattle.model_renaming.specs.RenameWorld.{name_in};
 
 use crate::desk::outcomes::{of_probe, of_step};
-use model_pool::Pool;
 use model_asked::{Config, Event, Reply};
-use model_renaming::{RenamePlaces, RenameWorld};
+use model_pool::Pool;
 use model_pool::slots::Slots;
+use model_renaming::{RenamePlaces, RenameWorld};
 use model_snapshot::{Known, Places};
+use model_steps::{Access, NoMemory, Place, Refusal, StepProgram, View};
 use std::alloc::Allocator;
 use std::marker::Model;
-use model_steps::{Access, NoMemory, Place, Refusal, StepProgram, View};
 
 /// A renaming world over these places, and slots over a pool.
 #[derive(Drop)]

@@ -15,7 +15,7 @@ use Rattle.text_worlds.specs.desk.DeskCalls.{exchange, exchange_of}
 use Rattle.text_worlds.specs.desk.DeskValue.{DeskValue}
 use Rattle.text_worlds.specs.desk.Names.{begun_in, begun_more}
 use Rattle.text_worlds.specs.desk.Rules.{may_by}
-use Rattle.text_worlds.proofs.desk_lemmas.DeskLaws.{fresh, goes_on, law}
+use Rattle.text_worlds.specs.lemmas.desk.DeskLaws.{fresh, goes_on, law}
 use Rattle.tool_work.specs.drawn.Runs.{IsAmple, HasPlayed, PlaysFrom, IsDrawnRun, AreDrawnRuns, HasDrawn, IsReportedOf, numbers_line, run_line, run_lines}
 use Rattle.tool_work.proofs.drawn_lemmas.UnderWayLemmas.{at_first}
 use Rattle.tool_work.specs.drawn.Tally.{IsTallyOf, how_many, is_named, is_spent, one_more_if}

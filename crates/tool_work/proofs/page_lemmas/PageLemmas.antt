@@ -5,7 +5,7 @@ use Rattle.tool_work.specs.page.State.{name_facts}
 use Rattle.std.proofs.lemmas.List.{take_more, length-drop, take_all, drop_all, take-append-le, drop-append-le, append-nil, length-append}
 use Rattle.std.proofs.lemmas.Grind.{flat_map-append}
 use Rattle.std.proofs.lemmas.Bool.Decides.{eqb_tells, leb_tells}
-use Rattle.text_worlds.proofs.desk_lemmas.DeskLaws as desk
+use Rattle.text_worlds.specs.lemmas.desk.DeskLaws as desk
 use Rattle.text_worlds.specs.desk.Desk.{fresh_desk, IsFreshDesk, owner_reply}
 use Rattle.text_records.specs.declared.header.Header.{Header}
 use Rattle.text_records.specs.RecordLine.{IsHeaderLine}

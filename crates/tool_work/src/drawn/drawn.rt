@@ -11,8 +11,8 @@ ghost use Rattle.tool_work.specs.drawn.Schedule.{schedule};
 use crate::drawn::runs::play_schedules;
 use crate::drawn::schedule::{Schedule, draw_schedule};
 use model_asked::Config;
-use text_player::{Fault, Sink};
 use std::alloc::Allocator;
+use text_player::{Fault, Sink};
 
 /// Writes the schedule of a seed as lines, as `draw_schedule` does: `ids` identities begin, and then `steps` steps are
 /// taken.

@@ -10,10 +10,10 @@ use crate::drawn::runs::{play_schedules, play_share, write_tallies};
 use crate::drawn::schedule::Schedule;
 use crate::drawn::tally::Tally;
 use model_asked::Config;
-use text_player::{Fault, Sink};
 use std::alloc::Global;
 use std::thread;
 use std::thread::Threads;
+use text_player::{Fault, Sink};
 
 /// The most threads.
 pub const MOST_JOBS: u64 = 64;

@@ -15,10 +15,10 @@ use crate::drawn::schedule::{Schedule, draw_one, generator};
 use crate::drawn::tally::Tally;
 use bumpalo::Bump;
 use model_asked::{Config, Event, Reply};
-use text_worlds::desk::Desk;
-use text_player::{Fault, HELD_REPLIES, Replies, Sink, put_word};
-use std::alloc::Allocator;
 use model_steps::{Refusal, View};
+use std::alloc::Allocator;
+use text_player::{Fault, HELD_REPLIES, Replies, Sink, put_word};
+use text_worlds::desk::Desk;
 
 /// The most bytes of a run's line, its LF included.
 const LINE_ROOM: usize = 106;

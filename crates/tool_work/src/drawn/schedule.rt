@@ -9,11 +9,11 @@ ghost use Rattle.text_lines.specs.UnderWay.{GoesPast, StopsWithin};
 ghost use Rattle.text_lines.specs.Written.{HasPartOf};
 
 use model_asked::Event;
-use text_player::{EVENT_ROOM, Fault, Replies, Sink, print_event};
 use rand_core::SeedableRng;
 use rand_core::utils::NextWord;
 use rand_pcg::Lcg64Xsh32;
 use std::alloc::Allocator;
+use text_player::{EVENT_ROOM, Fault, Replies, Sink, print_event};
 
 /// The most bytes of an event's line, its LF included.
 const LINE_ROOM: usize = EVENT_ROOM + 1;

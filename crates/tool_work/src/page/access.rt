@@ -3,11 +3,11 @@
 ghost use Rattle.std.specs.Prelude.{◌≡◌, ◌++◌, ◌==◌, OnOk, Some, decimal, position};
 ghost use Rattle.tool_work.specs.page.Access.{access_words, held_at, place_in, register_at, register_words, with_place, with_reached};
 
-use text_worlds::desk::{Coming, Desk, Register};
 use itoa::Buffer;
-use text_records::Text;
-use std::alloc::{AllocError, Global};
 use model_steps::Place;
+use std::alloc::{AllocError, Global};
+use text_records::Text;
+use text_worlds::desk::{Coming, Desk, Register};
 
 /// Appends a word with its space, and the number of a place.
 pub(crate) fn put_word_of_place(word: &[u8], place: Place, out: &mut Text) -> Result<(), AllocError>

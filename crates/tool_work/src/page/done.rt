@@ -7,10 +7,10 @@ ghost use Rattle.tool_work.specs.page.Row.{access_at, access_in, desk_next, done
 
 use crate::page::access::held_at;
 use crate::page::standing::Standing;
-use text_worlds::desk::{Coming, Desk, Event, Reply};
-use text_records::{Line, Reported};
-use std::alloc::{AllocError, Global};
 use model_steps::{Refusal, View};
+use std::alloc::{AllocError, Global};
+use text_records::{Line, Reported};
+use text_worlds::desk::{Coming, Desk, Event, Reply};
 
 /// What a desk does at an event.
 #[derive(Clone, Copy, Debug, Drop)]

@@ -8,10 +8,10 @@ use crate::page::access::{put_access, put_word_of_place};
 use crate::page::done::Done;
 use crate::page::form::Form;
 use crate::page::standing::put_standing;
-use text_worlds::desk::Reply;
-use text_records::{Line, Text, put_event, put_owner, put_reported, put_view};
-use std::alloc::AllocError;
 use model_steps::View;
+use std::alloc::AllocError;
+use text_records::{Line, Text, put_event, put_owner, put_reported, put_view};
+use text_worlds::desk::Reply;
 
 /// Appends the words of a reply.
 fn put_reply(reply: &Reply<View>, out: &mut Text) -> Result<(), AllocError>

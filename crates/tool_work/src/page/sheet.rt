@@ -14,13 +14,13 @@ use crate::page::state::{put_state, put_state_where_asked};
 use crate::page::still::{keep_beginner, put_item_where_shown};
 use crate::page::stretch::Stretch;
 use crate::page::tail::tail;
-use text_worlds::desk::Desk;
-use text_records::{Line, Text, put_header};
 use model_renaming::Config;
-use text_checker::gather::Gather;
+use model_steps::Place;
 use std::alloc::{AllocError, Global};
 use std::mem;
-use model_steps::Place;
+use text_checker::gather::Gather;
+use text_records::{Line, Text, put_header};
+use text_worlds::desk::Desk;
 
 /// A page so far: up to its rows, the state before them, and the items that come after. Beside it a desk on which the lines so far
 /// were replayed, with what it did at the last of them, who has begun, and which places were reached.

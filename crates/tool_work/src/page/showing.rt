@@ -9,12 +9,12 @@ ghost use Rattle.tool_work.specs.page.Shown.{IsPage, IsShown};
 
 use crate::page::sheet::Sheet;
 use crate::page::stretch::Stretch;
+use std::alloc::{AllocError, Global};
+use text_checker::Verdict;
+use text_checker::record::{judge_rows, opened};
 use text_lines::put_all;
 use text_player::{Fault, Sink};
 use text_records::Text;
-use text_checker::Verdict;
-use text_checker::record::{judge_rows, opened};
-use std::alloc::{AllocError, Global};
 
 /// Returns the page of a record, or another verdict than `Yes`. It fails if an allocation failed.
 fn shown(alloc: Global, bytes: &[u8], stretch: Stretch) -> Result<Result<Text, Verdict>, AllocError>

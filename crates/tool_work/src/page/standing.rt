@@ -8,11 +8,11 @@ ghost use Rattle.tool_work.specs.page.Standing.{is_spent_by, name_words, place_w
 use crate::page::access::{put_access, put_word_of_place};
 use crate::page::form::Form;
 use model_pool::Stay;
-use text_worlds::desk::{Coming, Desk, Event};
-use text_records::Text;
 use model_pool::slots::Slots;
-use std::alloc::{AllocError, Global};
 use model_steps::{Place, Refusal};
+use std::alloc::{AllocError, Global};
+use text_records::Text;
+use text_worlds::desk::{Coming, Desk, Event};
 
 /// Where an identity stands, as a renaming world and a pool see it.
 #[derive(Clone, Copy, Debug, Drop)]

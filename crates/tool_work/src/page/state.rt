@@ -9,10 +9,10 @@ use crate::page::access::put_register;
 use crate::page::form::Form;
 use crate::page::standing::{Standing, put_standing};
 use model_pool::Competitor;
-use text_worlds::desk::{Desk, Register, Reply};
-use text_records::Text;
-use std::alloc::{AllocError, Global};
 use model_steps::{Place, View};
+use std::alloc::{AllocError, Global};
+use text_records::Text;
+use text_worlds::desk::{Desk, Register, Reply};
 
 /// The most names that are given: 2m - 1 for 64 participants.
 pub const MOST_NAMES: u64 = 127;

@@ -6,9 +6,9 @@ ghost use Rattle.tool_work.specs.page.Still.{beginner_at, begun_after, item_begi
 
 use crate::page::access::put_access;
 use crate::page::done::{Done, access_in, identity_of, is_refused};
-use text_worlds::desk::Event;
-use text_records::{Line, Text, put_event, put_reported};
 use std::alloc::AllocError;
+use text_records::{Line, Text, put_event, put_reported};
+use text_worlds::desk::Event;
 
 /// Who begins at a line.
 fn beginner_at(line: &Line) -> Option<u64>

@@ -1,4 +1,4 @@
-use Rattle.service_hall.proofs.Histories.{history_run}
+use Rattle.service_hall.proofs.cited.Histories.{history_run}
 use Rattle.service_hall.proofs.laws.law_of_hall.Goals as goal
 
 pub returns : goal.returns

@@ -1,5 +1,5 @@
 use Rattle.model_asked.specs.declared.event.Event.{Event}
-use Rattle.service_hall.proofs.ReadingLemmas.{like_stored, read_history, read_reply, read_transcript, stored_run}
+use Rattle.service_hall.proofs.cited.ReadingLemmas.{like_stored, read_history, read_reply, read_transcript, stored_run}
 use Rattle.service_hall.proofs.laws.law_of_reads.Goals as goal
 
 pub returns : goal.returns

@@ -1,5 +1,5 @@
 use Rattle.std.proofs.Common.{sym, ◌∙◌}
-use Rattle.service_hall.proofs.Histories.{refuses_so, lacks_so}
+use Rattle.service_hall.proofs.cited.Histories.{refuses_so, lacks_so}
 use Rattle.service_lock.proofs.locked.refusal_of.Goals as goal
 
 pub returns-in-Some-clause-refused : goal.returns-in-Some-clause-refused

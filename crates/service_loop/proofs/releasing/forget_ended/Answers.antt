@@ -1,7 +1,7 @@
 use Rattle.std.proofs.Common.{◌∷◌, [], List, ℕ, sym, subst, take, get_or}
 use Rattle.std.proofs.lemmas.List.{take_more}
 use Rattle.service_loop.specs.Releasing.{Forgot}
-use Rattle.service_loop.proofs.ReleaseLemmas.{forgot_then}
+use Rattle.service_loop.proofs.cited.ReleaseLemmas.{forgot_then}
 use Rattle.service_loop.proofs.releasing.forget_ended.Goals as goal
 
 pub loop-identity-preserved : goal.loop-identity-preserved

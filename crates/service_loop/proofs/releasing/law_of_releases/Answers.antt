@@ -1,4 +1,4 @@
-use Rattle.service_loop.proofs.ReleaseLemmas.{releases_free}
+use Rattle.service_loop.proofs.cited.ReleaseLemmas.{releases_free}
 use Rattle.service_loop.proofs.releasing.law_of_releases.Goals as goal
 
 pub returns : goal.returns

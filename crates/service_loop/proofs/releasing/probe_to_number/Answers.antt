@@ -1,6 +1,6 @@
 use Rattle.std.proofs.Common.{[], ◌∙◌, sym}
 use Rattle.service_loop.proofs.AttendedLemmas.{hears_then}
-use Rattle.service_loop.proofs.ReleaseLemmas.{probed, probed_more}
+use Rattle.service_loop.proofs.cited.ReleaseLemmas.{probed, probed_more}
 use Rattle.service_loop.proofs.releasing.probe_to_number.Goals as goal
 
 pub loop-tries-preserved : goal.loop-tries-preserved

@@ -1,5 +1,5 @@
 use Rattle.std.proofs.Common.{◌∙◌, sym}
-use Rattle.service_loop.proofs.ReleaseLemmas.{released_leave, released_probed}
+use Rattle.service_loop.proofs.cited.ReleaseLemmas.{released_leave, released_probed}
 use Rattle.service_loop.proofs.releasing.release.Goals as goal
 
 pub returns-then-lacks_number : goal.returns-then-lacks_number

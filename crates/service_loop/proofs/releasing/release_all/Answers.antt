@@ -1,7 +1,7 @@
 use Rattle.std.proofs.Common.{List, ℕ, sym, subst, take}
 use Rattle.std.proofs.lemmas.List.{take_more}
 use Rattle.service_loop.specs.Releasing.{Released}
-use Rattle.service_loop.proofs.ReleaseLemmas.{released_then}
+use Rattle.service_loop.proofs.cited.ReleaseLemmas.{released_then}
 use Rattle.service_loop.proofs.releasing.release_all.Goals as goal
 
 pub loop-identity-preserved : goal.loop-identity-preserved

@@ -6,7 +6,7 @@ use Rattle.std.specs.contracts.alloc.Global.{the_row as heap_row}
 use Rattle.std.specs.contracts.impls.GlobalAllocator.TheImpl.{ghosts as heap_ghosts}
 use Rattle.words_machine.specs.contracts.parts.board.Board as board
 use Rattle.words_machine.proofs.parts.board.Board.TheSendSync as board_sent
-use Rattle.service_lock.proofs.Sent.{lock_sync}
+use Rattle.service_lock.proofs.cited.Sent.{lock_sync}
 use Rattle.tests_service.proofs.board_tests.all_posted.Lts as lts
 use Rattle.tests_service.proofs.board_tests.all_posted.Goals as goal
 

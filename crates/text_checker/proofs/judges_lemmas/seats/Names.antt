@@ -1,8 +1,8 @@
 -- what is kept of the renaming object after each reply
 use Rattle.std.proofs.Common.{◌≡◌, ℕ, ◌+◌, ◌*◌, ◌<◌, ◌≤◌, ◌==◌, inl, inr, true, false, List, [], ◌∷◌, ◌++◌, length, refl, sym, ap, ◌∙◌, subst, arith, Some, None, Option, Bool, is_some, length-append, Ok, slice_set, replicate}
 use Rattle.text_checker.proofs.judges_lemmas.Common.{fun_ext, list_any, cases_Bool, leb_tells, Began, Participant, beginner, participant_of, program_of, with_participant, set_at, set_at-map, Names, Standing, HoldsMoments}
-use Rattle.model_steps.proofs.ParticipantLemmas.{length-with_participant}
-use Rattle.model_steps.proofs.DistinctParticipants.{distinct_put, distinct_push}
+use Rattle.model_steps.proofs.cited.ParticipantLemmas.{length-with_participant}
+use Rattle.model_steps.proofs.cited.DistinctParticipants.{distinct_put, distinct_push}
 use Rattle.model_renaming.specs.declared.reply.Reply.TheVariants as step
 use Rattle.model_renaming.specs.RenameObject.{RenameTerms, RenameObject, new_object, no_begin, after, after_step, IsFreeName}
 use Rattle.text_checker.specs.judges.Standing.{place_of, name_of, spent_of, turn_of, is_held, HoldsPeople, HoldsTurns, turns_in, HoldsNames}

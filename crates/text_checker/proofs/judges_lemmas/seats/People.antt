@@ -2,7 +2,7 @@
 use Rattle.std.proofs.Common.{◌≡◌, ◌≢◌, ℕ, suc, ◌+◌, ◌<◌, ◌==◌, inl, inr, Bool, true, false, cond, List, [], ◌∷◌, ◌++◌, length, take, drop, get_or, set, refl, sym, ap, ◌∙◌, Some, None, Option, is_some, drop-cons, ◌||◌, option_and_then, option_map, arith}
 use Rattle.text_checker.proofs.judges_lemmas.Common.{eq-eqb, ne_eqb, cases_Bool, false≢true, is_held, list_any, eqb_tells, Participant, AreDistinct, beginner, participant_of, program_of, with_participant, set_at, set_at-cases, set_at-map}
 use Rattle.std.proofs.lemmas.List.{set_split}
-use Rattle.model_steps.proofs.ParticipantLemmas.{participant_of-push, participant_of-put}
+use Rattle.model_steps.proofs.cited.ParticipantLemmas.{participant_of-push, participant_of-put}
 
 -- the one that is met is put in
 pub put_here : {P : Type 0} (xs : List (Participant P)) (i : ℕ) (new d : Participant P) → i < length xs → (get_or xs i d).identity ≡ new.identity →

@@ -1,5 +1,5 @@
 use Rattle.std.proofs.Common.{◌∙◌, ap, append_assoc, length, length-append, codes, arith}
-use Rattle.text_lines.specs.ReplyProofs.{pair_words-more}
+use Rattle.text_lines.specs.lemmas.ReplyProofs.{pair_words-more}
 use Rattle.text_lines.proofs.print.put_pairs.Goals as goal
 
 pub loop-pair-preserved : goal.loop-pair-preserved

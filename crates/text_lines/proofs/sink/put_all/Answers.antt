@@ -1,7 +1,7 @@
 use Rattle.std.proofs.Common.{arith, ◌+◌, ◌-◌, length, take, drop, refl}
 use Rattle.std.proofs.KnownBytes.{Appends-nil, Appends-kept}
 use Rattle.text_lines.proofs.Common.{take_all}
-use Rattle.text_lines.specs.WrittenProofs.{appends_more, take_pieces}
+use Rattle.text_lines.specs.lemmas.WrittenProofs.{appends_more, take_pieces}
 use Rattle.text_lines.proofs.WrittenLemmas.{none_failed, some_taken}
 use Rattle.text_lines.proofs.sink.put_all.Goals as goal
 

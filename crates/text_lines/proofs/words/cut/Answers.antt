@@ -1,6 +1,6 @@
 use Rattle.std.proofs.Common.{[], ◌+◌, length, take, sym, ap, ◌∙◌, arith}
 use Rattle.text_lines.proofs.Common.{take_all, eqb-true, pieces_from}
-use Rattle.text_lines.specs.PieceProofs.{nowhere-lacks, parted_at, pieces-cut, pieces-last}
+use Rattle.text_lines.specs.lemmas.PieceProofs.{nowhere-lacks, parted_at, pieces-cut, pieces-last}
 use Rattle.text_lines.proofs.QuickLemmas.{rest_of-slice}
 use Rattle.text_lines.proofs.words.cut.Goals as goal
 

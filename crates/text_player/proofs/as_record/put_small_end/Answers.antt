@@ -1,6 +1,6 @@
 use Rattle.std.proofs.Common.{◌∙◌, ap, length, length-append, append_assoc, arith}
 use Rattle.std.proofs.lemmas.Fmt.{decimal_digit}
-use Rattle.text_lines.specs.NumberProofs.{decimal_two}
+use Rattle.text_lines.specs.lemmas.NumberProofs.{decimal_two}
 use Rattle.text_player.proofs.as_record.put_small_end.Goals as goal
 
 pub returns-then-number-lt10-clause-text : goal.returns-then-number-lt10-clause-text

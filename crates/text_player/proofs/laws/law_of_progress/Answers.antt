@@ -1,4 +1,4 @@
-use Rattle.text_player.proofs.ProgressLemmas.{after_bytes-append, asked-all, asked-over, asked-whole, asked_begins, over-whole, until_first}
+use Rattle.text_player.proofs.cited.ProgressLemmas.{after_bytes-append, asked-all, asked-over, asked-whole, asked_begins, over-whole, until_first}
 use Rattle.text_player.proofs.SaysLemmas.{after_end-over}
 use Rattle.text_player.proofs.laws.law_of_progress.Goals as goal
 

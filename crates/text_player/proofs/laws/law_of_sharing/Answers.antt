@@ -1,4 +1,4 @@
-use Rattle.text_player.specs.SharedProofs.{shared_on}
+use Rattle.text_player.specs.lemmas.SharedProofs.{shared_on}
 use Rattle.text_player.proofs.laws.law_of_sharing.Goals as goal
 
 pub returns : goal.returns

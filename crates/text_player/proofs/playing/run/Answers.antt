@@ -5,7 +5,7 @@ use Rattle.std.proofs.KnownBytes.{Consumes-nil, Consumes-trans, Consumes-kept}
 use Rattle.text_player.specs.declared.playing.TheConstants.{MOST_READS}
 use Rattle.text_player.specs.Played.{HasRead, reading, writing}
 use Rattle.text_player.proofs.StandsLemmas.{stands_start}
-use Rattle.text_player.proofs.ProgressLemmas.{after_bytes-append, asked-all, asked_begins}
+use Rattle.text_player.proofs.cited.ProgressLemmas.{after_bytes-append, asked-all, asked_begins}
 use Rattle.text_player.proofs.SaysLemmas.{after_end-over}
 use Rattle.text_player.proofs.PlayedLemmas.{read_on, to_end, to_read_fault, to_write_fault}
 use Rattle.text_player.proofs.playing.run.Goals as goal

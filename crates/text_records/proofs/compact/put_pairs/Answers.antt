@@ -1,5 +1,5 @@
 use Rattle.std.proofs.Common.{◌∙◌, append_assoc}
-use Rattle.text_lines.specs.ReplyProofs.{pair_words-more}
+use Rattle.text_lines.specs.lemmas.ReplyProofs.{pair_words-more}
 use Rattle.text_records.proofs.compact.put_pairs.Goals as goal
 
 pub loop-pair-preserved : goal.loop-pair-preserved

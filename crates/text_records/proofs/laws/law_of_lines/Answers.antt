@@ -1,6 +1,6 @@
-use Rattle.text_records.proofs.Once.{line_once, header_once}
-use Rattle.text_records.proofs.Headers.{header_named}
-use Rattle.text_records.proofs.Narrow.{line_narrow, line_fits}
+use Rattle.text_records.proofs.cited.Once.{line_once, header_once}
+use Rattle.text_records.proofs.cited.Headers.{header_named}
+use Rattle.text_records.proofs.cited.Narrow.{line_narrow, line_fits}
 use Rattle.text_records.proofs.laws.law_of_lines.Goals as goal
 
 pub returns-clause-line : goal.returns-clause-line

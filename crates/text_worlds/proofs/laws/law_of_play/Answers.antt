@@ -1,4 +1,4 @@
-use Rattle.text_worlds.specs.IsTranscriptProofs.{one_transcript}
+use Rattle.text_worlds.specs.lemmas.IsTranscriptProofs.{one_transcript}
 use Rattle.text_worlds.proofs.laws.law_of_play.Goals as goal
 
 pub returns : goal.returns

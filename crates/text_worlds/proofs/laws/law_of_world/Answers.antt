@@ -1,4 +1,4 @@
-use Rattle.text_worlds.specs.OneTranscriptProofs.{determined}
+use Rattle.text_worlds.specs.lemmas.OneTranscriptProofs.{determined}
 use Rattle.text_worlds.proofs.laws.law_of_world.Goals as goal
 
 pub returns : goal.returns

@@ -1,5 +1,5 @@
 use Rattle.text_player.specs.Played.{reading, writing}
-use Rattle.text_player.specs.PlayedProofs.{played_weaker}
+use Rattle.text_player.specs.lemmas.PlayedProofs.{played_weaker}
 use Rattle.text_player.specs.Runs.{IsRunTo, CanRun}
 use Rattle.text_player.specs.Texts.{replies_of}
 use Rattle.text_worlds.specs.Transcripts.{IsTranscriptOf}

@@ -13,9 +13,6 @@ returns-in_err-endpoints c = unless_some c.from_residual-in_err-endpoints.result
 pub returns-in_err-clients : goal.returns-in_err-clients
 returns-in_err-clients c = unless_some c.from_residual-in_err-clients.result _ _ c.from_residual-in_err-clients.ensures (λ given h. c.in_err-clients.ensures given.clients (let fits = given.in_range in omega arith) h.clients)
 
-pub returns-in_err-idle : goal.returns-in_err-idle
-returns-in_err-idle c = unless_some c.from_residual-in_err-idle.result _ _ c.from_residual-in_err-idle.ensures (λ given h. c.in_err-idle.ensures given.idle (let fits = given.in_range in omega arith) h.idle)
-
 pub returns-in_err-holding : goal.returns-in_err-holding
 returns-in_err-holding c = unless_some c.from_residual-in_err-holding.result _ _ c.from_residual-in_err-holding.ensures (λ given h. c.in_err-holding.ensures given.holding h.holding)
 
@@ -27,5 +24,5 @@ returns-in_err-stores_reads c = unless_some c.from_residual-in_err-stores_reads.
 
 pub returns : goal.returns
 returns c =
-    hosted (rows_of (found_of c.args.matches.now)) c.in_ok-config.config c.in_ok-endpoints.endpoints c.in_ok-clients.clients c.in_ok-idle.idle c.in_ok-holding.holding c.in_ok-stores_reads.stores_reads c.in_ok-keeping.keeping c.flag_given-verbose.result c.new.result
-    c.in_ok-config.ensures c.in_ok-endpoints.ensures c.in_ok-clients.ensures c.in_ok-idle.ensures c.in_ok-holding.ensures c.in_ok-stores_reads.ensures c.in_ok-keeping.ensures c.flag_given-verbose.ensures c.new.ensures.sizes c.new.ensures.others c.new.ensures.range
+    hosted (rows_of (found_of c.args.matches.now)) c.in_ok-config.config c.in_ok-endpoints.endpoints c.in_ok-clients.clients c.idle_given-idle.result c.in_ok-holding.holding c.in_ok-stores_reads.stores_reads c.in_ok-keeping.keeping c.flag_given-verbose.result c.new.result
+    c.in_ok-config.ensures c.in_ok-endpoints.ensures c.in_ok-clients.ensures c.idle_given-idle.ensures c.in_ok-holding.ensures c.in_ok-stores_reads.ensures c.in_ok-keeping.ensures c.flag_given-verbose.ensures c.new.ensures.sizes c.new.ensures.others c.new.ensures.range (omega arith)

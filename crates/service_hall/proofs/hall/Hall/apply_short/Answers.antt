@@ -1,6 +1,6 @@
 use Rattle.std.proofs.Common.{◌≡◌, ◌++◌, [], ◌∷◌, None, inr, refl, ap, sym, subst, ◌∙◌, true, false}
 use Rattle.service_hall.proofs.Common.{desk_rules, desk_reply, exchange, DeskValue, ShownReply, is_refusal, with_view, may_by, HallState, hall_of, desk_of, hall_refusal}
-use Rattle.service_hall.proofs.Histories.{none_of, refuses_so, grows, lacked}
+use Rattle.service_hall.proofs.cited.Histories.{none_of, refuses_so, grows, lacked}
 use Rattle.service_hall.proofs.hall.Hall.apply_short.Goals as goal
 use Rattle.service_hall.proofs.hall.Hall.apply_short.Goals.{After-is_refusal}
 

@@ -1,6 +1,6 @@
 use Rattle.std.proofs.Common.{◌≡◌, sym, subst, ap, ◌∙◌}
 use Rattle.service_hall.proofs.Common.{ShownReply, owner_reply, IsOwnerReply, desk_of, SatisfiesSpec}
-use Rattle.service_hall.proofs.Histories.{history_owner}
+use Rattle.service_hall.proofs.cited.Histories.{history_owner}
 use Rattle.service_hall.proofs.hall.Hall.owner.Goals as goal
 
 pub returns-clause-reported : goal.returns-clause-reported

@@ -3,8 +3,8 @@ use Rattle.service_lock.proofs.Common.{Exchange, Refused, exchange, is_refusal, 
 use mathlib.Core.List.{IsPrefix}
 use Rattle.service_lock.specs.CallerState.{CallerState, caller_of}
 use Rattle.service_lock.proofs.Fronts.{prefix_length}
-use Rattle.service_hall.proofs.Histories.{kept_refused, room_left}
-use Rattle.service_hall.proofs.HallLaws.{goes_by, goes_on, stays_by}
+use Rattle.service_hall.proofs.cited.Histories.{kept_refused, room_left}
+use Rattle.service_hall.proofs.cited.HallLaws.{goes_by, goes_on, stays_by}
 use Rattle.service_lock.proofs.Places.{rises_more}
 use Rattle.service_lock.proofs.Standing.{one_more, one_clear, taken_refused, taken_accepted, taken_unchanged, stands_answered, stands_kept}
 use Rattle.service_lock.proofs.parts.Locked.apply.Goals as goal

@@ -1,7 +1,7 @@
 use Rattle.std.proofs.Common.{◌≡◌, Err, false, subst, refl, ap, ◌∙◌}
 use Rattle.model_steps.specs.declared.refusal.Refusal.TheVariants.{Full}
 use Rattle.service_lock.proofs.Common.{Begin, Ok, ShownReply, is_refusal, with_view, CallerState, HallMay, IsTaken}
-use Rattle.service_hall.proofs.Histories.{begins_ok}
+use Rattle.service_hall.proofs.cited.Histories.{begins_ok}
 use Rattle.service_lock.proofs.Places.{opened}
 use Rattle.service_lock.proofs.Standing.{taken_by}
 use Rattle.service_lock.proofs.parts.Locked.begin.Goals as goal

@@ -3,7 +3,7 @@ use denote.Param.Send.{IsSync, param_sync}
 use Rattle.std.proofs.alloc.Global.TheSendSync as heap
 use Rattle.std.proofs.net.tcp.TcpListener.TheSendSync as listener
 use Rattle.std.proofs.sync.Mutex.TheSendSync as mutex
-use Rattle.service_lock.proofs.Sent.{lock_sync}
+use Rattle.service_lock.proofs.cited.Sent.{lock_sync}
 use Rattle.service_lock.proofs.server_lemmas.GoingOn.{all_go_on}
 use Rattle.service_lock.proofs.server.connections.Connections.TheSendSync as connections
 use Rattle.service_lock.proofs.server.workers.serve_many.Lts as lts

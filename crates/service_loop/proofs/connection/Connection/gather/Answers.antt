@@ -9,18 +9,17 @@ use Rattle.service_loop.proofs.connection.Connection.gather.Goals.{in-Some, in-N
 -- the look with which it begins: of nothing, and with what was reported before
 record Begins (g : _) (c : After-self-1 g) : Type 0 where
   bytes : c.match-self.peek.bytes ≡ 0
-  ends : c.match-self.peek.ends ≡ false
   asks : c.match-self.peek.asks ≡ asks_of c.args.self.now.peek
 
 begins : (g : _) (c : After-self-1 g) → Begins g c
 begins g c = elim c.match-self.branch [
   | in-Some w ↦
       let is = w.peek-is ∙ w.nothing-peek.ensures in
-      record { bytes = ap (λ (l : Peek). l.bytes) is; ends = ap (λ (l : Peek). l.ends) is; asks = rw w.in-Some.is (ap (λ (l : Peek). l.asks) is) }
+      record { bytes = ap (λ (l : Peek). l.bytes) is; asks = rw w.in-Some.is (ap (λ (l : Peek). l.asks) is) }
   | in-None w ↦
       let is = w.peek-is in
       let new = w.new-peek.ensures in
-      record { bytes = ap (λ (l : Peek). l.bytes) is ∙ new.0; ends = ap (λ (l : Peek). l.ends) is ∙ new.1; asks = rw w.in-None.is (ap (λ (l : Peek). l.asks) is ∙ new.2) }
+      record { bytes = ap (λ (l : Peek). l.bytes) is ∙ new.0; asks = rw w.in-None.is (ap (λ (l : Peek). l.asks) is ∙ new.2) }
 ]
 
 -- the chunk is as long as it was
@@ -32,7 +31,7 @@ returns-then-not-may_take g c =
     let left = g.S.Stream.left c.args.self.now.stream in
     let buffers = c.args.self.now.buffers in
     let b = begins g (goal.at.returns-then-not-may_take g c).After-self-1 in
-    let none = none_seen c.args.kind buffers (Some c.match-self.peek) b.bytes b.ends in
+    let none = none_seen c.args.kind buffers (Some c.match-self.peek) b.bytes in
     record {
       gathers = gathers_none left left buffers (Consumes-nil left);
       unsent = refl;
@@ -46,7 +45,7 @@ pub returns-else-not-is_broken : goal.returns-else-not-is_broken
 returns-else-not-is_broken g c =
     let b = begins g (goal.at.returns-else-not-is_broken g c).After-self-1 in
     let same = c.gather_bytes.ensures.peek in
-    let none = none_seen c.args.kind c.gather_bytes.new.self.buffers c.gather_bytes.new.self.peek (same.0 ∙ b.bytes) (same.1 ∙ b.ends) in
+    let none = none_seen c.args.kind c.gather_bytes.new.self.buffers c.gather_bytes.new.self.peek (same.0 ∙ b.bytes) in
     record {
       gathers = c.gather_bytes.ensures.gathers;
       unsent = c.gather_bytes.ensures.unsent;

@@ -5,7 +5,7 @@ use Rattle.service_loop.proofs.connection.Connection.peek_over.Goals as goal
 
 pub returns-in_default : goal.returns-in_default
 returns-in_default g c =
-    rw (c.in_default.is, none_seen c.args.kind c.args.self.now.buffers None refl refl) (record {
+    rw (c.in_default.is, none_seen c.args.kind c.args.self.now.buffers None refl) (record {
       reported = sym (append-nil c.args.batch.now.items);
       asks = λ _. (refl, refl);
       buffers = refl;

@@ -1,6 +1,6 @@
 use Rattle.std.proofs.Common.{◌≡◌, ◌∙◌, ◌+◌, ◌≤◌, List, ℕ, sym, ap, subst, take, drop, length}
 use Rattle.service_loop.proofs.Common.{take-add, Appends, BuffersState}
-use Rattle.text_lines.specs.WrittenProofs.{appends_more}
+use Rattle.text_lines.specs.lemmas.WrittenProofs.{appends_more}
 use Rattle.service_loop.proofs.connection.Connection.send.Goals as goal
 use Rattle.service_loop.proofs.connection.Connection.send.Goals.{then-loop-self-test+then-not-is_broken+else-at-unsent, then-loop-self-test+else-not-is_broken, else-loop-self-test, then-loop-self-test+then-not-is_broken+then-at-unsent+then-count-eq0}
 

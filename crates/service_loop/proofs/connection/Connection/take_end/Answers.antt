@@ -7,25 +7,24 @@ pub returns-in-Ok-eq0-clause-takes : goal.returns-in-Ok-eq0-clause-takes
 returns-in-Ok-eq0-clause-takes g c =
     let left = g.S.Stream.left c.args.self.now.stream in
     let left' = g.S.Stream.left c.read_into.new.stream in
-    let f = c.finish.ensures.takes in
     let gave : Consumes left left' [] = search rules in
     let end : IsAtEnd left' = search rules in
-    (f.0, f.1, takes_the_end f.0 left left' c.args.self.now.buffers c.finish.new.self gave end c.requires.none f.2)
+    takes_the_end left left' c.args.self.now.buffers c.finish.new.self gave end c.requires.none c.finish.ensures
 
 pub returns-in-Ok-clause-takes : goal.returns-in-Ok-clause-takes
 returns-in-Ok-clause-takes g c =
     let came = take c.in-Ok.field-0 c.read_into.new.shared.chunk.items in
     let few : length came ≤ 65536 = search rules in
-    ([], refl, takes_fault _ _ came c.args.self.now.buffers c.fail.new.self few c.in-Ok.ensures.bytes.0 c.fail.ensures)
+    takes_fault _ _ came c.args.self.now.buffers c.fail.new.self few c.in-Ok.ensures.bytes.0 c.fail.ensures
 
 pub returns-in-Err-clause-takes : goal.returns-in-Err-clause-takes
 returns-in-Err-clause-takes g c =
     let left = g.S.Stream.left c.args.self.now.stream in
     let left' = g.S.Stream.left c.read_into.new.stream in
-    ([], refl, takes_no_end left left' c.args.self.now.buffers c.note_fault.new.buffers (consumes_kept left left' c.in-Err.ensures.bytes) c.note_fault.ensures.buffers c.note_fault.ensures.whole)
+    takes_no_end left left' c.args.self.now.buffers c.note_fault.new.buffers (consumes_kept left left' c.in-Err.ensures.bytes) c.note_fault.ensures.buffers c.note_fault.ensures.whole
 
 pub returns-in-Ok-eq0-clause-room : goal.returns-in-Ok-eq0-clause-room
-returns-in-Ok-eq0-clause-room g c = (c.read_into.ensures.room.0, c.finish.ensures.empty)
+returns-in-Ok-eq0-clause-room g c = c.read_into.ensures.room
 
 pub returns-in-Ok-clause-room : goal.returns-in-Ok-clause-room
 returns-in-Ok-clause-room g c = c.read_into.ensures.room

@@ -1,4 +1,4 @@
-use Rattle.std.proofs.Common.{◌≡◌, ◌∙◌, true, false, inl, inr, sym, ◌||◌, Bool, refl}
+use Rattle.std.proofs.Common.{◌≡◌, ◌∙◌, true, false, [], inl, inr, sym, ◌||◌, Bool, refl}
 use Rattle.service_loop.proofs.BuffersLemmas.{full_or_asks, or_true}
 use Rattle.service_loop.proofs.connection.Connection.take_last.Goals as goal
 
@@ -13,9 +13,9 @@ returns-then-has_input g c = record {
 
 pub returns-else-has_input : goal.returns-else-has_input
 returns-else-has_input g c = record {
-  takes = (let t = c.finish.ensures.takes in (t.0, t.1, inl t.2));
-  all = λ whole on some. absurd (let ends : true ≡ false = or_true c.args.self.now.buffers.ended ∙ sym c.finish.ensures.takes.2.ended_is ∙ on in cc);
+  takes = ([], refl, inl c.finish.ensures);
+  all = λ whole on some. absurd (let ends : true ≡ false = or_true c.args.self.now.buffers.ended ∙ sym c.finish.ensures.ended_is ∙ on in cc);
   stream = refl;
   stage = refl;
-  room = (c.requires.room.0, c.finish.ensures.empty);
+  room = c.requires.room;
 }

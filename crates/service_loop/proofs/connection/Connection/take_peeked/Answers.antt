@@ -1,5 +1,5 @@
-use Rattle.std.proofs.Common.{◌++◌, [], Option, refl, subst, sym}
-use Rattle.service_loop.proofs.Common.{runs-append, TakesPeeked, Peek}
+use Rattle.std.proofs.Common.{[], Option, refl, subst, sym}
+use Rattle.service_loop.proofs.Common.{TakesPeeked, Peek}
 use Rattle.service_loop.proofs.BuffersLemmas.{peeked_nothing, peeked_first, peeked_end}
 use Rattle.service_loop.proofs.connection.Connection.take_peeked.Goals as goal
 
@@ -17,10 +17,10 @@ returns-then-may_read-clause-takes g c =
     let left = g.S.Stream.left c.args.self.now.stream in
     let left' = g.S.Stream.left c.take_end.new.self.stream in
     let s = c.args.self.now.buffers in (
-      a.0 ++ b.0,
-      runs-append g.D.Service.may c.args.service.now c.take_first.new.service c.take_end.new.service a.0 b.0 a.1 b.1,
-      subst (λ (l : Option Peek). TakesPeeked (a.0 ++ b.0) l left s left' c.take_end.new.self.buffers) (sym c.in-Some.is)
-          (peeked_end c.in-Some.peek left left' s c.take_first.new.self c.take_end.new.self.buffers a.0 b.0 c.if-peek.true a.2 (all.whole refl) (all.none refl) b.2),
+      a.0,
+      a.1,
+      subst (λ (l : Option Peek). TakesPeeked a.0 l left s left' c.take_end.new.self.buffers) (sym c.in-Some.is)
+          (peeked_end c.in-Some.peek left left' s c.take_first.new.self c.take_end.new.self.buffers a.0 c.if-peek.true a.2 (all.whole refl) (all.none refl) b),
     )
 
 pub returns-else-peek-clause-takes : goal.returns-else-peek-clause-takes

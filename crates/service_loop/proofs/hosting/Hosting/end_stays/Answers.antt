@@ -1,7 +1,7 @@
 -- To end stays is what a server does to its service and its persister.
 use Rattle.std.proofs.Common.{OnOk, subst}
 use Rattle.service_loop.specs.Rounds.{WasServed}
-use Rattle.service_loop.proofs.ReleaseLemmas.{served_due}
+use Rattle.service_loop.proofs.cited.ReleaseLemmas.{served_due}
 use Rattle.service_loop.proofs.RoundLemmas.{ok_then}
 use Rattle.service_loop.proofs.hosting.Hosting.end_stays.Goals as goal
 

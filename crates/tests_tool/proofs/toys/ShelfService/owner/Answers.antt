@@ -1,4 +1,4 @@
-use Rattle.text_worlds.specs.VisitProofs.{no_name}
+use Rattle.text_worlds.specs.lemmas.VisitProofs.{no_name}
 use Rattle.tests_tool.proofs.toys.ShelfService.owner.Goals as goal
 
 pub returns : goal.returns

@@ -1,6 +1,6 @@
 use Rattle.std.proofs.Common.{◌≡◌, ◌∙◌, ◌≤◌, ◌+◌, ap, arith, subst, ℕ, List, take, length}
 use Rattle.text_player.proofs.Common.{take_all, err_from_is_err_and, on_err_weaker, on_ok_weaker, PlayerState, after_bytes, Stands}
-use Rattle.text_player.proofs.ProgressLemmas.{after_bytes-pieces, grows_from}
+use Rattle.text_player.proofs.cited.ProgressLemmas.{after_bytes-pieces, grows_from}
 use Rattle.text_player.proofs.StandsLemmas.{stands_sent, stands_part}
 use Rattle.text_player.proofs.player.Player.feed.Goals as goal
 

@@ -1,9 +1,9 @@
 use Rattle.std.proofs.Common.{◌≡◌, ◌∙◌, ◌+◌, false, [], refl, sym, ap, length, take, Ok}
-use Rattle.text_lines.specs.SpelledProofs.{event-spelled}
+use Rattle.text_lines.specs.lemmas.SpelledProofs.{event-spelled}
 use Rattle.text_player.proofs.Common.{Progress, after_meaning, after_bytes, Anywhere, GoingOn, Afresh, ResponderState}
 use Rattle.model_asked.specs.Requests.Request.{Take}
 use Rattle.model_asked.specs.declared.command.Command.TheVariants as command
-use Rattle.text_player.proofs.ProgressLemmas.{after_bytes-over}
+use Rattle.text_player.proofs.cited.ProgressLemmas.{after_bytes-over}
 use Rattle.text_player.proofs.FirstLineLemmas.{EndsLine, means-none, after_bytes-first}
 use Rattle.text_player.proofs.SaysLemmas.{says_after, says_nothing}
 use Rattle.text_player.proofs.responder.Responder.take.Goals as goal

@@ -1,5 +1,5 @@
 use Rattle.std.proofs.Common.{◌≡◌, ◌∙◌, ◌++◌, ◌+◌, true, [], ap, sym, length, take, arith, subst}
-use Rattle.text_lines.specs.PieceProofs.{nowhere-lacks}
+use Rattle.text_lines.specs.lemmas.PieceProofs.{nowhere-lacks}
 use Rattle.text_player.proofs.Common.{take_all, WorldKind, HeldLine, held, has_no_lf, meaning, with_line, after_meaning, after_line, after_bytes, SaysFrom, GoingOn, Afresh, ResponderState}
 use Rattle.text_player.proofs.FirstLineLemmas.{found-line, after_bytes-part, after_bytes-whole, after_bytes-first}
 use Rattle.text_player.proofs.SaysLemmas.{spoke_with_line, says_after, says_nothing}

@@ -1,6 +1,6 @@
 use Rattle.std.proofs.Common.{◌∙◌, ◌+◌, ◌-◌, refl, sym, arith, take, drop, length, subst}
 use Rattle.text_player.proofs.Common.{WorldKind, after_bytes, Says, Anywhere}
-use Rattle.text_player.proofs.ProgressLemmas.{after_bytes-pieces}
+use Rattle.text_player.proofs.cited.ProgressLemmas.{after_bytes-pieces}
 use Rattle.text_player.proofs.SaysLemmas.{says_nothing, says_then}
 use Rattle.text_player.proofs.responder.Responder.take_some.Goals as goal
 

@@ -1,4 +1,4 @@
-use Rattle.text_worlds.proofs.desk_lemmas.DeskLaws as desk
+use Rattle.text_worlds.specs.lemmas.desk.DeskLaws as desk
 use Rattle.text_worlds.proofs.desk.laws.law_of_desk.Goals as goal
 
 pub returns-clause-fresh : goal.returns-clause-fresh

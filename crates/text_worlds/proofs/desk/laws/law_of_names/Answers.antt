@@ -1,6 +1,6 @@
 use Rattle.text_worlds.proofs.desk_lemmas.NamedAlone.{names_soon_alone}
-use Rattle.text_worlds.proofs.desk_lemmas.NamedAmong.{names_soon_among}
-use Rattle.text_worlds.proofs.desk_lemmas.NamesGiven.{one_each, never_two, small_names}
+use Rattle.text_worlds.proofs.cited.desk.NamedAmong.{names_soon_among}
+use Rattle.text_worlds.specs.lemmas.desk.NamesGiven.{one_each, never_two, small_names}
 use Rattle.text_worlds.proofs.desk.laws.law_of_names.Goals as goal
 
 pub returns-clause-one_each : goal.returns-clause-one_each

@@ -2,7 +2,7 @@ use Rattle.std.proofs.Common.{◌≡◌, sym, subst}
 use Rattle.model_asked.specs.Replies.{ShownReply}
 use Rattle.text_worlds.specs.desk.Desk.{owner_reply}
 use Rattle.text_worlds.specs.desk.Laws.{TellsOwners}
-use Rattle.text_worlds.proofs.desk_lemmas.DeskLaws as desk
+use Rattle.text_worlds.specs.lemmas.desk.DeskLaws as desk
 use Rattle.text_worlds.proofs.desk.desk.Desk.owner.Goals as goal
 
 pub returns-in-Grid-clause-reported : goal.returns-in-Grid-clause-reported

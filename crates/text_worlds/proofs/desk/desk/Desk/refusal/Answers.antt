@@ -1,4 +1,4 @@
-use Rattle.text_worlds.proofs.desk_lemmas.DeskLaws as desk
+use Rattle.text_worlds.specs.lemmas.desk.DeskLaws as desk
 use Rattle.text_worlds.proofs.desk.desk.Desk.refusal.Goals as goal
 
 pub returns-in-Grid-clause-reported : goal.returns-in-Grid-clause-reported

@@ -1,0 +1,5 @@
+pub mod HallLaws
+pub mod Histories
+pub mod ReadingLemmas
+pub mod Sent
+pub mod Serves

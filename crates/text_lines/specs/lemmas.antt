@@ -1,0 +1,5 @@
+pub mod NumberProofs
+pub mod PieceProofs
+pub mod ReplyProofs
+pub mod SpelledProofs
+pub mod WrittenProofs

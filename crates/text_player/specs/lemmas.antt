@@ -1,0 +1,3 @@
+pub mod PlayedProofs
+pub mod RunProofs
+pub mod SharedProofs

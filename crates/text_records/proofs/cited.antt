@@ -1,0 +1,4 @@
+pub mod Headers
+pub mod Narrow
+pub mod Once
+pub mod written
