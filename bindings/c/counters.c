@@ -11,25 +11,25 @@ static uint64_t counters[AT_ONCE];
 
 static void *count(void *handle)
 {
-    struct word_pool *mine = handle;
-    uint64_t number = word_pool_acquire(mine);
+    struct beglushan_pool *mine = handle;
+    uint64_t number = beglushan_pool_acquire(mine);
     for (int i = 0; number != 0 && i < HITS; i++) {
         counters[number - 1]++;
     }
     /* With the number go its handle and its counter, as it stands, to the next. */
-    word_pool_free(mine);
+    beglushan_pool_free(mine);
     return NULL;
 }
 
 /* As many threads as there are numbers, each with a handle that is joined before it starts. */
-static bool count_together(struct word_pool *first)
+static bool count_together(struct beglushan_pool *first)
 {
-    struct word_pool handles[AT_ONCE] = {{0}};
+    struct beglushan_pool handles[AT_ONCE] = {{0}};
     pthread_t threads[AT_ONCE];
     int started = 0;
-    while (started < AT_ONCE && word_pool_join(first, &handles[started])) {
+    while (started < AT_ONCE && beglushan_pool_join(first, &handles[started])) {
         if (pthread_create(&threads[started], NULL, count, &handles[started]) != 0) {
-            word_pool_free(&handles[started]);
+            beglushan_pool_free(&handles[started]);
             break;
         }
         started++;
@@ -42,15 +42,15 @@ static bool count_together(struct word_pool *first)
 
 int main(void)
 {
-    struct word_pool first = {0};
-    if (!word_pool_new(&first, AT_ONCE)) {
+    struct beglushan_pool first = {0};
+    if (!beglushan_pool_new(&first, AT_ONCE)) {
         return 1;
     }
     bool good = true;
     for (int round = 0; good && round < ROUNDS; round++) {
         good = count_together(&first);
     }
-    word_pool_free(&first);
+    beglushan_pool_free(&first);
     uint64_t sum = 0;
     for (int i = 0; i < AT_ONCE; i++) {
         sum += counters[i];

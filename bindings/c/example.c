@@ -13,17 +13,17 @@ static atomic_int clashes;
 
 static void *stay_often(void *handle)
 {
-    struct word_pool *pool = handle;
+    struct beglushan_pool *pool = handle;
     uint64_t hint = 1;
     for (int i = 0; i < STAYS; i++) {
-        uint64_t number = i % 2 == 0 ? word_pool_acquire(pool) : word_pool_acquire_near(pool, hint);
+        uint64_t number = i % 2 == 0 ? beglushan_pool_acquire(pool) : beglushan_pool_acquire_near(pool, hint);
         if (number < 1 || THREADS < number || atomic_exchange(&taken[number], true)) {
             clashes++;
             continue;
         }
         atomic_store(&taken[number], false);
         hint = number;
-        if (word_pool_release(pool) != number) {
+        if (beglushan_pool_release(pool) != number) {
             clashes++;
         }
     }
@@ -33,14 +33,14 @@ static void *stay_often(void *handle)
 static uint64_t places[SEATS];
 
 struct visitor {
-    struct word_grid grid;
+    struct beglushan_grid grid;
     int seat;
 };
 
 static void *enter(void *given)
 {
     struct visitor *visitor = given;
-    places[visitor->seat] = word_grid_enter(&visitor->grid);
+    places[visitor->seat] = beglushan_grid_enter(&visitor->grid);
     return NULL;
 }
 
@@ -49,13 +49,13 @@ static bool enter_together(void)
     struct visitor visitors[SEATS] = {{{0}, 0}};
     pthread_t threads[SEATS];
     bool seen[PLACES + 1] = {false};
-    struct word_grid none = {0};
-    bool good = word_grid_new(&visitors[0].grid, SEATS);
+    struct beglushan_grid none = {0};
+    bool good = beglushan_grid_new(&visitors[0].grid, SEATS);
     for (int i = 1; good && i < SEATS; i++) {
         visitors[i].seat = i;
-        good = word_grid_join(&visitors[0].grid, &visitors[i].grid);
+        good = beglushan_grid_join(&visitors[0].grid, &visitors[i].grid);
     }
-    if (!good || word_grid_join(&visitors[0].grid, &none)) {
+    if (!good || beglushan_grid_join(&visitors[0].grid, &none)) {
         return false;
     }
     for (int i = 0; i < SEATS; i++) {
@@ -68,33 +68,33 @@ static bool enter_together(void)
     }
     for (int i = 0; i < SEATS; i++) {
         uint64_t place = places[i];
-        if (place < 1 || PLACES < place || seen[place] || word_grid_enter(&visitors[i].grid) != 0) {
+        if (place < 1 || PLACES < place || seen[place] || beglushan_grid_enter(&visitors[i].grid) != 0) {
             good = false;
         } else {
             seen[place] = true;
         }
-        word_grid_free(&visitors[i].grid);
+        beglushan_grid_free(&visitors[i].grid);
     }
     return good;
 }
 
 static bool enter_alone(void)
 {
-    struct word_grid grid = {0};
-    if (word_grid_new(&grid, 0) || word_grid_new(&grid, SEATS + 1) || !word_grid_new(&grid, SEATS)) {
+    struct beglushan_grid grid = {0};
+    if (beglushan_grid_new(&grid, 0) || beglushan_grid_new(&grid, SEATS + 1) || !beglushan_grid_new(&grid, SEATS)) {
         return false;
     }
-    bool good = word_grid_enter(&grid) == 1;
-    word_grid_free(&grid);
+    bool good = beglushan_grid_enter(&grid) == 1;
+    beglushan_grid_free(&grid);
     return good;
 }
 
-enum { NAMED = 16, PROPOSALS = 64 };
+enum { NAMED = 64 };
 
 static uint64_t names[NAMED];
 
 struct namer {
-    struct word_names names;
+    struct beglushan_names names;
     int seat;
 };
 
@@ -107,7 +107,7 @@ static uint64_t identity(int seat)
 static void *take_name(void *given)
 {
     struct namer *namer = given;
-    names[namer->seat] = word_names_name(&namer->names);
+    names[namer->seat] = beglushan_names_name(&namer->names);
     return NULL;
 }
 
@@ -116,18 +116,18 @@ static bool name_together(int begun)
     struct namer namers[NAMED] = {{{0}, 0}};
     pthread_t threads[NAMED];
     bool seen[2 * NAMED] = {false};
-    struct word_names dealer = {0}, none = {0};
-    bool good = word_names_new(&dealer, (uint64_t)begun, PROPOSALS);
+    struct beglushan_names dealer = {0}, none = {0};
+    bool good = beglushan_names_new(&dealer, (uint64_t)begun);
     for (int i = 0; good && i < begun; i++) {
         namers[i].seat = i;
-        good = !word_names_join(&dealer, &namers[i].names, i == 0 ? 0 : identity(i - 1))
-            && word_names_join(&dealer, &namers[i].names, identity(i))
-            && !word_names_join(&namers[i].names, &none, identity(i + 1));
+        good = !beglushan_names_join(&dealer, &namers[i].names, i == 0 ? 0 : identity(i - 1))
+            && beglushan_names_join(&dealer, &namers[i].names, identity(i))
+            && !beglushan_names_join(&namers[i].names, &none, identity(i + 1));
     }
-    if (!good || word_names_join(&dealer, &none, identity(begun)) || word_names_name(&dealer) != 0) {
+    if (!good || beglushan_names_join(&dealer, &none, identity(begun)) || beglushan_names_name(&dealer) != 0) {
         return false;
     }
-    word_names_free(&dealer);
+    beglushan_names_free(&dealer);
     for (int i = 0; i < begun; i++) {
         if (pthread_create(&threads[i], NULL, take_name, &namers[i]) != 0) {
             return false;
@@ -138,28 +138,26 @@ static bool name_together(int begun)
     }
     for (int i = 0; i < begun; i++) {
         uint64_t name = names[i];
-        if (name < 1 || 2 * (uint64_t)begun <= name || seen[name] || word_names_name(&namers[i].names) != name) {
+        if (name < 1 || 2 * (uint64_t)begun <= name || seen[name] || beglushan_names_name(&namers[i].names) != name) {
             good = false;
         } else {
             seen[name] = true;
         }
-        word_names_free(&namers[i].names);
+        beglushan_names_free(&namers[i].names);
     }
     return good;
 }
 
-/* The first proposes once and is named. The others propose once and see that taken, so they have their places above all such names. */
-static bool name_above(void)
+/* Each that comes has the greatest identity so far, so it has the last name of those who have come. */
+static bool name_in_turn(void)
 {
-    struct word_names dealer = {0}, first = {0}, second = {0}, third = {0};
-    bool refused = !word_names_new(&dealer, 0, 1) && !word_names_new(&dealer, NAMED + 1, 1) && !word_names_new(&dealer, 3, 0)
-        && !word_names_new(&dealer, 3, 1001) && !beglushan_names_new(NULL, 3, 1)
+    struct beglushan_names dealer = {0}, first = {0}, second = {0}, third = {0};
+    bool refused = !beglushan_names_new(&dealer, 0) && !beglushan_names_new(&dealer, NAMED + 1) && !beglushan_names_new(NULL, 3)
         && beglushan_names_name(NULL) + beglushan_names_name(&dealer) == 0 && !beglushan_names_join(&dealer, &first, 7);
-    bool made = beglushan_names_new(&dealer, 3, 1) && !beglushan_names_new(&dealer, 3, 1) && !beglushan_names_join(&dealer, &first, 0)
+    bool made = beglushan_names_new(&dealer, 3) && !beglushan_names_new(&dealer, 3) && !beglushan_names_join(&dealer, &first, 0)
         && beglushan_names_join(&dealer, &first, 7) && beglushan_names_join(&dealer, &second, 8)
-        && !beglushan_names_join(&dealer, &second, 9) && word_names_join(&dealer, &third, 9) && beglushan_names_name(&dealer) == 0;
-    bool named = beglushan_names_name(&first) == 1 && word_names_name(&second) >= 6 && word_names_name(&third) >= 6
-        && word_names_name(&second) != word_names_name(&third) && word_names_name(&second) < 12 && word_names_name(&third) < 12;
+        && !beglushan_names_join(&dealer, &second, 9) && beglushan_names_join(&dealer, &third, 9) && beglushan_names_name(&dealer) == 0;
+    bool named = beglushan_names_name(&first) == 1 && beglushan_names_name(&second) == 3 && beglushan_names_name(&third) == 5;
     beglushan_names_free(&dealer);
     beglushan_names_free(&first);
     beglushan_names_free(&second);
@@ -171,8 +169,8 @@ static bool name_above(void)
 /* Null pointers and handles that hold nothing are answered, and a handle that holds a pool is not made anew. */
 static bool answers_what_is_missing(void)
 {
-    struct word_pool pool = {0}, blank = {0};
-    struct word_grid grid = {0}, empty = {0};
+    struct beglushan_pool pool = {0}, blank = {0};
+    struct beglushan_grid grid = {0}, empty = {0};
     bool none = !beglushan_pool_new(NULL, 1) && !beglushan_pool_join(NULL, &blank) && !beglushan_pool_join(&blank, &pool)
         && beglushan_pool_acquire(NULL) + beglushan_pool_acquire(&blank) + beglushan_pool_acquire_near(NULL, 1) == 0
         && beglushan_pool_acquire_near(&blank, 1) + beglushan_pool_release(NULL) + beglushan_pool_release(&blank) == 0
@@ -193,12 +191,12 @@ static bool answers_what_is_missing(void)
 /* Two handles of a line of two: each always gets a number, the least that is free, and keeps it as long as it likes. */
 static bool lines_always_give(void)
 {
-    struct line_pool first = {0}, second = {0}, third = {0};
-    bool refused = !beglushan_line_new(NULL, 1) && !line_pool_new(&first, 0) && !line_pool_new(&first, 4097)
+    struct beglushan_line first = {0}, second = {0}, third = {0};
+    bool refused = !beglushan_line_new(NULL, 1) && !beglushan_line_new(&first, 0) && !beglushan_line_new(&first, 4097)
         && beglushan_line_acquire(&first) + beglushan_line_release(NULL) == 0;
     bool made = beglushan_line_new(&first, 2) && beglushan_line_join(&first, &second) && !beglushan_line_join(&first, &third);
-    bool both = beglushan_line_acquire(&second) == 1 && line_pool_acquire(&first) == 2 && line_pool_acquire(&first) == 0;
-    bool least = beglushan_line_release(&second) == 1 && line_pool_release(&second) == 0 && line_pool_acquire(&second) == 1;
+    bool both = beglushan_line_acquire(&second) == 1 && beglushan_line_acquire(&first) == 2 && beglushan_line_acquire(&first) == 0;
+    bool least = beglushan_line_release(&second) == 1 && beglushan_line_release(&second) == 0 && beglushan_line_acquire(&second) == 1;
     beglushan_line_free(&first);
     beglushan_line_free(&second);
     beglushan_line_free(&third);
@@ -207,17 +205,17 @@ static bool lines_always_give(void)
 
 int main(void)
 {
-    if (!answers_what_is_missing() || !lines_always_give() || !name_above()) {
+    if (!answers_what_is_missing() || !lines_always_give() || !name_in_turn()) {
         return 1;
     }
-    struct word_pool pools[THREADS] = {{0}};
+    struct beglushan_pool pools[THREADS] = {{0}};
     pthread_t threads[THREADS];
-    struct word_pool none = {0};
-    if (word_pool_new(&none, 0) || word_pool_new(&none, 4097) || !word_pool_new(&pools[0], THREADS)) {
+    struct beglushan_pool none = {0};
+    if (beglushan_pool_new(&none, 0) || beglushan_pool_new(&none, 4097) || !beglushan_pool_new(&pools[0], THREADS)) {
         return 1;
     }
     for (int i = 1; i < THREADS; i++) {
-        if (!word_pool_join(&pools[0], &pools[i])) {
+        if (!beglushan_pool_join(&pools[0], &pools[i])) {
             return 1;
         }
     }
@@ -230,12 +228,12 @@ int main(void)
         pthread_join(threads[i], NULL);
     }
     for (int i = 0; i < THREADS; i++) {
-        if (word_pool_acquire(&pools[i]) != (uint64_t)i + 1 || word_pool_acquire(&pools[i]) != 0) {
+        if (beglushan_pool_acquire(&pools[i]) != (uint64_t)i + 1 || beglushan_pool_acquire(&pools[i]) != 0) {
             clashes++;
         }
     }
     for (int i = 0; i < THREADS; i++) {
-        word_pool_free(&pools[i]);
+        beglushan_pool_free(&pools[i]);
     }
     printf("%d threads, %d stays each, %d clashes\n", THREADS, STAYS, clashes);
     int bad = !enter_alone();

@@ -5,15 +5,14 @@
 #include <pthread.h>
 #include <stdio.h>
 
-/* Four threads make at most 3(5^4 - 1)/4 proposals, so by this limit each name is at most 2 * 4 - 1. */
-enum { THREADS = 4, LIMIT = 469, PLACES = 2 * THREADS - 1, HITS = 1000 };
+enum { THREADS = 4, PLACES = 2 * THREADS - 1, HITS = 1000 };
 
 static uint64_t counters[PLACES];
 
 static void *count(void *handle)
 {
-    struct word_names *mine = handle;
-    uint64_t name = word_names_name(mine);
+    struct beglushan_names *mine = handle;
+    uint64_t name = beglushan_names_name(mine);
     for (int i = 0; i < HITS; i++) {
         counters[name - 1]++;
     }
@@ -21,13 +20,13 @@ static void *count(void *handle)
 }
 
 /* A seat for each identity. Who dealt them is not wanted then. */
-static bool deal(struct word_names *seats)
+static bool deal(struct beglushan_names *seats)
 {
     const uint64_t identities[THREADS] = {UINT64_MAX, 3, UINT64_C(0x9e3779b97f4a7c15), UINT64_C(1) << 40};
-    struct word_names dealer = {0};
-    bool good = word_names_new(&dealer, THREADS, LIMIT);
+    struct beglushan_names dealer = {0};
+    bool good = beglushan_names_new(&dealer, THREADS);
     for (int i = 0; good && i < THREADS; i++) {
-        good = word_names_join(&dealer, &seats[i], identities[i]);
+        good = beglushan_names_join(&dealer, &seats[i], identities[i]);
     }
     beglushan_names_free(&dealer);
     return good;
@@ -35,7 +34,7 @@ static bool deal(struct word_names *seats)
 
 int main(void)
 {
-    struct word_names seats[THREADS] = {{0}};
+    struct beglushan_names seats[THREADS] = {{0}};
     pthread_t threads[THREADS];
     bool good = deal(seats);
     int started = 0;

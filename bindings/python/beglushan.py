@@ -3,7 +3,8 @@
     with Hall("127.0.0.1:7070").acquire() as number:
         work(number.value, number.token)    # nobody else holds this number now
 
-A number is held until `leave`, which the end of the block sends. A process that is killed sends none, so its number stays held.
+A number is held until `leave`, which the end of the block sends, or until its connection has been gone for the server's grace time.
+A thread keeps the connection, and comes back by itself. The number may be used until `valid_until`; `on_lost` is called if that passes.
 The token rises with each holder of a number. A resource that refuses a lower token than it has seen refuses a former holder.
 
 A connection that fails is closed, and nothing of it is used again. The client goes on at the next front end, and asks there what
@@ -11,15 +12,19 @@ lost replies said. A front end may still take lines that it has not answered. So
 is given one. This client is tested, and not proved.
 """
 
+import math
 import os
+import random
 import re
 import secrets
+import selectors
 import socket
 import threading
 import time
+import traceback
 from typing import Callable, Iterable, List, NamedTuple, Optional, Sequence, Tuple, TypeVar, Union
 
-__all__ = ["BeglushanError", "Hall", "LostNumber", "NoNames", "Number", "NumbersExhausted", "Refused", "Unreachable"]
+__all__ = ["BeglushanError", "Hall", "LostNumber", "NoNames", "Number", "NumbersExhausted", "Refused", "Terms", "Unreachable"]
 
 Result = TypeVar("Result")
 
@@ -53,6 +58,7 @@ _FORMS = {
     "begin": "ok|refused N",
     "step": "quiet|place N|proposed N|saw N:N(?: N:N)*|named N|spent|refused N",
     "owner": "owner N|owner none|refused N|bad 3",
+    "terms": "terms (?:forever|connection) N N|bad 3",
 }
 _REPLIES = {word: re.compile(form.replace("N", "(?:0|[1-9][0-9]{0,19})")) for word, form in _FORMS.items()}
 # How many probes are sent at once: a pool has at most 64 numbers, and a competitor has one after as many probes.
@@ -93,10 +99,10 @@ class NumbersExhausted(Refused):
 
 
 class LostNumber(BeglushanError):
-    """A number is no longer held with its token. `check` raises it, and `leave` if `check` has not.
+    """A number is no longer held with its token. `check` and `confirm` raise it, and `leave` if they have not.
 
-    Somebody has sent `leave` for the identity, or has taken it up in another process, or the server has forgotten its history.
-    `check` raises it after `leave` too."""
+    Its connection was gone for the grace time, or somebody has sent `leave` for the identity, or has taken it up in another process, or the
+    server has forgotten its history. They raise it after `leave` too."""
 
 
 class NoNames(BeglushanError):
@@ -114,14 +120,52 @@ class _Held(NamedTuple):
     value: int
 
 
+class Terms(NamedTuple):
+    """What a front end says of the ends of stays, as the line `terms` is answered. All is in seconds."""
+
+    holds_forever: bool
+    """Whether a number is held until `leave`, whatever becomes of its connection."""
+    grace: int
+    """How long after the end of its connection a stay ends, unless `enter` is said before."""
+    idle: int
+    """After how long a connection of which nothing comes is closed. 0 is never."""
+
+    @property
+    def least(self) -> float:
+        """The least time in which something has to be said; `math.inf` if there is none."""
+        return min(math.inf if self.holds_forever else self.grace, self.idle or math.inf)
+
+
+# What is assumed of a front end that does not know `terms`: the defaults of `slotctl host --hold connection`.
+_ASSUMED = Terms(False, 10, 30)
+
+
 class _Connection:
     """One connection at a time to one of the front ends, for one identity. Replies are matched to lines in their order."""
 
     def __init__(self, addresses: Sequence[Tuple[str, int]], timeout: float, identity: int) -> None:
         self.identity = identity
         self.serial = 0  # of the last connection: what was said on an earlier one counts no more
+        self.terms = _ASSUMED  # those of the last connection
+        self.sent = -math.inf  # when the last lines that were answered were sent, by `time.monotonic`
         self._addresses, self._timeout, self._at = addresses, timeout, 0
         self._stream: Optional[socket.socket] = None
+
+    @property
+    def count(self) -> int:
+        """How many front ends there are."""
+        return len(self._addresses)
+
+    def stream(self) -> Optional[socket.socket]:
+        """The connection, to be waited on."""
+        return self._stream
+
+    def has_ended(self) -> bool:
+        """Whether there is none, or it has ended, or something came unasked. Nobody may be in `exchange`."""
+        try:
+            return self._stream is None or self._listened(self._stream) is None
+        except OSError:
+            return True
 
     def is_open(self, serial: int) -> bool:
         """Whether this is the connection's serial, and it is not known to have ended."""
@@ -133,19 +177,29 @@ class _Connection:
         if stream is not None:
             stream.close()
 
-    def exchange(self, *lines: str) -> List[str]:
-        """Sends lines at once, and returns the reply to each. A fault closes the connection; the next one is to the next address."""
+    def exchange(self, *lines: str, limit: float = math.inf) -> List[str]:
+        """Sends lines at once, and returns the reply to each. A fault closes the connection; the next one is to the next address.
+
+        A new connection is asked for its terms before."""
         host, port = self._addresses[self._at]
-        end = time.monotonic() + self._timeout
+        limit = min(limit, self._timeout)
+        end = time.monotonic() + limit
         try:
-            stream = self._silent_stream(host, port)
-            stream.settimeout(self._timeout)
-            stream.sendall("".join(line + "\n" for line in lines).encode("ascii"))
-            replies = _read_replies(stream, len(lines), end)
-            for line, reply in zip(lines, replies):
+            serial = self.serial
+            stream = self._silent_stream(host, port, limit)
+            asked = lines if serial == self.serial else ("terms", *lines)
+            stream.settimeout(limit)
+            sent = time.monotonic()
+            stream.sendall("".join(line + "\n" for line in asked).encode("ascii"))
+            replies = _read_replies(stream, len(asked), end)
+            for line, reply in zip(asked, replies):
                 if not _fits(line, reply):
                     raise OSError(f"{reply[:80]!r} is no reply to {line!r}")
-            return replies
+            self.sent = sent
+            if serial == self.serial:
+                return replies
+            self.terms = _as_terms(replies[0])
+            return replies[1:]
         except (OSError, UnicodeError) as fault:
             self.close()
             self._at = (self._at + 1) % len(self._addresses)
@@ -175,7 +229,7 @@ class _Connection:
             if faults >= count and left <= 0:
                 raise error
             if faults % count == 0:
-                time.sleep(min(0.025 * 2 ** min(faults // count, 6), 1.0, max(left, 0.0)))
+                time.sleep(min(_pause(faults // count), max(left, 0.0)))
 
     def held(self) -> Optional[_Held]:
         """The number that the identity holds, if any."""
@@ -188,18 +242,23 @@ class _Connection:
         except _Fault:
             pass
 
-    def _silent_stream(self, host: str, port: int) -> socket.socket:
+    def _silent_stream(self, host: str, port: int, limit: float) -> socket.socket:
         """The connection, which is made where there is none; a fault where it has ended, or says what was not asked."""
         if self._stream is None:
-            self._stream = socket.create_connection((host, port), self._timeout)
+            self._stream = socket.create_connection((host, port), limit)
             self._stream.setsockopt(socket.IPPROTO_TCP, socket.TCP_NODELAY, 1)
             self._stream.setsockopt(socket.SOL_SOCKET, socket.SO_KEEPALIVE, 1)
             self.serial += 1
-        self._stream.setblocking(False)
+        return self._listened(self._stream)
+
+    @staticmethod
+    def _listened(stream: socket.socket) -> socket.socket:
+        """A connection that says nothing; a fault where it has ended, or says what was not asked."""
+        stream.setblocking(False)
         try:
-            said = self._stream.recv(1)
+            said = stream.recv(1)
         except BlockingIOError:
-            return self._stream
+            return stream
         raise OSError("it says what was not asked" if said else "it closed the connection")
 
 
@@ -225,6 +284,19 @@ def _fits(line: str, reply: str) -> bool:
     """Whether this may be the reply to this line."""
     word, _, identity = line.partition(" ")
     return bool(_REPLIES[word].fullmatch(reply)) and (word != "held" or reply == "none" or reply.split(" ")[1] == identity)
+
+
+def _pause(rounds: int) -> float:
+    """How long to wait after so many rounds of faults. Clients of one server do not come back all at once."""
+    return min(0.025 * (1 << min(rounds, 6)), 1.0) * random.uniform(0.75, 1.0)
+
+
+def _as_terms(reply: str) -> Terms:
+    word, _, rest = reply.partition(" ")
+    if word != "terms":
+        return _ASSUMED
+    hold, grace, idle = rest.split(" ")
+    return Terms(hold == "forever", int(grace), int(idle))
 
 
 def _as_held(reply: str) -> Optional[_Held]:
@@ -258,19 +330,24 @@ def _drawn_identity() -> int:
 class Number:
     """A number that is held, as `Hall.acquire` returns it. A `with` block gives it back at its end. Threads may share it.
 
+    A thread of its own keeps it: it says something in time, watches the connection, and comes back where that has ended.
     After an exception in the block a failure to give back is not raised, so that the exception is."""
 
-    def __init__(self, connection: _Connection, is_drawn: bool, patience: float, heartbeat: float, at_end: Callable[[], None]) -> None:
+    def __init__(self, connection: _Connection, is_drawn: bool, patience: float, heartbeat: float, on_lost: Optional[Callable[["Number"], None]],
+                 at_end: Callable[[], None]) -> None:
         """For `Hall.acquire` alone."""
-        self._connection, self._patience, self._heartbeat, self._at_end = connection, patience, heartbeat, at_end
-        self._lock, self._over = threading.Lock(), threading.Event()
+        self._connection, self._patience, self._heartbeat = connection, patience, heartbeat
+        self._on_lost, self._at_end = on_lost, at_end
+        self._lock, self._over, self._wakes = threading.Lock(), threading.Event(), _Wakes()
         self._is_left = self._is_leaving = self._is_reported = False
+        self._is_drawn = is_drawn
         self._is_own = is_drawn  # whether nobody else can have entered for this identity before
         self._own = _Held(0, 0)
         self._lost: Optional[str] = None
         self._process = os.getpid()
         self._entered_on = 0  # the serial of the connection on which `enter` was said last
-        self._thread = threading.Thread(target=self._beat, name=f"beglushan {connection.identity}", daemon=True)
+        self._valid_until = -math.inf
+        self._thread = threading.Thread(target=self._keep_on, name=f"beglushan {connection.identity}", daemon=True)
         try:
             connection.persist(self._acquire, patience)
             self._thread.start()
@@ -278,6 +355,7 @@ class Number:
             if self._is_own and not isinstance(fault, (Unreachable, NumbersExhausted)):
                 connection.give_back()
             connection.close()
+            self._wakes.close()
             raise
 
     @property
@@ -295,15 +373,39 @@ class Number:
         """The fencing token, at least 1: above that of each earlier holder of this number."""
         return self._own.value
 
+    @property
+    def terms(self) -> Terms:
+        """What the front end says of the ends of stays."""
+        return self._connection.terms
+
+    @property
+    def valid_until(self) -> float:
+        """Until when the number may be used, by `time.monotonic`: the grace time after the last line that was answered was sent.
+
+        `math.inf` where the front end holds numbers for ever, and `-math.inf` once the number is given back, or is known to be lost."""
+        return self._valid_until
+
+    @property
+    def is_valid(self) -> bool:
+        """Whether the number may be used now. It asks nobody."""
+        return time.monotonic() < self._valid_until
+
     def check(self) -> None:
-        """Asks a front end whether the number is held with this token. If `check` returns, that was so at a moment of the call.
+        """Has a front end answer that the number is held. If `check` returns, that was so at a moment of the call.
+
+        On the connection that keeps a number of a drawn identity an empty line is enough, which is no entry of a history. It does not tell that
+        somebody else has sent `leave` for the identity: `confirm` does.
+
+        Raises LostNumber if it is not held, Unreachable, and Refused."""
+        self._ask(self._renew)
+
+    def confirm(self) -> None:
+        """Asks a front end whether the number is held with this token. If `confirm` returns, that was so at a moment of the call.
+
+        Over etcd this is an entry of the log.
 
         Raises LostNumber if it is not, Unreachable, and Refused."""
-        self._refuse_fork()
-        with self._lock:
-            if self._is_left:
-                raise LostNumber(f"number {self.value} was given back")
-            self._settle(self._assure)
+        self._ask(self._assure)
 
     def leave(self) -> None:
         """Gives the number back. Once that is done, or once LostNumber was raised, it does nothing.
@@ -312,7 +414,9 @@ class Number:
         may be held, and `leave` may be called again."""
         self._refuse_fork()
         self._over.set()
-        self._thread.join()
+        self._wakes.wake()
+        if threading.current_thread() is not self._thread:  # as `on_lost` is
+            self._thread.join()
         with self._lock:
             if not self._is_left and not self._is_reported:
                 self._settle(self._leave)
@@ -331,6 +435,14 @@ class Number:
 
     def __repr__(self) -> str:
         return f"<Number {self.value} of identity {self.identity} with token {self.token}>"
+
+    def _ask(self, attempt: Callable[[], None]) -> None:
+        self._refuse_fork()
+        with self._lock:
+            if self._is_left:
+                raise LostNumber(f"number {self.value} was given back")
+            self._settle(attempt)
+        self._wakes.wake()
 
     def _refuse_fork(self) -> None:
         if os.getpid() != self._process:
@@ -357,19 +469,25 @@ class Number:
         if self.token >= 2**64:
             raise BeglushanError(f"the slot of number {self.value} has the greatest value, and no token is above that")
         _raise_refusal(exchange(f"put {self.identity} {self.token}")[0])
-        self._entered_on = self._connection.serial
+        self._note_answer()
 
-    def _assure(self) -> None:
+    def _note_answer(self) -> None:
+        """The connection on which `enter` was said last, which is this one, has answered."""
+        self._entered_on = self._connection.serial
+        terms = self._connection.terms
+        self._valid_until = math.inf if terms.holds_forever else self._connection.sent + terms.grace
+
+    def _assure(self, limit: float = math.inf) -> None:
         """An attempt to find that the number is held. On a new connection it says `enter` too."""
-        self._compare(self._connection.held())
+        self._compare(_as_held(self._connection.exchange(f"held {self.identity}", limit=limit)[0]))
         if not self._connection.is_open(self._entered_on):
-            reply = self._connection.exchange(f"enter {self.identity}")[0]
+            reply = self._connection.exchange(f"enter {self.identity}", limit=limit)[0]
             if reply == "ok":
                 self._connection.give_back()
             if reply in ("ok", f"refused {_CROWDED}"):
                 raise self._lose("the identity has left")
             _raise_refusal(reply, _ALREADY_COMPETING)
-            self._entered_on = self._connection.serial
+        self._note_answer()
 
     def _leave(self) -> None:
         """An attempt to give the number back, unless an earlier one has done that."""
@@ -383,12 +501,26 @@ class Number:
         if reply != f"left {self.value}" and not (is_again and reply == f"refused {_NOT_COMPETING}"):
             raise self._lose(f"`leave` was answered `{reply}`")
 
-    def _keep(self) -> None:
-        """An attempt to keep the connection, or to have another."""
-        if self._connection.is_open(self._entered_on):
+    def _is_kept(self) -> bool:
+        """Whether the connection that keeps the stay goes on."""
+        return self._connection.is_open(self._entered_on) and not self._connection.has_ended()
+
+    def _renew(self) -> None:
+        """An attempt to find that the number is held, by its connection alone where that keeps it and nobody else knows the identity."""
+        if self._is_drawn and not self._connection.terms.holds_forever and self._is_kept():
             self._connection.exchange("")
+            self._note_answer()
         else:
             self._assure()
+
+    def _keep(self) -> None:
+        """An attempt to keep the connection, or to have another, that leaves time for one at each other front end."""
+        limit = max(0.1, self._connection.terms.least / 3 / self._connection.count)
+        if self._is_kept():
+            self._connection.exchange("", limit=limit)
+            self._note_answer()
+        else:
+            self._assure(limit)
 
     def _compare(self, held: Optional[_Held]) -> None:
         if held is None:
@@ -402,7 +534,9 @@ class Number:
         return LostNumber(self._lost)
 
     def _end(self) -> None:
+        self._valid_until = -math.inf
         self._over.set()
+        self._wakes.wake()
         self._connection.close()
         self._at_end()
 
@@ -417,15 +551,88 @@ class Number:
             self._is_reported = True
             raise LostNumber(self._lost)
 
-    def _beat(self) -> None:
-        """The heartbeat, while the number is held."""
-        while not self._over.wait(self._heartbeat):
-            with self._lock:
-                try:
-                    if not self._over.is_set():
-                        self._connection.persist(self._keep, 0.0)
-                except BeglushanError:
-                    continue  # a number that is lost is over; else the next beat tries again
+    def _keep_on(self) -> None:
+        """What the thread does: it keeps the number while that is held, and calls `on_lost` each time that it comes to be valid no more."""
+        faults, was_valid, is_over = 0, True, False
+        while not is_over:
+            is_over = self._over.is_set()
+            if not is_over:
+                self._wait(faults)
+                faults = self._go_on(faults)
+            is_valid = self.is_valid
+            if was_valid and not is_valid and (self._lost is not None or not self._over.is_set()):
+                self._call_on_lost()
+            was_valid = is_valid
+        self._wakes.close()
+
+    def _beat(self) -> float:
+        """The longest time in which nothing is said."""
+        return min(self._heartbeat, self._connection.terms.least / 3)
+
+    def _wait(self, faults: int) -> None:
+        """Waits until something is to be said, or the number is valid no more, or the connection has ended, or another thread wakes this one."""
+        now = time.monotonic()
+        until = now + _pause(faults) if faults else self._connection.sent + self._beat()
+        self._wakes.wait(min(until, self._valid_until if self.is_valid else math.inf) - now, None if faults else self._connection.stream())
+
+    def _go_on(self, faults: int) -> int:
+        """Says something where it is due. Returns how many attempts have failed since the last that did not."""
+        left = self._valid_until - time.monotonic()
+        if not self._lock.acquire(timeout=min(left, 1.0) if left > 0 else 1.0):
+            return faults  # another thread asks
+        try:
+            is_due = faults > 0 or self._connection.sent + self._beat() <= time.monotonic() or self._connection.has_ended()
+            if is_due and not self._over.is_set():
+                self._connection.persist(self._keep, 0.0)
+            return 0
+        except BeglushanError:
+            return faults + 1  # a number that is lost is over
+        finally:
+            self._lock.release()
+
+    def _call_on_lost(self) -> None:
+        if self._on_lost is not None:
+            try:
+                self._on_lost(self)
+            except Exception:
+                traceback.print_exc()
+
+
+class _Wakes:
+    """What a thread waits on beside a connection, so that others can wake it."""
+
+    def __init__(self) -> None:
+        self._read, self._written = socket.socketpair()
+        self._read.setblocking(False)
+        self._written.setblocking(False)
+
+    def wake(self) -> None:
+        """Ends a wait, or the next one."""
+        try:
+            self._written.send(b"w")
+        except OSError:
+            pass  # it is awake, or over
+
+    def wait(self, seconds: float, stream: Optional[socket.socket]) -> None:
+        """Waits for so long at most, or until it is woken, or the connection has something to read or has ended."""
+        with selectors.DefaultSelector() as selector:
+            selector.register(self._read, selectors.EVENT_READ)
+            try:
+                if stream is not None:
+                    selector.register(stream, selectors.EVENT_READ)
+            except (OSError, ValueError):
+                return  # it was closed
+            selector.select(min(max(0.0, seconds), 3600.0))
+        try:
+            while self._read.recv(1 << 10):
+                pass
+        except OSError:
+            pass
+
+    def close(self) -> None:
+        """No thread waits any more."""
+        self._read.close()
+        self._written.close()
 
 
 class Hall:
@@ -439,6 +646,7 @@ class Hall:
         timeout: float = 5.0,
         heartbeat: float = 60.0,
         patience: float = 20.0,
+        on_lost: Optional[Callable[[Number], None]] = None,
     ) -> None:
         """Takes note of the front ends, and connects to none.
 
@@ -446,7 +654,10 @@ class Hall:
         `identity` holds the number and has the name, from 1 to 2^64 - 1. With it the hall holds one number at a time. Without it an identity
         is drawn for each number, and one for the name.
         All else is in seconds. `timeout` is the longest that a front end may take to connect or to answer. A held number's connection says
-        something each `heartbeat`, which has to be shorter than the server's `--idle`. A call tries the front ends for `patience`.
+        something each `heartbeat`, or each third of the least of the server's `--grace` and `--idle`, if that is shorter. A call tries the front
+        ends for `patience`.
+        `on_lost` is called with a number, in the number's thread, once its `valid_until` has passed, or once it is known to be lost. In the first
+        case the thread goes on, and the number may come to be valid again: `check` tells.
 
         Raises ValueError for a text that is no address, an identity out of range, and seconds that are not positive."""
         if identity is not None and not 0 < identity < 2**64:
@@ -456,7 +667,7 @@ class Hall:
         self.identity = _drawn_identity() if identity is None else identity
         self._is_drawn = identity is None
         self._addresses = _as_addresses(addresses)
-        self._timeout, self._heartbeat, self._patience = timeout, heartbeat, patience
+        self._timeout, self._heartbeat, self._patience, self._on_lost = timeout, heartbeat, patience, on_lost
         self._busy = threading.Lock()
 
     def acquire(self) -> Number:
@@ -488,7 +699,7 @@ class Hall:
 
     def _acquired(self, identity: int, at_end: Callable[[], None]) -> Number:
         connection = _Connection(self._addresses, self._timeout, identity)
-        return Number(connection, self._is_drawn, self._patience, self._heartbeat, at_end)
+        return Number(connection, self._is_drawn, self._patience, self._heartbeat, self._on_lost, at_end)
 
     def _named(self, connection: _Connection) -> int:
         """An attempt to be named, which goes on where an earlier one has ended."""

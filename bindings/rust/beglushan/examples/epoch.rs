@@ -1,19 +1,21 @@
-//! A small epoch scheme round one value: what is replaced is freed only when no reader can have it. Its list of readers is the
-//! pool's array, so it is as long as the readers that there are at once.
+//! A small epoch scheme round one value: what is replaced is freed only when no reader can have it. Its list of readers is an array for
+//! the workers of the program, so it is as long as the stays that there are at once. A thread is attached by its first read.
 
-use beglushan::{Pool, SharedSlots, Slot};
+use beglushan::{SharedSlots, Stay, Workers};
 use std::sync::atomic::{AtomicPtr, AtomicU64, AtomicUsize, Ordering::SeqCst};
-use std::sync::{Mutex, PoisonError};
+use std::sync::{LazyLock, Mutex, PoisonError};
 use std::thread;
 
-/// No epoch: the slot's holder does not read.
+/// The workers of the program: at most so many stays at once.
+static WORKERS: LazyLock<Workers> = LazyLock::new(|| Workers::new(64).expect("memory for 64"));
+
+/// No epoch: the worker does not read.
 const OUTSIDE: u64 = 0;
 
 /// A value that many read while it is replaced.
 struct Latest<T> {
     now: AtomicPtr<T>,
     epoch: AtomicU64,
-    readers: Pool,
     /// The epoch that each reader began in.
     began: SharedSlots<AtomicU64>,
     /// What was replaced, and the last epoch in which it was in reach.
@@ -24,31 +26,41 @@ struct Latest<T> {
 // SAFETY: values are lent to many threads, and freed by any.
 unsafe impl<T: Send + Sync> Sync for Latest<T> {}
 
-/// A thread that reads, until this is dropped: then it is outside, and after that its number is given back.
-struct Reader<'a, T> {
-    latest: &'a Latest<T>,
-    slot: Slot<'a>,
+/// A worker that reads, until this is dropped, in a panic too: then it is outside.
+struct Reader<'a>(&'a AtomicU64);
+
+impl<'a> Reader<'a> {
+    fn begin<T>(latest: &'a Latest<T>, stay: &Stay<'_>) -> Reader<'a> {
+        let began = latest.began.get(stay);
+        began.store(latest.epoch.load(SeqCst), SeqCst);
+        Reader(began)
+    }
+}
+
+impl Drop for Reader<'_> {
+    fn drop(&mut self) {
+        self.0.store(OUTSIDE, SeqCst);
+    }
 }
 
 impl<T> Latest<T> {
-    fn new(value: T, most_readers: usize) -> Result<Latest<T>, beglushan::Error> {
-        let readers = Pool::new(most_readers)?;
-        Ok(Latest {
+    fn new(value: T) -> Latest<T> {
+        Latest {
             now: AtomicPtr::new(Box::into_raw(Box::new(value))),
             epoch: AtomicU64::new(OUTSIDE + 1),
-            began: SharedSlots::new(&readers, |_| AtomicU64::new(OUTSIDE)),
-            readers,
+            began: SharedSlots::new(&*WORKERS, |_| AtomicU64::new(OUTSIDE)),
             retired: Mutex::default(),
             freed: AtomicUsize::new(0),
-        })
+        }
     }
 
-    /// A reader that begins now. The number that this thread had last is tried first.
-    fn reader(&self, last: usize) -> Option<Reader<'_, T>> {
-        let slot = self.readers.acquire_near(last)?;
-        let epoch = self.epoch.load(SeqCst);
-        self.began.get(&slot).store(epoch, SeqCst);
-        Some(Reader { latest: self, slot })
+    /// Calls with the value of now. A read within a read is a stay of its own.
+    fn read<R>(&self, call: impl FnOnce(&T) -> R) -> R {
+        WORKERS.with(|stay| {
+            let _reader = Reader::begin(self, stay);
+            // SAFETY: it is in reach after this reader's epoch was told to all, so it stays until the reader is outside.
+            call(unsafe { &*self.now.load(SeqCst) })
+        })
     }
 
     /// Puts a new value in reach, and frees what was out of reach before the oldest reader began.
@@ -71,49 +83,30 @@ impl<T> Latest<T> {
     }
 }
 
-impl<T> Reader<'_, T> {
-    fn get(&self) -> &T {
-        // SAFETY: it is in reach after this reader's epoch was told to all, so it stays until the reader is outside.
-        unsafe { &*self.latest.now.load(SeqCst) }
-    }
-}
-
-impl<T> Drop for Reader<'_, T> {
-    fn drop(&mut self) {
-        self.latest.began.get(&self.slot).store(OUTSIDE, SeqCst);
-    }
-}
-
 impl<T> Drop for Latest<T> {
     fn drop(&mut self) {
-        let retired = self
-            .retired
-            .get_mut()
-            .unwrap_or_else(PoisonError::into_inner);
-        let all = retired
-            .drain(..)
-            .map(|(_, value)| value)
-            .chain([*self.now.get_mut()]);
+        let retired = self.retired.get_mut();
+        let retired = retired.unwrap_or_else(PoisonError::into_inner);
+        let all = retired.drain(..).map(|(_, value)| value);
         // SAFETY: each stands here once, and nobody reads.
-        all.for_each(|value| drop(unsafe { Box::from_raw(value) }));
+        all.chain([*self.now.get_mut()])
+            .for_each(|value| drop(unsafe { Box::from_raw(value) }));
     }
 }
 
-fn main() -> Result<(), beglushan::Error> {
+fn main() {
     const READERS: usize = 4;
     const ROUNDS: u64 = 10_000;
-    let latest = Latest::new([0; 8], READERS)?;
+    let latest = Latest::new([0; 8]);
+    let is_whole = |value: &[u64; 8]| value.iter().all(|word| *word == value[0]);
     thread::scope(|threads| {
-        for id in 1..=READERS {
-            let latest = &latest;
-            threads.spawn(move || {
+        for _ in 0..READERS {
+            threads.spawn(|| {
                 for _ in 0..ROUNDS {
-                    let reader = latest.reader(id).expect("as many numbers as readers");
-                    let value = reader.get();
-                    assert!(
-                        value.iter().all(|word| *word == value[0]),
-                        "read after it was freed"
-                    );
+                    // The inner read may see a later value.
+                    let (before, after) = latest
+                        .read(|outer| latest.read(|inner| (is_whole(outer), is_whole(inner))));
+                    assert!(before && after, "read after it was freed");
                 }
             });
         }
@@ -122,5 +115,4 @@ fn main() -> Result<(), beglushan::Error> {
     latest.replace([0; 8]);
     println!("{} values replaced under {READERS} readers", ROUNDS + 1);
     println!("freed: {}", latest.freed.load(SeqCst));
-    Ok(())
 }

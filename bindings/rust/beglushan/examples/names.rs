@@ -8,9 +8,7 @@ use std::thread;
 const THREADS: usize = 4;
 const HITS: u64 = 1000;
 
-/// More proposals than four threads can make: at most `3(5^4 - 1)/4`. So each name is at most `2 * 4 - 1`.
-const LIMIT: usize = 469;
-
+/// Each name of four threads is at most `2 * 4 - 1`.
 static COUNTERS: [AtomicU64; 2 * THREADS - 1] = [const { AtomicU64::new(0) }; 2 * THREADS - 1];
 
 fn count(seat: Seat) {
@@ -22,7 +20,7 @@ fn count(seat: Seat) {
 }
 
 fn main() -> Result<(), beglushan::Error> {
-    let mut names = Names::with_limit(THREADS, LIMIT)?;
+    let mut names = Names::new(THREADS)?;
     let mut seats = Vec::new();
     for identity in [u64::MAX, 3, 0x9e37_79b9_7f4a_7c15, 1 << 40] {
         seats.push(names.deal(identity)?);

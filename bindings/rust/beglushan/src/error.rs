@@ -1,6 +1,6 @@
 //! What is refused.
 
-use std::fmt;
+use core::fmt;
 
 /// Why a call has no value.
 ///
@@ -58,4 +58,4 @@ impl fmt::Display for Error {
     }
 }
 
-impl std::error::Error for Error {}
+impl core::error::Error for Error {}

@@ -1,55 +1,57 @@
 #![doc = include_str!("../README.md")]
-#![deny(missing_docs, missing_debug_implementations, unsafe_op_in_unsafe_fn)]
+#![cfg_attr(not(feature = "std"), no_std)]
+#![deny(missing_docs, missing_debug_implementations, unsafe_code)]
 #![deny(clippy::undocumented_unsafe_blocks)]
 
-#[cfg(any(test, not(beglushan_proved)))]
-mod atomics;
-mod desk;
-#[cfg(all(test, beglushan_proved))]
-mod differential;
+extern crate alloc as std_alloc;
+
+#[cfg(feature = "async")]
+mod acquire_async;
+#[cfg(feature = "std")]
+mod attached;
 mod error;
-#[cfg(beglushan_proved)]
-mod heap;
-mod kept;
+#[cfg(feature = "std")]
+mod hint;
 mod key;
+mod kit;
+mod line;
+mod lock;
+#[cfg(target_has_atomic = "64")]
 mod names;
 mod numbers;
 mod padded;
+#[cfg(feature = "std")]
 mod per_thread;
+#[cfg(feature = "std")]
 mod per_thread_iter;
 mod places;
-#[cfg(any(test, not(beglushan_proved)))]
-#[cfg_attr(beglushan_proved, allow(dead_code))]
-mod plain;
 mod pool;
-mod process;
-#[cfg(beglushan_proved)]
+#[cfg_attr(not(target_has_atomic = "64"), allow(dead_code))] // `Names` is not there
 mod proved;
 mod shared_slots;
 mod slot;
 mod slots;
+#[cfg(feature = "std")]
 mod thread;
+#[cfg(feature = "std")]
 mod values;
+#[cfg(feature = "std")]
 mod waiting;
 mod workers;
 
-#[cfg(not(beglushan_proved))]
-use plain as library;
-#[cfg(beglushan_proved)]
-use proved as library;
-
+#[cfg(feature = "async")]
+pub use acquire_async::{Acquire, AcquireOwned};
 pub use error::Error;
-pub use names::{Names, Seat, MOST_PROPOSALS, MOST_SEATS};
+#[cfg(target_has_atomic = "64")]
+pub use names::{Names, Seat, MAX_SEATS};
 pub use numbers::{Holder, Numbers};
+#[cfg(feature = "std")]
 pub use per_thread::PerThread;
+#[cfg(feature = "std")]
 pub use per_thread_iter::{Iter, IterMut};
-pub use places::{PlaceSeat, Places, MOST_PLACE_SEATS};
-pub use pool::{Lent, Pool, MOST_NUMBERS};
-pub use shared_slots::SharedSlots;
+pub use places::{PlaceSeat, Places, MAX_PLACE_SEATS};
+pub use pool::{Lent, Pool, MAX_NUMBERS};
+pub use shared_slots::{SharedIter, SharedSlots};
 pub use slot::{OwnedSlot, Slot, SlotOf};
 pub use slots::Slots;
 pub use workers::{LentWorkers, OwnedWorker, Stay, Worker, WorkerOf, Workers};
-
-/// Whether the accesses to shared memory are those of the proved library. If false, they are the same walks in Rust, which
-/// are not proved: by the feature `plain`, or since the target has no library.
-pub const PROVED: bool = cfg!(beglushan_proved);

@@ -1,5 +1,7 @@
 //! A value with a cache line of its own.
 
+use std_alloc::{boxed::Box, vec::Vec};
+
 /// Two of them share no cache line, nor the pair of lines that processors fetch together.
 #[repr(align(128))]
 pub(crate) struct Padded<T>(pub T);

@@ -1,4 +1,5 @@
 //! A value for each thread.
+#![allow(unsafe_code)]
 
 use crate::error::Error;
 use crate::per_thread_iter::{Iter, IterMut};
@@ -46,8 +47,13 @@ use std::sync::atomic::{AtomicPtr, Ordering::AcqRel, Ordering::Acquire};
 /// # What a value needs
 ///
 /// `T: Send` is enough for [`with`](PerThread::with) and its kin, so a `Cell` or a `RefCell` may be a value. The calls that
-/// answer a reference want `T: Sync`. A reference can outlive the thread's number, in the destructor of another thread-local, and
-/// then the next thread has the same value.
+/// return a reference want `T: Sync`. A reference can outlive the thread's number, in the destructor of another thread-local, and
+/// then the next thread has the same value:
+///
+/// ```compile_fail,E0599
+/// let values = beglushan::PerThread::<std::cell::Cell<u64>>::new();
+/// let mine = values.get_or_default();
+/// ```
 ///
 /// # When a thread ends
 ///
@@ -77,7 +83,6 @@ use std::sync::atomic::{AtomicPtr, Ordering::AcqRel, Ordering::Acquire};
 pub struct PerThread<T> {
     /// The last one stays null: it is that of a thread with no number.
     buckets: [AtomicPtr<Entry<T>>; BUCKETS + 1],
-    most: usize,
     // Neither `Send` nor `Sync` but as below.
     owns: PhantomData<(T, *mut ())>,
 }
@@ -96,7 +101,10 @@ impl<T> PerThread<T> {
     /// No values yet. Each is made when its thread first asks for it.
     #[must_use]
     pub const fn new() -> PerThread<T> {
-        PerThread::bounded(usize::MAX)
+        PerThread {
+            buckets: [const { AtomicPtr::new(ptr::null_mut()) }; BUCKETS + 1],
+            owns: PhantomData,
+        }
     }
 
     /// No values yet, with memory for those of so many threads.
@@ -115,35 +123,14 @@ impl<T> PerThread<T> {
         values
     }
 
-    /// No values yet, and at most `most`: a thread with an index of `most` or more is refused. The index is the process's, not
-    /// this `PerThread`'s. So a thread can be refused only if more than `most` threads use some `PerThread` at once.
-    ///
-    /// ```
-    /// use beglushan::{Error, PerThread};
-    ///
-    /// let values = PerThread::<u64>::bounded(1);
-    /// assert_eq!(values.try_with(|mine| *mine), Ok(0));
-    /// let other = std::thread::scope(|threads| threads.spawn(|| values.try_with(|mine| *mine)).join());
-    /// assert_eq!(other.expect("nothing panics"), Err(Error::Full { most: 1 }));
-    /// ```
-    #[must_use]
-    pub const fn bounded(most: usize) -> PerThread<T> {
-        PerThread {
-            buckets: [const { AtomicPtr::new(ptr::null_mut()) }; BUCKETS + 1],
-            most,
-            owns: PhantomData,
-        }
-    }
-
     /// What `use_it` makes of this thread's value, which is made by `Default` if there is none.
     ///
     /// # Panics
     ///
     /// - If it is called by the `Default` of the same value.
     /// - If the allocation failed at the thread's first use.
-    /// - If the thread is one too many for [`bounded`](PerThread::bounded).
     ///
-    /// [`try_with`](PerThread::try_with) answers an error then.
+    /// [`try_with`](PerThread::try_with) returns an error then.
     #[inline]
     pub fn with<R>(&self, use_it: impl FnOnce(&T) -> R) -> R
     where
@@ -168,7 +155,6 @@ impl<T> PerThread<T> {
     ///
     /// - [`Error::Nested`]: the call came from within the `Default` of the same value, or from an allocator that this thread's
     ///   first use calls.
-    /// - [`Error::Full`]: the thread is one too many for [`bounded`](PerThread::bounded).
     /// - [`Error::NoMemory`]: an allocation failed, or the values are larger than any allocation can be.
     #[inline]
     pub fn try_with<R>(&self, use_it: impl FnOnce(&T) -> R) -> Result<R, Error>
@@ -254,9 +240,6 @@ impl<T> PerThread<T> {
         use_it: impl FnOnce(&'a T) -> R,
     ) -> Result<Result<R, E>, Error> {
         with_place(|place| {
-            if self.most <= place.index() {
-                return Err(Error::Full { most: self.most });
-            }
             // SAFETY: one thread has the place at a time, and has it for the time of this call.
             match unsafe { self.entry(place)?.get_or_make(make) } {
                 Made::Value(mine) => Ok(Ok(use_it(mine))),

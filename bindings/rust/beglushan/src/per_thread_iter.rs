@@ -1,4 +1,5 @@
 //! The values of a `PerThread`, one after another.
+#![allow(unsafe_code)]
 
 use crate::per_thread::PerThread;
 use crate::values::Entry;
@@ -19,6 +20,15 @@ impl<'a, T: Sync> Iter<'a, T> {
         Iter {
             buckets: buckets.iter().enumerate(),
             entries: [].iter(),
+        }
+    }
+}
+
+impl<T> Clone for Iter<'_, T> {
+    fn clone(&self) -> Self {
+        Iter {
+            buckets: self.buckets.clone(),
+            entries: self.entries.clone(),
         }
     }
 }

@@ -1,20 +1,22 @@
 //! Places for good, by splitters.
 
 use crate::error::Error;
-use crate::library::GridMember;
-use std::cell::Cell;
-use std::fmt;
-use std::marker::PhantomData;
+use crate::kit::alloc::Global;
+use crate::proved::model_steps::refusal::Refusal;
+use crate::proved::words_machine::grid::seats::{Dealer, FreshSeat};
+use crate::proved::words_machine::grid::word_grid::WordGrid;
+use core::fmt;
+use std_alloc::sync::Arc;
 
 /// The most seats of [`Places`].
-pub const MOST_PLACE_SEATS: usize = 64;
+pub const MAX_PLACE_SEATS: usize = 64;
 
-/// Places for good, by the grid of splitters of Moir and Anderson (1995). Each of `most` threads has a seat, and takes a place by
-/// it once.
+/// Places for good, by the grid of splitters of Moir and Anderson (1995). Each of `capacity` threads has a seat, and takes a place
+/// by it once.
 ///
 /// A seat's one call is wait-free, by reads and writes alone. If `b` seats have entered, its own among them, the place is at most
-/// `b(b + 1)/2`, whatever `most` is. The call makes at most `4b` accesses. [`Names`](crate::Names) are smaller and take longer. A
-/// pool has smaller numbers, which come back.
+/// `b(b + 1)/2`, whatever the capacity is. The call makes at most `4b` accesses. [`Names`](crate::Names) are smaller and take longer.
+/// A pool has smaller numbers, which come back.
 ///
 /// ```
 /// use beglushan::Places;
@@ -27,43 +29,48 @@ pub const MOST_PLACE_SEATS: usize = 64;
 /// # Ok::<(), beglushan::Error>(())
 /// ```
 pub struct Places {
-    seats: Vec<PlaceSeat>,
+    grid: Arc<WordGrid<Global>>,
+    dealer: Dealer,
 }
 
 impl Places {
-    /// Seats for so many threads, from 1 to [`MOST_PLACE_SEATS`].
+    /// Seats for so many threads, from 1 to [`MAX_PLACE_SEATS`].
     ///
     /// # Errors
     ///
-    /// - [`Error::Size`]: `most` is out of range.
+    /// - [`Error::Size`]: the capacity is out of range.
     /// - [`Error::NoMemory`]: an allocation failed.
-    pub fn new(most: usize) -> Result<Places, Error> {
-        if most == 0 || MOST_PLACE_SEATS < most {
-            return Err(Error::Size {
-                asked: most,
-                most: MOST_PLACE_SEATS,
-            });
+    pub fn new(capacity: usize) -> Result<Places, Error> {
+        match WordGrid::new(Global, capacity as u64) {
+            Ok((grid, dealer)) => Ok(Places {
+                grid: Arc::new(grid),
+                dealer,
+            }),
+            Err(Refusal::OutOfRange) => Err(Error::Size {
+                asked: capacity,
+                most: MAX_PLACE_SEATS,
+            }),
+            Err(_) => Err(Error::NoMemory),
         }
-        let first = GridMember::first(most).ok_or(Error::NoMemory)?;
-        let mut seats = vec![PlaceSeat::of(first)];
-        for _ in 1..most {
-            let next = seats[0].member.join().ok_or(Error::NoMemory)?;
-            seats.push(PlaceSeat::of(next));
-        }
-        // The first is dealt first.
-        seats.reverse();
-        Ok(Places { seats })
+    }
+
+    /// How many seats there are, dealt or not.
+    #[must_use]
+    pub fn capacity(&self) -> usize {
+        self.grid.most() as usize
     }
 
     /// One seat more, if there is one left.
     pub fn deal(&mut self) -> Option<PlaceSeat> {
-        self.seats.pop()
+        let fresh = self.grid.deal(&mut self.dealer)?;
+        let grid = Arc::clone(&self.grid);
+        Some(PlaceSeat { grid, fresh })
     }
 
     /// How many seats are left.
     #[must_use]
     pub fn left(&self) -> usize {
-        self.seats.len()
+        self.capacity() - self.dealer.dealt() as usize
     }
 }
 
@@ -84,9 +91,8 @@ impl fmt::Debug for Places {
 /// ```
 #[must_use = "a seat that is dropped is lost"]
 pub struct PlaceSeat {
-    member: GridMember,
-    // A cell is not `Sync`, and so neither is a seat.
-    one_thread: PhantomData<Cell<()>>,
+    grid: Arc<WordGrid<Global>>,
+    fresh: FreshSeat,
 }
 
 impl fmt::Debug for PlaceSeat {
@@ -96,14 +102,9 @@ impl fmt::Debug for PlaceSeat {
 }
 
 impl PlaceSeat {
-    fn of(member: GridMember) -> PlaceSeat {
-        let one_thread = PhantomData;
-        PlaceSeat { member, one_thread }
-    }
-
-    /// A place, from 1, that no other seat of the grid has or will have.
+    /// Takes a place, from 1, that no other seat of the grid has or will have.
     #[must_use]
-    pub fn enter(mut self) -> usize {
-        self.member.enter()
+    pub fn enter(self) -> usize {
+        self.grid.enter(self.fresh).place() as usize + 1
     }
 }

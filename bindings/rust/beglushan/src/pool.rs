@@ -1,25 +1,29 @@
 //! A pool of numbers that threads share.
 
+#[cfg(feature = "async")]
+use crate::acquire_async::{Acquire, AcquireOf, AcquireOwned};
 use crate::error::Error;
-use crate::kept;
+#[cfg(feature = "std")]
+use crate::hint::{hint, remember};
 use crate::key::new_key;
-use crate::library::Member;
-use crate::padded::{padded, Padded};
-use crate::process::Process;
+use crate::kit::alloc::Global;
+use crate::proved::model_steps::refusal::Refusal;
+use crate::proved::words_pool::held::Held;
+use crate::proved::words_pool::pool_over::STRIDE;
+use crate::proved::words_pool::word_pool::WordPool;
 use crate::slot::{OwnedSlot, Slot, SlotOf};
+#[cfg(feature = "std")]
 use crate::waiting::Waiting;
-use std::fmt;
-use std::num::NonZeroUsize;
-use std::ops::Deref;
-use std::sync::atomic::AtomicBool;
-use std::sync::atomic::Ordering::{Acquire, Relaxed, Release};
-use std::sync::{Arc, Mutex};
-use std::time::Duration;
+use core::fmt;
+use core::ops::Deref;
+#[cfg(feature = "std")]
+use core::time::Duration;
+use std_alloc::sync::Arc;
 
 /// The most numbers of a [`Pool`].
-pub const MOST_NUMBERS: usize = 4096;
+pub const MAX_NUMBERS: usize = 4096;
 
-/// Numbers from 1 to the pool's size, each held by one at a time. Any threads share them, with no lock.
+/// Numbers from 1 to the pool's capacity, each held by one at a time. Any threads share them, with no lock.
 ///
 /// ```
 /// use beglushan::Pool;
@@ -33,86 +37,89 @@ pub const MOST_NUMBERS: usize = 4096;
 /// # Ok::<(), beglushan::Error>(())
 /// ```
 ///
+/// A pool allocates, so `new` is no `const fn`. One for the whole program is a `static` with a `LazyLock`:
+///
+/// ```
+/// use beglushan::Pool;
+/// use std::sync::LazyLock;
+///
+/// static POOL: LazyLock<Pool> = LazyLock::new(|| Pool::new(64).expect("memory for 64 numbers"));
+/// assert!(POOL.acquire().is_some());
+/// ```
+///
 /// # Which number
 ///
 /// | Call | Number |
 /// |---|---|
-/// | [`acquire`](Pool::acquire) | The number that this thread had last, if it is free; else as `acquire_least`. |
-/// | [`acquire_near`](Pool::acquire_near) | The number of the hint, if it is free; else as `acquire_least`. |
-/// | [`acquire_least`](Pool::acquire_least) | The least number that a walk from 1 upward finds free. The walk met each smaller number held. |
+/// | [`acquire`](Pool::acquire) | The number that this thread had last, if it is free; else as `acquire_near` of it. |
+/// | [`acquire_near`](Pool::acquire_near) | The first that a walk finds free: from the hint upward, and then from 1. |
+/// | [`acquire_least`](Pool::acquire_least) | The least number that a walk from 1 upward finds free. The walk found each smaller number held. |
 ///
-/// Each call answers none only if its walk met each number held, one after another, or if an allocation failed. The walk does
-/// not turn back. So it may meet each number held although never all were held at one moment. With twice as many numbers as
-/// threads that is rare. [`Workers`](crate::Workers) never misses a number.
+/// Each call returns `None` only if its walk found each number held, one after another. The walk does not turn back. So it may
+/// find each number held although never all were held at one moment. With twice as many numbers as threads that is rare.
+/// [`Workers`](crate::Workers) never miss a number.
+///
+/// A thread remembers the last numbers of at most sixteen pools. If it remembers none of this pool, the hint is the thread's own
+/// number, if it has one (that of [`PerThread`](crate::PerThread)). Without the feature `std` there is no hint, and `acquire` is
+/// `acquire_least`.
 ///
 /// # What waits
 ///
-/// A call walks over at most `size` words and waits for no other thread, with two exceptions:
+/// A call makes at most `capacity + 1` accesses to words, and waits for no other thread. No call takes a lock or memory. There is
+/// one exception: [`acquire_timeout`](Pool::acquire_timeout) waits. While some thread is in it, each slot that is dropped takes a
+/// mutex, to wake one.
 ///
-/// - [`acquire_timeout`](Pool::acquire_timeout) waits. While some thread is in it, each slot that is dropped takes a mutex, to
-///   wake one.
-/// - A call that finds no *member* of the pool in its thread makes one. That takes a little memory and, for that moment, a
-///   mutex that only such calls take. A thread's first call of a pool is such a call. So is a call for more numbers than the
-///   thread has had at once. A slot leaves its member with the thread that drops it, for that thread's next call. A thread keeps
-///   at least twelve of each pool, however many pools there are.
+/// # After a fork
 ///
-/// # What is left behind
-///
-/// Members that threads kept hold the words of a pool that was dropped, 64 bytes a number. They go when their thread ends, or
-/// when its table of pools next grows.
-///
-/// After a `fork` the child has a copy of the pool. The numbers that other threads held stay taken there. A call in the child
-/// does not hang: it answers none if another thread was making a member at the fork.
+/// The child has a copy of the pool. The numbers that other threads held stay taken there.
 pub struct Pool {
-    first: Mutex<Member>,
-    held: Box<[Padded<AtomicBool>]>,
-    key: u64,
+    words: WordPool<Global>,
+    key: usize,
+    #[cfg(feature = "std")]
     waiting: Waiting,
-    /// What threads keep of this pool goes after it.
-    alive: Arc<()>,
-    process: Process,
 }
 
 impl Pool {
-    /// A pool of `size` numbers, from 1 to [`MOST_NUMBERS`], of which none is held.
+    /// Makes a pool of `capacity` numbers, from 1 to [`MAX_NUMBERS`], of which none is held.
     ///
-    /// There have to be as many as are held at once. There have to be twice as many if [`acquire`](Pool::acquire) is not to
-    /// miss one.
+    /// There have to be as many numbers as are held at once, and twice as many if [`acquire`](Pool::acquire) is to miss none.
     ///
     /// # Errors
     ///
-    /// - [`Error::Size`]: the size is out of range.
+    /// - [`Error::Size`]: the capacity is out of range.
     /// - [`Error::NoMemory`]: an allocation failed.
-    pub fn new(size: usize) -> Result<Pool, Error> {
-        if size == 0 || MOST_NUMBERS < size {
-            return Err(Error::Size {
-                asked: size,
-                most: MOST_NUMBERS,
-            });
-        }
-        let first = Member::first(size).ok_or(Error::NoMemory)?;
-        let process = Process::this();
+    pub fn new(capacity: usize) -> Result<Pool, Error> {
+        let words = match WordPool::new(Global, capacity as u64) {
+            Ok(words) => words,
+            Err(Refusal::OutOfRange) => {
+                return Err(Error::Size {
+                    asked: capacity,
+                    most: MAX_NUMBERS,
+                })
+            }
+            Err(_) => return Err(Error::NoMemory),
+        };
         Ok(Pool {
-            first: Mutex::new(first),
-            held: padded(size, |_| AtomicBool::new(false)).ok_or(Error::NoMemory)?,
+            words,
             key: new_key(),
-            waiting: Waiting::new(process),
-            alive: Arc::new(()),
-            process,
+            #[cfg(feature = "std")]
+            waiting: Waiting::new(),
         })
     }
 
     /// How many numbers there are.
     #[must_use]
     #[inline]
-    pub fn size(&self) -> usize {
-        self.held.len()
+    pub fn capacity(&self) -> usize {
+        self.words.numbers() as usize
     }
 
     /// How many numbers are held. It looks at each number, one after another.
     #[must_use]
     pub fn len(&self) -> usize {
-        self.held.iter().filter(|held| held.0.load(Relaxed)).count()
+        let words = &self.words.table.shared;
+        let is_held = |place: &u64| words.peek((place * STRIDE) as usize) != 0;
+        (0..self.words.numbers()).filter(is_held).count()
     }
 
     /// Whether no number is held.
@@ -121,17 +128,28 @@ impl Pool {
         self.len() == 0
     }
 
-    /// A number, until the slot is dropped: the one that this thread had last, if it is free, else the least that a walk from 1
-    /// finds free.
+    /// Takes a number, until the slot is dropped: the one that this thread had last, if it is free, else the first that a walk
+    /// upward from there, and then from 1, finds free.
     ///
-    /// A thread that has its last number again touches no word that others use. None if the walk met each number held, one after
-    /// another, or if an allocation failed.
+    /// A thread that has its last number again touches no word that others use. `None` if the walk found each number held, one
+    /// after another.
     #[inline(always)]
     pub fn acquire(&self) -> Option<Slot<'_>> {
-        SlotOf::take(self, Member::acquire_near).ok()
+        self.take_last().map(|held| SlotOf::of(self, held))
     }
 
-    /// The least number that a walk from 1 upward finds free, until the slot is dropped. The walk met each smaller number held.
+    /// [`acquire`](Pool::acquire), with an error in place of `None`.
+    ///
+    /// # Errors
+    ///
+    /// [`Error::Full`]: the walk found each number held, one after another.
+    #[inline(always)]
+    pub fn try_acquire(&self) -> Result<Slot<'_>, Error> {
+        self.acquire().ok_or(self.full())
+    }
+
+    /// Takes the least number that a walk from 1 upward finds free, until the slot is dropped. The walk found each smaller number
+    /// held.
     ///
     /// If all threads use this call, few threads have small numbers. Threads that walk at once touch the same words, so it is
     /// slower than [`acquire`](Pool::acquire) where they meet.
@@ -147,11 +165,11 @@ impl Pool {
     /// ```
     #[inline(always)]
     pub fn acquire_least(&self) -> Option<Slot<'_>> {
-        SlotOf::take(self, |member, _| member.acquire()).ok()
+        self.take_least().map(|held| SlotOf::of(self, held))
     }
 
-    /// The number `hint`, if it is free, else the least that a walk from 1 finds free. Any hint is taken: one that is no number
-    /// of the pool is as good as 1.
+    /// Takes the first number that a walk finds free: from `hint` up to the greatest, and then from 1 up to `hint`. Any hint is
+    /// taken: one that is no number of the pool is as good as 1.
     ///
     /// ```
     /// use beglushan::Pool;
@@ -167,7 +185,7 @@ impl Pool {
     /// ```
     #[inline(always)]
     pub fn acquire_near(&self, hint: usize) -> Option<Slot<'_>> {
-        SlotOf::take(self, |member, _| member.acquire_near(hint)).ok()
+        self.take_near(hint).map(|held| SlotOf::of(self, held))
     }
 
     /// [`acquire`](Pool::acquire) with a slot that keeps the pool, for threads that outlive the place where the pool was made.
@@ -185,21 +203,82 @@ impl Pool {
     /// ```
     #[inline(always)]
     pub fn acquire_owned(self: &Arc<Self>) -> Option<OwnedSlot> {
-        SlotOf::take(Arc::clone(self), Member::acquire_near).ok()
+        self.take_last()
+            .map(|held| SlotOf::of(Arc::clone(self), held))
     }
 
     /// [`acquire_least`](Pool::acquire_least) with a slot that keeps the pool.
     #[inline(always)]
     pub fn acquire_least_owned(self: &Arc<Self>) -> Option<OwnedSlot> {
-        SlotOf::take(Arc::clone(self), |member, _| member.acquire()).ok()
+        self.take_least()
+            .map(|held| SlotOf::of(Arc::clone(self), held))
     }
 
     /// [`acquire_near`](Pool::acquire_near) with a slot that keeps the pool.
     #[inline(always)]
     pub fn acquire_near_owned(self: &Arc<Self>, hint: usize) -> Option<OwnedSlot> {
-        SlotOf::take(Arc::clone(self), |member, _| member.acquire_near(hint)).ok()
+        self.take_near(hint)
+            .map(|held| SlotOf::of(Arc::clone(self), held))
     }
 
+    /// What this thread had last, if it is free, else the next that is free.
+    #[inline(always)]
+    pub(crate) fn take_last(&self) -> Option<Held> {
+        #[cfg(feature = "std")]
+        {
+            let hint = hint(self.key);
+            let held = self.words.acquire_near(hint).ok()?;
+            if held.number() != hint {
+                remember(self.key, held.number() as usize);
+            }
+            Some(held)
+        }
+        #[cfg(not(feature = "std"))]
+        self.take_least()
+    }
+
+    #[inline(always)]
+    fn take_least(&self) -> Option<Held> {
+        self.remembered(self.words.acquire().ok()?)
+    }
+
+    #[inline(always)]
+    fn take_near(&self, hint: usize) -> Option<Held> {
+        self.remembered(self.words.acquire_near(hint as u64).ok()?)
+    }
+
+    /// Remembers a number as this thread's last.
+    #[inline(always)]
+    fn remembered(&self, held: Held) -> Option<Held> {
+        #[cfg(feature = "std")]
+        remember(self.key, held.number() as usize);
+        Some(held)
+    }
+
+    fn full(&self) -> Error {
+        Error::Full {
+            most: self.capacity(),
+        }
+    }
+
+    /// What tells this pool from all others.
+    #[inline(always)]
+    pub(crate) fn key(&self) -> usize {
+        self.key
+    }
+
+    /// Gives back a number of this pool.
+    #[inline(always)]
+    pub(crate) fn give_back(&self, held: Held) {
+        self.words.release(held);
+        #[cfg(feature = "std")]
+        self.waiting.wake();
+    }
+}
+
+/// Calls that wait.
+#[cfg(feature = "std")]
+impl Pool {
     /// [`acquire`](Pool::acquire), which waits while no number is free, for at most so long. It and
     /// [`acquire_timeout_owned`](Pool::acquire_timeout_owned) are the calls that wait. Each slot that is dropped wakes one that
     /// waits.
@@ -207,7 +286,6 @@ impl Pool {
     /// # Errors
     ///
     /// - [`Error::TimedOut`]: the call found no number free until the time was over.
-    /// - [`Error::NoMemory`]: an allocation failed. The call does not wait for memory.
     /// - [`Error::Forked`]: the process is a child in which the call would hang.
     ///
     /// ```
@@ -225,7 +303,8 @@ impl Pool {
     /// # Ok::<(), beglushan::Error>(())
     /// ```
     pub fn acquire_timeout(&self, most: Duration) -> Result<Slot<'_>, Error> {
-        self.wait(most, || SlotOf::take(self, Member::acquire_near))
+        let held = self.wait(most)?;
+        Ok(SlotOf::of(self, held))
     }
 
     /// [`acquire_timeout`](Pool::acquire_timeout) with a slot that keeps the pool.
@@ -234,90 +313,41 @@ impl Pool {
     ///
     /// Those of [`acquire_timeout`](Pool::acquire_timeout).
     pub fn acquire_timeout_owned(self: &Arc<Self>, most: Duration) -> Result<OwnedSlot, Error> {
-        self.wait(most, || {
-            SlotOf::take(Arc::clone(self), Member::acquire_near)
-        })
+        let held = self.wait(most)?;
+        Ok(SlotOf::of(Arc::clone(self), held))
     }
 
-    fn wait<T>(
-        &self,
-        most: Duration,
-        mut attempt: impl FnMut() -> Result<T, Error>,
-    ) -> Result<T, Error> {
-        match attempt() {
-            Err(Error::Full { .. }) => self.waiting.until(most, attempt),
-            told => told,
-        }
-    }
-
-    /// Which pool this is.
-    #[inline(always)]
-    pub(crate) fn key(&self) -> u64 {
-        self.key
-    }
-
-    /// A member of this pool that no call has, and the number that this thread had last: one that this thread kept, else a new
-    /// one.
-    #[inline(always)]
-    pub(crate) fn member(&self) -> Result<(Member, usize), Error> {
-        match kept::take(self.key) {
-            Some(kept) => Ok(kept),
-            None => self.new_member(),
-        }
-    }
-
-    #[cold]
-    #[inline(never)]
-    fn new_member(&self) -> Result<(Member, usize), Error> {
-        let mut first = self.process.lock(&self.first).ok_or(Error::Forked)?;
-        let member = first.join().ok_or(Error::NoMemory)?;
-        Ok((member, 0))
-    }
-
-    /// Keeps a member that holds nothing for this thread's next call.
-    #[inline(always)]
-    pub(crate) fn keep(&self, member: Member, number: usize) {
-        kept::keep(self.key, &self.alive, member, number);
-    }
-
-    #[inline(always)]
-    fn flag(&self, number: NonZeroUsize) -> &AtomicBool {
-        // SAFETY: a number is at most the size, as the library proves of each number that it gives (`number`).
-        unsafe { &self.held.get_unchecked(number.get() - 1).0 }
-    }
-
-    /// Marks a number as held. The caller was just given it.
-    #[inline(always)]
-    pub(crate) fn mark(&self, number: NonZeroUsize) {
-        let held = self.flag(number);
-        // It reads what the last holder stored, since the library's accesses order the two. So this holder sees what that one
-        // wrote, and tools that do not see into the library, as ThreadSanitizer, know it too.
-        let was_held = held.load(Acquire);
-        debug_assert!(!was_held, "two hold {number}");
-        held.store(true, Relaxed);
-    }
-
-    /// Gives back what a member holds.
-    #[inline(always)]
-    pub(crate) fn give_back(&self, mut member: Member, number: NonZeroUsize) {
-        self.flag(number).store(false, Release);
-        member.release();
-        self.keep(member, number.get());
-        self.waiting.wake();
+    fn wait(&self, most: Duration) -> Result<Held, Error> {
+        let attempt = || self.take_last().ok_or(self.full());
+        attempt().or_else(|_| self.waiting.until(most, attempt))
     }
 }
 
-impl Drop for Pool {
-    fn drop(&mut self) {
-        // What other threads kept goes when they end, or when their tables next grow.
-        kept::forget(self.key);
+/// Calls for tasks.
+#[cfg(feature = "async")]
+impl Pool {
+    /// [`acquire`](Pool::acquire) for a task, which waits while no number is free. Each slot that is dropped wakes the task that
+    /// waits longest. It wants no runtime.
+    ///
+    /// The task may be dropped while it waits.
+    pub fn acquire_async(&self) -> Acquire<'_> {
+        AcquireOf::of(self)
+    }
+
+    /// [`acquire_async`](Pool::acquire_async) with a slot that keeps the pool.
+    pub fn acquire_async_owned(self: &Arc<Self>) -> AcquireOwned {
+        AcquireOf::of(Arc::clone(self))
+    }
+
+    pub(crate) fn waiting(&self) -> &Waiting {
+        &self.waiting
     }
 }
 
 impl fmt::Debug for Pool {
     fn fmt(&self, f: &mut fmt::Formatter<'_>) -> fmt::Result {
         f.debug_struct("Pool")
-            .field("size", &self.size())
+            .field("capacity", &self.capacity())
             .field("len", &self.len())
             .finish()
     }
@@ -334,13 +364,15 @@ impl fmt::Debug for Pool {
 ///     slot.number() == 1
 /// }
 /// ```
-pub trait Lent: Deref<Target = Pool> + sealed::Sealed {}
+pub trait Lent: Deref<Target = Pool> + Clone + sealed::Sealed {}
 
 impl Lent for &Pool {}
 impl Lent for Arc<Pool> {}
 
 mod sealed {
+    use super::{Arc, Pool};
+
     pub trait Sealed {}
-    impl Sealed for &super::Pool {}
-    impl Sealed for std::sync::Arc<super::Pool> {}
+    impl Sealed for &Pool {}
+    impl Sealed for Arc<Pool> {}
 }

@@ -3,8 +3,11 @@
 use crate::error::Error;
 use crate::numbers::{Holder, Numbers};
 use crate::padded::{padded, Padded};
-use std::fmt;
-use std::ops::Index;
+use core::fmt;
+use core::iter::FusedIterator;
+use core::ops::Index;
+use core::slice;
+use std_alloc::{boxed::Box, vec::Vec};
 
 /// One element for each number of a [`Pool`](crate::Pool) or of [`Workers`](crate::Workers), which all threads may read: counters
 /// that are summed, epochs that are scanned.
@@ -28,7 +31,7 @@ use std::ops::Index;
 /// # Ok::<(), beglushan::Error>(())
 /// ```
 pub struct SharedSlots<T> {
-    key: u64,
+    key: usize,
     elements: Box<[Padded<T>]>,
 }
 
@@ -38,7 +41,7 @@ impl<T> SharedSlots<T> {
     /// # Panics
     ///
     /// If an allocation failed, or if the elements are larger than any allocation can be. [`try_new`](SharedSlots::try_new)
-    /// answers an error then.
+    /// returns an error then.
     pub fn new(numbers: &impl Numbers, make: impl FnMut(usize) -> T) -> SharedSlots<T> {
         SharedSlots::try_new(numbers, make).expect("memory for an element of each number")
     }
@@ -86,8 +89,10 @@ impl<T> SharedSlots<T> {
     }
 
     /// All elements, by rising number.
-    pub fn iter(&self) -> impl DoubleEndedIterator<Item = &T> + ExactSizeIterator {
-        self.elements.iter().map(|element| &element.0)
+    pub fn iter(&self) -> SharedIter<'_, T> {
+        SharedIter {
+            elements: self.elements.iter(),
+        }
     }
 
     /// The elements, by rising number.
@@ -98,6 +103,71 @@ impl<T> SharedSlots<T> {
             .into_iter()
             .map(|element| element.0)
             .collect()
+    }
+}
+
+impl<'a, T> IntoIterator for &'a SharedSlots<T> {
+    type Item = &'a T;
+    type IntoIter = SharedIter<'a, T>;
+
+    fn into_iter(self) -> SharedIter<'a, T> {
+        self.iter()
+    }
+}
+
+/// All elements of a [`SharedSlots`], by rising number.
+pub struct SharedIter<'a, T> {
+    elements: slice::Iter<'a, Padded<T>>,
+}
+
+impl<T> Clone for SharedIter<'_, T> {
+    fn clone(&self) -> Self {
+        SharedIter {
+            elements: self.elements.clone(),
+        }
+    }
+}
+
+impl<'a, T> Iterator for SharedIter<'a, T> {
+    type Item = &'a T;
+
+    #[inline]
+    fn next(&mut self) -> Option<&'a T> {
+        self.elements.next().map(|element| &element.0)
+    }
+
+    #[inline]
+    fn size_hint(&self) -> (usize, Option<usize>) {
+        self.elements.size_hint()
+    }
+
+    #[inline]
+    fn nth(&mut self, place: usize) -> Option<&'a T> {
+        self.elements.nth(place).map(|element| &element.0)
+    }
+
+    #[inline]
+    fn fold<B, F: FnMut(B, &'a T) -> B>(self, first: B, mut add: F) -> B {
+        self.elements
+            .fold(first, |told, element| add(told, &element.0))
+    }
+}
+
+impl<'a, T> DoubleEndedIterator for SharedIter<'a, T> {
+    #[inline]
+    fn next_back(&mut self) -> Option<&'a T> {
+        self.elements.next_back().map(|element| &element.0)
+    }
+}
+
+impl<T> ExactSizeIterator for SharedIter<'_, T> {}
+impl<T> FusedIterator for SharedIter<'_, T> {}
+
+impl<T> fmt::Debug for SharedIter<'_, T> {
+    fn fmt(&self, f: &mut fmt::Formatter<'_>) -> fmt::Result {
+        f.debug_struct("SharedIter")
+            .field("len", &self.elements.len())
+            .finish_non_exhaustive()
     }
 }
 

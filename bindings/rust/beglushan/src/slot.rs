@@ -1,16 +1,11 @@
 //! A number that is held.
 
-use crate::error::Error;
-use crate::library::Member;
 use crate::pool::{Lent, Pool};
-use std::cell::Cell;
-use std::cmp::Ordering;
-use std::fmt;
-use std::hash::{Hash, Hasher};
-use std::marker::PhantomData;
-use std::mem::ManuallyDrop;
-use std::num::NonZeroUsize;
-use std::sync::Arc;
+use crate::proved::words_pool::held::Held;
+use core::cmp::Ordering;
+use core::fmt;
+use core::hash::{Hash, Hasher};
+use std_alloc::sync::Arc;
 
 /// A slot of a pool that is lent.
 pub type Slot<'pool> = SlotOf<&'pool Pool>;
@@ -18,64 +13,50 @@ pub type Slot<'pool> = SlotOf<&'pool Pool>;
 /// A slot that keeps its pool.
 pub type OwnedSlot = SlotOf<Arc<Pool>>;
 
-/// A number of a pool that nobody else holds. Dropping the slot gives the number back, in a panic too.
+/// The guard of a number of a pool, which nobody else holds meanwhile. Dropping the slot gives the number back, in a panic too.
 ///
 /// The next holder of the number sees what was written before the slot was dropped. A slot that is forgotten (`mem::forget`)
-/// keeps its number, and the pool's words, for good. Slots are ordered by pool and then by number.
+/// keeps its number for good. Slots are ordered by pool and then by number.
 ///
-/// A slot may go to another thread, but two threads can't share one. So its place of an array is one thread's at a time:
+/// A slot may go to another thread, and threads may share it. So `&slot` may be kept across an `.await`. [`Slots`](crate::Slots)
+/// lends an element to one borrower at a time, by `&mut` of the slot:
 ///
 /// ```
-/// fn goes<T: Send>() {}
-/// goes::<beglushan::Slot<'static>>();
-/// ```
-/// ```compile_fail
-/// fn shares<T: Sync>() {}
-/// shares::<beglushan::Slot<'static>>();
+/// fn goes_and_is_shared<T: Send + Sync>() {}
+/// goes_and_is_shared::<beglushan::Slot<'static>>();
 /// ```
 #[must_use = "a slot that is dropped gives its number back at once"]
 pub struct SlotOf<P: Lent> {
     // It is taken out when the slot is dropped.
-    member: ManuallyDrop<Member>,
-    number: NonZeroUsize,
+    held: Option<Held>,
+    number: usize,
     pool: P,
-    // A cell is not `Sync`, and so neither is a slot.
-    one_thread: PhantomData<Cell<()>>,
 }
 
 impl<P: Lent> SlotOf<P> {
-    /// A slot with the number that a member of the pool is given. The member is asked with the number that it had last.
+    /// A slot of what the pool has just given.
     #[inline(always)]
-    pub(crate) fn take(
-        pool: P,
-        ask: impl FnOnce(&mut Member, usize) -> Option<NonZeroUsize>,
-    ) -> Result<SlotOf<P>, Error> {
-        let (mut member, last) = pool.member()?;
-        let Some(number) = ask(&mut member, last) else {
-            pool.keep(member, last);
-            return Err(Error::Full { most: pool.size() });
-        };
-        pool.mark(number);
-        Ok(SlotOf {
-            member: ManuallyDrop::new(member),
-            number,
+    pub(crate) fn of(pool: P, held: Held) -> SlotOf<P> {
+        SlotOf {
+            // A number is at most 4096.
+            number: held.number() as usize,
+            held: Some(held),
             pool,
-            one_thread: PhantomData,
-        })
+        }
     }
 
-    /// The number, from 1 to the pool's size.
+    /// The number, from 1 to the pool's capacity.
     #[must_use]
     #[inline]
     pub fn number(&self) -> usize {
-        self.number.get()
+        self.number
     }
 
     /// The number less one: a place of an array as long as the pool.
     #[must_use]
     #[inline]
     pub fn index(&self) -> usize {
-        self.number.get() - 1
+        self.number - 1
     }
 
     /// The pool that the number is of.
@@ -85,7 +66,7 @@ impl<P: Lent> SlotOf<P> {
         &self.pool
     }
 
-    fn place(&self) -> (u64, NonZeroUsize) {
+    fn place(&self) -> (usize, usize) {
         (self.pool.key(), self.number)
     }
 }
@@ -93,9 +74,9 @@ impl<P: Lent> SlotOf<P> {
 impl<P: Lent> Drop for SlotOf<P> {
     #[inline(always)]
     fn drop(&mut self) {
-        // SAFETY: it is taken out here alone.
-        let member = unsafe { ManuallyDrop::take(&mut self.member) };
-        self.pool.give_back(member, self.number);
+        if let Some(held) = self.held.take() {
+            self.pool.give_back(held);
+        }
     }
 }
 

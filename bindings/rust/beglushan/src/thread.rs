@@ -1,13 +1,15 @@
 //! One number for each thread, which all `PerThread`s of the process share.
 //!
-//! The numbers are those of lines: a first line, then one line after another, each twice as long up to the most. A thread takes
-//! a member of the first line that has one, takes a number by it at its first use, and gives both back when it ends.
+//! The numbers are those of lines: a first line, then one line after another, each twice as long up to the most. A thread is dealt
+//! a ticket of the first line that has one, takes a number by it at its first use, and gives both back when it ends.
+#![allow(unsafe_code)]
 
-use crate::desk::Desk;
 use crate::error::Error;
-use crate::library::LineMember;
-use crate::pool::MOST_NUMBERS;
-use crate::process::Process;
+use crate::line::Line;
+use crate::lock::Process;
+use crate::pool::MAX_NUMBERS;
+use crate::proved::words_pool::held::Held;
+use crate::proved::words_pool::ticket::Ticket;
 use std::cell::Cell;
 use std::ptr;
 use std::sync::atomic::Ordering::{AcqRel, Acquire, Release};
@@ -55,16 +57,15 @@ struct Lines {
     base: usize,
     /// One more than the greatest index that a line has.
     end: AtomicUsize,
-    desks: Mutex<Vec<Desk>>,
+    all: Mutex<Vec<&'static Line>>,
 }
 
 static LINES: AtomicPtr<Lines> = AtomicPtr::new(ptr::null_mut());
 
 /// A thread's number.
 struct Number {
-    member: LineMember,
-    lines: &'static Lines,
-    line: usize,
+    held: Held,
+    line: &'static Line,
     index: usize,
 }
 
@@ -93,6 +94,13 @@ impl Drop for Guard {
 #[inline(always)]
 pub(crate) fn place_or_nowhere() -> Place {
     PLACE.get()
+}
+
+/// The index of this thread, if it has a number.
+#[inline]
+pub(crate) fn index_if_any() -> Option<usize> {
+    let place = PLACE.get();
+    (place != NOWHERE).then(|| place.index())
 }
 
 /// Calls with the place of this thread, which takes a number if it has none. A thread that is about to end, and has given its
@@ -140,16 +148,11 @@ impl Drop for Busy {
 impl Number {
     fn take() -> Result<Number, Error> {
         let lines = Lines::of_this_process()?;
-        let (line, mut member) = lines.hand_out()?;
-        // The library proves that a line's member that holds no number is given one.
-        let number = member.acquire().expect("there are as many as members");
-        let number = Number {
-            member,
-            lines,
-            line,
-            index: lines.base + first_of(line) + number.get() - 1,
-        };
-        if Place::of(number.index).bucket >= BUCKETS {
+        let (place, line, ticket) = lines.deal()?;
+        let held = line.acquire(ticket);
+        let index = lines.base + first_of(place) + held.number() as usize - 1;
+        let number = Number { held, line, index };
+        if Place::of(index).bucket >= BUCKETS {
             number.give_back();
             return Err(Error::NoMemory);
         }
@@ -157,25 +160,14 @@ impl Number {
     }
 
     fn give_back(self) {
-        let Number {
-            mut member,
-            lines,
-            line,
-            ..
-        } = self;
-        member.release();
-        match lines.process.lock(&lines.desks) {
-            Some(mut desks) => desks[line].take_back(member),
-            // A child of that process: its lines are nobody's here.
-            None => std::mem::forget(member),
-        }
+        self.line.take_back(self.line.release(self.held));
     }
 }
 
 /// How many numbers a line has.
 fn length(line: usize) -> usize {
-    let doubled = 1_usize.checked_shl(line as u32).unwrap_or(MOST_NUMBERS);
-    doubled.saturating_mul(FIRST_NUMBERS).min(MOST_NUMBERS)
+    let doubled = 1_usize.checked_shl(line as u32).unwrap_or(MAX_NUMBERS);
+    doubled.saturating_mul(FIRST_NUMBERS).min(MAX_NUMBERS)
 }
 
 /// How many numbers the lines before this one have.
@@ -203,7 +195,7 @@ impl Lines {
                 process,
                 base,
                 end: AtomicUsize::new(base),
-                desks: Mutex::new(Vec::new()),
+                all: Mutex::new(Vec::new()),
             });
             let new = room.as_mut_ptr();
             if LINES.compare_exchange(found, new, AcqRel, Acquire).is_ok() {
@@ -214,21 +206,29 @@ impl Lines {
         }
     }
 
-    /// A member of the first line that has one.
-    fn hand_out(&self) -> Result<(usize, LineMember), Error> {
-        let mut desks = self.process.lock(&self.desks).ok_or(Error::Forked)?;
-        for (line, desk) in desks.iter_mut().enumerate() {
-            match desk.hand_out() {
+    /// A ticket of the first line that has one, and which line that is.
+    fn deal(&self) -> Result<(usize, &'static Line, Ticket), Error> {
+        let mut all = self.process.lock(&self.all).ok_or(Error::Forked)?;
+        for (place, line) in all.iter().enumerate() {
+            match line.deal() {
                 Err(Error::Full { .. }) => {}
-                told => return told.map(|member| (line, member)),
+                told => return told.map(|ticket| (place, *line, ticket)),
             }
         }
-        let line = desks.len();
-        desks.try_reserve(1).map_err(|_| Error::NoMemory)?;
-        let mut desk = Desk::of(length(line))?;
-        let member = desk.hand_out()?;
-        desks.push(desk);
-        self.end.store(self.base + first_of(line + 1), Release);
-        Ok((line, member))
+        let place = all.len();
+        let line = longer(&mut all)?;
+        self.end.store(self.base + first_of(place + 1), Release);
+        Ok((place, line, line.deal()?))
     }
+}
+
+/// A further line, which is never dropped.
+fn longer(all: &mut Vec<&'static Line>) -> Result<&'static Line, Error> {
+    all.try_reserve(1).map_err(|_| Error::NoMemory)?;
+    let mut room = Vec::new();
+    room.try_reserve_exact(1).map_err(|_| Error::NoMemory)?;
+    room.push(Line::new(length(all.len()))?);
+    let line = &room.leak()[0];
+    all.push(line);
+    Ok(line)
 }

@@ -1,4 +1,5 @@
 //! The values of a `PerThread`, in buckets.
+#![allow(unsafe_code)]
 
 use std::alloc::{GlobalAlloc, Layout, System};
 use std::cell::UnsafeCell;
@@ -15,6 +16,9 @@ pub(crate) struct Entry<T> {
     state: AtomicU8,
     value: UnsafeCell<MaybeUninit<T>>,
 }
+
+// SAFETY: a shared entry lends its value alone, and only once it is made. `get_or_make` says what its caller owes.
+unsafe impl<T: Send + Sync> Sync for Entry<T> {}
 
 /// What a place has.
 pub(crate) enum Made<'a, T, E> {

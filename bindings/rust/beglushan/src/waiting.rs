@@ -1,47 +1,69 @@
-//! Threads that wait until a number is given back.
+//! Calls that wait until a number is given back.
 
 use crate::error::Error;
-use crate::process::Process;
+use crate::lock::Process;
 use std::sync::atomic::{AtomicUsize, Ordering::SeqCst};
 use std::sync::{Condvar, Mutex, PoisonError};
+#[cfg(feature = "async")]
+use std::task::Waker;
 use std::time::{Duration, Instant};
 
 /// Who waits, and how they are woken. A release pays one load while nobody waits.
 pub(crate) struct Waiting {
     count: AtomicUsize,
-    door: Mutex<()>,
+    door: Mutex<Queue>,
     released: Condvar,
     process: Process,
 }
 
+/// The tasks that wait, the first to be woken in front.
+#[derive(Default)]
+struct Queue {
+    #[cfg(feature = "async")]
+    tasks: std::collections::VecDeque<(u64, Waker)>,
+    #[cfg(feature = "async")]
+    last: u64,
+}
+
 impl Waiting {
-    pub(crate) fn new(process: Process) -> Waiting {
+    pub(crate) fn new() -> Waiting {
         Waiting {
             count: AtomicUsize::new(0),
-            door: Mutex::new(()),
+            door: Mutex::new(Queue::default()),
             released: Condvar::new(),
-            process,
+            process: Process::this(),
         }
     }
 
     /// Wakes one that waits, after a number was given back.
     #[inline(always)]
     pub(crate) fn wake(&self) {
-        // The library's accesses are sequentially consistent, as these are. Either this sees who waits, or who waits is counted
-        // after the number was given back, and its next try sees that.
+        // The accesses to words are sequentially consistent, as these are. Either this sees who waits, or who waits is counted after
+        // the number was given back, and its next try sees that.
         if self.count.load(SeqCst) > 0 {
             self.wake_one();
         }
     }
 
-    /// It does not unwind, so that a slot's drop needs no landing pad.
     #[cold]
     #[inline(never)]
-    extern "C" fn wake_one(&self) {
+    fn wake_one(&self) {
         // Who was counted waits already once this has the lock, or tries again before it does. In a forked child nobody waits.
-        if let Some(guard) = self.process.lock(&self.door) {
-            drop(guard);
-            self.released.notify_one();
+        let Some(queue) = self.process.lock(&self.door) else {
+            return;
+        };
+        #[cfg(feature = "async")]
+        let task = {
+            let mut queue = queue;
+            queue.tasks.pop_front()
+        };
+        #[cfg(not(feature = "async"))]
+        drop(queue);
+        self.released.notify_one();
+        #[cfg(feature = "async")]
+        if let Some((_, waker)) = task {
+            self.count.fetch_sub(1, SeqCst);
+            waker.wake();
         }
     }
 
@@ -66,6 +88,40 @@ impl Waiting {
             let waited = self.released.wait_timeout(door, left);
             door = waited.unwrap_or_else(PoisonError::into_inner).0;
         }
+    }
+}
+
+#[cfg(feature = "async")]
+impl Waiting {
+    /// Puts a task into the queue, or its new waker, and returns its number there. A task that had a number, and was woken in vain,
+    /// stands where it stood. None in a forked child, if some thread of the parent was at the queue at the fork.
+    pub(crate) fn enter(&self, number: Option<u64>, waker: &Waker) -> Option<u64> {
+        let mut queue = self.process.lock(&self.door)?;
+        if let Some(task) = queue.tasks.iter_mut().find(|task| Some(task.0) == number) {
+            task.1.clone_from(waker);
+            return number;
+        }
+        self.count.fetch_add(1, SeqCst);
+        let number = number.unwrap_or(queue.last + 1);
+        queue.last = queue.last.max(number);
+        let place = queue.tasks.partition_point(|task| task.0 < number);
+        queue.tasks.insert(place, (number, waker.clone()));
+        Some(number)
+    }
+
+    /// Takes a task out of the queue. False if it was not there any more: then a release has woken it.
+    pub(crate) fn leave(&self, number: u64) -> bool {
+        let Some(mut queue) = self.process.lock(&self.door) else {
+            return true;
+        };
+        let place = queue.tasks.iter().position(|task| task.0 == number);
+        let Some(task) = place.and_then(|place| queue.tasks.remove(place)) else {
+            return false;
+        };
+        self.count.fetch_sub(1, SeqCst);
+        drop(queue);
+        drop(task);
+        true
     }
 }
 

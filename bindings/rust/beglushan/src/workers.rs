@@ -1,17 +1,14 @@
 //! Threads that keep their numbers between stays.
 
-use crate::desk::Desk;
 use crate::error::Error;
 use crate::key::new_key;
-use crate::library::LineMember;
-use crate::pool::MOST_NUMBERS;
-use crate::process::Process;
-use std::cell::Cell;
-use std::fmt;
-use std::marker::PhantomData;
-use std::num::NonZeroUsize;
-use std::ops::Deref;
-use std::sync::{Arc, Mutex};
+use crate::line::Line;
+use crate::proved::words_pool::held::Held;
+use crate::proved::words_pool::ticket::Ticket;
+use core::fmt;
+use core::marker::PhantomData;
+use core::ops::Deref;
+use std_alloc::sync::Arc;
 
 /// Small numbers for threads that attach once and keep their number between stays.
 ///
@@ -37,9 +34,12 @@ use std::sync::{Arc, Mutex};
 /// # Ok::<(), beglushan::Error>(())
 /// ```
 ///
+/// Workers for the whole program are a `static` with a `LazyLock`. [`with`](Workers::with) attaches a thread at its first stay, and
+/// detaches it when it ends.
+///
 /// # Which number
 ///
-/// The numbers are those of a line (Moir and Anderson 1995). The library proves two laws of it:
+/// The numbers are those of a line (Moir and Anderson 1995). Two laws of it are proved:
 ///
 /// - A stay always has a number: there are as many tickets as numbers, and an attached worker has a ticket.
 /// - The number that a worker takes is at most the most workers that held or sought one at one moment of the taking.
@@ -53,49 +53,39 @@ use std::sync::{Arc, Mutex};
 ///
 /// # What waits
 ///
-/// `attach` and the drop of a worker take a mutex for a moment, which no stay takes. After a `fork` such a call answers
-/// [`Error::Forked`] in the child if another thread had the mutex.
+/// `attach` deals a ticket and the drop of a worker takes it back. Each takes a mutex for that moment, which no stay takes. After a
+/// `fork` such a call returns [`Error::Forked`] in the child if another thread had the mutex. Without the feature `std` the mutex
+/// spins.
 pub struct Workers {
-    desk: Mutex<Desk>,
-    most: usize,
-    key: u64,
-    process: Process,
+    line: Line,
+    key: usize,
 }
 
 impl Workers {
-    /// Room for `most` attached workers, from 1 to [`MOST_NUMBERS`], with as many numbers.
+    /// Room for `capacity` attached workers, from 1 to [`MAX_NUMBERS`](crate::MAX_NUMBERS), with as many numbers.
     ///
     /// # Errors
     ///
-    /// - [`Error::Size`]: `most` is out of range.
+    /// - [`Error::Size`]: the capacity is out of range.
     /// - [`Error::NoMemory`]: an allocation failed.
-    pub fn new(most: usize) -> Result<Workers, Error> {
-        if most == 0 || MOST_NUMBERS < most {
-            return Err(Error::Size {
-                asked: most,
-                most: MOST_NUMBERS,
-            });
-        }
+    pub fn new(capacity: usize) -> Result<Workers, Error> {
         Ok(Workers {
-            desk: Mutex::new(Desk::of(most)?),
-            most,
+            line: Line::new(capacity)?,
             key: new_key(),
-            process: Process::this(),
         })
     }
 
     /// How many workers may be attached at once.
     #[must_use]
-    pub fn most(&self) -> usize {
-        self.most
+    pub fn capacity(&self) -> usize {
+        self.line.capacity()
     }
 
-    /// One more worker, until it is dropped. It holds no number yet.
+    /// Attaches one more worker, until it is dropped. It holds no number yet.
     ///
     /// # Errors
     ///
     /// - [`Error::Full`]: as many workers are attached as there are numbers.
-    /// - [`Error::NoMemory`]: an allocation failed.
     /// - [`Error::Forked`]: the process is a child in which the call would hang.
     pub fn attach(&self) -> Result<Worker<'_>, Error> {
         WorkerOf::of(self)
@@ -110,7 +100,8 @@ impl Workers {
         WorkerOf::of(Arc::clone(self))
     }
 
-    pub(crate) fn key(&self) -> u64 {
+    #[inline(always)]
+    pub(crate) fn key(&self) -> usize {
         self.key
     }
 }
@@ -118,7 +109,7 @@ impl Workers {
 impl fmt::Debug for Workers {
     fn fmt(&self, f: &mut fmt::Formatter<'_>) -> fmt::Result {
         f.debug_struct("Workers")
-            .field("most", &self.most)
+            .field("capacity", &self.capacity())
             .finish_non_exhaustive()
     }
 }
@@ -129,74 +120,83 @@ pub type Worker<'a> = WorkerOf<&'a Workers>;
 /// A worker that keeps its workers.
 pub type OwnedWorker = WorkerOf<Arc<Workers>>;
 
-/// One that is attached to [`Workers`]. It may go to another thread, but two threads can't share it.
+/// One that is attached to [`Workers`]. It may go to another thread, with its number.
 #[must_use = "a worker that is dropped is no longer attached"]
 pub struct WorkerOf<W: LentWorkers> {
-    // It is taken out when the worker is dropped.
-    member: Option<LineMember>,
-    kept: Option<NonZeroUsize>,
+    /// The number that it has, or 0.
+    number: usize,
+    key: usize,
+    has: Has,
     workers: W,
-    // A cell is not `Sync`, and so neither is a worker.
-    one_thread: PhantomData<Cell<()>>,
+}
+
+/// What a worker has of its line.
+enum Has {
+    /// It rests.
+    Ticket(Ticket),
+    Number(Held),
+    /// It was dropped, or what it does now never came back.
+    Nothing,
 }
 
 impl<W: LentWorkers> WorkerOf<W> {
     fn of(workers: W) -> Result<WorkerOf<W>, Error> {
-        let desk = workers.process.lock(&workers.desk);
-        let member = desk.ok_or(Error::Forked)?.hand_out()?;
+        let ticket = workers.line.deal()?;
         Ok(WorkerOf {
-            member: Some(member),
-            kept: None,
+            number: 0,
+            key: workers.key,
+            has: Has::Ticket(ticket),
             workers,
-            one_thread: PhantomData,
         })
     }
 
     /// A stay, with the number that this worker keeps, or one that it takes now.
-    #[inline]
+    #[inline(always)]
     pub fn stay(&mut self) -> Stay<'_> {
-        let number = match self.kept {
-            Some(number) => number,
-            None => self.take(),
-        };
-        Stay {
-            number,
-            key: self.workers.key,
-            worker: PhantomData,
+        if self.number == 0 {
+            self.take();
         }
+        Stay::of(self.number, self.key)
     }
 
     #[cold]
-    fn take(&mut self) -> NonZeroUsize {
-        let member = self.member.as_mut().expect("it is taken out at the end");
-        // The library proves that a line's member that holds no number is given one (`none`, `joined`, `ready`).
-        let number = member.acquire().expect("there are as many as members");
-        self.kept = Some(number);
-        number
+    #[inline(never)]
+    fn take(&mut self) {
+        let Has::Ticket(ticket) = core::mem::replace(&mut self.has, Has::Nothing) else {
+            unreachable!("a worker has a ticket or a number until it is dropped");
+        };
+        let held = self.workers.line.acquire(ticket);
+        self.number = held.number() as usize;
+        self.has = Has::Number(held);
     }
 
     /// Gives the number back that this worker keeps, if it keeps one. Its next stay takes a number anew.
     pub fn rest(&mut self) {
-        if self.kept.take().is_some() {
-            if let Some(member) = &mut self.member {
-                member.release();
-            }
-        }
+        self.number = 0;
+        self.has = match core::mem::replace(&mut self.has, Has::Nothing) {
+            Has::Number(held) => Has::Ticket(self.workers.line.release(held)),
+            has => has,
+        };
     }
 
     /// The number that this worker keeps, if it keeps one.
     #[must_use]
     pub fn kept(&self) -> Option<usize> {
-        self.kept.map(NonZeroUsize::get)
+        (self.number != 0).then_some(self.number)
+    }
+
+    /// What tells its workers from all others.
+    #[cfg(feature = "std")]
+    pub(crate) fn key(&self) -> usize {
+        self.key
     }
 }
 
 impl<W: LentWorkers> Drop for WorkerOf<W> {
     fn drop(&mut self) {
         self.rest();
-        let desk = self.workers.process.lock(&self.workers.desk);
-        if let (Some(mut desk), Some(member)) = (desk, self.member.take()) {
-            desk.take_back(member);
+        if let Has::Ticket(ticket) = core::mem::replace(&mut self.has, Has::Nothing) {
+            self.workers.line.take_back(ticket);
         }
     }
 }
@@ -209,32 +209,42 @@ impl<W: LentWorkers> fmt::Debug for WorkerOf<W> {
     }
 }
 
-/// A stay of a [`Worker`], which has the worker's number. Nobody else has that number meanwhile.
+/// The guard of a stay of a [`Worker`], which has the worker's number. Nobody else has that number meanwhile.
 #[must_use = "a stay says which place is its worker's"]
 pub struct Stay<'worker> {
-    number: NonZeroUsize,
-    key: u64,
-    // The worker can't rest meanwhile. A cell is not `Sync`, and so neither is a stay.
-    worker: PhantomData<&'worker mut Cell<()>>,
+    number: usize,
+    key: usize,
+    // The worker can't rest meanwhile.
+    worker: PhantomData<&'worker mut ()>,
 }
 
 impl Stay<'_> {
-    /// The number, from 1 to the most workers.
+    /// A stay with a number that a worker keeps meanwhile. The caller makes no other stay with it for so long.
+    #[inline(always)]
+    pub(crate) fn of<'worker>(number: usize, key: usize) -> Stay<'worker> {
+        Stay {
+            number,
+            key,
+            worker: PhantomData,
+        }
+    }
+
+    /// The number, from 1 to the capacity of the workers.
     #[must_use]
     #[inline]
     pub fn number(&self) -> usize {
-        self.number.get()
+        self.number
     }
 
     /// The number less one: a place of an array with an element for each worker.
     #[must_use]
     #[inline]
     pub fn index(&self) -> usize {
-        self.number.get() - 1
+        self.number - 1
     }
 
-    #[inline]
-    pub(crate) fn key(&self) -> u64 {
+    #[inline(always)]
+    pub(crate) fn key(&self) -> usize {
         self.key
     }
 }
@@ -254,7 +264,9 @@ impl LentWorkers for &Workers {}
 impl LentWorkers for Arc<Workers> {}
 
 mod sealed {
+    use super::{Arc, Workers};
+
     pub trait Sealed {}
-    impl Sealed for &super::Workers {}
-    impl Sealed for std::sync::Arc<super::Workers> {}
+    impl Sealed for &Workers {}
+    impl Sealed for Arc<Workers> {}
 }

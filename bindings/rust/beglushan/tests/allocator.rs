@@ -1,5 +1,7 @@
 //! An allocator that counts by thread, and so is called by what it calls.
 
+#![cfg(feature = "std")]
+
 use beglushan::{PerThread, Pool};
 use std::alloc::{GlobalAlloc, Layout, System};
 use std::hint::black_box;

@@ -2,6 +2,8 @@
 //! `PerThread::index` and of `Workers` in words of our own: a number comes back when its thread ends, threads at once have
 //! different numbers, and threads one after another need no more numbers than one.
 
+#![cfg(feature = "std")]
+
 use beglushan::{PerThread, Workers};
 use std::collections::BTreeSet;
 use std::sync::{Arc, Barrier};

@@ -2,6 +2,8 @@
 //! of `PerThread` in words of our own: its tests of one thread, of another thread, of iterators, of drops and of early returns,
 //! that it may be shared, and its two examples.
 
+#![cfg(feature = "std")]
+
 use beglushan::PerThread;
 use std::cell::{Cell, RefCell};
 use std::sync::atomic::{AtomicUsize, Ordering::Relaxed};

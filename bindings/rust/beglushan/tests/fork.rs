@@ -1,6 +1,6 @@
 //! What a child has after a fork: no call hangs there, and its threads have values of their own.
 
-#![cfg(all(target_os = "linux", not(miri)))]
+#![cfg(all(target_os = "linux", feature = "std", not(miri)))]
 
 use beglushan::{PerThread, Pool, Workers};
 use std::cell::Cell;

@@ -1,5 +1,7 @@
 //! Values for very many threads, few at once. It stands alone, since all threads of a program share their numbers.
 
+#![cfg(feature = "std")]
+
 use beglushan::PerThread;
 use std::cell::Cell;
 use std::sync::atomic::{AtomicU64, Ordering::Relaxed};

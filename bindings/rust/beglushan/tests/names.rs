@@ -1,6 +1,6 @@
 //! Names for good.
 
-use beglushan::{Error, Names, Seat, MOST_PROPOSALS, MOST_SEATS};
+use beglushan::{Error, Names, Seat, MAX_SEATS};
 use std::collections::BTreeSet;
 use std::sync::Barrier;
 use std::thread;
@@ -13,19 +13,14 @@ fn identity(number: usize) -> u64 {
 
 #[test]
 fn sizes() {
-    for most in [1, 2, 15, 16] {
-        assert_eq!(Names::new(most).unwrap().left(), most);
-        assert_eq!(Names::with_limit(most, 1000).unwrap().left(), most);
+    for most in [1, 2, 15, 16, 63, 64] {
+        let names = Names::new(most).unwrap();
+        assert_eq!((names.left(), names.capacity()), (most, most));
     }
-    let (most, limit) = (MOST_SEATS, MOST_PROPOSALS);
-    for asked in [0, 17, usize::MAX] {
+    let most = MAX_SEATS;
+    for asked in [0, 65, usize::MAX] {
         let refused = Some(Error::Size { asked, most });
         assert_eq!(Names::new(asked).err(), refused);
-        assert_eq!(Names::with_limit(asked, 0).err(), refused);
-    }
-    for asked in [0, 1001, usize::MAX] {
-        let refused = Some(Error::Size { asked, most: limit });
-        assert_eq!(Names::with_limit(16, asked).err(), refused);
     }
 }
 
@@ -53,9 +48,13 @@ fn seats() {
         Err(Error::Identity { identity: u64::MAX })
     );
     assert_eq!(names.deal(2).unwrap().identity(), 2);
-    for identity in [0, 1, 3] {
-        assert_eq!(names.deal(identity).err(), Some(Error::Full { most: 3 }));
+    for identity in [0, 1] {
+        assert_eq!(
+            names.deal(identity).err(),
+            Some(Error::Identity { identity })
+        );
     }
+    assert_eq!(names.deal(3).err(), Some(Error::Full { most: 3 }));
     assert_eq!(format!("{names:?}"), "Names { left: 0 }");
 }
 
@@ -68,27 +67,12 @@ fn refusals_are_told() {
 
 #[test]
 fn one_after_another() {
-    for most in 1..=16 {
+    for most in (1..=16).chain([33, 64]) {
         let mut names = Names::new(most).unwrap();
         let mut taken = BTreeSet::new();
         for begun in 1..=most {
             let name = names.deal(identity(begun)).unwrap().name();
             assert!((1..2 * begun).contains(&name) && taken.insert(name));
-        }
-    }
-}
-
-/// Who proposes once, and sees the same proposed, has a name above those of rounds.
-#[test]
-fn spent() {
-    for most in 1..=16 {
-        let mut names = Names::with_limit(most, 1).unwrap();
-        assert_eq!(names.deal(identity(0)).unwrap().name(), 1);
-        let mut taken = BTreeSet::new();
-        for number in 1..most {
-            let name = names.deal(identity(number)).unwrap().name();
-            let places = 2 * most..2 * most + most * (most + 1) / 2;
-            assert!(places.contains(&name) && taken.insert(name));
         }
     }
 }
@@ -110,13 +94,13 @@ fn at_once(seats: Vec<Seat>) -> BTreeSet<usize> {
     })
 }
 
-/// From two to sixteen threads at once, a thousand times: no two have one name, and none is above `2b - 1`.
+/// From two to sixteen threads at once, of up to sixty-four: no two have one name, and none is above `2b - 1`.
 #[test]
 fn all_at_once() {
     const ROUNDS: usize = if cfg!(miri) { 3 } else { 1000 };
     for round in 0..ROUNDS {
         let begun = 2 + round % 15;
-        let mut names = Names::new(16).unwrap();
+        let mut names = Names::new([16, 17, 64][round % 3]).unwrap();
         let deal = |number| names.deal(identity(round * 16 + number)).unwrap();
         let taken = at_once((0..begun).map(deal).collect());
         assert_eq!(taken.len(), begun, "two have one name");

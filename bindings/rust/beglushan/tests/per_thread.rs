@@ -1,5 +1,7 @@
 //! Values for threads that begin and end.
 
+#![cfg(feature = "std")]
+
 use beglushan::{Error, PerThread};
 use std::cell::{Cell, RefCell};
 use std::panic::{catch_unwind, AssertUnwindSafe};
@@ -31,23 +33,25 @@ fn one_value_a_thread() {
     assert_eq!(all, [0, 1, 2, 3]);
 }
 
-/// A thread whose index is past the bound is told so, and one with a smaller index is served.
+/// An iterator goes to another thread, and a clone of it begins where it stands.
 #[test]
-fn bounded() {
-    let none = PerThread::<u64>::bounded(0);
-    assert_eq!(none.try_with(|_| ()), Err(Error::Full { most: 0 }));
-    assert_eq!(
-        Error::Full { most: 0 }.to_string(),
-        "all of 0 places are taken"
-    );
-    let refused = catch_unwind(AssertUnwindSafe(|| none.with(|_| ()))).unwrap_err();
-    let sentence = refused.downcast::<String>().unwrap();
-    assert_eq!(
-        *sentence,
-        "this thread has no value of the PerThread: all of 0 places are taken"
-    );
-    let mine = PerThread::<u64>::bounded(none.index() + 1);
-    assert_eq!(mine.try_with(|value| *value), Ok(0));
+fn iterators_go_and_are_cloned() {
+    let values = PerThread::<u64>::new();
+    let gate = Barrier::new(3);
+    thread::scope(|scope| {
+        for id in 0..3 {
+            let (values, gate) = (&values, &gate);
+            scope.spawn(move || {
+                values.get_or(|| id);
+                gate.wait();
+            });
+        }
+    });
+    let mut all = values.iter();
+    let first = *all.next().unwrap();
+    let again = all.clone();
+    let rest = thread::scope(|scope| scope.spawn(move || all.sum::<u64>()).join().unwrap());
+    assert_eq!((first + rest, again.count()), (3, 2));
 }
 
 /// By a load and a store, which lose counts where two threads have one counter.

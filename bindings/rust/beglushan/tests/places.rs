@@ -1,6 +1,6 @@
 //! Places for good.
 
-use beglushan::{Error, Places, MOST_PLACE_SEATS};
+use beglushan::{Error, Places, MAX_PLACE_SEATS};
 use std::collections::BTreeSet;
 use std::sync::Barrier;
 use std::thread;
@@ -8,14 +8,15 @@ use std::thread;
 #[test]
 fn sizes() {
     for most in [1, 2, 63, 64] {
-        assert_eq!(Places::new(most).unwrap().left(), most);
+        let places = Places::new(most).unwrap();
+        assert_eq!((places.left(), places.capacity()), (most, most));
     }
     for asked in [0, 65, usize::MAX] {
         assert_eq!(
             Places::new(asked).err(),
             Some(Error::Size {
                 asked,
-                most: MOST_PLACE_SEATS
+                most: MAX_PLACE_SEATS
             })
         );
     }

@@ -1,6 +1,8 @@
 //! The pool, its slots and its arrays, from one thread and from many.
 
-use beglushan::{Error, OwnedSlot, Pool, SharedSlots, Slot, Slots, MOST_NUMBERS};
+#![cfg(feature = "std")]
+
+use beglushan::{Error, OwnedSlot, Pool, SharedSlots, Slot, Slots, MAX_NUMBERS};
 use std::collections::BTreeSet;
 use std::panic::{catch_unwind, AssertUnwindSafe};
 use std::sync::atomic::{AtomicU64, Ordering::Relaxed};
@@ -10,15 +12,15 @@ use std::time::{Duration, Instant};
 
 #[test]
 fn sizes() {
-    for size in [1, 2, 63, 64, 65, 4095, MOST_NUMBERS] {
-        assert_eq!(Pool::new(size).unwrap().size(), size);
+    for size in [1, 2, 63, 64, 65, 4095, MAX_NUMBERS] {
+        assert_eq!(Pool::new(size).unwrap().capacity(), size);
     }
-    for size in [0, MOST_NUMBERS + 1, usize::MAX] {
+    for size in [0, MAX_NUMBERS + 1, usize::MAX] {
         assert_eq!(
             Pool::new(size).unwrap_err(),
             Error::Size {
                 asked: size,
-                most: MOST_NUMBERS
+                most: MAX_NUMBERS
             }
         );
     }
@@ -57,7 +59,7 @@ fn hints() {
     let five = pool.acquire_near(5).unwrap();
     assert_eq!(five.number(), 5);
     assert_eq!(pool.acquire_least().unwrap().number(), 1);
-    assert_eq!(pool.acquire_near(5).unwrap().number(), 1);
+    assert_eq!(pool.acquire_near(5).unwrap().number(), 6);
     for hint in [0, 1, 9, usize::MAX] {
         assert_eq!(pool.acquire_near(hint).unwrap().number(), 1, "{hint}");
     }
@@ -198,9 +200,10 @@ fn owned_slots_near_and_in_time() {
     thread::sleep(Duration::from_millis(20));
     drop(near);
     assert_eq!(waits.join().unwrap(), Some(3));
+    // From the last number on, and then from 1.
     assert_eq!(
         rest.iter().map(OwnedSlot::number).collect::<Vec<_>>(),
-        [1, 2, 4]
+        [4, 1, 2]
     );
 }
 
@@ -283,7 +286,7 @@ fn no_wake_up_is_lost() {
 fn what_it_says_of_itself() {
     let pool = Pool::new(3).unwrap();
     let slot = pool.acquire().unwrap();
-    assert_eq!(format!("{pool:?}"), "Pool { size: 3, len: 1 }");
+    assert_eq!(format!("{pool:?}"), "Pool { capacity: 3, len: 1 }");
     assert_eq!(format!("{slot:?}"), "Slot { number: 1, .. }");
 }
 
@@ -299,61 +302,7 @@ fn slots_are_told_apart() {
     assert_eq!(numbers.len(), 2);
 }
 
-/// A thread has the number that it had last, pool by pool, however many pools there are.
-#[test]
-fn the_last_number_again() {
-    let pools: Vec<Pool> = (0..100).map(|_| Pool::new(8).unwrap()).collect();
-    for (place, pool) in pools.iter().enumerate() {
-        assert_eq!(
-            pool.acquire_near(1 + place % 8).unwrap().number(),
-            1 + place % 8
-        );
-    }
-    for _ in 0..3 {
-        for (place, pool) in pools.iter().enumerate() {
-            assert_eq!(pool.acquire().unwrap().number(), 1 + place % 8);
-            assert_eq!(pool.acquire_least().unwrap().number(), 1);
-            drop(pool.acquire_near(1 + place % 8));
-        }
-    }
-}
-
-/// A thread that uses one pool for long, and then another, has its last number of each. So it is while it holds a slot of the first,
-/// and after pools were dropped that it had used for long.
-#[test]
-fn one_pool_for_long_and_then_another() {
-    const STAYS: usize = 200;
-    let again = |pool: &Pool, number: usize| {
-        for _ in 0..STAYS {
-            assert_eq!(pool.acquire().unwrap().number(), number);
-        }
-    };
-    for round in 0..5 {
-        let pools: Vec<Pool> = (0..3 + round).map(|_| Pool::new(16).unwrap()).collect();
-        for (place, pool) in pools.iter().enumerate() {
-            drop(pool.acquire_near(2 + place));
-            again(pool, 2 + place);
-        }
-        let held = pools[0].acquire().unwrap();
-        assert_eq!(held.number(), 2);
-        drop(pools[0].acquire_near(11));
-        again(&pools[0], 11);
-        again(&pools[2], 4);
-        // Two that are held at once, and given back in both orders.
-        for _ in 0..STAYS {
-            let (one, other) = (pools[0].acquire().unwrap(), pools[0].acquire().unwrap());
-            assert!(one.number() != other.number() && other.number() != 2);
-            drop((other, one));
-            let (one, other) = (pools[0].acquire().unwrap(), pools[0].acquire().unwrap());
-            drop((one, other));
-        }
-        drop(held);
-        again(&pools[1], 3);
-        assert!(pools.iter().all(Pool::is_empty));
-    }
-}
-
-/// More slots at once than a thread keeps members, again and again.
+/// All numbers at once, again and again.
 #[test]
 fn many_slots_at_once() {
     let pool = Pool::new(64).unwrap();

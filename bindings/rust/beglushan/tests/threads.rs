@@ -1,8 +1,10 @@
 //! What may go to other threads, and what a thread leaves when it ends.
 
+#![cfg(feature = "std")]
+
 use beglushan::{
-    Error, Names, OwnedSlot, OwnedWorker, PerThread, PlaceSeat, Places, Pool, Seat, SharedSlots,
-    Slot, Slots, Stay, Worker, Workers,
+    Error, Iter, Names, OwnedSlot, OwnedWorker, PerThread, PlaceSeat, Places, Pool, Seat,
+    SharedIter, SharedSlots, Slot, Slots, Stay, Worker, Workers,
 };
 use std::cell::{Cell, RefCell};
 use std::panic::{catch_unwind, AssertUnwindSafe, RefUnwindSafe, UnwindSafe};
@@ -21,8 +23,9 @@ fn may_go_or_be_shared() {
     is_shared::<SharedSlots<AtomicU64>>();
     is_shared::<(PerThread<AtomicU64>, PerThread<Cell<u64>>)>();
     is_shared::<(Error, Workers)>();
-    goes::<(Slot, OwnedSlot, Worker, OwnedWorker, Stay)>();
-    goes::<(Names, Seat, Places, PlaceSeat)>();
+    is_shared::<(Slot, OwnedSlot, Worker, OwnedWorker, Stay)>();
+    is_shared::<(Names, Seat, Places, PlaceSeat)>();
+    is_shared::<(Iter<u64>, SharedIter<u64>)>();
     goes::<(SharedSlots<Cell<u64>>, PerThread<Cell<u64>>)>();
 }
 
@@ -40,9 +43,9 @@ macro_rules! is_not {
 
 #[test]
 fn may_not() {
-    is_not!(Sync: Slot, OwnedSlot, Names, Seat, Places, PlaceSeat, MutexGuard<'static, Cell<u64>>);
+    is_not!(Sync: MutexGuard<'static, Cell<u64>>, Iter<'static, Cell<u64>>, SharedIter<'static, Cell<u64>>);
     is_not!(Sync: Slots<Rc<u64>>, Slots<MutexGuard<'static, u64>>, SharedSlots<Cell<u64>>);
-    is_not!(Sync: PerThread<Rc<u64>>, PerThread<MutexGuard<'static, u64>>, Worker, OwnedWorker, Stay);
+    is_not!(Sync: PerThread<Rc<u64>>, PerThread<MutexGuard<'static, u64>>);
     is_not!(Send: Slots<Rc<u64>>, SharedSlots<Rc<u64>>, PerThread<Rc<u64>>);
 }
 

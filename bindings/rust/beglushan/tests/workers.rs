@@ -1,6 +1,6 @@
 //! Workers that keep their numbers.
 
-use beglushan::{Error, SharedSlots, Slots, Workers, MOST_NUMBERS};
+use beglushan::{Error, SharedSlots, Slots, Workers, MAX_NUMBERS};
 use std::collections::BTreeSet;
 use std::sync::atomic::{AtomicUsize, Ordering::Relaxed, Ordering::SeqCst};
 use std::sync::{Arc, Barrier};
@@ -8,7 +8,7 @@ use std::thread;
 
 #[test]
 fn sizes() {
-    for most in [1, 2, 3, 64, MOST_NUMBERS] {
+    for most in [1, 2, 3, 64, MAX_NUMBERS] {
         let workers = Workers::new(most).unwrap();
         let mut all: Vec<_> = (0..most).map(|_| workers.attach().unwrap()).collect();
         assert_eq!(workers.attach().err(), Some(Error::Full { most }));
@@ -20,8 +20,8 @@ fn sizes() {
         drop(all);
         assert!(workers.attach().is_ok());
     }
-    for asked in [0, MOST_NUMBERS + 1, usize::MAX] {
-        let most = MOST_NUMBERS;
+    for asked in [0, MAX_NUMBERS + 1, usize::MAX] {
+        let most = MAX_NUMBERS;
         assert_eq!(Workers::new(asked).err(), Some(Error::Size { asked, most }));
     }
 }

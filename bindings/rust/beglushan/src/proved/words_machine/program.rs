@@ -1,0 +1,41 @@
+// Erased by bindings/rust/erase from crates/words_machine/src/program.rt, sha256 02467e85d1ca2ff5ba9d97cfb4ec6285041785f9a4499a1adfcacbcccc042b77.
+//! Programs whose registers are words.
+
+use crate::proved::model_steps::note::Note;
+use crate::proved::words_machine::word_access::WordAccess;
+
+/// A program each of whose registers is a word, with the machine on which it is proved.
+///
+/// Each step of the machine is one access of one participant's program. So a law that holds after every list of its calls
+/// holds of threads that take the program access by access.
+pub trait WordProgram: Sized {
+    /// What names a register.
+    type Reg: Copy;
+
+    /// What the program ends with.
+    type Output;
+
+    /// What is kept of a program that has ended.
+    type End: Copy;
+
+    /// Returns how many registers there are for so many participants.
+    fn registers(most: u64) -> usize;
+
+    /// Returns the word of a register.
+    fn place(most: u64, register: Self::Reg) -> usize;
+
+    /// Returns the access that it makes next.
+    fn access(&self) -> WordAccess<Self::Reg>;
+
+    /// Takes the word that it loaded.
+    fn take_word(&mut self, word: u64) -> Note<Self::Output>;
+
+    /// Takes that its word is stored.
+    fn take_done(&mut self) -> Note<Self::Output>;
+
+    /// Returns what is kept of a program that has ended.
+    fn end(&self) -> Self::End;
+
+    /// Returns the program of a seat, from 1 on, that begins with an identity.
+    fn start(most: u64, seat: u64, identity: u64) -> Self;
+}

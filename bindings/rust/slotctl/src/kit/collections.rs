@@ -1,0 +1,53 @@
+//! Maps that ask for memory by calls which may fail, in the place of the kit's `std::collections`.
+
+use super::alloc::{AllocError, Global};
+use std::hash::Hash;
+
+/// A map from keys to values.
+pub struct HashMap<K, V> {
+    entries: std::collections::HashMap<K, V>,
+}
+
+impl<K: Eq + Hash, V> HashMap<K, V> {
+    /// `new`: an empty map. It allocates nothing.
+    pub fn new(_alloc: Global) -> HashMap<K, V> {
+        let entries = std::collections::HashMap::new();
+        HashMap { entries }
+    }
+
+    /// `with_capacity`: an empty map with room for so many.
+    ///
+    /// # Errors
+    ///
+    /// `AllocError` where an allocation failed.
+    pub fn with_capacity(alloc: Global, count: usize) -> Result<HashMap<K, V>, AllocError> {
+        let mut made = HashMap::new(alloc);
+        made.entries.try_reserve(count)?;
+        Ok(made)
+    }
+
+    /// `get`: the value of a key.
+    pub fn get(&self, key: &K) -> Option<&V> {
+        self.entries.get(key)
+    }
+
+    /// `contains_key`: whether a key has a value.
+    pub fn contains_key(&self, key: &K) -> bool {
+        self.entries.contains_key(key)
+    }
+
+    /// `insert`: gives a key a value, and returns the one that it had.
+    ///
+    /// # Errors
+    ///
+    /// `AllocError` where an allocation failed.
+    pub fn insert(&mut self, key: K, value: V) -> Result<Option<V>, AllocError> {
+        self.entries.try_reserve(1)?;
+        Ok(self.entries.insert(key, value))
+    }
+
+    /// `remove`: takes the value of a key.
+    pub fn remove(&mut self, key: &K) -> Option<V> {
+        self.entries.remove(key)
+    }
+}

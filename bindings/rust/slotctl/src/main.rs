@@ -1,0 +1,5 @@
+//! The program `slotctl`, built by cargo: see the crate's page.
+
+fn main() -> std::process::ExitCode {
+    slotctl::run()
+}

@@ -1,0 +1,92 @@
+// Erased by bindings/rust/erase from crates/model_splitter/src/visitor.rt, sha256 af16947a80e2d24a4e6c354c3f086cb0b0e67f1fee053b4303e42cce408fe509.
+//! One visit to a splitter.
+
+use crate::proved::model_splitter::stage::Stage;
+use crate::proved::model_splitter::way::Way;
+use crate::proved::model_steps::access::{Access, Answer};
+use crate::proved::model_steps::note::Note;
+use crate::proved::model_steps::program::StepProgram;
+
+/// The value of Y once it is set; it is 0 before.
+const SET: u64 = 1;
+
+/// A visit of one identity, which is not 0, to a splitter (Moir and Anderson 1995): at most four accesses.
+///
+/// The register `x` is the splitter's X, which holds 0 and then an identity. The register `y` is its Y, which holds 0
+/// until it is set.
+///
+/// 1. Write the identity into X.
+/// 2. Read Y. If it is set, the visit ends to the right.
+/// 3. Set Y.
+/// 4. Read X. If it holds the identity, the visit stops. Otherwise the visit ends down.
+#[derive(Clone, Copy, Debug, PartialEq, Eq)]
+pub struct Visitor<R> {
+    /// The identity that visits.
+    pub identity: u64,
+    /// The register that is the splitter's X.
+    pub x: R,
+    /// The register that is its Y.
+    pub y: R,
+    /// The last access that the visit made.
+    pub stage: Stage,
+}
+
+impl<R: Copy> Visitor<R> {
+    /// Makes a visit that has made no access.
+    pub fn new(identity: u64, x: R, y: R) -> Visitor<R> {
+        Visitor {
+            identity,
+            x,
+            y,
+            stage: Stage::Outside,
+        }
+    }
+}
+
+impl<R: Copy> StepProgram for Visitor<R> {
+    type Reg = R;
+
+    type Value = u64;
+
+    type Output = Way;
+
+    fn next(&self) -> Access<R, u64> {
+        match self.stage {
+            Stage::Outside => Access::Write(self.x, self.identity),
+            Stage::WroteX => Access::Read(self.y),
+            Stage::SawClear => Access::Write(self.y, SET),
+            Stage::WroteY => Access::Read(self.x),
+            Stage::Gone(_) => Access::Nothing,
+        }
+    }
+
+    fn resume(&mut self, got: Answer<u64>) -> Note<Way> {
+        let found = match got {
+            Answer::Value(value) => value,
+            _ => 0,
+        };
+        self.stage = match self.stage {
+            Stage::Outside => Stage::WroteX,
+            Stage::WroteX => {
+                if found == 0 {
+                    Stage::SawClear
+                } else {
+                    Stage::Gone(Way::Right)
+                }
+            }
+            Stage::SawClear => Stage::WroteY,
+            Stage::WroteY => {
+                if found == self.identity {
+                    Stage::Gone(Way::Stop)
+                } else {
+                    Stage::Gone(Way::Down)
+                }
+            }
+            Stage::Gone(way) => Stage::Gone(way),
+        };
+        match self.stage {
+            Stage::Gone(way) => Note::Ended(way),
+            _ => Note::Quiet,
+        }
+    }
+}

@@ -1,0 +1,413 @@
+// Erased by bindings/rust/erase from crates/service_follow/src/compaction.rt, sha256 e997b15063f4889e1ab97d37c1f054e901d8f35a38dbb93777bd9913b76c0de8.
+//! Compactions that a front end offers.
+
+use crate::kit::alloc::{AllocError, Global};
+use crate::kit::format;
+use crate::kit::String;
+use crate::kit::Vec;
+use crate::proved::model_asked::event::Event;
+use crate::proved::service_follow::front_end_stay::{token_of, FrontEndStay};
+use crate::proved::service_follow::log_fault::LogFault;
+use crate::proved::service_follow::log_hall::LogHall;
+use crate::proved::service_follow::log_persister::{push_count, put_head};
+use crate::proved::service_follow::pause::Pause;
+use crate::proved::service_follow::reply_queue::ReplyQueue;
+use crate::proved::service_hall::compactor::Compactor;
+use crate::proved::service_hall::hall::Hall;
+use crate::proved::service_log::replica::{Step, MOST_BATCH};
+use crate::proved::service_log::store::Store;
+
+/// The length of a history, in events, from which on a front end minds the compactions of others.
+pub const MINDFUL_EVENTS: usize = 450_001;
+
+/// How many bytes the first line of an entry of a compaction has at most, with no stay, and one more line.
+const ROOM: usize = 256;
+
+/// How often a front end begins a compaction at most, before it puts it off.
+const MOST_BEGINNINGS: u32 = 8;
+
+/// How often it waits for the compaction of another, at most.
+const MOST_WAITS: u32 = 40;
+
+/// How often it asks the store for a compaction, at most.
+const MOST_TURNS: u32 = 4_000;
+
+/// How many entries are read at once.
+const READ_ENTRIES: u64 = 10_000;
+
+/// What is to be done next for a compaction.
+#[derive(Clone, Copy, Debug, PartialEq, Eq)]
+enum Stage {
+    /// To read the log to its end, and to wait for the compaction of another.
+    Read,
+    /// To offer the entry that begins.
+    Begin,
+    /// To offer an entry of the events of the new hall.
+    Tell,
+    /// To offer the entry that ends.
+    End,
+    /// To note the place where it begins.
+    Note,
+    /// Nothing.
+    Rest,
+}
+
+/// A compaction that this front end offers.
+struct Work {
+    stage: Stage,
+    /// The place of the entry that begins.
+    first: u64,
+    /// The hall with the shorter history, and how many of its events were offered.
+    new: Option<Hall>,
+    told: usize,
+    beginnings: u32,
+    waits: u32,
+}
+
+/// Offers the compactions of one front end.
+pub(crate) struct Compaction {
+    alloc: Global,
+    token: [u8; 32],
+    compactor: Compactor,
+    /// From which length on it minds the compactions of others.
+    mindful: usize,
+    /// How many entries of compactions it offered. No two have one count.
+    count: u64,
+    entry: Vec<u8>,
+    lines: Vec<u8>,
+}
+
+// The line that asks for an event.
+fn line_of(alloc: Global, event: Event) -> Result<String, AllocError> {
+    match event {
+        Event::Begin(id) => format!(in alloc; "begin {id}\n"),
+        Event::Step(id) => format!(in alloc; "step {id}\n"),
+        Event::Enter(id) => format!(in alloc; "enter {id}\n"),
+        Event::Probe(id) => format!(in alloc; "probe {id}\n"),
+        Event::Leave(id) => format!(in alloc; "leave {id}\n"),
+        Event::Put(id, value) => format!(in alloc; "put {id} {value}\n"),
+        Event::Get(id) => format!(in alloc; "get {id}\n"),
+        Event::Widen(size) => format!(in alloc; "widen {size}\n"),
+    }
+}
+
+// Puts the lines of the next events of a hall over a list, as many as one entry takes. Returns how many events were told then.
+fn put_lines(
+    alloc: Global,
+    lines: &mut Vec<u8>,
+    new: &Hall,
+    told: usize,
+) -> Result<usize, AllocError> {
+    lines.clear();
+    for at in told..new.len() {
+        if MOST_BATCH - ROOM < lines.len() {
+            return Ok(at);
+        }
+        let Some(exchange) = new.get(at) else {
+            return Ok(at);
+        };
+        let line = line_of(alloc, exchange.event)?;
+        lines.extend_from_slice(line.as_bytes())?;
+    }
+    Ok(new.len())
+}
+
+// Appends a stay in 64 bytes.
+fn push_stay(entry: &mut Vec<u8>, stay: &FrontEndStay) -> Result<(), AllocError> {
+    push_count(entry, 16, stay.identity)?;
+    push_count(entry, 16, stay.last)?;
+    entry.extend_from_slice(&stay.token)?;
+    Ok(())
+}
+
+// Appends stays.
+fn push_stays(entry: &mut Vec<u8>, kept: &[FrontEndStay]) -> Result<(), AllocError> {
+    for stay in kept {
+        push_stay(entry, stay)?;
+    }
+    Ok(())
+}
+
+// Puts the entry that begins a compaction over a list.
+fn put_first(entry: &mut Vec<u8>, token: &[u8; 32], count: u64) -> Result<(), AllocError> {
+    put_head(entry, token, count)?;
+    entry.extend_from_slice(b" compaction\n")?;
+    Ok(())
+}
+
+// Puts an entry of lines behind another one over a list.
+fn put_more(
+    entry: &mut Vec<u8>,
+    token: &[u8; 32],
+    count: u64,
+    before: &[u8; 49],
+    lines: &[u8],
+) -> Result<(), AllocError> {
+    put_head(entry, token, count)?;
+    entry.extend_from_slice(b" more behind ")?;
+    entry.extend_from_slice(before)?;
+    entry.push(b'\n')?;
+    entry.extend_from_slice(lines)?;
+    Ok(())
+}
+
+// Puts the entry that ends a compaction over a list: how many entries were applied, and who keeps each stay.
+fn put_last(
+    entry: &mut Vec<u8>,
+    token: &[u8; 32],
+    count: u64,
+    before: &[u8; 49],
+    entries: u64,
+    kept: &[FrontEndStay],
+) -> Result<(), AllocError> {
+    put_head(entry, token, count)?;
+    entry.extend_from_slice(b" ends behind ")?;
+    entry.extend_from_slice(before)?;
+    entry.push(b' ')?;
+    push_count(entry, 16, entries)?;
+    entry.push(b' ')?;
+    push_count(entry, 16, kept.len() as u64)?;
+    entry.push(b' ')?;
+    push_stays(entry, kept)?;
+    entry.push(b'\n')?;
+    Ok(())
+}
+
+impl Work {
+    // Nothing was asked yet.
+    fn new() -> Work {
+        Work {
+            stage: Stage::Read,
+            first: 0,
+            new: None,
+            told: 0,
+            beginnings: 0,
+            waits: 0,
+        }
+    }
+}
+
+impl Compaction {
+    /// Makes one of the front end of this token.
+    pub(crate) fn new(alloc: Global, token: [u8; 32]) -> Compaction {
+        Compaction {
+            alloc,
+            token,
+            compactor: Compactor::new(),
+            mindful: MINDFUL_EVENTS,
+            count: 0,
+            entry: Vec::new(alloc),
+            lines: Vec::new(alloc),
+        }
+    }
+
+    // Whether the compaction of another front end is under way.
+    fn is_others<S: Store>(&self, log: &LogHall<S>) -> bool {
+        match log.under_way() {
+            Some(head) => token_of(&head) != self.token,
+            None => false,
+        }
+    }
+
+    // Puts the next stage: to begin, if a compaction is due.
+    fn begin_if_due(&mut self, work: &mut Work, hall: &Hall) {
+        if !self.compactor.is_due(hall) {
+            work.stage = Stage::Rest;
+            return;
+        }
+        if MOST_BEGINNINGS <= work.beginnings {
+            self.compactor.put_off(hall);
+            work.stage = Stage::Rest;
+            return;
+        }
+        work.beginnings += 1;
+        work.stage = Stage::Begin;
+    }
+
+    // Reads the log to its end.
+    fn read<S: Store, T: Pause>(
+        &mut self,
+        work: &mut Work,
+        log: &mut LogHall<S>,
+        pause: &mut T,
+        reply_queue: &mut ReplyQueue,
+    ) -> Result<(), LogFault> {
+        match log.read(READ_ENTRIES, reply_queue) {
+            Ok(true) => {}
+            Ok(false) => return Ok(()),
+            Err(cause) => {
+                work.stage = Stage::Rest;
+                return match LogFault::of_cause(cause) {
+                    Some(fault) => Err(fault),
+                    None => Ok(()),
+                };
+            }
+        }
+        if self.is_others(log) && work.waits < MOST_WAITS && pause.again() {
+            work.waits += 1;
+            return Ok(());
+        }
+        self.begin_if_due(work, log.hall());
+        Ok(())
+    }
+
+    // Offers the entry for the next place, and for no other. Tells whether it stands there.
+    fn offer<S: Store>(
+        &mut self,
+        log: &mut LogHall<S>,
+        reply_queue: &mut ReplyQueue,
+    ) -> Result<bool, LogFault> {
+        self.count = self.count.wrapping_add(1);
+        match log.offer(&self.entry, reply_queue) {
+            Ok(Step::Answered) => Ok(true),
+            Ok(_) => Ok(false),
+            Err(cause) => match LogFault::of_cause(cause) {
+                Some(fault) => Err(fault),
+                None => Ok(false),
+            },
+        }
+    }
+
+    // Begins, and builds the hall with the shorter history.
+    fn begin<S: Store>(
+        &mut self,
+        work: &mut Work,
+        log: &mut LogHall<S>,
+        reply_queue: &mut ReplyQueue,
+    ) -> Result<(), LogFault> {
+        let Ok(()) = put_first(&mut self.entry, &self.token, self.count) else {
+            return Err(LogFault::Memory);
+        };
+        work.first = log.place();
+        work.told = 0;
+        work.stage = Stage::Read;
+        if self.offer(log, reply_queue)? {
+            work.new = self.compactor.compacted(self.alloc, log.hall());
+            work.stage = match work.new {
+                Some(_) => Stage::Tell,
+                None => Stage::Rest,
+            };
+        }
+        Ok(())
+    }
+
+    // Puts the next entry of events, and tells how many events are told then. `None` if another entry came between.
+    fn put_told<S: Store>(
+        &mut self,
+        work: &Work,
+        log: &LogHall<S>,
+    ) -> Result<Option<usize>, AllocError> {
+        let (Some(new), Some(before)) = (&work.new, log.under_way()) else {
+            return Ok(None);
+        };
+        let told = put_lines(self.alloc, &mut self.lines, new, work.told)?;
+        put_more(
+            &mut self.entry,
+            &self.token,
+            self.count,
+            &before,
+            &self.lines,
+        )?;
+        Ok(Some(told))
+    }
+
+    // Offers an entry of the events of the new hall.
+    fn tell<S: Store>(
+        &mut self,
+        work: &mut Work,
+        log: &mut LogHall<S>,
+        reply_queue: &mut ReplyQueue,
+    ) -> Result<(), LogFault> {
+        work.stage = Stage::Read;
+        let told = match self.put_told(work, log) {
+            Ok(Some(told)) => told,
+            Ok(None) => return Ok(()),
+            Err(_) => return Err(LogFault::Memory),
+        };
+        if self.offer(log, reply_queue)? {
+            work.told = told;
+            work.stage = match &work.new {
+                Some(new) if new.len() <= told => Stage::End,
+                _ => Stage::Tell,
+            };
+        }
+        Ok(())
+    }
+
+    // Offers the entry that ends the compaction.
+    fn end<S: Store>(
+        &mut self,
+        work: &mut Work,
+        log: &mut LogHall<S>,
+        reply_queue: &mut ReplyQueue,
+    ) -> Result<(), LogFault> {
+        work.stage = Stage::Read;
+        let Some(before) = log.under_way() else {
+            return Ok(());
+        };
+        let Ok(()) = put_last(
+            &mut self.entry,
+            &self.token,
+            self.count,
+            &before,
+            log.entries(),
+            log.kept(),
+        ) else {
+            return Err(LogFault::Memory);
+        };
+        if self.offer(log, reply_queue)? {
+            work.stage = Stage::Note;
+        }
+        Ok(())
+    }
+
+    // Does what is next, and asks the store once at most.
+    fn turn<S: Store, T: Pause>(
+        &mut self,
+        work: &mut Work,
+        log: &mut LogHall<S>,
+        pause: &mut T,
+        reply_queue: &mut ReplyQueue,
+    ) -> Result<(), LogFault> {
+        match work.stage {
+            Stage::Read => self.read(work, log, pause, reply_queue),
+            Stage::Begin => self.begin(work, log, reply_queue),
+            Stage::Tell => self.tell(work, log, reply_queue),
+            Stage::End => self.end(work, log, reply_queue),
+            Stage::Note => {
+                work.stage = Stage::Rest;
+                log.put_hint(work.first);
+                Ok(())
+            }
+            Stage::Rest => Ok(()),
+        }
+    }
+
+    /// Offers a compaction if one is due, and waits a little for one that another front end has under way.
+    ///
+    /// It does nothing while the history is short. Else it reads the log to its end. A compaction is offered again from its
+    /// beginning if another entry came between, and then put off.
+    ///
+    /// # Errors
+    ///
+    /// Those behind which nothing more is served (`LogFault::of_cause`), and `Memory` if an allocation failed.
+    pub(crate) fn compact<S: Store, T: Pause>(
+        &mut self,
+        log: &mut LogHall<S>,
+        pause: &mut T,
+        reply_queue: &mut ReplyQueue,
+    ) -> Result<(), LogFault> {
+        if log.hall().len() < self.mindful {
+            return Ok(());
+        }
+        pause.begin();
+        let mut work = Work::new();
+        for _ in 0..MOST_TURNS {
+            if work.stage == Stage::Rest {
+                return Ok(());
+            }
+            self.turn(&mut work, log, pause, reply_queue)?;
+        }
+        Ok(())
+    }
+}

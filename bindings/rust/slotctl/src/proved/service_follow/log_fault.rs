@@ -1,0 +1,90 @@
+// Erased by bindings/rust/erase from crates/service_follow/src/log_fault.rt, sha256 76a9c85248bd41ed967d0704a4a1421df6259a87f0ad9ef8a02076da39a41a66.
+//! Why a hall over a log is not served, or no more.
+
+use crate::proved::model_steps::refusal::Refusal;
+use crate::proved::service_log::serve_fault::{Cause, ServeFault};
+use crate::proved::service_log::store_fault::StoreFault;
+use std::error::Error;
+use std::fmt;
+
+/// Why a hall over a log is not served, or no more. What was answered before stands in the log.
+#[derive(Clone, Copy, Debug, PartialEq, Eq)]
+pub enum LogFault {
+    /// A growth was refused. Where that was while an entry was applied nothing more can be answered.
+    Memory,
+    /// Names are not given in the config's world.
+    NoNames,
+    /// The log is one of another config, or of another version.
+    OtherConfig,
+    /// The token has the end of a line in it.
+    Token,
+    /// The lines are too long for one entry.
+    TooLong,
+    /// The log has no place left.
+    Full,
+    /// Connections took other lines than were prefetched.
+    Astray,
+    /// The log was put back to an older state than was applied.
+    WentBack,
+    /// The store does not answer, as the hall is opened.
+    Store(StoreFault),
+}
+
+impl LogFault {
+    /// The fault behind which nothing more is served; `None` where the store may be asked again.
+    pub fn of_serving(fault: ServeFault) -> Option<LogFault> {
+        match fault {
+            ServeFault::TooLong => Some(LogFault::TooLong),
+            ServeFault::Unknown(cause) => LogFault::of_cause(cause),
+        }
+    }
+
+    /// The same, of what kept a replica from its next step.
+    pub fn of_cause(cause: Cause) -> Option<LogFault> {
+        match cause {
+            Cause::Memory => Some(LogFault::Memory),
+            Cause::Poisoned => Some(LogFault::Memory),
+            Cause::Full => Some(LogFault::Full),
+            Cause::Store(fault) => LogFault::of_store(fault),
+            Cause::Busy => None,
+        }
+    }
+
+    /// The same, of a fault of the store.
+    pub fn of_store(fault: StoreFault) -> Option<LogFault> {
+        match fault {
+            StoreFault::WentBack => Some(LogFault::WentBack),
+            StoreFault::Memory => None,
+            StoreFault::Lost => None,
+            StoreFault::Wrong => None,
+            StoreFault::NoSpace => None,
+        }
+    }
+}
+
+impl From<Refusal> for LogFault {
+    fn from(why: Refusal) -> LogFault {
+        match why {
+            Refusal::NoMemory => LogFault::Memory,
+            _ => LogFault::NoNames,
+        }
+    }
+}
+
+impl fmt::Display for LogFault {
+    fn fmt(&self, f: &mut fmt::Formatter<'_>) -> fmt::Result {
+        f.write_str(match self {
+            LogFault::Memory => "no memory",
+            LogFault::NoNames => "no names are given in this world",
+            LogFault::OtherConfig => "log of another config",
+            LogFault::Token => "a token of more than a line",
+            LogFault::TooLong => "too many lines for one entry",
+            LogFault::Full => "the log is full",
+            LogFault::Astray => "other lines were taken than learnt",
+            LogFault::WentBack => "the log went back",
+            LogFault::Store(fault) => return write!(f, "{fault}"),
+        })
+    }
+}
+
+impl Error for LogFault {}

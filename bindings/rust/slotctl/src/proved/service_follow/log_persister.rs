@@ -1,0 +1,451 @@
+// Erased by bindings/rust/erase from crates/service_follow/src/log_persister.rt, sha256 817fcfc9eb55bb10955e62d0c21876cd1e0d072291f5550ea041aa14676f05df.
+//! Serves the clients of one front end over a log.
+
+use crate::kit::alloc::{AllocError, Allocator, Global};
+use crate::kit::format;
+use crate::kit::String;
+use crate::kit::Vec;
+use crate::proved::model_asked::config::Config;
+use crate::proved::service_follow::compaction::Compaction;
+use crate::proved::service_follow::lasting::Lasting;
+use crate::proved::service_follow::log_fault::LogFault;
+use crate::proved::service_follow::log_hall::LogHall;
+use crate::proved::service_follow::marks::is_ordinary;
+use crate::proved::service_follow::pause::Pause;
+use crate::proved::service_follow::release_lines::lines_of;
+use crate::proved::service_follow::reply_queue::ReplyQueue;
+use crate::proved::service_follow::sessions::Sessions;
+use crate::proved::service_follow::tallying::tally_of;
+use crate::proved::service_hall::hall::Hall;
+use crate::proved::service_hall::reads::Reads;
+use crate::proved::service_log::replica::{Step, MOST_BATCH};
+use crate::proved::service_log::serve_fault::{Cause, ServeFault};
+use crate::proved::service_log::store::{Store, MOST_PLACES};
+use crate::proved::service_log::store_fault::StoreFault;
+use crate::proved::service_loop::persist::{Persist, Prefetch, Tally};
+use crate::proved::text_lines::held::query::HeldQuery;
+use crate::proved::text_lines::held::telling::put_held;
+use crate::proved::text_lines::replies::Replies;
+
+/// What ends a line.
+const LF: u8 = 10;
+
+/// How many bytes the first line of a batch has, at most: a token, a count, ` plain` and its LF.
+const HEAD: usize = 56;
+
+/// How often a store is asked for one batch, at most; a `Pause` ends it before.
+const MOST_TRIES: u32 = 1_000_000;
+
+/// What etcd says where its quota is used up.
+const NO_SPACE: &str = "etcdserver: mvcc: database space exceeded";
+
+/// What is said where a compaction told another hall than the entries before it.
+const DIFFERS: &str = "a compaction of the log tells another history";
+
+/// How many entries are applied at once where no client asks for anything.
+const TICK_ENTRIES: u64 = 10_000;
+
+/// Serves the clients of one front end over a log: what they ask for comes to stand in the log before it is answered.
+pub struct LogPersister<S: Store, T: Pause> {
+    alloc: Global,
+    log: LogHall<S>,
+    batch: Vec<u8>,
+    token: [u8; 32],
+    count: u64,
+    /// Whether the history stores reads of this front end.
+    reads: Reads,
+    pause: T,
+    /// Whether the store had no room for the last batch.
+    no_space: bool,
+    /// Whether the store answered when it was last asked.
+    answers: bool,
+    /// Who keeps stays.
+    sessions: Sessions,
+    /// The compactions that it offers.
+    compaction: Compaction,
+    /// How much of the history no compaction makes shorter.
+    lasting: Lasting,
+}
+
+// A digit to the base of 16.
+fn hex_digit(digit: u8) -> u8 {
+    if digit < 10 {
+        b'0' + digit
+    } else {
+        b'a' + (digit - 10)
+    }
+}
+
+// Adds so many digits of a count to the base of 16, the lowest first.
+pub(crate) fn push_count(head: &mut Vec<u8>, digits: u32, count: u64) -> Result<(), AllocError> {
+    if digits == 0 {
+        return Ok(());
+    }
+    head.push(hex_digit((count % 16) as u8))?;
+    push_count(head, digits - 1, count / 16)
+}
+
+// Puts a first line without its end over a list: a token, a space and a count.
+pub(crate) fn put_head(head: &mut Vec<u8>, token: &[u8], count: u64) -> Result<(), AllocError> {
+    head.clear();
+    head.extend_from_slice(token)?;
+    head.push(b' ')?;
+    push_count(head, 16, count)
+}
+
+// What the first line of a batch tells of its reads.
+fn told_of(reads: Reads) -> &'static [u8] {
+    match reads {
+        Reads::Logged => b"",
+        Reads::Plain => b" plain",
+    }
+}
+
+// Puts a batch of these lines over a list: a first line of a token, a count and whether its reads are plain, and then the lines.
+fn put_batch(
+    batch: &mut Vec<u8>,
+    reads: Reads,
+    token: &[u8],
+    count: u64,
+    lines: &[u8],
+) -> Result<(), AllocError> {
+    put_head(batch, token, count)?;
+    batch.extend_from_slice(told_of(reads))?;
+    batch.push(LF)?;
+    batch.extend_from_slice(lines)?;
+    Ok(())
+}
+
+// The first entry of a log of halls of this config.
+fn first_line(alloc: Global, config: Config) -> Result<String, AllocError> {
+    let world = config.world.name();
+    let m = config.m;
+    let k = config.k;
+    let limit = config.limit;
+    format!(in alloc; "beglushan hall 1 world {world} m {m} k {k} limit {limit}\n")
+}
+
+impl<S: Store, T: Pause> LogPersister<S, T> {
+    /// Opens the hall of a log. Where nothing stands in the log it begins with a line of the config, and else it has to begin with just that
+    /// line; then all that stands is applied: from the place on that is noted in the store, if a compaction that can be read whole stands
+    /// there or behind it, and else from the first entry on. The token, which no other front end has, is to have no end of a line in it.
+    pub fn open(
+        alloc: Global,
+        store: S,
+        pause: T,
+        config: Config,
+        token: [u8; 32],
+    ) -> Result<LogPersister<S, T>, LogFault> {
+        if token.contains(&LF) {
+            return Err(LogFault::Token);
+        }
+        let Ok(line) = first_line(alloc, config) else {
+            return Err(LogFault::Memory);
+        };
+        let log = LogHall::new(alloc, store, config)?;
+        let mut persister = LogPersister {
+            alloc,
+            log,
+            batch: Vec::new(alloc),
+            token,
+            count: 0,
+            reads: Reads::Logged,
+            pause,
+            no_space: false,
+            answers: true,
+            sessions: Sessions::new(alloc),
+            compaction: Compaction::new(alloc, token),
+            lasting: Lasting::new(),
+        };
+        match persister.start(line.as_bytes()) {
+            Ok(()) => Ok(persister),
+            Err(fault) => Err(fault),
+        }
+    }
+}
+
+impl<S: Store, T: Pause> LogPersister<S, T> {
+    /// The hall.
+    pub fn hall(&self) -> &Hall {
+        self.log.hall()
+    }
+
+    // Has the log begin with a line, and applies all that stands in it. A function of its own, since what owns a persister takes it apart at each
+    // way out.
+    fn start(&mut self, line: &[u8]) -> Result<(), LogFault> {
+        self.begin(line)?;
+        self.apply_hinted()?;
+        self.apply_known()
+    }
+
+    // Applies all that stands in the log from the place on that is noted in the store, if one is.
+    fn apply_hinted(&mut self) -> Result<(), LogFault> {
+        let place = self.log.hint().unwrap_or(0);
+        self.log.start_at(self.alloc, place)?;
+        self.apply_all()
+    }
+
+    // Applies all that stands in the log from the first entry on, if nothing is known of the hall.
+    fn apply_known(&mut self) -> Result<(), LogFault> {
+        if !self.log.is_blind() {
+            return Ok(());
+        }
+        self.log.start_at(self.alloc, 0)?;
+        self.apply_all()?;
+        if self.log.is_blind() {
+            return Err(LogFault::Astray);
+        }
+        Ok(())
+    }
+
+    // Has the log begin with a line, as soon as the store answers.
+    fn begin(&mut self, line: &[u8]) -> Result<(), LogFault> {
+        self.pause.begin();
+        for _ in 0..MOST_TRIES {
+            match self.log.begin(line, &mut self.batch) {
+                Ok(true) => return Ok(()),
+                Ok(false) => return Err(LogFault::OtherConfig),
+                Err(StoreFault::Memory) => return Err(LogFault::Memory),
+                Err(fault) => {
+                    if !self.pause.again() {
+                        return Err(LogFault::Store(fault));
+                    }
+                }
+            }
+        }
+        Err(LogFault::Store(StoreFault::Lost))
+    }
+
+    // Applies all that stands in the log, as soon as the store answers.
+    fn apply_all(&mut self) -> Result<(), LogFault> {
+        let mut reply_queue = ReplyQueue::new(self.alloc);
+        self.pause.begin();
+        for _ in 0..MOST_TRIES {
+            let Err(cause) = self.log.catch_up(MOST_PLACES, &mut reply_queue) else {
+                return Ok(());
+            };
+            if let Some(fault) = LogFault::of_cause(cause) {
+                return Err(fault);
+            }
+            if !self.pause.again() {
+                break;
+            }
+        }
+        Err(LogFault::Store(StoreFault::Lost))
+    }
+
+    // Has the batch come to stand in the log, as soon as the store answers.
+    fn serve_batch(&mut self, reply_queue: &mut ReplyQueue) -> Result<Prefetch, LogFault> {
+        let now = self.pause.seconds();
+        reply_queue.clear();
+        if !is_ordinary(&self.batch) {
+            return Err(LogFault::Astray);
+        }
+        self.pause.begin();
+        for _tries in 0..MOST_TRIES {
+            let Err(fault) = self.log.serve(&self.batch, reply_queue) else {
+                if self.log.is_blind() {
+                    reply_queue.clear();
+                    return Err(LogFault::Astray);
+                }
+                self.no_space = false;
+                self.answers = true;
+                self.sessions.sent = now;
+                return Ok(Prefetch::Known);
+            };
+            self.no_space = fault == ServeFault::Unknown(Cause::Store(StoreFault::NoSpace));
+            if let Some(fault) = LogFault::of_serving(fault) {
+                return Err(fault);
+            }
+            if !self.pause.again() {
+                return Ok(Prefetch::Lost);
+            }
+        }
+        Ok(Prefetch::Lost)
+    }
+
+    /// Has the history store the reads of this front end from now on, or not. It stores them until this is called. Each entry tells it, so that
+    /// front ends of one log may differ in it.
+    pub fn choose_reads(&mut self, reads: Reads) {
+        self.reads = reads;
+    }
+
+    /// For how many seconds a stay goes on that nobody keeps. It is 0 until this is called.
+    pub fn grant_grace(&mut self, seconds: u32) {
+        self.sessions.grace = seconds;
+    }
+
+    /// Returns true: other front ends share the stays in the pool, so that this persister ends them itself.
+    pub fn shares_stays(&self) -> bool {
+        true
+    }
+
+    /// Returns true if and only if this front end may answer those who keep stays: it sent the last of its entries that stood less than 20
+    /// seconds ago. Others end its stays only later than that and the grace time.
+    pub fn may_answer_stays(&self) -> bool {
+        self.sessions.may_answer(self.pause.seconds())
+    }
+
+    // The lines by which the stays end that are to end now, where all of the log was read.
+    fn decide(&mut self, left: &[u64]) -> Result<Vec<u8>, AllocError> {
+        let ended = self.sessions.ended(&self.token, self.log.kept(), left)?;
+        lines_of(self.alloc, self.log.hall(), &ended)
+    }
+
+    // Offers an entry of these lines for the next place, once.
+    fn offer(&mut self, lines: &[u8], reply_queue: &mut ReplyQueue) -> Result<(), LogFault> {
+        let now = self.pause.seconds();
+        let count = self.count.wrapping_add(1);
+        let Ok(()) = put_batch(&mut self.batch, Reads::Logged, &self.token, count, lines) else {
+            return Err(LogFault::Memory);
+        };
+        self.count = count;
+        match self.log.offer(&self.batch, reply_queue) {
+            Ok(Step::Answered) => {
+                self.sessions.sent = now;
+                Ok(())
+            }
+            Ok(Step::Passed | Step::Nothing) => Ok(()),
+            Err(cause) => match LogFault::of_cause(cause) {
+                Some(fault) => Err(fault),
+                None => Ok(()),
+            },
+        }
+    }
+
+    // Ends the stays that are to end now, where all of the log was read.
+    fn end_due(&mut self, reply_queue: &mut ReplyQueue, left: &[u64]) -> Result<(), LogFault> {
+        reply_queue.clear();
+        let Ok(lines) = self.decide(left) else {
+            return Err(LogFault::Memory);
+        };
+        let now = self.pause.seconds();
+        if lines.is_empty() && !self.sessions.wants_heartbeat(&self.token, now) {
+            return Ok(());
+        }
+        let offered = self.offer(&lines, reply_queue);
+        reply_queue.clear();
+        offered
+    }
+
+    /// Ends stays in the pool by one entry at most: those of these identities, which nobody keeps at this front end any more, if it keeps them as
+    /// the log tells, and those of front ends of which nothing was heard for longer than they may answer, and the grace time. It is to be called
+    /// about once a second. Where this front end keeps a stay and had no entry for 5 seconds, it has an empty one.
+    ///
+    /// The entry is offered once, for the place up to which the log was read. Where another came first, it is not offered again.
+    ///
+    /// # Errors
+    ///
+    /// Those behind which nothing more is served (`LogFault::of_cause`), and `Memory` if an allocation failed.
+    pub fn end_stays(
+        &mut self,
+        reply_queue: &mut ReplyQueue,
+        left: &[u64],
+    ) -> Result<(), LogFault> {
+        let read = self.log.read(TICK_ENTRIES, reply_queue);
+        self.answers = read.is_ok();
+        match read {
+            Ok(true) => self.end_due(reply_queue, left),
+            Ok(false) => Ok(()),
+            Err(cause) => match LogFault::of_cause(cause) {
+                Some(fault) => Err(fault),
+                None => Ok(()),
+            },
+        }
+    }
+}
+
+impl<S: Store, T: Pause> Persist<ReplyQueue> for LogPersister<S, T> {
+    type Fault = LogFault;
+
+    fn put_held<B: Allocator>(
+        &self,
+        _reply_queue: &ReplyQueue,
+        query: HeldQuery,
+        out: &mut Replies<B>,
+    ) {
+        put_held(self.log.hall().slots(), query, out);
+    }
+
+    fn is_full(&self, _reply_queue: &ReplyQueue) -> bool {
+        false
+    }
+
+    fn persist(&mut self, reply_queue: &mut ReplyQueue) -> Result<(), LogFault> {
+        if !reply_queue.is_used_up() {
+            return Err(LogFault::Astray);
+        }
+        Ok(())
+    }
+
+    fn most_prefetched(&self) -> Option<usize> {
+        Some(MOST_BATCH - HEAD)
+    }
+
+    fn prefetch(
+        &mut self,
+        reply_queue: &mut ReplyQueue,
+        lines: &[u8],
+    ) -> Result<Prefetch, LogFault> {
+        self.count = self.count.wrapping_add(1);
+        self.compaction
+            .compact(&mut self.log, &mut self.pause, reply_queue)?;
+        let Ok(()) = put_batch(&mut self.batch, self.reads, &self.token, self.count, lines) else {
+            return Err(LogFault::Memory);
+        };
+        self.serve_batch(reply_queue)
+    }
+
+    fn tick(&mut self, reply_queue: &mut ReplyQueue) -> Result<(), LogFault> {
+        let caught_up = self.log.catch_up(TICK_ENTRIES, reply_queue);
+        self.lasting.look(self.log.hall());
+        self.answers = caught_up.is_ok();
+        let Err(cause) = caught_up else {
+            return Ok(());
+        };
+        match LogFault::of_cause(cause) {
+            Some(fault) => Err(fault),
+            None => Ok(()),
+        }
+    }
+
+    fn shares_stays(&self) -> bool {
+        LogPersister::shares_stays(self)
+    }
+
+    fn end_stays(&mut self, reply_queue: &mut ReplyQueue, due: &[u64]) -> Result<(), LogFault> {
+        LogPersister::end_stays(self, reply_queue, due)
+    }
+
+    fn has_stay(&self, _reply_queue: &ReplyQueue, identity: u64) -> bool {
+        self.log.hall().slots().pool().stay_of(identity).is_some()
+    }
+
+    fn may_answer_stays(&self) -> bool {
+        LogPersister::may_answer_stays(self)
+    }
+
+    fn trouble(&self) -> Option<&'static str> {
+        if self.log.differs() {
+            return Some(DIFFERS);
+        }
+        if self.no_space {
+            Some(NO_SPACE)
+        } else {
+            None
+        }
+    }
+
+    fn lasting_tenths(&self) -> u8 {
+        self.lasting.tenths()
+    }
+
+    fn tally(&self, _reply_queue: &ReplyQueue) -> Tally {
+        Tally {
+            log_place: Some(self.log.place()),
+            log_answers: Some(self.answers),
+            compactions: Some(self.log.compactions()),
+            ..tally_of(self.log.hall())
+        }
+    }
+}

@@ -1,0 +1,160 @@
+// Erased by bindings/rust/erase from crates/service_follow/src/marks.rt, sha256 178c8f59bcc5f77177ae147bb640e51e4c239fa426b1b5d2740d43009f4bc612.
+//! The first lines of the entries of a compaction, as they are read.
+
+use crate::kit::alloc::{AllocError, Global};
+use crate::kit::Vec;
+use crate::proved::service_follow::front_end_stay::FrontEndStay;
+
+/// How many bytes a token, a space and a count have.
+pub(crate) const HEAD: usize = 49;
+
+/// How many digits a number has.
+const DIGITS: usize = 16;
+
+/// How many bytes a stay has.
+const STAY: usize = 64;
+
+/// Where the head of the entry before it stands in an entry.
+pub(crate) const BEFORE: usize = 62;
+
+/// Where it stands in the entry that ends a compaction how many entries were applied.
+const ENTRIES: usize = 112;
+
+/// Where the number of stays stands there, and where the stays begin.
+const COUNT: usize = 129;
+
+const STAYS: usize = 146;
+
+/// What an entry is, as its first line tells. Clients never write a first line.
+#[derive(Clone, Copy, Debug, PartialEq, Eq)]
+pub enum Mark {
+    /// Lines that a front end serves, or the first line of the log.
+    Ordinary,
+    /// The first entry of a compaction.
+    Begins,
+    /// One more entry of a compaction.
+    GoesOn,
+    /// The last entry of a compaction.
+    Ends,
+}
+
+/// Returns true if and only if this byte stands at a place of an entry.
+pub(crate) fn is_there(entry: &[u8], at: usize, byte: u8) -> bool {
+    match entry.get(at) {
+        Some(found) => *found == byte,
+        None => false,
+    }
+}
+
+// What an entry is, as the byte behind the space tells.
+fn kind_of(entry: &[u8]) -> Mark {
+    if is_there(entry, 50, b'c') {
+        return Mark::Begins;
+    }
+    if is_there(entry, 50, b'm') {
+        return Mark::GoesOn;
+    }
+    if is_there(entry, 50, b'e') {
+        return Mark::Ends;
+    }
+    Mark::Ordinary
+}
+
+/// Returns what an entry is: its first line begins with a token, a space and a count, and ends there, or goes on with a
+/// space and `compaction`, `more behind` or `ends behind`.
+pub fn mark_of(entry: &[u8]) -> Mark {
+    if is_there(entry, 49, b' ') {
+        return kind_of(entry);
+    }
+    Mark::Ordinary
+}
+
+/// Returns true only if an entry is of no compaction.
+pub(crate) fn is_ordinary(entry: &[u8]) -> bool {
+    matches!(mark_of(entry), Mark::Ordinary)
+}
+
+/// Returns the 49 bytes of an entry from a place on, a token, a space and a count; zeros where the entry is shorter.
+pub(crate) fn head_at(entry: &[u8], at: usize) -> [u8; 49] {
+    let mut head = [0u8; 49];
+    if at + HEAD <= entry.len() {
+        head.copy_from_slice(&entry[at..at + HEAD]);
+    }
+    head
+}
+
+// The value of a digit to the base of 16.
+fn digit_value(digit: u8) -> u8 {
+    if digit < 58 {
+        digit.saturating_sub(48) % 16
+    } else {
+        (digit - 87.min(digit)) % 16
+    }
+}
+
+// The number that digits say, the lowest first, in 64 bits.
+fn number_of(digits: &[u8]) -> u64 {
+    let Some((first, rest)) = digits.split_first() else {
+        return 0;
+    };
+    u64::from(digit_value(*first)).wrapping_add(16u64.wrapping_mul(number_of(rest)))
+}
+
+// The number of 16 digits at a place. An error where the entry is shorter.
+fn number_at(entry: &[u8], at: usize) -> Result<u64, AllocError> {
+    if entry.len() < at + DIGITS {
+        return Err(AllocError);
+    }
+    Ok(number_of(&entry[at..at + DIGITS]))
+}
+
+// The stay that 64 bytes say.
+fn stay_in(bytes: &[u8]) -> Result<FrontEndStay, AllocError> {
+    if bytes.len() < STAY {
+        return Err(AllocError);
+    }
+    let mut token = [0u8; 32];
+    token.copy_from_slice(&bytes[32..STAY]);
+    Ok(FrontEndStay {
+        identity: number_of(&bytes[..16]),
+        token,
+        last: number_of(&bytes[16..32]),
+    })
+}
+
+// Appends so many stays that bytes say.
+fn push_stays(kept: &mut Vec<FrontEndStay>, count: u64, bytes: &[u8]) -> Result<(), AllocError> {
+    if count == 0 {
+        return Ok(());
+    }
+    if bytes.len() < STAY {
+        return Err(AllocError);
+    }
+    let (first, rest) = bytes.split_at(STAY);
+    kept.push(stay_in(first)?)?;
+    push_stays(kept, count - 1, rest)
+}
+
+/// Returns the stays that the last entry of a compaction tells.
+///
+/// # Errors
+///
+/// `AllocError`: the entry is too short, or an allocation failed.
+pub(crate) fn kept_in(alloc: Global, entry: &[u8]) -> Result<Vec<FrontEndStay>, AllocError> {
+    let count = number_at(entry, COUNT)?;
+    if entry.len() < STAYS {
+        return Err(AllocError);
+    }
+    let mut kept = Vec::new(alloc);
+    push_stays(&mut kept, count, &entry[STAYS..])?;
+    Ok(kept)
+}
+
+/// Returns how many entries were applied, as the last entry of a compaction tells.
+///
+/// # Errors
+///
+/// `AllocError`: the entry is too short.
+pub(crate) fn entries_in(entry: &[u8]) -> Result<u64, AllocError> {
+    number_at(entry, ENTRIES)
+}

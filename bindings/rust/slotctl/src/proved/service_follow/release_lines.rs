@@ -1,0 +1,64 @@
+// Erased by bindings/rust/erase from crates/service_follow/src/release_lines.rt, sha256 e129a4ef21de63e2c8a16cbf8e6b0b70c355b90dbb166f9d4878ad6bc64ee4f5.
+//! The lines by which stays end.
+
+use crate::kit::alloc::{AllocError, Global};
+use crate::kit::format;
+use crate::kit::String;
+use crate::kit::Vec;
+use crate::proved::service_hall::hall::Hall;
+
+// The line that has an identity leave.
+fn leave_line(alloc: Global, id: u64) -> Result<String, AllocError> {
+    format!(in alloc; "leave {id}\n")
+}
+
+// The line that has an identity probe.
+fn probe_line(alloc: Global, id: u64) -> Result<String, AllocError> {
+    format!(in alloc; "probe {id}\n")
+}
+
+// How many probes have an identity hold a number, if it competes.
+fn probes_for(hall: &Hall, id: u64) -> u64 {
+    let pool = hall.slots().pool();
+    match pool.number_of(id) {
+        Ok(_) => 0,
+        Err(_) => pool.size(),
+    }
+}
+
+// Appends a line so many times.
+fn push_probes(lines: &mut Vec<u8>, line: &[u8], count: u64) -> Result<(), AllocError> {
+    if count == 0 {
+        return Ok(());
+    }
+    lines.extend_from_slice(line)?;
+    push_probes(lines, line, count - 1)
+}
+
+// Appends the lines by which the stay of an identity ends.
+fn push_release(
+    alloc: Global,
+    lines: &mut Vec<u8>,
+    hall: &Hall,
+    id: u64,
+) -> Result<(), AllocError> {
+    let probe = probe_line(alloc, id)?;
+    push_probes(lines, probe.as_bytes(), probes_for(hall, id))?;
+    let leave = leave_line(alloc, id)?;
+    lines.extend_from_slice(leave.as_bytes())?;
+    Ok(())
+}
+
+/// Returns the lines by which the stays of these identities end: `leave`, and before it as many `probe` as the pool has numbers, where the
+/// identity holds none.
+///
+/// # Errors
+///
+/// `AllocError`: an allocation failed.
+pub(crate) fn lines_of(alloc: Global, hall: &Hall, ids: &[u64]) -> Result<Vec<u8>, AllocError> {
+    let mut lines = Vec::new(alloc);
+    for id in ids {
+        push_release(alloc, &mut lines, hall, *id)?;
+    }
+    Ok(lines)
+}

@@ -1,0 +1,71 @@
+// Erased by bindings/rust/erase from crates/service_follow/src/sessions.rt, sha256 a77d4c1242a20375134d724a9e0d683ff11baf91bfaf2a5e0679cfaa556a8eaa.
+//! What a front end knows of who keeps stays in the pool.
+
+use crate::kit::alloc::{AllocError, Global};
+use crate::kit::Vec;
+use crate::proved::service_follow::front_end_stay::FrontEndStay;
+use crate::proved::service_follow::watches::Watches;
+
+/// For how many seconds after its last entry a front end answers those who keep stays. Behind that and the grace time others end them.
+pub const MOST_SILENT: u64 = 20;
+
+/// After how many seconds without an entry a front end that keeps stays has an empty one.
+const HEARTBEAT: u64 = 5;
+
+/// How many stays end by one entry, so that it is no longer than one may be.
+const MOST_ENDED: usize = 16;
+
+/// What a front end knows of who keeps stays in the pool.
+pub(crate) struct Sessions {
+    /// The stays, as they were when the log was read last.
+    pub(crate) watches: Watches,
+    /// For how many seconds a stay goes on that nobody keeps.
+    pub(crate) grace: u32,
+    /// How often the log was read to its end, about once a second.
+    pub(crate) reads: u64,
+    /// The second in which the last entry of this front end that stood was sent.
+    pub(crate) sent: u64,
+}
+
+impl Sessions {
+    /// Makes one of no stays.
+    pub(crate) fn new(alloc: Global) -> Sessions {
+        Sessions {
+            watches: Watches::new(alloc),
+            grace: 0,
+            reads: 0,
+            sent: 0,
+        }
+    }
+
+    /// Looks at the stays once the log was read to its end, and returns the identities whose stays are to end: of those that are kept here if
+    /// they are among these, and of others once nothing was heard of their front end for longer than it may answer, and the grace time.
+    ///
+    /// # Errors
+    ///
+    /// `AllocError`: an allocation failed.
+    pub(crate) fn ended(
+        &mut self,
+        token: &[u8; 32],
+        kept: &[FrontEndStay],
+        left: &[u64],
+    ) -> Result<Vec<u64>, AllocError> {
+        self.reads = self.reads.saturating_add(1);
+        self.watches.look(kept, self.reads)?;
+        let patience = u64::from(self.grace) + MOST_SILENT;
+        let mut ended = self.watches.due(token, left, patience, self.reads)?;
+        ended.truncate(MOST_ENDED);
+        Ok(ended)
+    }
+
+    /// Returns true if and only if this front end keeps a stay, and at this second had no entry for as long as a heartbeat takes.
+    pub(crate) fn wants_heartbeat(&self, token: &[u8; 32], now: u64) -> bool {
+        self.watches.keeps_one(token) && HEARTBEAT <= now.saturating_sub(self.sent)
+    }
+
+    /// Returns true if and only if the last entry of this front end that stood was sent so lately before this second that no other ends stays
+    /// that it keeps.
+    pub(crate) fn may_answer(&self, now: u64) -> bool {
+        now.saturating_sub(self.sent) < MOST_SILENT
+    }
+}

@@ -1,0 +1,130 @@
+// Erased by bindings/rust/erase from crates/service_hall/src/hall.rt, sha256 752efca20c1280c4331e5002c7f15291f1618b39b9b32db6cebfe774527f515e.
+//! A desk with its history.
+
+use crate::kit::alloc::Global;
+use crate::proved::model_asked::config::Config;
+use crate::proved::model_asked::event::Event;
+use crate::proved::model_asked::exchange::Exchange;
+use crate::proved::model_asked::reply::Reply;
+use crate::proved::model_pool::slots::slots::Slots;
+use crate::proved::model_steps::refusal::Refusal;
+use crate::proved::model_steps::view::View;
+use crate::proved::service_hall::log::Log;
+use crate::proved::service_hall::reads::Reads;
+use crate::proved::text_worlds::desk::desk::Desk;
+
+/// The most events of a history.
+pub const MOST_EVENTS: usize = 1_000_000;
+
+/// A value that is dropped by what its type says of that, and not by its parts.
+struct Held<T> {
+    desk: T,
+}
+
+/// A desk with its history: the list of its accepted events and their replies. It stores no refused event.
+pub struct Hall {
+    config: Config,
+    held: Held<Desk<Global>>,
+    history: Log<Global>,
+}
+
+impl Hall {
+    /// Makes a hall of this config with no event.
+    ///
+    /// # Errors
+    ///
+    /// The first that applies is returned:
+    ///
+    /// - `OutOfRange`: the config's world gives no names.
+    /// - `NoMemory`: an allocation failed.
+    pub fn new(alloc: Global, config: Config) -> Result<Self, Refusal> {
+        if !config.world.gives_names() {
+            return Err(Refusal::OutOfRange);
+        }
+        // The desk last, since each later exit has code that takes it apart.
+        let history = Log::new(alloc)?;
+        let desk = Desk::new(alloc, config)?;
+        Ok(Hall {
+            config,
+            held: Held { desk },
+            history,
+        })
+    }
+
+    /// Returns the config for which the hall was opened.
+    pub fn config(&self) -> Config {
+        self.config
+    }
+
+    /// Returns the number of events in the history: at most 1,000,000.
+    pub fn len(&self) -> usize {
+        self.history.len()
+    }
+
+    /// Returns the event at a place of the history, from 0, with its reply. Returns `None` if the history is shorter.
+    pub fn get(&self, place: usize) -> Option<Exchange> {
+        self.history.get(place)
+    }
+
+    /// Returns why `apply` would refuse an event, failed allocations aside, or `None` if it would accept it.
+    ///
+    /// The desk's refusals come first. `HistoryFull` comes last: the history has 1,000,000 events.
+    pub fn refusal(&self, event: Event) -> Option<Refusal> {
+        if let Some(refusal) = self.held.desk.refusal(event) {
+            return Some(refusal);
+        }
+        if self.history.len() >= MOST_EVENTS {
+            Some(Refusal::HistoryFull)
+        } else {
+            None
+        }
+    }
+
+    /// Does what `apply` does, and returns a reply of few bytes. A reply that shows a view shows the one that this call
+    /// stores in `view`.
+    pub fn apply_short(&mut self, event: Event, view: &mut View) -> Reply<()> {
+        if let Some(refusal) = self.refusal(event) {
+            return Reply::Refused(refusal);
+        }
+        if !self.history.reserve() {
+            return Reply::Refused(Refusal::NoMemory);
+        }
+        let reply = self.held.desk.apply_short(event, view);
+        if !reply.is_refusal() {
+            self.history.push_reserved(event, reply, view);
+        }
+        reply
+    }
+
+    /// Returns the reply of the desk to `get` of an identity, and stores nothing: the hall stays as it is.
+    ///
+    /// It is the reply of `apply` to this event, but it is returned even if the history is full.
+    ///
+    /// The reply is a refusal if the identity holds no number. The first that applies is returned:
+    ///
+    /// - `NotCompeting`: the identity does not compete.
+    /// - `NotHolding`: it competes and holds no number.
+    pub fn read(&self, id: u64) -> Reply<()> {
+        Reply::of_value(self.held.desk.slots().get(id).copied())
+    }
+
+    /// Does what `read` does, if the event is a `get` and reads are plain, and else what `apply_short` does.
+    pub fn serve_short(&mut self, reads: Reads, event: Event, view: &mut View) -> Reply<()> {
+        match (reads, event) {
+            (Reads::Plain, Event::Get(id)) => self.read(id),
+            _ => self.apply_short(event, view),
+        }
+    }
+
+    /// Returns the pool and its slots, for observers.
+    pub fn slots(&self) -> &Slots<u64, Global> {
+        self.held.desk.slots()
+    }
+
+    /// Returns the owner of a name, or that no participant has it. This changes nothing.
+    ///
+    /// The reply is the refusal `OutOfRange` if the number is not from 1 to `2m - 1`, for m participants.
+    pub fn owner(&self, number: u64) -> Reply<View> {
+        self.held.desk.owner(number)
+    }
+}

@@ -1,0 +1,13 @@
+// Erased by bindings/rust/erase from crates/service_journal/src/laws.rt, sha256 63e90eb29fa1cd0d601ce6ad4c9d53cd431b9173767f3ce339c015669fbf2333.
+//! What a crash leaves of a journal, and what is opened of that.
+
+use crate::proved::text_lines::laws::law_of_lines;
+
+/// A law: what a crash leaves of a journal, if all that was committed is on its disk.
+///
+/// It leaves the record of a prefix of the history, which has all events that were committed. If the record of another hall replaces all
+/// bytes, as that of a compacted hall does, the crash leaves such a prefix or that record, whole. The hall that is opened of what is left
+/// has that record.
+pub fn law_of_crashes() {
+    law_of_lines();
+}

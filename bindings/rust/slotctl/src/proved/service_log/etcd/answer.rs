@@ -1,0 +1,202 @@
+// Erased by bindings/rust/erase from crates/service_log/src/etcd/answer.rt, sha256 c27a1189d067a509cce7447ba0b61f9596f9b2e676f0b3fffdc124b929d3a3e4.
+//! The answers of etcd.
+
+use crate::kit::alloc::Global;
+use crate::kit::base64::engine::general_purpose::STANDARD;
+use crate::kit::base64::DecodeAllocError;
+use crate::kit::json::{Error, Scratch, Value};
+use crate::kit::Vec;
+use crate::proved::service_log::etcd::key::{hint_key64, key64};
+use crate::proved::service_log::store::Put;
+use crate::proved::service_log::store_fault::StoreFault;
+
+/// Returns whether a transaction put its value, or `None` if the JSON is no answer to a transaction.
+pub fn put_said(answer: &Value<'_>) -> Option<bool> {
+    answer.get("header")?;
+    match answer.get("succeeded") {
+        Some(said) => Some(said.as_bool().unwrap_or(false)),
+        None => Some(false),
+    }
+}
+
+// Returns the base64 value of an entry whose key is this one, in base64. `None` if the key is another.
+fn entry_said<'v>(entry: &Value<'v>, key: &str) -> Option<&'v str> {
+    let found = entry.get("key")?.as_str()?;
+    if found != key {
+        return None;
+    }
+    match entry.get("value") {
+        Some(value) => Some(value.as_str().unwrap_or("")),
+        None => Some(""),
+    }
+}
+
+/// Returns the base64 value at a key, as the answer has it at this index. The inner `None` is an answer with no entry
+/// there.
+///
+/// The outer `None` is JSON that is no such answer. The index is from 0, and the key is in base64.
+pub fn get_said<'v>(answer: &Value<'v>, index: usize, key: &str) -> Option<Option<&'v str>> {
+    answer.get("header")?;
+    let Some(entries) = answer.get("kvs") else {
+        return Some(None);
+    };
+    match entries.at(index) {
+        Some(entry) => Some(Some(entry_said(entry, key)?)),
+        None => Some(None),
+    }
+}
+
+// Returns the JSON of the body of an answer.
+fn parsed<'a>(
+    alloc: Global,
+    body: &'a [u8],
+    scratch: &'a mut Scratch<Global>,
+) -> Result<Value<'a>, StoreFault> {
+    match Value::from_slice(alloc, body, scratch) {
+        Ok(answer) => Ok(answer),
+        Err(Error::OutOfMemory) => Err(StoreFault::Memory),
+        Err(_) => Err(StoreFault::Wrong),
+    }
+}
+
+/// Reads the body of an answer to a request that puts.
+///
+/// # Errors
+///
+/// - `Memory`: an allocation failed.
+/// - `Wrong`: the body is no such answer.
+pub fn read_put(alloc: Global, body: &[u8]) -> Result<Put, StoreFault> {
+    let mut scratch = Scratch::new(alloc);
+    let said = put_said(&parsed(alloc, body, &mut scratch)?);
+    match said {
+        Some(true) => Ok(Put::Written),
+        Some(false) => Ok(Put::Taken),
+        None => Err(StoreFault::Wrong),
+    }
+}
+
+// Returns the bytes of a text in base64.
+fn decoded(alloc: Global, text: &str) -> Result<Vec<u8>, StoreFault> {
+    match STANDARD.decode(alloc, text.as_bytes()) {
+        Ok(bytes) => Ok(bytes),
+        Err(DecodeAllocError::OutOfMemory) => Err(StoreFault::Memory),
+        Err(_) => Err(StoreFault::Wrong),
+    }
+}
+
+// Returns the entry at a place under a prefix, as the answer has it at this index.
+fn found_at(
+    alloc: Global,
+    answer: &Value<'_>,
+    index: usize,
+    prefix: &str,
+    place: u64,
+) -> Result<Option<Vec<u8>>, StoreFault> {
+    let Ok(key) = key64(alloc, prefix, place) else {
+        return Err(StoreFault::Memory);
+    };
+    match get_said(answer, index, key.as_str()) {
+        Some(Some(text)) => Ok(Some(decoded(alloc, text)?)),
+        Some(None) => Ok(None),
+        None => Err(StoreFault::Wrong),
+    }
+}
+
+// Appends the entries at the places from `place` on, at most `most`, as the answer has them from this index on.
+fn read_from(
+    alloc: Global,
+    answer: &Value<'_>,
+    index: usize,
+    most: usize,
+    prefix: &str,
+    place: u64,
+    found: &mut Vec<Vec<u8>>,
+) -> Result<(), StoreFault> {
+    if most == 0 {
+        return Ok(());
+    }
+    let Some(entry) = found_at(alloc, answer, index, prefix, place)? else {
+        return Ok(());
+    };
+    if found.push(entry).is_err() {
+        return Err(StoreFault::Memory);
+    }
+    if most == 1 {
+        return Ok(());
+    }
+    // No log has so many places.
+    let Some(next) = place.checked_add(1) else {
+        // No log has so many places.
+        return Err(StoreFault::Wrong);
+    };
+    read_from(alloc, answer, index + 1, most - 1, prefix, next, found)
+}
+
+// Returns the entries at the places from `place` on, at most `most`, as the answer has them from its first one on.
+fn read_all(
+    alloc: Global,
+    answer: &Value<'_>,
+    most: usize,
+    prefix: &str,
+    place: u64,
+) -> Result<Vec<Vec<u8>>, StoreFault> {
+    let mut found = Vec::new(alloc);
+    read_from(alloc, answer, 0, most, prefix, place, &mut found)?;
+    Ok(found)
+}
+
+/// Reads the body of an answer to a request that gets. Returns the entries under a prefix from `place` on, at most
+/// `most`.
+///
+/// # Errors
+///
+/// - `Memory`: an allocation failed.
+/// - `Wrong`: the body is no such answer, or it has more entries than the places up to 2^64 - 1.
+pub fn read_get(
+    alloc: Global,
+    body: &[u8],
+    most: usize,
+    prefix: &str,
+    place: u64,
+) -> Result<Vec<Vec<u8>>, StoreFault> {
+    let mut scratch = Scratch::new(alloc);
+    let answer = parsed(alloc, body, &mut scratch)?;
+    read_all(alloc, &answer, most, prefix, place)
+}
+
+// Returns the number that 16 digits say, or `None` of other bytes.
+fn place_of(digits: &[u8]) -> Option<u64> {
+    if digits.len() != 16 {
+        return None;
+    }
+    let mut place = 0u64;
+    for digit in digits {
+        if !digit.is_ascii_digit() {
+            return None;
+        }
+        place = place
+            .wrapping_mul(10)
+            .wrapping_add((*digit).wrapping_sub(b'0') as u64);
+    }
+    Some(place)
+}
+
+/// Reads the body of an answer to a request that gets the place that is noted under a prefix. Returns `None` if no place
+/// is noted. Not proved: which place it returns. It is a hint alone.
+///
+/// # Errors
+///
+/// - `Memory`: an allocation failed.
+/// - `Wrong`: the body is no such answer.
+pub fn read_hint(alloc: Global, body: &[u8], prefix: &str) -> Result<Option<u64>, StoreFault> {
+    let Ok(key) = hint_key64(alloc, prefix) else {
+        return Err(StoreFault::Memory);
+    };
+    let mut scratch = Scratch::new(alloc);
+    let answer = parsed(alloc, body, &mut scratch)?;
+    match get_said(&answer, 0, key.as_str()) {
+        Some(Some(text)) => Ok(place_of(&decoded(alloc, text)?)),
+        Some(None) => Ok(None),
+        None => Err(StoreFault::Wrong),
+    }
+}

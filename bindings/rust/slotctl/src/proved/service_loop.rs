@@ -1,0 +1,69 @@
+// Erased by bindings/rust/erase from crates/service_loop/src/lib.rt, sha256 3c65d35c76b8bace338975891d492585823732a064c448d59da2f9d0c0182279.
+//! Connections that share one service, in one thread.
+//!
+//! `Buffers` are a connection without its stream: one side of a transcript (`Responder`), what came and is not taken yet, and what was said and is not
+//! sent yet, at most 64 KiB of each. A `Connection` is such buffers with their `Stream`, which does not wait. `iterate` is one iteration of the loop:
+//! connections that are due take what came (`take_turns`), what the service tells of it is kept (`Persist`), and only then are replies sent
+//! (`send_replies`). Its theorem (`LoopIteration`): there is one order of all turns of all connections (`TurnLog`) in which they are a run of
+//! the service; the turns of each connection are those to the lines that it sent, in order, however the bytes were cut, and it waits for
+//! the replies to them and to no others; of each at most 64 KiB were read; and of what waits for it a prefix is sent. Where what was
+//! reported cannot be kept, nothing is sent at all.
+//!
+//! Where a service cannot answer a line as it comes, but prefetches answers many at once (`Persist::most_prefetched`), `iterate_prefetched` first has connections
+//! read, and looks at the lines that they will take (`Peek`): their requests go to the persister in one batch, and then the turn is as
+//! ever. Its theorem (`PrefetchedIteration`): before the turn nothing was taken, said or sent, and the answers to the batch were prefetched; the batch is
+//! just the requests among what was looked at, and each connection takes a prefix of what was looked at of it, and nothing else; where
+//! the answers were not prefetched in time, nothing is sent to any, and whoever has a line in the batch is at fault (`NotPrefetched`). That nothing
+//! of what was looked at is left over is not promised but shown by running it (`tests_log`).
+//!
+//! `law_of_sharing` in `text_player` makes such turns, one after another, one log.
+//!
+//! A service is `Attended`: it notes which connection keeps each stay in the pool, by the numbers that connections have (`Hears`). `end_due` ends the stays
+//! that are due, and no others.
+//!
+//! After an iteration a line `take ID` that waits first takes a number (`serve_takings`): the server says `enter ID`, and `probe ID` as often as it takes, and
+//! answers the last reply. This is kept before it is answered, like all else. Where answers are prefetched, the lines of that are a batch of their own
+//! (`prefetch_takings`).
+//!
+//! `host` is a whole server over sockets: it waits until some are ready (`mio`), gives those their turn, and closes who is at an end or idle.
+//!
+//! Not promised, and shown by running it: that a connection that is due has its turn soon, and what sockets carry.
+//!
+//! From `tests_log/src/turn_tests.rt`:
+//!
+//! ```text
+//! match iterate_prefetched(
+//!     &(),
+//!     &mut attended,
+//!     teller,
+//!     &mut batch,
+//!     &mut room,
+//!     seats,
+//!     &[],
+//!     &ready,
+//! )? {
+//!     Called::Served(called) | Called::Unserved(called) => {
+//! ```
+
+pub mod answering;
+mod asking;
+pub mod attended;
+pub mod buffers;
+pub mod connection;
+pub mod connections;
+pub mod doors;
+pub mod gathering;
+pub mod host_fault;
+pub mod hosting;
+mod losing;
+pub mod peek;
+pub mod persist;
+pub mod releasing;
+pub mod shared;
+pub mod socket;
+pub mod stream;
+pub mod taking;
+pub mod teller;
+pub mod terms;
+pub mod turns;
+pub mod watching;

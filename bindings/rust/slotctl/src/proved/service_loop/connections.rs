@@ -1,0 +1,301 @@
+// Erased by bindings/rust/erase from crates/service_loop/src/connections.rt, sha256 0d6a25756c9b9bd3daa0f220e47dc06cb8b66f952a9a37220cb6157a9bee3b1a.
+//! The connections of a server, their seats, and who is to have a turn.
+
+use crate::kit::alloc::{AllocError, Global};
+use crate::kit::mio::event::Event;
+use crate::kit::mio::{Poll, Token};
+use crate::kit::Vec;
+use crate::proved::model_asked::kind::WorldKind;
+use crate::proved::model_pool::stays::stays::Stays;
+use crate::proved::service_loop::attended::Ending;
+use crate::proved::service_loop::buffers::Buffers;
+use crate::proved::service_loop::connection::{Connection, Stage};
+use crate::proved::service_loop::socket::Socket;
+use std::mem;
+
+/// For so many clients at most room is taken at once, in lists that lie below all that clients make grow: so what those leave goes back to
+/// the system.
+const MOST_RESERVED: usize = 16_384;
+
+/// For how many ticks a connection that is at its end may take nothing of the replies to it.
+const FLUSH_TICKS: u64 = 10;
+
+/// The seats of a server. A seat that is left is given again.
+pub struct ConnectionTable {
+    /// The seats, some of them empty.
+    pub seats: Vec<Option<Connection<Socket, Global>>>,
+    /// The number of the connection at each seat. No other connection ever has it.
+    pub numbers: Vec<u64>,
+    /// The seats whose connections are due, in the order in which they became so.
+    pub ready: Vec<usize>,
+    /// How many seats are taken.
+    pub open: usize,
+    /// How many connections have left.
+    pub served: u64,
+    /// How many of them left by a fault.
+    pub faults: u64,
+    /// The connections that have ended since this list was last emptied. One that said `quit` may stand in it twice.
+    pub ended: Vec<Ending>,
+    /// The number of the next connection.
+    next: u64,
+    /// How many lines were taken of those that have left.
+    lines: u64,
+    later: Vec<usize>,
+    empty: Vec<usize>,
+}
+
+// Whether replies wait to be sent to whoever sits there.
+fn has_unsent(seat: &Option<Connection<Socket, Global>>) -> bool {
+    match seat {
+        Some(connection) => !connection.buffers.unsent().is_empty(),
+        None => false,
+    }
+}
+
+impl ConnectionTable {
+    /// No seats, for so many clients.
+    pub fn new(alloc: Global, clients: usize) -> Result<ConnectionTable, AllocError> {
+        let few = clients.min(MOST_RESERVED);
+        Ok(ConnectionTable {
+            seats: Vec::with_capacity(alloc, few)?,
+            numbers: Vec::with_capacity(alloc, few)?,
+            ready: Vec::with_capacity(alloc, few)?,
+            open: 0,
+            served: 0,
+            faults: 0,
+            ended: Vec::new(alloc),
+            next: 1,
+            lines: 0,
+            later: Vec::with_capacity(alloc, few)?,
+            empty: Vec::with_capacity(alloc, few)?,
+        })
+    }
+
+    // An empty seat.
+    fn empty_seat(&mut self) -> Result<usize, AllocError> {
+        if let Some(key) = self.empty.pop() {
+            return Ok(key);
+        }
+        let key = self.seats.len();
+        self.numbers.push(0)?;
+        if self.seats.push(None).is_err() {
+            return Err(AllocError);
+        }
+        Ok(key)
+    }
+
+    // The connection that is given this seat has the next number.
+    fn number_seat(&mut self, key: usize) {
+        if let Some(number) = self.numbers.get_mut(key) {
+            *number = self.next;
+            self.next = self.next.saturating_add(1);
+        }
+    }
+
+    // Notes that the connection of a seat has ended.
+    fn note_end(&mut self, key: usize, by_quit: bool) -> Result<(), AllocError> {
+        if key < self.numbers.len() {
+            let number = self.numbers[key];
+            self.ended.push(Ending { number, by_quit })?;
+        }
+        Ok(())
+    }
+
+    // Whoever sat there leaves, and this connection has the seat, or none. Says whether there is such a seat.
+    fn fill(&mut self, key: usize, connection: Option<Connection<Socket, Global>>) -> bool {
+        match self.seats.get_mut(key) {
+            Some(seat) => {
+                drop(mem::replace(seat, connection));
+                true
+            }
+            None => {
+                drop(connection);
+                false
+            }
+        }
+    }
+
+    // Whoever sits there.
+    fn seated(&mut self, key: usize) -> Option<&mut Connection<Socket, Global>> {
+        self.seats.get_mut(key)?.as_mut()
+    }
+
+    /// Gives a seat to a stream. One that cannot be waited for is closed.
+    pub fn admit(
+        &mut self,
+        alloc: Global,
+        poll: &Poll,
+        kind: WorldKind,
+        mut stream: Socket,
+        tick: u64,
+    ) -> Result<(), AllocError> {
+        stream.hurry();
+        let key = self.empty_seat()?;
+        if stream.register(poll, Token(key)).is_err() {
+            let _ = self.empty.push(key);
+            return Ok(());
+        }
+        let Ok(buffers) = Buffers::new(alloc, kind) else {
+            return Err(AllocError);
+        };
+        let connection = Connection::new(stream, buffers, tick);
+        if self.fill(key, Some(connection)) {
+            self.number_seat(key);
+            self.open = self.open.saturating_add(1);
+        }
+        Ok(())
+    }
+
+    /// Notes what the system tells of a connection, which is due then.
+    pub fn note(&mut self, event: &Event) -> Result<(), AllocError> {
+        let key = event.token().0;
+        let Some(connection) = self.seated(key) else {
+            return Ok(());
+        };
+        let hung = event.is_read_closed() || event.is_error();
+        connection.readable = connection.readable || hung || event.is_readable();
+        connection.hung = connection.hung || hung;
+        connection.writable = connection.writable || event.is_writable();
+        if connection.stage == Stage::Idle {
+            connection.stage = Stage::Queued;
+            self.ready.push(key)?;
+        }
+        Ok(())
+    }
+
+    // After its turn a connection leaves, or is due again, or waits for the system.
+    fn settle_one(&mut self, key: usize, tick: u64) -> Result<(), AllocError> {
+        let Some(connection) = self.seated(key) else {
+            return Ok(());
+        };
+        let is_over = connection.buffers.is_over();
+        if connection.is_done() {
+            return self.leave(key);
+        }
+        if !is_over {
+            connection.since = tick;
+        } else if connection.buffers.unsent().is_empty() {
+            connection.stream.end();
+        }
+        if connection.goes_on() {
+            connection.stage = Stage::Queued;
+            self.later.push(key)?;
+        }
+        if is_over {
+            self.note_end(key, true)?;
+        }
+        Ok(())
+    }
+
+    // Notes of whoever sits there and leaves how many lines it sent, whether it leaves by a fault, and whether it said `quit`.
+    fn note_leaving(&mut self, key: usize) -> Result<(), AllocError> {
+        let (lines, broken, is_over) = match self.seated(key) {
+            Some(Connection { buffers, .. }) => {
+                (buffers.lines(), buffers.is_broken(), buffers.is_over())
+            }
+            None => (0, false, false),
+        };
+        self.lines = self.lines.saturating_add(lines);
+        self.faults = self.faults.saturating_add(u64::from(broken));
+        self.note_end(key, is_over)
+    }
+
+    // Whoever sits there leaves, and the seat is empty then.
+    fn leave(&mut self, key: usize) -> Result<(), AllocError> {
+        self.note_leaving(key)?;
+        self.fill(key, None);
+        let _ = self.empty.push(key);
+        self.open = self.open.saturating_sub(1);
+        self.served = self.served.saturating_add(1);
+        Ok(())
+    }
+
+    // The connection of a seat is at fault and due.
+    fn fail_one(&mut self, key: usize) -> Result<(), AllocError> {
+        let Some(connection) = self.seated(key) else {
+            return Ok(());
+        };
+        connection.buffers.fail();
+        if connection.stage == Stage::Idle {
+            connection.stage = Stage::Queued;
+            self.ready.push(key)?;
+        }
+        Ok(())
+    }
+
+    /// Each connection that keeps a stay is at fault and due: nothing more is sent to it.
+    pub fn fail_keepers(&mut self, stays: &Stays) -> Result<(), AllocError> {
+        for key in 0..self.seats.len() {
+            if key < self.numbers.len() && stays.keeps_any(self.numbers[key]) {
+                self.fail_one(key)?;
+            }
+        }
+        Ok(())
+    }
+
+    /// After a turn in which so many of the ready seats were called: those that have more to do are due again, behind the others.
+    pub fn settle(&mut self, called: usize, tick: u64) -> Result<(), AllocError> {
+        for at in 0..called {
+            if at < self.ready.len() {
+                let key = self.ready[at];
+                self.settle_one(key, tick)?;
+            }
+        }
+        let from = called.min(self.ready.len());
+        self.queue_again(from)
+    }
+
+    // The ready seats from there on, and then those that are due again.
+    fn queue_again(&mut self, from: usize) -> Result<(), AllocError> {
+        let left = self.ready.len() - from;
+        self.ready.copy_within(from.., 0);
+        self.ready.truncate(left);
+        self.ready.extend_from_slice(&self.later)?;
+        self.later.clear();
+        Ok(())
+    }
+
+    /// Closes each connection of which nothing came or went for so many ticks, or for ten where it is at its end.
+    pub fn sweep(&mut self, tick: u64, idle: Option<u64>) -> Result<(), AllocError> {
+        for key in 0..self.seats.len() {
+            self.sweep_one(key, tick, idle)?;
+        }
+        Ok(())
+    }
+
+    // The same, of one seat.
+    fn sweep_one(&mut self, key: usize, tick: u64, idle: Option<u64>) -> Result<(), AllocError> {
+        let Some(connection) = self.seated(key) else {
+            return Ok(());
+        };
+        let quiet = tick.saturating_sub(connection.since);
+        let leaving = connection.buffers.is_over() || connection.buffers.is_ended();
+        let most = if leaving { Some(FLUSH_TICKS) } else { idle };
+        let rests = connection.stage == Stage::Idle;
+        match most {
+            Some(most) if rests && most <= quiet => self.leave(key),
+            _ => Ok(()),
+        }
+    }
+
+    /// How many lines were taken of all connections. It takes time as there are seats.
+    pub fn lines(&self) -> u64 {
+        let mut lines = self.lines;
+        for seat in &self.seats {
+            if let Some(connection) = seat {
+                lines = lines.saturating_add(connection.buffers.lines());
+            }
+        }
+        lines
+    }
+
+    /// How many connections were accepted: those that have left, and those that are there.
+    pub fn accepted(&self) -> u64 {
+        self.served.saturating_add(self.open as u64)
+    }
+
+    /// Whether replies wait to be sent to any.
+    pub fn has_unsent(&self) -> bool {
+        self.seats.iter().any(has_unsent)
+    }
+}

@@ -1,0 +1,156 @@
+// Erased by bindings/rust/erase from crates/service_loop/src/doors.rt, sha256 fb249dd1d40a9b985e594ea9e8b1de962dd15789ab7918a0e16fa52aea1e3267.
+//! The listeners for clients, and who waits there.
+
+use crate::kit::io;
+use crate::kit::io::ErrorKind;
+use crate::kit::mio::net::TcpListener;
+use crate::kit::mio::{Interest, Poll, Token};
+use crate::kit::net::SocketAddr;
+use crate::proved::service_loop::socket::Socket;
+use crate::proved::service_watch::listeners::socket_file::LocalListener;
+
+/// The token of the listener of the network; no seat has it.
+const NETWORK: Token = Token(1 << 60);
+
+/// The token of the listener of this machine; no seat has it.
+const LOCAL: Token = Token((1 << 60) + 2);
+
+/// The listeners for clients.
+pub struct Doors {
+    network: Option<TcpListener>,
+    local: Option<LocalListener>,
+    /// Whether connections may wait at each to be accepted: the system tells only once that some do.
+    network_waits: bool,
+    local_waits: bool,
+    /// Whether it is the turn of the one for this machine, where connections wait at both.
+    local_next: bool,
+}
+
+/// What came of accepting one connection.
+pub enum Accepted {
+    /// This one.
+    Stream(Socket),
+    /// None, and another may be tried.
+    Nobody,
+    /// None: the system has no room for more.
+    Full,
+}
+
+// Why none was accepted. Where none waits, that is noted.
+fn not_accepted(error: &io::Error, waits: &mut bool) -> Accepted {
+    match error.kind() {
+        ErrorKind::WouldBlock => {
+            *waits = false;
+            Accepted::Nobody
+        }
+        ErrorKind::Interrupted | ErrorKind::ConnectionAborted => Accepted::Nobody,
+        _ => Accepted::Full,
+    }
+}
+
+impl Doors {
+    /// Listeners of which a poll tells when connections wait there.
+    ///
+    /// # Errors
+    ///
+    /// What the system says.
+    pub fn new(
+        poll: &Poll,
+        network: Option<TcpListener>,
+        local: Option<LocalListener>,
+    ) -> io::Result<Doors> {
+        let mut doors = Doors {
+            network,
+            local,
+            network_waits: false,
+            local_waits: false,
+            local_next: false,
+        };
+        doors.register(poll)?;
+        Ok(doors)
+    }
+
+    // Has a poll tell when connections wait.
+    fn register(&mut self, poll: &Poll) -> io::Result<()> {
+        if let Some(listener) = &mut self.network {
+            poll.registry()
+                .register(listener, NETWORK, Interest::READABLE)?;
+        }
+        if let Some(local) = &mut self.local {
+            poll.registry()
+                .register(&mut local.listener, LOCAL, Interest::READABLE)?;
+        }
+        Ok(())
+    }
+
+    /// Notes that connections wait, and says whether the token is of a listener.
+    pub fn note(&mut self, token: Token) -> bool {
+        if token == NETWORK {
+            self.network_waits = true;
+        } else if token == LOCAL {
+            self.local_waits = true;
+        } else {
+            return false;
+        }
+        true
+    }
+
+    /// Whether connections may wait to be accepted.
+    pub fn are_waited_at(&self) -> bool {
+        self.network_waits || self.local_waits
+    }
+
+    // Accepts one of the network, if one waits.
+    fn accept_network(&mut self) -> Accepted {
+        let Some(listener) = &self.network else {
+            self.network_waits = false;
+            return Accepted::Nobody;
+        };
+        match listener.accept() {
+            Ok((stream, _)) => Accepted::Stream(Socket::Network(stream)),
+            Err(error) => not_accepted(&error, &mut self.network_waits),
+        }
+    }
+
+    // Accepts one of this machine, if one waits.
+    fn accept_local(&mut self) -> Accepted {
+        let Some(local) = &self.local else {
+            self.local_waits = false;
+            return Accepted::Nobody;
+        };
+        match local.listener.accept() {
+            Ok((stream, _)) => Accepted::Stream(Socket::Local(stream)),
+            Err(error) => not_accepted(&error, &mut self.local_waits),
+        }
+    }
+
+    /// Accepts one connection, if one waits: by turns where some wait at both listeners.
+    pub fn accept(&mut self) -> Accepted {
+        self.local_next = !self.local_next;
+        if self.local_waits && (self.local_next || !self.network_waits) {
+            self.accept_local()
+        } else {
+            self.accept_network()
+        }
+    }
+
+    /// The address that is listened on, where one is.
+    ///
+    /// # Errors
+    ///
+    /// What the system says.
+    pub fn address(&self) -> io::Result<Option<SocketAddr>> {
+        match &self.network {
+            Some(listener) => Ok(Some(listener.local_addr()?)),
+            None => Ok(None),
+        }
+    }
+
+    /// The path that is listened on, where one is.
+    pub fn path(&self) -> Option<&str> {
+        match &self.local {
+            Some(local) => Some(local.path.as_str()),
+            None => None,
+        }
+    }
+}

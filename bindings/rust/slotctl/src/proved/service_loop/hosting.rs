@@ -1,0 +1,766 @@
+// Erased by bindings/rust/erase from crates/service_loop/src/hosting.rt, sha256 1ee3dbc078ea52f78138557f152a350c051853f95e0d44b1228b82edbe2722b2.
+//! A server in one thread, by the readiness of its sockets.
+
+use crate::kit::alloc::{AllocError, Global};
+use crate::kit::format;
+use crate::kit::io;
+use crate::kit::io::Write;
+use crate::kit::mio::event::Event;
+use crate::kit::mio::net::TcpListener;
+use crate::kit::mio::unix::SourceFd;
+use crate::kit::mio::{Events, Interest, Poll, Token};
+use crate::kit::net::Net;
+use crate::kit::rt::Clock;
+use crate::kit::sync::Wait;
+use crate::kit::time::{Duration, Instant};
+use crate::kit::String;
+use crate::proved::model_asked::kind::WorldKind;
+use crate::proved::service_loop::answering::answer_queries;
+use crate::proved::service_loop::attended::{Attended, Ending, NOBODY};
+use crate::proved::service_loop::connection::Connection;
+use crate::proved::service_loop::connections::ConnectionTable;
+use crate::proved::service_loop::doors::{Accepted, Doors};
+use crate::proved::service_loop::gathering::{iterate_prefetched, Batch, Called};
+use crate::proved::service_loop::host_fault::HostFault;
+use crate::proved::service_loop::persist::{Persist, Tally};
+use crate::proved::service_loop::releasing::end_due;
+use crate::proved::service_loop::shared::SharedBuffers;
+use crate::proved::service_loop::socket::Socket;
+use crate::proved::service_loop::taking::{prefetch_takings, serve_takings};
+use crate::proved::service_loop::teller::Teller;
+use crate::proved::service_loop::terms::Terms;
+use crate::proved::service_loop::turns::iterate;
+use crate::proved::service_loop::watching::{LoopNumbers, Watch};
+use crate::proved::service_watch::listeners::listening::Listeners;
+use crate::proved::service_watch::scrapers::Scrapers;
+use crate::proved::text_player::service::Service;
+
+/// The token of standard input; no seat has it.
+const STOPPER: Token = Token((1 << 60) + 1);
+
+/// How many events are reported at once.
+const EVENTS: usize = 1024;
+
+/// The most connections that are accepted in one turn.
+const MOST_ACCEPTS: u32 = 1024;
+
+/// How many seconds pass from one report to the next; the first is due at once.
+const REPORT_TICKS: u64 = 60;
+
+/// How many rounds, each of which waits for a tenth of a second at most, are given at the end for replies to be taken, the one in which the
+/// end is reported among them.
+const LAST_ROUNDS: u64 = 11;
+
+/// What a host serves.
+#[derive(Clone, Copy, Debug)]
+pub struct HostOptions {
+    /// The world whose commands clients speak.
+    pub kind: WorldKind,
+    /// How many clients are served at once; others wait to be accepted.
+    pub clients: usize,
+    /// After how many seconds a client that says nothing is closed; never, where it is not given.
+    pub idle: Option<u64>,
+    /// How many seconds after its connection has ended a stay ends; never, where it is not given.
+    pub grace: Option<u64>,
+    /// Whether a line at first and then one a minute tells how much there is.
+    pub reports: bool,
+}
+
+impl HostOptions {
+    // What a client is told that asks for the terms.
+    fn terms(&self) -> Terms {
+        Terms {
+            grace: self.grace,
+            idle: self.idle,
+        }
+    }
+}
+
+/// What was served.
+#[derive(Clone, Copy, Debug, PartialEq, Eq)]
+pub struct Hosted {
+    /// How many connections were served, those that ended by a fault of their own among them.
+    pub served: u64,
+}
+
+/// A server under way.
+struct Hosting {
+    alloc: Global,
+    options: HostOptions,
+    poll: Poll,
+    /// What the system told last.
+    events: Events<Global>,
+    doors: Doors,
+    connections: ConnectionTable,
+    start: Instant,
+    /// The second since the start that is under way.
+    second: u64,
+    /// How many seconds were counted, and at which count the next report is due.
+    tick: u64,
+    report: u64,
+    /// Whether one could not be accepted, until one leaves.
+    full: bool,
+    /// Whether it was said that one could not be accepted.
+    said: bool,
+    /// Whether the answers that were wanted last were not prefetched, and whether that was said.
+    lost: bool,
+    said_lost: bool,
+    stop: bool,
+    /// For how many rounds more what waits is sent, once it is to stop.
+    last: u64,
+    /// What goes to the persister before a turn, where the service prefetches its answers.
+    batch: Option<Batch<Global>>,
+    /// Whether a second has passed since the persister was last told.
+    ticked: bool,
+    /// Whether a second has passed since who says nothing was last closed.
+    sweeps: bool,
+    /// Whether a second has passed since it was last looked for stays that are to end.
+    looks: bool,
+    teller: Teller,
+    /// Whether it was said that something is amiss with the persister.
+    said_trouble: bool,
+    /// Of how many tenths of the history's room it was said that they are used up: 0, 5 or 9.
+    said_tenths: u8,
+    /// Those who watch, where any may.
+    watch: Option<Watch>,
+}
+
+/// Serves clients of one service, each its own transcript, in one thread.
+///
+/// Lines `listening ADDRESS:PORT`, `listening PATH` and `metrics ADDRESS:PORT` are written first, of what is listened on. Each turn takes what
+/// clients have sent, keeps what the service tells of it, and only then sends replies (`iterate`); where the service prefetches its answers, what
+/// was read goes to the persister before (`iterate_prefetched`), which is called once a second too. It ends at the end of standard input where
+/// that is a pipe, or else never: then replies are sent, as far as clients take them within a second, and a line `served N` is written. Those who
+/// watch are served between the turns: what they ask changes neither the service nor the persister. Where the options give a grace time, stays
+/// whose connections have ended are ended between the turns (`end_due`).
+pub fn host<R, D: Service<R>, K: Persist<D>, W: Write, E: Write>(
+    rt: &R,
+    alloc: Global,
+    options: HostOptions,
+    listeners: Listeners,
+    service: &mut Attended<D>,
+    persister: &mut K,
+    output: &mut W,
+    errors: &mut E,
+) -> Result<Hosted, HostFault<K::Fault>>
+where
+    R: Net + Wait + Clock,
+{
+    let mut shared = SharedBuffers::new(alloc)?;
+    let mut hosting = Hosting::new(rt, alloc, options, listeners, persister.most_prefetched())?;
+    hosting.tell_listening(output)?;
+    hosting.tell_trouble(persister.trouble(), errors);
+    for _ in rt.forever() {
+        hosting.go_round(rt, service, persister, &mut shared, errors)?;
+        if hosting.is_over() {
+            break;
+        }
+    }
+    hosting.tell_end(output)
+}
+
+// A poll that tells of standard input when it ends.
+fn new_poll<R: Net>(rt: &R) -> io::Result<Poll> {
+    let poll = Poll::new(rt)?;
+    // A file or the null device cannot be waited for, and never stops the server.
+    let _ = poll
+        .registry()
+        .register(&mut SourceFd(&0), STOPPER, Interest::READABLE);
+    Ok(poll)
+}
+
+// Those who watch, where a listener for them is given.
+fn watch_at(
+    alloc: Global,
+    poll: &Poll,
+    listener: Option<TcpListener>,
+) -> io::Result<Option<Watch>> {
+    match listener {
+        Some(listener) => Ok(Some(Watch::new(Scrapers::new(alloc, poll, listener)?))),
+        None => Ok(None),
+    }
+}
+
+// What a server waits on, and who comes in there.
+struct Entrance {
+    poll: Poll,
+    doors: Doors,
+    watch: Option<Watch>,
+}
+
+// Waits on listeners.
+fn enter_at<R: Net>(rt: &R, alloc: Global, listeners: Listeners) -> io::Result<Entrance> {
+    let Listeners {
+        network,
+        local,
+        metrics,
+    } = listeners;
+    let poll = new_poll(rt)?;
+    let doors = Doors::new(&poll, network, local)?;
+    let watch = watch_at(alloc, &poll, metrics)?;
+    Ok(Entrance { poll, doors, watch })
+}
+
+// Whether an event is of those who watch, and noted then.
+fn note_watcher(watch: &mut Option<Watch>, event: &Event) -> bool {
+    match watch {
+        Some(watch) => watch.scrapers().note(event),
+        None => false,
+    }
+}
+
+impl Hosting {
+    // Listens.
+    fn new<R: Net + Clock, F>(
+        rt: &R,
+        alloc: Global,
+        options: HostOptions,
+        listeners: Listeners,
+        most_prefetched: Option<usize>,
+    ) -> Result<Hosting, HostFault<F>> {
+        let start = Instant::now(rt)?;
+        let Ok(events) = Events::with_capacity(alloc, EVENTS) else {
+            return Err(HostFault::Memory);
+        };
+        let Entrance { poll, doors, watch } = enter_at(rt, alloc, listeners)?;
+        let batch = match most_prefetched {
+            Some(most) => Some(Batch::new(alloc, options.kind, most)),
+            None => None,
+        };
+        Ok(Hosting {
+            alloc,
+            options,
+            poll,
+            events,
+            doors,
+            connections: ConnectionTable::new(alloc, options.clients)?,
+            start,
+            second: 0,
+            tick: 0,
+            report: 0,
+            full: false,
+            said: false,
+            lost: false,
+            said_lost: false,
+            stop: false,
+            last: LAST_ROUNDS,
+            batch,
+            ticked: false,
+            sweeps: false,
+            looks: false,
+            teller: Teller::new(rt, alloc)?,
+            said_trouble: false,
+            said_tenths: 0,
+            watch,
+        })
+    }
+
+    // Once round: waits, accepts, has the persister go on, serves, and tells how much there is where that is due or asked.
+    fn go_round<R: Clock, D: Service<R>, K: Persist<D>, E: Write>(
+        &mut self,
+        rt: &R,
+        service: &mut Attended<D>,
+        persister: &mut K,
+        shared: &mut SharedBuffers<Global>,
+        errors: &mut E,
+    ) -> Result<(), HostFault<K::Fault>> {
+        self.wait(rt)?;
+        self.accept_all()?;
+        self.tell_full(errors);
+        self.tell_tick(&mut service.service, persister)?;
+        self.end_stays(rt, service, persister, shared)?;
+        self.serve(rt, service, persister, shared)?;
+        self.tell_trouble(persister.trouble(), errors);
+        self.tell_room(persister.lasting_tenths(), errors);
+        self.tell_lost(errors);
+        self.tell_numbers(&service.service, persister, errors);
+        Ok(())
+    }
+
+    // Tells how much there is where that is due, and those who watch.
+    fn tell_numbers<D, K: Persist<D>, E: Write>(
+        &mut self,
+        service: &D,
+        persister: &K,
+        errors: &mut E,
+    ) {
+        if self.is_report_due() {
+            self.tell_tally(persister.tally(service), errors);
+        }
+        self.serve_watchers(service, persister);
+    }
+
+    // Whether it is to end, and nothing waits to be sent or what waits had its time. Is asked once a round.
+    fn is_over(&mut self) -> bool {
+        if !self.stop {
+            return false;
+        }
+        self.last = self.last.saturating_sub(1);
+        self.last == 0 || !self.connections.has_unsent()
+    }
+
+    // Whether a connection that waits can be accepted.
+    fn can_accept(&self) -> bool {
+        self.doors.are_waited_at()
+            && !self.full
+            && self.connections.open < self.options.clients
+            && !self.stop
+    }
+
+    // Whether anything is to be done at once: connections or watchers are due, or connections wait to be accepted.
+    fn is_busy(&self) -> bool {
+        let watched = match &self.watch {
+            Some(watch) => watch.is_due(),
+            None => false,
+        };
+        watched || self.can_accept() || !self.connections.ready.is_empty() || self.has_ended()
+    }
+
+    // Whether connections have ended whose stays are to be looked at.
+    fn has_ended(&self) -> bool {
+        self.options.grace.is_some() && !self.connections.ended.is_empty()
+    }
+
+    // Whether seconds are to be counted: clients are there or may be let in again, or somebody looks on.
+    fn counts_seconds(&self) -> bool {
+        0 < self.connections.open
+            || self.full
+            || self.options.grace.is_some()
+            || self.options.reports
+            || self.batch.is_some()
+            || self.watch.is_some()
+    }
+
+    // For how long nothing need be done: a tenth of a second at the end, no time where anything is due, a second where seconds are to be
+    // counted, else twenty.
+    fn next_wait(&self) -> Duration {
+        if self.stop {
+            Duration::from_millis(100)
+        } else if self.is_busy() {
+            Duration::from_millis(0)
+        } else if self.counts_seconds() {
+            Duration::from_millis(1000)
+        } else {
+            Duration::from_secs(20)
+        }
+    }
+
+    // Waits, and notes what the system tells. Who says nothing is closed only where all that the system has to tell was noted: a wait that
+    // was interrupted tells nothing, and one that tells as much as there is room for may leave something untold.
+    fn wait<R: Clock, F>(&mut self, rt: &R) -> Result<(), HostFault<F>> {
+        self.note_events(self.next_wait())?;
+        self.note_tick(rt)?;
+        if self.sweeps && !self.note_events(Duration::from_millis(0))? {
+            self.sweeps = false;
+            self.connections.sweep(self.tick, self.options.idle)?;
+        }
+        Ok(())
+    }
+
+    // Waits for so long at most, and notes what the system tells. Says whether it tells anything.
+    fn note_events<F>(&mut self, most: Duration) -> Result<bool, HostFault<F>> {
+        self.poll.poll(&mut self.events, Some(most))?;
+        let mut reported = false;
+        for event in &self.events {
+            reported = true;
+            if event.token() == STOPPER {
+                self.stop = self.stop || event.is_read_closed();
+            } else if !self.doors.note(event.token()) && !note_watcher(&mut self.watch, event) {
+                self.connections.note(event)?;
+            }
+        }
+        Ok(reported)
+    }
+
+    // Notes that a second has passed. Where the loop stalled for many they count as one, so that nobody counts as idle for what was no fault
+    // of his, and that no later second counts for many.
+    fn note_tick<R: Clock, F>(&mut self, rt: &R) -> Result<(), HostFault<F>> {
+        let second = self.start.elapsed(rt)?.as_secs();
+        if self.second < second {
+            self.second = second;
+            self.tick = self.tick.saturating_add(1);
+            self.full = false;
+            self.ticked = true;
+            self.sweeps = true;
+            self.looks = true;
+        }
+        Ok(())
+    }
+
+    // Accepts who waits, as far as there is room.
+    fn accept_all(&mut self) -> Result<(), AllocError> {
+        for _ in 0..MOST_ACCEPTS {
+            if !self.can_accept() {
+                break;
+            }
+            self.accept()?;
+        }
+        Ok(())
+    }
+
+    // Gives each connection that is due its turn.
+    fn serve<R, D: Service<R>, K: Persist<D>>(
+        &mut self,
+        rt: &R,
+        service: &mut Attended<D>,
+        persister: &mut K,
+        shared: &mut SharedBuffers<Global>,
+    ) -> Result<(), HostFault<K::Fault>> {
+        let ConnectionTable {
+            seats,
+            numbers,
+            ready,
+            ..
+        } = &mut self.connections;
+        shared.share_among(ready.len());
+        let called = match &mut self.batch {
+            None => {
+                iterate(rt, service, persister, shared, seats, numbers, ready).map(Called::Served)
+            }
+            Some(batch) => {
+                iterate_prefetched(rt, service, persister, batch, shared, seats, numbers, ready)
+            }
+        };
+        match called {
+            Ok(called) => {
+                self.note_lost(called);
+                self.take_numbers(rt, service, persister, shared, called)?;
+                self.answer(&service.service, persister, shared, called);
+                self.settle(called.count())
+            }
+            Err(fault) => Err(HostFault::Persist(fault)),
+        }
+    }
+
+    // Takes numbers for those who say `take`, where any do.
+    fn take_numbers<R, D: Service<R>, K: Persist<D>>(
+        &mut self,
+        rt: &R,
+        service: &mut Attended<D>,
+        persister: &mut K,
+        shared: &mut SharedBuffers<Global>,
+        called: Called,
+    ) -> Result<(), HostFault<K::Fault>> {
+        let Called::Served(count) = called else {
+            return Ok(());
+        };
+        if !shared.waits {
+            return Ok(());
+        }
+        match self.take_numbers_of(rt, service, persister, shared, count) {
+            Ok(taken) => {
+                self.note_lost(taken);
+                Ok(())
+            }
+            Err(fault) => Err(HostFault::Persist(fault)),
+        }
+    }
+
+    // Takes numbers for those of the first of the seats that are ready who say `take`, where any do.
+    fn take_numbers_of<R, D: Service<R>, K: Persist<D>>(
+        &mut self,
+        rt: &R,
+        service: &mut Attended<D>,
+        persister: &mut K,
+        shared: &mut SharedBuffers<Global>,
+        count: usize,
+    ) -> Result<Called, K::Fault> {
+        let ConnectionTable {
+            seats,
+            numbers,
+            ready,
+            ..
+        } = &mut self.connections;
+        let first = &ready[..count.min(ready.len())];
+        if !any_takes(seats, first) {
+            return Ok(Called::Served(count));
+        }
+        match &mut self.batch {
+            None => {
+                serve_takings(rt, service, persister, shared, seats, numbers, first, false)?;
+                Ok(Called::Served(count))
+            }
+            Some(batch) => {
+                prefetch_takings(rt, service, persister, batch, shared, seats, numbers, first)
+            }
+        }
+    }
+
+    // Answers who asks who holds numbers, or the terms.
+    fn answer<D, K: Persist<D>>(
+        &mut self,
+        service: &D,
+        persister: &K,
+        shared: &mut SharedBuffers<Global>,
+        called: Called,
+    ) {
+        if !shared.waits {
+            return;
+        }
+        if let Called::Served(count) = called {
+            let terms = self.options.terms();
+            let ConnectionTable { seats, ready, .. } = &mut self.connections;
+            let few = count.min(ready.len());
+            answer_queries(service, persister, terms, shared, seats, &ready[..few]);
+        }
+    }
+
+    // After the turn of so many: where one has left, another may be accepted again.
+    fn settle<F>(&mut self, called: usize) -> Result<(), HostFault<F>> {
+        let before = self.connections.open;
+        self.connections.settle(called, self.tick)?;
+        self.full = self.full && before <= self.connections.open;
+        Ok(())
+    }
+
+    // The connections that have ended keep no stay from now on, and nobody keeps one of which it was lost whether it began.
+    fn note_ended<D>(&mut self, service: &mut Attended<D>) {
+        for ending in &self.connections.ended {
+            service.end(*ending, self.tick);
+        }
+        self.connections.ended.clear();
+        if self.lost {
+            service.end(
+                Ending {
+                    number: NOBODY,
+                    by_quit: false,
+                },
+                self.tick,
+            );
+        }
+    }
+
+    // Ends the stays that are due, where a second has passed or connections have ended, and any are to end.
+    fn end_stays<R, D: Service<R>, K: Persist<D>>(
+        &mut self,
+        rt: &R,
+        service: &mut Attended<D>,
+        persister: &mut K,
+        shared: &mut SharedBuffers<Global>,
+    ) -> Result<(), HostFault<K::Fault>> {
+        let looks = self.looks || self.has_ended();
+        self.note_ended(service);
+        let Some(grace) = self.options.grace else {
+            return Ok(());
+        };
+        if service.lacks {
+            return Err(HostFault::Memory);
+        }
+        if !persister.may_answer_stays() {
+            self.connections.fail_keepers(&service.stays)?;
+        }
+        if !looks || (persister.shares_stays() && !self.looks) {
+            return Ok(());
+        }
+        self.looks = false;
+        end_due(
+            rt,
+            self.alloc,
+            service,
+            persister,
+            &mut shared.view,
+            grace,
+            self.tick,
+        )
+    }
+
+    // Has the persister go on, where a second has passed.
+    fn tell_tick<D, K: Persist<D>>(
+        &mut self,
+        service: &mut D,
+        persister: &mut K,
+    ) -> Result<(), HostFault<K::Fault>> {
+        if !self.ticked {
+            return Ok(());
+        }
+        self.ticked = false;
+        match persister.tick(service) {
+            Ok(()) => Ok(()),
+            Err(fault) => Err(HostFault::Persist(fault)),
+        }
+    }
+
+    // Accepts one connection, if one waits. Where the system has no room for it, none is accepted until another leaves.
+    fn accept(&mut self) -> Result<(), AllocError> {
+        match self.doors.accept() {
+            Accepted::Stream(stream) => {
+                let kind = self.options.kind;
+                self.connections
+                    .admit(self.alloc, &self.poll, kind, stream, self.tick)?;
+            }
+            Accepted::Nobody => {}
+            Accepted::Full => self.full = true,
+        }
+        Ok(())
+    }
+
+    // Says once that no more are accepted for now.
+    fn tell_full<E: Write>(&mut self, errors: &mut E) {
+        if self.full && !self.said {
+            self.said = true;
+            self.teller.tell(
+                b"slotctl: no room for more connections; those that wait are accepted as others leave\n",
+                errors,
+            );
+        }
+    }
+
+    // Notes whether the answers that were wanted in a turn were prefetched, where any were.
+    fn note_lost(&mut self, called: Called) {
+        if let Some(batch) = &self.batch {
+            if batch.holds || !batch.lines.is_empty() {
+                self.lost = matches!(called, Called::Unserved(_));
+            }
+        }
+    }
+
+    // Says that answers are not prefetched, and that they are again, once each.
+    fn tell_lost<E: Write>(&mut self, errors: &mut E) {
+        if self.lost == self.said_lost {
+            return;
+        }
+        self.said_lost = self.lost;
+        let text = self.text_of_lost();
+        self.teller.tell(text.as_bytes(), errors);
+    }
+
+    // What is said of answers that are not prefetched, or are again. Why they are not was said before, where the persister knows that.
+    fn text_of_lost(&self) -> &'static str {
+        if !self.lost {
+            "slotctl: the log answers again\n"
+        } else if self.said_trouble {
+            "slotctl: clients that asked are closed\n"
+        } else {
+            "slotctl: the log does not answer; clients that asked are closed\n"
+        }
+    }
+
+    // Says once what is amiss with the persister, each time that something comes to be.
+    fn tell_trouble<E: Write>(&mut self, trouble: Option<&'static str>, errors: &mut E) {
+        let said = self.said_trouble;
+        self.said_trouble = trouble.is_some();
+        if said {
+            return;
+        }
+        if let Some(text) = trouble {
+            if let Ok(line) = format!(in self.alloc; "slotctl: {text}\n") {
+                self.teller.tell(line.as_bytes(), errors);
+            }
+        }
+    }
+
+    // Says once that half of the history's room is used up for good, and once that nine tenths are.
+    fn tell_room<E: Write>(&mut self, tenths: u8, errors: &mut E) {
+        let said = self.said_tenths;
+        if 9 <= tenths && said < 9 {
+            self.said_tenths = 9;
+            self.teller.tell(
+                b"slotctl: nine tenths of the history's room are used up, and no compaction gives them back\n",
+                errors,
+            );
+        } else if 5 <= tenths && said < 5 {
+            self.said_tenths = 5;
+            self.teller.tell(
+                b"slotctl: half of the history's room is used up, and no compaction gives it back\n",
+                errors,
+            );
+        }
+    }
+
+    // Whether it is time to tell how much there is: at first and once a minute where that is wanted.
+    fn is_report_due(&self) -> bool {
+        self.options.reports && self.report <= self.tick
+    }
+
+    // Tells how much there is.
+    fn tell_tally<E: Write>(&mut self, tally: Tally, errors: &mut E) {
+        self.report = self.tick.saturating_add(REPORT_TICKS);
+        let events = tally.events;
+        let bytes = tally.journal_bytes.unwrap_or(0);
+        let clients = self.connections.open;
+        // Who looks on gets nothing where the text is not taken, and served all the same.
+        if let Ok(line) = format!(in self.alloc;
+            "{clients} clients, {events} events, {bytes} bytes of journal\n"
+        ) {
+            self.teller.tell(line.as_bytes(), errors);
+        }
+    }
+
+    // Says where clients are listened for, and those who watch.
+    fn tell_listening<W: Write, F>(&self, output: &mut W) -> Result<(), HostFault<F>> {
+        if let Some(address) = self.doors.address()? {
+            put_line(format!(in self.alloc; "listening {address}\n"), output)?;
+        }
+        if let Some(path) = self.doors.path() {
+            put_line(format!(in self.alloc; "listening {path}\n"), output)?;
+        }
+        if let Some(watch) = &self.watch {
+            let address = watch.address()?;
+            put_line(format!(in self.alloc; "metrics {address}\n"), output)?;
+        }
+        Ok(())
+    }
+
+    // What the loop itself knows.
+    fn numbers(&self) -> LoopNumbers {
+        LoopNumbers {
+            clients: self.connections.open as u64,
+            accepted: self.connections.accepted(),
+            faults: self.connections.faults,
+            lines: self.connections.lines(),
+            ticks: self.tick,
+            learnt: !self.lost,
+        }
+    }
+
+    // Serves those who watch, as far as they may go on now.
+    fn serve_watchers<D, K: Persist<D>>(&mut self, service: &D, persister: &K) {
+        let Some(mut watch) = self.watch.take() else {
+            return;
+        };
+        if watch.wants_look(self.tick) {
+            let tally = persister.tally(service);
+            watch.note(&tally, self.tick);
+            watch.scrapers().read(&self.poll, self.tick);
+            if watch.scrapers().want_answers() {
+                let numbers = watch.numbers(&self.numbers(), &tally);
+                watch.scrapers().answer(&numbers);
+            }
+            watch.scrapers().send(self.tick);
+        }
+        self.watch = Some(watch);
+    }
+
+    // Says how many were served: those that have left, and those that are there.
+    fn tell_end<W: Write, F>(&self, output: &mut W) -> Result<Hosted, HostFault<F>> {
+        let served = self.connections.accepted();
+        put_line(format!(in self.alloc; "served {served}\n"), output)?;
+        Ok(Hosted { served })
+    }
+}
+
+// Whether the connection of any of these seats takes a number.
+fn any_takes(seats: &[Option<Connection<Socket, Global>>], called: &[usize]) -> bool {
+    for key in called {
+        if *key < seats.len() {
+            if let Some(connection) = &seats[*key] {
+                if connection.taking().is_some() {
+                    return true;
+                }
+            }
+        }
+    }
+    false
+}
+
+// Writes a line, where there was memory for it.
+fn put_line<W: Write, F>(
+    line: Result<String, AllocError>,
+    output: &mut W,
+) -> Result<(), HostFault<F>> {
+    let line = line?;
+    if output.write_all(line.as_bytes()).is_err() || output.flush().is_err() {
+        return Err(HostFault::Output);
+    }
+    Ok(())
+}

@@ -1,0 +1,107 @@
+// Erased by bindings/rust/erase from crates/service_loop/src/persist.rt, sha256 7971f80249595e836cf855b0281bf5324cfe9754c452af99ac100c7c324d41c4.
+//! What is kept of a turn before its replies go out.
+
+use crate::kit::alloc::Allocator;
+use crate::proved::service_watch::durations::DurationHistogram;
+use crate::proved::text_lines::held::query::HeldQuery;
+use crate::proved::text_lines::replies::Replies;
+
+/// What a service and its persister tell of themselves to whoever looks on. What does not apply there, or is not known, is none.
+#[derive(Clone, Copy, Debug, PartialEq, Eq)]
+pub struct Tally {
+    /// How many events the history has.
+    pub events: u64,
+    /// How many more it takes.
+    pub events_left: Option<u64>,
+    /// How often the history was compacted since the start.
+    pub compactions: Option<u64>,
+    /// How many identities compete for numbers, those that hold one among them.
+    pub competitors: Option<u64>,
+    /// How many numbers nobody holds.
+    pub numbers_free: Option<u64>,
+    /// How many names are given.
+    pub names_given: Option<u64>,
+    /// How many bytes of a journal are kept.
+    pub journal_bytes: Option<u64>,
+    /// How long the syncs of a journal took.
+    pub syncs: Option<DurationHistogram>,
+    /// How many entries of a log are applied.
+    pub log_place: Option<u64>,
+    /// Whether the log answered when it was last asked.
+    pub log_answers: Option<bool>,
+}
+
+impl Tally {
+    /// Nothing is known but how many events there are.
+    pub fn of_events(events: u64) -> Tally {
+        Tally {
+            events,
+            events_left: None,
+            compactions: None,
+            competitors: None,
+            numbers_free: None,
+            names_given: None,
+            journal_bytes: None,
+            syncs: None,
+            log_place: None,
+            log_answers: None,
+        }
+    }
+}
+
+/// Whether a persister has prefetched the answers to the lines that it got.
+#[derive(Clone, Copy, Debug, PartialEq, Eq)]
+pub enum Prefetch {
+    /// The service answers them now.
+    Known,
+    /// They were not prefetched in time, and nothing is known of them.
+    Lost,
+}
+
+/// Keeps what a service tells of the events that it accepted, before any reply of that turn is sent.
+pub trait Persist<D>: Sized {
+    /// Why it could not be kept.
+    type Fault;
+
+    /// Appends who holds numbers, as it is asked.
+    fn put_held<B: Allocator>(&self, service: &D, query: HeldQuery, out: &mut Replies<B>);
+
+    /// Whether so much is to be kept before any other connection has its turn. It is not asked where `most_prefetched` is some:
+    /// then each connection has its turn whose lines are in the batch.
+    fn is_full(&self, service: &D) -> bool;
+
+    /// Keeps what the service tells.
+    fn persist(&mut self, service: &mut D) -> Result<(), Self::Fault>;
+
+    /// How many bytes of lines of requests it gets, at most, before a turn takes them; `None` where the service answers each as it comes.
+    fn most_prefetched(&self) -> Option<usize>;
+
+    /// Has the service prefetch the answers to these lines of requests, in their order; each ends in LF. `Lost` where they were not prefetched in
+    /// time: nothing is known of them then.
+    fn prefetch(&mut self, service: &mut D, lines: &[u8]) -> Result<Prefetch, Self::Fault>;
+
+    /// Is called about once a second while clients are there or watchers may be, and three times a minute else.
+    fn tick(&mut self, service: &mut D) -> Result<(), Self::Fault>;
+
+    /// Whether other servers share the service's stays, so that this persister ends them itself (`end_stays`).
+    fn shares_stays(&self) -> bool;
+
+    /// Ends stays that are shared: those of these identities, which nobody keeps here any more, and those of servers that are gone. Is called
+    /// about once a second where the server ends stays, and only where `shares_stays` says so.
+    fn end_stays(&mut self, service: &mut D, due: &[u64]) -> Result<(), Self::Fault>;
+
+    /// Returns true if and only if an identity competes, where all is kept that the service told.
+    fn has_stay(&self, service: &D, identity: u64) -> bool;
+
+    /// Whether this server may still answer those who keep stays. Where it may not they are closed, and nothing is sent to them.
+    fn may_answer_stays(&self) -> bool;
+
+    /// What is amiss and does not end the server, for people; `None` where nothing is.
+    fn trouble(&self) -> Option<&'static str>;
+
+    /// How many tenths of the history's room are used up by what no compaction makes fewer, for people; 0 where that is not known.
+    fn lasting_tenths(&self) -> u8;
+
+    /// How much there is, for people. It takes time as there are numbers and names, which are few.
+    fn tally(&self, service: &D) -> Tally;
+}

@@ -1,0 +1,288 @@
+// Erased by bindings/rust/erase from crates/service_loop/src/taking.rt, sha256 555408aa86fe9ae8b8a3b688950780de5e3d4fe6d5f5d31eb3e5e7d498342ff2.
+//! Lines that take a number, after a turn of the loop: `take ID` is `enter ID`, and `probe ID` as often as it takes.
+
+use crate::kit::alloc::{AllocError, Allocator};
+use crate::kit::Vec;
+use crate::proved::model_asked::event::Event;
+use crate::proved::model_asked::reply::Reply;
+use crate::proved::model_pool::pool::MOST_NUMBERS;
+use crate::proved::model_steps::view::View;
+use crate::proved::service_loop::attended::Attended;
+use crate::proved::service_loop::connection::{Connection, Stage};
+use crate::proved::service_loop::gathering::{prefetch, Batch, Called};
+use crate::proved::service_loop::losing::note_lost;
+use crate::proved::service_loop::persist::{Persist, Prefetch};
+use crate::proved::service_loop::shared::SharedBuffers;
+use crate::proved::service_loop::stream::Stream;
+use crate::proved::service_loop::turns::{number_at, send_replies};
+use crate::proved::text_lines::events::print_event;
+use crate::proved::text_lines::replies::Replies;
+use crate::proved::text_player::service::Service;
+
+/// What ends a line.
+const LF: u8 = 10;
+
+/// The most bytes of the lines that take a number: `enter`, and `probe` as often as there are numbers. Each has a word of 5 letters, a space, a number of
+/// at most 20 digits, and LF.
+const TAKING_ROOM: usize = 27 * (MOST_NUMBERS + 1);
+
+// Whether `probe` is said behind this reply: `enter` was accepted, or a `probe` missed.
+fn wants_probe(reply: &Reply<()>) -> bool {
+    matches!(reply, Reply::Ok | Reply::Missed)
+}
+
+// What `take` of an identity said, and how often it said `probe`.
+#[derive(Clone, Copy, Debug)]
+struct Took {
+    answer: Reply<()>,
+    probes: usize,
+}
+
+// Says `enter` of an identity, and then `probe` as long as a reply wants it, and no more often than there are numbers.
+fn take_one<R, D: Service<R>>(rt: &R, service: &mut D, view: &mut View, identity: u64) -> Took {
+    let mut answer = service.apply(rt, Event::Enter(identity), view);
+    let mut probes = 0;
+    while probes < MOST_NUMBERS && wants_probe(&answer) {
+        answer = service.apply(rt, Event::Probe(identity), view);
+        probes += 1;
+    }
+    Took { answer, probes }
+}
+
+// Says `probe` of an identity so many times, whatever is said to it.
+fn probe_on<R, D: Service<R>>(rt: &R, service: &mut D, identity: u64, count: usize) {
+    let mut view = View::new();
+    let mut said = 0;
+    while said < count {
+        service.apply(rt, Event::Probe(identity), &mut view);
+        said += 1;
+    }
+}
+
+/// Takes a number for an identity by events of the service, one after another: `enter`; and then `probe` until it holds a number or is refused, and no
+/// more often than there are numbers. Returns the last reply: a refusal of `enter` is answered as it is, and nothing is probed. Where the answers were
+/// prefetched, so many more are said behind it, and answered to nobody, that `probe` is said as often as there are numbers.
+pub fn say_taking<R, D: Service<R>>(
+    rt: &R,
+    service: &mut D,
+    view: &mut View,
+    identity: u64,
+    ahead: bool,
+) -> Reply<()> {
+    let took = take_one(rt, service, view, identity);
+    if ahead {
+        probe_on(rt, service, identity, MOST_NUMBERS - took.probes);
+    }
+    took.answer
+}
+
+// The connection of a seat takes a number, where there is one that rests. It is the one of this number.
+fn take_number_at<R, D: Service<R>, S: Stream, A: Allocator, B: Allocator>(
+    rt: &R,
+    service: &mut Attended<D>,
+    shared: &mut SharedBuffers<B>,
+    seats: &mut [Option<Connection<S, A>>],
+    number: u64,
+    key: usize,
+    ahead: bool,
+) {
+    if key < seats.len() {
+        if let Some(connection) = &mut seats[key] {
+            if let Stage::Idle = connection.stage {
+                service.listen_to(number);
+                connection.take_number(rt, service, shared, ahead);
+            }
+        }
+    }
+}
+
+// Whether so much is to be kept before another connection takes a number. It is not asked where the answers were prefetched.
+fn is_full<D, K: Persist<D>>(service: &D, persister: &K, ahead: bool) -> bool {
+    !ahead && persister.is_full(service)
+}
+
+// The connections of these seats take numbers, one after another, until so much is to be kept. Nothing is sent.
+fn take_numbers<R, D: Service<R>, K: Persist<D>, S: Stream, A: Allocator, B: Allocator>(
+    rt: &R,
+    service: &mut Attended<D>,
+    persister: &K,
+    shared: &mut SharedBuffers<B>,
+    seats: &mut [Option<Connection<S, A>>],
+    numbers: &[u64],
+    called: &[usize],
+    ahead: bool,
+) {
+    for key in called {
+        if is_full(&service.service, persister, ahead) {
+            break;
+        }
+        take_number_at(
+            rt,
+            service,
+            shared,
+            seats,
+            number_at(numbers, *key),
+            *key,
+            ahead,
+        );
+    }
+}
+
+/// After a turn of the loop: for each of these seats whose first waiting line is `take ID` a number is taken (`say_taking`), what the service tells of it
+/// is kept, and only then are answers sent. Who keeps a stay is noted by the numbers of the connections, in the order of all turns. Where so much is to
+/// be kept that others have to wait, their lines wait for the next turn.
+///
+/// # Errors
+///
+/// The fault of what keeps, with no byte sent.
+pub fn serve_takings<R, D: Service<R>, K: Persist<D>, S: Stream, A: Allocator, B: Allocator>(
+    rt: &R,
+    service: &mut Attended<D>,
+    persister: &mut K,
+    shared: &mut SharedBuffers<B>,
+    seats: &mut [Option<Connection<S, A>>],
+    numbers: &[u64],
+    called: &[usize],
+    ahead: bool,
+) -> Result<(), K::Fault> {
+    take_numbers(
+        rt, service, persister, shared, seats, numbers, called, ahead,
+    );
+    persister.persist(&mut service.service)?;
+    send_replies(seats, called);
+    Ok(())
+}
+
+// The line of an event is added to others, with its LF.
+fn add_event<B: Allocator>(
+    event: Event,
+    words: &mut Replies<B>,
+    lines: &mut Vec<u8, B>,
+) -> Result<(), AllocError> {
+    print_event(event, words);
+    let added = lines.extend_from_slice(words.as_slice());
+    words.clear();
+    added?;
+    lines.push(LF)?;
+    Ok(())
+}
+
+// The lines that take a number for an identity are added to others.
+fn add_taking<B: Allocator>(
+    identity: u64,
+    words: &mut Replies<B>,
+    lines: &mut Vec<u8, B>,
+) -> Result<(), AllocError> {
+    add_event(Event::Enter(identity), words, lines)?;
+    for _ in 0..MOST_NUMBERS {
+        add_event(Event::Probe(identity), words, lines)?;
+    }
+    Ok(())
+}
+
+// For which identity the connection of a seat takes a number, where there is one that does.
+fn taking_at<S: Stream, A: Allocator>(
+    seats: &[Option<Connection<S, A>>],
+    key: usize,
+) -> Option<u64> {
+    if key < seats.len() {
+        if let Some(connection) = &seats[key] {
+            return connection.taking();
+        }
+    }
+    None
+}
+
+// Whether there is room in a batch for the lines that take one number more. In an empty one there is.
+fn has_room<B: Allocator>(batch: &Batch<B>) -> bool {
+    batch.lines.is_empty() || batch.lines.len() <= batch.most.saturating_sub(TAKING_ROOM)
+}
+
+// The lines of the connection of a seat are added to the batch, where it takes a number. Says whether there was room for them, and memory.
+fn add_taking_at<S: Stream, A: Allocator, B: Allocator>(
+    batch: &mut Batch<B>,
+    words: &mut Replies<B>,
+    seats: &[Option<Connection<S, A>>],
+    key: usize,
+) -> bool {
+    let Some(identity) = taking_at(seats, key) else {
+        return true;
+    };
+    if !has_room(batch) {
+        return false;
+    }
+    let before = batch.lines.len();
+    if add_taking(identity, words, &mut batch.lines).is_err() {
+        batch.lines.truncate(before);
+        return false;
+    }
+    true
+}
+
+// The lines of these seats that take numbers are the batch, as far as there is room. Says how many of the seats were looked at.
+fn gather_takings<S: Stream, A: Allocator, B: Allocator>(
+    batch: &mut Batch<B>,
+    words: &mut Replies<B>,
+    seats: &[Option<Connection<S, A>>],
+    called: &[usize],
+) -> usize {
+    batch.lines.clear();
+    batch.holds = false;
+    let mut seen = 0;
+    while seen < called.len() && add_taking_at(batch, words, seats, called[seen]) {
+        seen += 1;
+    }
+    seen
+}
+
+// The connection of a seat is at fault, where there is one that takes a number.
+fn give_up_taking_at<S: Stream, A: Allocator>(seats: &mut [Option<Connection<S, A>>], key: usize) {
+    if key < seats.len() {
+        if let Some(connection) = &mut seats[key] {
+            connection.give_up_taking();
+        }
+    }
+}
+
+// The connections of these seats that take numbers are at fault; nothing is taken of any, and nothing sent.
+fn give_up_takings<S: Stream, A: Allocator>(
+    seats: &mut [Option<Connection<S, A>>],
+    called: &[usize],
+) {
+    for key in called {
+        give_up_taking_at(seats, *key);
+    }
+}
+
+/// Takes numbers as `serve_takings` does, over a service that prefetches its answers: the lines go to the persister first, for as many of the seats as there
+/// is room, one at least. `probe` is said as often as there are numbers, whatever is said to it: an identity that holds a number is refused more of them.
+/// Where the answers are not prefetched in time, those whose lines went are at fault, and nothing is sent: of each `enter` it is noted that nobody keeps
+/// the stay, unless a connection does.
+///
+/// # Errors
+///
+/// The fault of what keeps, with no byte sent.
+pub fn prefetch_takings<R, D: Service<R>, K: Persist<D>, S: Stream, A: Allocator, B: Allocator>(
+    rt: &R,
+    service: &mut Attended<D>,
+    persister: &mut K,
+    batch: &mut Batch<B>,
+    shared: &mut SharedBuffers<B>,
+    seats: &mut [Option<Connection<S, A>>],
+    numbers: &[u64],
+    called: &[usize],
+) -> Result<Called, K::Fault> {
+    let seen = gather_takings(batch, &mut shared.replies, seats, called);
+    let few = &called[..seen];
+    match prefetch(&mut service.service, persister, batch)? {
+        Prefetch::Known => {
+            serve_takings(rt, service, persister, shared, seats, numbers, few, true)?;
+            Ok(Called::Served(seen))
+        }
+        Prefetch::Lost => {
+            give_up_takings(seats, few);
+            note_lost(service, &batch.lines, batch.kind);
+            Ok(Called::Unserved(seen))
+        }
+    }
+}

@@ -1,0 +1,107 @@
+// Erased by bindings/rust/erase from crates/service_loop/src/watching.rt, sha256 0d1675a4fbe54df81996f88de062ecc552a46899e672380d1f4ba0acc5e4f325.
+//! Those who watch a server.
+
+use crate::kit::io;
+use crate::kit::net::SocketAddr;
+use crate::proved::service_loop::persist::Tally;
+use crate::proved::service_watch::numbers::Numbers;
+use crate::proved::service_watch::scrapers::Scrapers;
+
+/// Those who watch, and what is remembered for them.
+pub struct Watch {
+    scrapers: Scrapers,
+    /// At which tick the persister was last asked how much there is.
+    looked: u64,
+    /// The place of the log then, and the tick at which it came there.
+    place: Option<u64>,
+    placed: u64,
+}
+
+/// What the loop itself knows of what is reported.
+#[derive(Clone, Copy, Debug)]
+pub struct LoopNumbers {
+    /// How many clients are there.
+    pub clients: u64,
+    /// How many connections were accepted.
+    pub accepted: u64,
+    /// How many of them ended by a fault.
+    pub faults: u64,
+    /// How many lines were taken.
+    pub lines: u64,
+    /// How many seconds were counted.
+    pub ticks: u64,
+    /// Whether the answers that clients wanted last were prefetched.
+    pub learnt: bool,
+}
+
+impl Watch {
+    /// By those who ask.
+    pub fn new(scrapers: Scrapers) -> Watch {
+        Watch {
+            scrapers,
+            looked: 0,
+            place: None,
+            placed: 0,
+        }
+    }
+
+    /// Those who ask.
+    pub fn scrapers(&mut self) -> &mut Scrapers {
+        &mut self.scrapers
+    }
+
+    /// The address that is listened on.
+    ///
+    /// # Errors
+    ///
+    /// What the system says.
+    pub fn address(&self) -> io::Result<SocketAddr> {
+        self.scrapers.local_addr()
+    }
+
+    /// Whether any of those who ask may go on with no word of the system.
+    pub fn is_due(&self) -> bool {
+        self.scrapers.is_due()
+    }
+
+    /// Whether it is to be looked how much there is: some may go on, or a second has passed.
+    pub fn wants_look(&self, tick: u64) -> bool {
+        self.is_due() || self.looked != tick
+    }
+
+    /// Notes how much there is.
+    pub fn note(&mut self, tally: &Tally, tick: u64) {
+        if self.looked != tick {
+            self.looked = tick;
+            self.scrapers.tick();
+        }
+        if self.place != tally.log_place {
+            self.place = tally.log_place;
+            self.placed = tick;
+        }
+    }
+
+    /// What those who ask get.
+    pub fn numbers(&self, loops: &LoopNumbers, tally: &Tally) -> Numbers {
+        Numbers {
+            clients: loops.clients,
+            accepted: loops.accepted,
+            faults: loops.faults,
+            lines: loops.lines,
+            ticks: loops.ticks,
+            ready: loops.learnt && tally.log_answers != Some(false),
+            events: tally.events,
+            events_left: tally.events_left,
+            compactions: tally.compactions,
+            competitors: tally.competitors,
+            numbers_free: tally.numbers_free,
+            names_given: tally.names_given,
+            journal_bytes: tally.journal_bytes,
+            syncs: tally.syncs,
+            log_place: tally.log_place,
+            log_age: tally
+                .log_place
+                .map(|_| loops.ticks.saturating_sub(self.placed)),
+        }
+    }
+}

@@ -1,0 +1,91 @@
+// Erased by bindings/rust/erase from crates/service_watch/src/answer.rt, sha256 58ff9140853101345552add06a76684a5f17222d6bce2187629fb9615fb4c48b.
+//! What a request is answered.
+
+use crate::kit::alloc::{AllocError, Global};
+use crate::kit::itoa::Buffer;
+use crate::kit::Vec;
+use crate::proved::service_watch::numbers::Numbers;
+use crate::proved::service_watch::page::put_page;
+use crate::proved::service_watch::request::Asked;
+
+/// What the text form of Prometheus is called.
+const PAGE_TYPE: &str = "text/plain; version=0.0.4; charset=utf-8";
+
+/// What other texts are called.
+const TEXT_TYPE: &str = "text/plain; charset=utf-8";
+
+// The status and its words.
+fn status_of(asked: Asked, ready: bool) -> &'static str {
+    match asked {
+        Asked::Page | Asked::Alive => "200 OK",
+        Asked::Ready => {
+            if ready {
+                "200 OK"
+            } else {
+                "503 Service Unavailable"
+            }
+        }
+        Asked::Nowhere => "404 Not Found",
+        Asked::OtherMethod => "405 Method Not Allowed",
+        Asked::Unreadable => "400 Bad Request",
+    }
+}
+
+// The text of an answer that is no page of metrics.
+fn text_of(asked: Asked, ready: bool) -> &'static str {
+    match asked {
+        Asked::Page => "",
+        Asked::Alive => "ok\n",
+        Asked::Ready => {
+            if ready {
+                "ready\n"
+            } else {
+                "the log does not answer\n"
+            }
+        }
+        Asked::Nowhere => "there are /metrics, /healthz and /readyz\n",
+        Asked::OtherMethod => "GET is answered\n",
+        Asked::Unreadable => "no request\n",
+    }
+}
+
+// Appends a text.
+fn put(text: &str, answer: &mut Vec<u8>) -> Result<(), AllocError> {
+    answer.extend_from_slice(text.as_bytes())
+}
+
+// Appends the head of an answer with a body of so many bytes.
+fn put_head(asked: Asked, ready: bool, len: usize, answer: &mut Vec<u8>) -> Result<(), AllocError> {
+    put("HTTP/1.1 ", answer)?;
+    put(status_of(asked, ready), answer)?;
+    put("\r\nContent-Type: ", answer)?;
+    let form = if asked == Asked::Page {
+        PAGE_TYPE
+    } else {
+        TEXT_TYPE
+    };
+    put(form, answer)?;
+    if asked == Asked::OtherMethod {
+        put("\r\nAllow: GET", answer)?;
+    }
+    put("\r\nContent-Length: ", answer)?;
+    put(Buffer::new().format(len), answer)?;
+    put("\r\nConnection: close\r\n\r\n", answer)
+}
+
+/// Appends what is answered to a request: a head with its status, and a page or a text.
+pub fn put_answer(
+    alloc: Global,
+    asked: Asked,
+    numbers: &Numbers,
+    answer: &mut Vec<u8>,
+) -> Result<(), AllocError> {
+    let mut body = Vec::new(alloc);
+    if asked == Asked::Page {
+        put_page(numbers, &mut body)?;
+    } else {
+        put(text_of(asked, numbers.ready), &mut body)?;
+    }
+    put_head(asked, numbers.ready, body.len(), answer)?;
+    answer.extend_from_slice(&body)
+}

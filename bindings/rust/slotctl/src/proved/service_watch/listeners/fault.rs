@@ -1,0 +1,36 @@
+// Erased by bindings/rust/erase from crates/service_watch/src/listeners/fault.rt, sha256 58ee31cf41426d2b60354d6eddb8cb17221776e2c48e9a1448a53b7a0db06657.
+//! Why nothing is listened on.
+
+use crate::kit::io;
+use crate::kit::io::ErrorKind;
+use crate::kit::thiserror::Error;
+
+/// Why nothing is listened on. Its `Display` is the text for the operator.
+#[derive(Clone, Copy, Debug, PartialEq, Eq, Error)]
+pub enum ListenFault {
+    /// To listen on a port failed, so the system told.
+    #[error("network fault: {0}")]
+    Network(ErrorKind),
+    /// Somebody listens on the socket of the path.
+    #[error("socket in use: somebody listens on the path of --unix")]
+    InUse,
+    /// What the path names is no socket.
+    #[error(
+        "socket fault: the path of --unix names a file, a folder or a link, which was not removed"
+    )]
+    NotSocket,
+    /// To look at the path, to remove an old socket, to listen there or to set the mode failed, so the system told.
+    #[error("socket fault: {0}")]
+    Socket(ErrorKind),
+}
+
+/// A fault of a socket of the file system.
+pub fn socket_fault(error: io::Error) -> ListenFault {
+    ListenFault::Socket(error.kind())
+}
+
+impl From<io::Error> for ListenFault {
+    fn from(error: io::Error) -> ListenFault {
+        ListenFault::Network(error.kind())
+    }
+}

@@ -1,0 +1,41 @@
+// Erased by bindings/rust/erase from crates/service_watch/src/numbers.rt, sha256 c60764e00a3a4c45c98130df84d10f9aa396d9fa5a554eab6a2763d2441e7491.
+//! What a page tells.
+
+use crate::proved::service_watch::durations::DurationHistogram;
+
+/// What a page tells of a server. What is not known there is none, and left out of the page.
+#[derive(Clone, Copy, Debug, PartialEq, Eq)]
+pub struct Numbers {
+    /// How many clients are connected.
+    pub clients: u64,
+    /// How many connections were accepted since the start.
+    pub accepted: u64,
+    /// How many connections ended by a fault since the start.
+    pub faults: u64,
+    /// How many lines of clients were taken since the start.
+    pub lines: u64,
+    /// How many seconds were counted since the start.
+    pub ticks: u64,
+    /// Whether the log answers, where there is one.
+    pub ready: bool,
+    /// How many events the history has.
+    pub events: u64,
+    /// How many more it takes.
+    pub events_left: Option<u64>,
+    /// How often the history was compacted since the start.
+    pub compactions: Option<u64>,
+    /// How many identities compete for numbers, those that hold one among them.
+    pub competitors: Option<u64>,
+    /// How many numbers nobody holds.
+    pub numbers_free: Option<u64>,
+    /// How many names are given.
+    pub names_given: Option<u64>,
+    /// How many bytes the journal has.
+    pub journal_bytes: Option<u64>,
+    /// How long the syncs of the journal took.
+    pub syncs: Option<DurationHistogram>,
+    /// How many entries of the log are applied.
+    pub log_place: Option<u64>,
+    /// How many seconds ago an entry was last applied, or the server started.
+    pub log_age: Option<u64>,
+}

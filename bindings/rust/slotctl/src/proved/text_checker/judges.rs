@@ -1,0 +1,29 @@
+// Erased by bindings/rust/erase from crates/text_checker/src/judges.rt, sha256 41b58f7c29816e24fd2dadc69ccfea9fe3a00233ffa1415237cbfea02d3e3eca.
+//! The state of the objects that a checker of records keeps, in tables, and its answers to questions.
+//!
+//! `Names` is the state of the renaming object: the participants with places, names and proposals, and the moments, as
+//! rows in a table (`Moments`). It returns the error that a call must return. It says whether a place, a number, a view
+//! or a name is one that the object may give. `Stays` is the state of the pool and the slots, and `Firsts` has the
+//! first moments in which proposals are alone. What is proved of each: its state is that of one object (`HoldsNames`,
+//! `HoldsSlots`, `HoldsFirsts`), also after each call, and its answers are those of the object's rules.
+//!
+//! Nothing is read here, and no order of lines is known: `text_checker` judges them.
+//!
+//! From `text_checker/src/checker.rt`:
+//!
+//! ```text
+//! stays: Stays::new(alloc, config.k)?,
+//! names: Names::new(alloc, config.m, config.limit, lines)?,
+//! ..
+//! if !self.stays.is_free(number) {
+//!     return Err(Fault::Unlawful(Reason::Pool));
+//! }
+//! self.stays.gain(id, number);
+//! Ok(())
+//! ```
+pub mod firsts;
+pub mod moments;
+pub mod names;
+pub mod people;
+pub mod standing;
+pub mod stays;

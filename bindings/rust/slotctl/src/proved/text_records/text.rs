@@ -1,0 +1,53 @@
+// Erased by bindings/rust/erase from crates/text_records/src/text.rt, sha256 12d4c1df2fae3ea527cad5ffd7247254f585321187fcba5c71271d55cd9e7f45.
+//! A text that grows.
+
+use crate::kit::alloc::{AllocError, Global};
+use crate::kit::itoa::Buffer;
+use crate::kit::Vec;
+
+/// A growing buffer of bytes. Contracts see the list.
+pub struct Text {
+    bytes: Vec<u8>,
+}
+
+impl Text {
+    /// Makes an empty buffer. This allocates nothing.
+    pub fn new(alloc: Global) -> Text {
+        Text {
+            bytes: Vec::new(alloc),
+        }
+    }
+
+    /// Returns the bytes.
+    pub fn as_slice(&self) -> &[u8] {
+        &self.bytes
+    }
+
+    /// Appends bytes.
+    ///
+    /// # Errors
+    ///
+    /// `AllocError`: the allocation failed. The text is then of no use.
+    pub fn put(&mut self, bytes: &[u8]) -> Result<(), AllocError> {
+        self.bytes.extend_from_slice(bytes)?;
+        Ok(())
+    }
+
+    /// Appends a number in decimal. Its error is that of `put`.
+    pub fn put_number(&mut self, number: u64) -> Result<(), AllocError> {
+        self.put(Buffer::new().format(number).as_bytes())
+    }
+
+    /// Appends a word with its space, and a number in decimal. Its error is that of `put`.
+    pub fn put_word(&mut self, word: &[u8], number: u64) -> Result<(), AllocError> {
+        self.put(word)?;
+        self.put_number(number)
+    }
+
+    /// Appends an identity and its number, with a colon between them. Its error is that of `put`.
+    pub fn put_pair(&mut self, pair: (u64, u64)) -> Result<(), AllocError> {
+        self.put_number(pair.0)?;
+        self.put(b":")?;
+        self.put_number(pair.1)
+    }
+}

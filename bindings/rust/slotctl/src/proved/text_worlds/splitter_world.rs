@@ -1,0 +1,40 @@
+// Erased by bindings/rust/erase from crates/text_worlds/src/splitter_world.rt, sha256 838a877a7ada079dc811728af2687e20b247978c5f003b6b009832ebbdaa0e2a.
+//! A splitter as a world: it answers events.
+
+use crate::kit::alloc::Allocator;
+use crate::kit::Clone;
+use crate::proved::model_asked::config::Config;
+use crate::proved::model_asked::event::Event;
+use crate::proved::model_asked::reply::Reply;
+use crate::proved::model_splitter::world::SplitterWorld;
+use crate::proved::model_steps::refusal::Refusal;
+use crate::proved::model_steps::view::View;
+use crate::proved::text_player::service::Service;
+use crate::proved::text_worlds::outcomes::visit_reply;
+use crate::proved::text_worlds::world::{Unshared, World};
+
+impl<A: Allocator + Clone> Service<Unshared> for SplitterWorld<A> {
+    #[inline(always)]
+    fn apply(&mut self, _rt: &Unshared, event: Event, _view: &mut View) -> Reply<()> {
+        match event {
+            Event::Begin(id) => Reply::of_done(self.begin(id)),
+            Event::Step(id) => visit_reply(self.step(id)),
+            Event::Enter(_)
+            | Event::Probe(_)
+            | Event::Leave(_)
+            | Event::Put(_, _)
+            | Event::Get(_)
+            | Event::Widen(_) => unreachable!(),
+        }
+    }
+
+    fn owner(&mut self, _rt: &Unshared, _n: u64) -> Reply<View> {
+        Reply::Refused(Refusal::OutOfRange)
+    }
+}
+
+impl<A: Allocator + Clone> World<A, Unshared> for SplitterWorld<A> {
+    fn open(alloc: A, config: Config) -> Result<Self, Refusal> {
+        SplitterWorld::new(alloc, config.m as usize)
+    }
+}

@@ -1,0 +1,45 @@
+// Erased by bindings/rust/erase from crates/words_names/src/seats.rt, sha256 ce1d8710588fcb22ef98baa87053923465e0b21594e4e776ffa82a49fa18d4ee.
+//! The seats: before they are dealt, before and after they are renamed, and what they can show of their names.
+
+use crate::proved::model_recursion::namer::Namer;
+
+/// The most seats.
+pub const MOST_SEATS: usize = 64;
+
+/// The seats that are still to be dealt, by rising number.
+pub struct Dealer {
+    pub(crate) dealer: crate::proved::words_machine::seats::Dealer<Namer>,
+    // The identities of the seats that were dealt come first.
+    pub(crate) identities: [u64; MOST_SEATS],
+}
+
+/// A seat that was not renamed. `rename` takes it, so no seat is renamed twice.
+pub struct FreshSeat {
+    pub(crate) identity: u64,
+    pub(crate) seat: crate::proved::words_machine::seats::FreshSeat<Namer>,
+}
+
+/// A seat that was renamed.
+pub struct Renamed {
+    pub(crate) seat: crate::proved::words_machine::seats::EnteredSeat<Namer>,
+}
+
+impl Renamed {
+    /// Returns the identity that the seat was dealt to.
+    pub fn identity(&self) -> u64 {
+        self.seat.identity()
+    }
+
+    /// Returns how many accesses of words it made.
+    pub fn accesses(&self) -> u64 {
+        self.seat.accesses()
+    }
+
+    /// Returns its name.
+    ///
+    /// Where `b` seats of `m` had begun when it got the name, itself among them, the name is from 1 to `2b - 1`, and the seat
+    /// made at most `m(m + 1)` accesses.
+    pub fn name(&self) -> u64 {
+        u64::from(*self.seat.outcome())
+    }
+}
