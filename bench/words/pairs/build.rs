@@ -8,6 +8,6 @@ fn main() {
         };
         println!("cargo:rustc-link-search=native={folder}");
     }
-    println!("cargo:rustc-link-lib=static=word_pool_c");
+    println!("cargo:rustc-link-lib=static=words_c");
     println!("cargo:rustc-link-lib=static=libc_c");
 }

@@ -1,6 +1,7 @@
 //! Works of one thread, by name, so many times: what `bench/pool/counts` counts the instructions of.
 
 use crate::plain::{PlainBits, PlainWords};
+use crate::{OF_STD, WORKERS};
 use beglushan::{PerThread, Pool, Slots, Workers};
 use std::cell::Cell;
 use std::hint::black_box;
@@ -8,17 +9,19 @@ use std::sync::atomic::{AtomicU64, Ordering::Relaxed};
 use thread_local::ThreadLocal;
 
 /// Every work that there is.
-pub const WORKS: [&str; 16] = [
+pub const WORKS: [&str; 18] = [
     "nothing",
     "near",
     "acquire",
     "least",
     "kept",
+    "program",
     "plain",
     "bits",
     "slab",
     "epoch",
     "with",
+    "std",
     "thread_local",
     "with_64",
     "thread_local_64",
@@ -39,6 +42,8 @@ pub fn work(name: &str, times: usize) {
         "acquire" => repeat(times, |_| _ = pool.acquire().map(|slot| black_box(slot.number()))),
         "least" => repeat(times, |_| _ = pool.acquire_least().map(|slot| black_box(slot.number()))),
         "kept" => kept(times),
+        "program" => program(times),
+        "std" => repeat(times, |_| OF_STD.with(|mine| black_box(mine).set(mine.get() + 1))),
         "plain" => repeat(times, |_| words.release(black_box(words.acquire_near(2).unwrap_or(1)))),
         "bits" => repeat(times, |_| bits.release(black_box(bits.acquire_near(2).unwrap_or(1)))),
         "slab" => slab(times),
@@ -62,6 +67,11 @@ fn kept(times: usize) {
     let mut worker = workers.attach().expect("one of 64");
     let elements = Slots::new(&workers, |_| 0_u64);
     repeat(times, |_| *elements.get(&mut black_box(&mut worker).stay()) += 1);
+}
+
+fn program(times: usize) {
+    let elements = Slots::new(&*WORKERS, |_| 0_u64);
+    repeat(times, |_| WORKERS.with(|stay| *elements.get(black_box(stay)) += 1));
 }
 
 fn ten_pools(times: usize) {

@@ -10,16 +10,22 @@ mod timed;
 
 use beglushan::{PerThread, Pool, Slots, Workers};
 use plain::{PlainBits, PlainWords};
+use std::cell::Cell;
 use std::cmp::Reverse;
 use std::collections::BinaryHeap;
 use std::hint::black_box;
 use std::sync::atomic::{AtomicU64, Ordering::Relaxed};
-use std::sync::Mutex;
+use std::sync::{LazyLock, Mutex};
 use std::time::Instant;
 use thread_local::ThreadLocal;
 use timed::{line, timed};
 
 const NUMBERS: usize = 64;
+
+/// Workers of the program.
+pub static WORKERS: LazyLock<Workers> = LazyLock::new(|| Workers::new(NUMBERS).expect("a size that there is"));
+
+thread_local!(pub static OF_STD: Cell<u64> = const { Cell::new(0) });
 
 fn main() {
     let words: Vec<String> = std::env::args().skip(1).collect();
@@ -41,6 +47,7 @@ fn all() {
     }
     pools_in_turn();
     values_in_turn();
+    cold_values();
     sums();
     first_uses();
 }
@@ -71,6 +78,8 @@ fn stays_kept(threads: usize) {
     timed("kept", threads, attach, |worker| {
         *elements.get(&mut black_box(worker).stay()) += 1;
     });
+    let elements = Slots::new(&*WORKERS, |_| 0_u64);
+    timed("program", threads, |_| (), |()| WORKERS.with(|stay| *elements.get(black_box(stay)) += 1));
 }
 
 /// As many numbers as threads, and no hint.
@@ -121,6 +130,7 @@ fn values(threads: usize) {
     let ours = PerThread::<AtomicU64>::new();
     let count = |mine: &AtomicU64| mine.store(mine.load(Relaxed) + 1, Relaxed);
     timed("with", threads, |_| (), |()| black_box(&ours).with(count));
+    timed("std", threads, |_| (), |()| OF_STD.with(|mine| black_box(mine).set(mine.get() + 1)));
     let theirs = ThreadLocal::<AtomicU64>::new();
     timed("thread_local", threads, |_| (), |()| count(black_box(&theirs).get_or_default()));
 }
@@ -138,6 +148,29 @@ fn values_in_turn() {
         let theirs: Vec<ThreadLocal<AtomicU64>> = (0..many).map(|_| ThreadLocal::new()).collect();
         timed(&format!("thread_local, {many} in turn"), 1, |_| 0, |turn| count(black_box(&theirs[next(turn)]).get_or_default()));
     }
+}
+
+/// A thousand values of one thread, each used once after the caches were filled with something else.
+fn cold_values() {
+    const MANY: usize = 1000;
+    const ROUNDS: usize = 21;
+    let count = |mine: &AtomicU64| mine.store(mine.load(Relaxed) + 1, Relaxed);
+    let ours: Vec<PerThread<AtomicU64>> = (0..MANY).map(|_| PerThread::new()).collect();
+    let theirs: Vec<ThreadLocal<AtomicU64>> = (0..MANY).map(|_| ThreadLocal::new()).collect();
+    let mut other = vec![0_u8; 1 << 26];
+    let mut cold = |name: &str, use_all: &dyn Fn()| {
+        use_all();
+        let mut rounds = [(); ROUNDS].map(|()| {
+            other.iter_mut().step_by(64).for_each(|byte| *byte = byte.wrapping_add(1));
+            let from = Instant::now();
+            use_all();
+            from.elapsed().as_nanos()
+        });
+        rounds.sort_unstable();
+        line(name, 1, rounds[ROUNDS / 2] as f64 / MANY as f64);
+    };
+    cold("with, cold", &|| ours.iter().for_each(|values| black_box(values).with(count)));
+    cold("thread_local, cold", &|| theirs.iter().for_each(|values| count(black_box(values).get_or_default())));
 }
 
 /// Many pools of one thread, used in turn.

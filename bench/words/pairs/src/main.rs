@@ -3,7 +3,7 @@
 //!     word_pairs          both, one after the other
 //!     word_pairs stays    nanoseconds for a pair of acquire and release at 1, 2 and 4 threads: the proved pool over raw words, the
 //!                         same walk over plain words in Rust, and a heap of free numbers under a mutex
-//!     word_pairs names    nanoseconds for a name where 1 to 16 threads race: the proved names, the same program over plain words in
+//!     word_pairs names    nanoseconds for a name where 1 to 64 threads race: the proved names, the same program over plain words in
 //!                         Rust, and the same under a mutex that is held for a name or for each access
 
 mod accesses;

@@ -11,7 +11,7 @@ pub struct ProvedSeat {
 unsafe impl Send for ProvedSeat {}
 
 unsafe extern "C" {
-    fn word_names_new(names: *mut ProvedSeat, most: u64, limit: u64) -> bool;
+    fn word_names_new(names: *mut ProvedSeat, most: u64) -> bool;
     fn word_names_join(names: *mut ProvedSeat, other: *mut ProvedSeat, identity: u64) -> bool;
     fn word_names_name(names: *mut ProvedSeat) -> u64;
     fn word_names_free(names: *mut ProvedSeat);
@@ -23,10 +23,10 @@ impl ProvedSeat {
     }
 
     /// The seats of new names, one for each identity.
-    pub fn all(most: usize, limit: usize, identities: &[u64]) -> Vec<ProvedSeat> {
+    pub fn all(most: usize, identities: &[u64]) -> Vec<ProvedSeat> {
         let mut dealer = ProvedSeat::none();
         // SAFETY: the handle holds none yet.
-        assert!(unsafe { word_names_new(&mut dealer, most as u64, limit as u64) });
+        assert!(unsafe { word_names_new(&mut dealer, most as u64) });
         let mut seats = Vec::new();
         for identity in identities {
             let mut next = ProvedSeat::none();

@@ -7,9 +7,8 @@ use std::sync::atomic::{AtomicUsize, Ordering::SeqCst};
 use std::sync::{Arc, Barrier, Mutex};
 use std::time::Instant;
 
-/// The most seats of each race's names, and the most proposals of a seat.
-const SEATS: usize = 16;
-const LIMIT: usize = 64;
+/// The most seats of each race's names.
+const SEATS: usize = 64;
 
 /// How many races there are of each kind in a turn, and how many turns.
 const RACES: usize = 200;
@@ -25,7 +24,7 @@ const KINDS: [Kind; 4] =
     [("proved names", proved), ("plain words", plain), ("mutex held for a name", held), ("mutex held for each access", locked)];
 
 fn proved(identities: &[u64]) -> Vec<Seat> {
-    let seats = ProvedSeat::all(SEATS, LIMIT, identities).into_iter();
+    let seats = ProvedSeat::all(SEATS, identities).into_iter();
     seats.map(|mut seat| -> Seat { Box::new(move || seat.name()) }).collect()
 }
 
@@ -33,34 +32,34 @@ fn proved(identities: &[u64]) -> Vec<Seat> {
 type Shared = (Words, Mutex<()>);
 
 /// The seats of a race over words of Rust's own, each of which is named so.
-fn over(identities: &[u64], name: fn(&Shared, usize) -> u64) -> Vec<Seat> {
-    let shared = Arc::new((Words::new(SEATS, LIMIT), Mutex::new(())));
-    let seats = 0..identities.len();
+fn over(identities: &[u64], name: fn(&Shared, usize, u64) -> u64) -> Vec<Seat> {
+    let shared = Arc::new((Words::new(SEATS), Mutex::new(())));
+    let seats = identities.iter().copied().enumerate();
     seats
-        .map(|seat| -> Seat {
+        .map(|(seat, identity)| -> Seat {
             let shared = Arc::clone(&shared);
-            Box::new(move || name(&shared, seat))
+            Box::new(move || name(&shared, seat, identity))
         })
         .collect()
 }
 
-fn rename<A: Accesses>(words: &Words, by: A, seat: usize) -> u64 {
-    Renaming { words, by, seat }.name()
+fn rename<A: Accesses>(words: &Words, by: A, seat: usize, identity: u64) -> u64 {
+    Renaming { words, by, seat, identity }.name()
 }
 
 fn plain(identities: &[u64]) -> Vec<Seat> {
-    over(identities, |(words, _), seat| rename(words, Atomic, seat))
+    over(identities, |(words, _), seat, identity| rename(words, Atomic, seat, identity))
 }
 
 fn held(identities: &[u64]) -> Vec<Seat> {
-    over(identities, |(words, mutex), seat| {
+    over(identities, |(words, mutex), seat, identity| {
         let _held = mutex.lock().unwrap();
-        rename(words, Held, seat)
+        rename(words, Held, seat, identity)
     })
 }
 
 fn locked(identities: &[u64]) -> Vec<Seat> {
-    over(identities, |(words, mutex), seat| rename(words, mutex, seat))
+    over(identities, |(words, mutex), seat, identity| rename(words, mutex, seat, identity))
 }
 
 /// Waits until all threads are here, and has them go on at once.
@@ -128,7 +127,7 @@ fn median(mut times: Vec<u64>) -> u64 {
 }
 
 /// How many threads race at once.
-const THREADS: [usize; 5] = [1, 2, 4, 8, 16];
+const THREADS: [usize; 4] = [1, 4, 16, 64];
 
 /// What a thread takes for a name: the median of each turn, by kind and by how many threads race.
 type Medians = [[[u64; TURNS]; THREADS.len()]; KINDS.len()];
