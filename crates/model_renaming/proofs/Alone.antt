@@ -1,6 +1,6 @@
 -- who runs solo comes nearer to its name
 use Rattle.std.proofs.Common.{◌≡◌, ◌≢◌, ℕ, zero, suc, ◌+◌, ◌-◌, ◌*◌, ◌≤◌, ◌==◌, Bool, true, false, cond, ◌⊎◌, List, Option, Some, None, Result, Ok, Err, inl, inr, refl, sym, ap, subst, ◌∙◌, arith, add-one, is_some, nat_lt, nat_le}
-use Rattle.model_renaming.proofs.Common.{eqb_tells, leb_tells, set_at-same, set_at-other, value_of, Participant, Refusal, Finished, NoMemory, participant_of, beginner, participant_of-put, participant_of-push, Call, lacked_memory, steps_by, Began, Stepped, begin_refusal, done_unless, let_in, has_begun, goes_busy, KnownPlaces, GoesBusy, is_quiet, SnapReply, Silent, HasPlace, Written, Viewed, SnapCall, snap_next, IsSnapReply, Task, SnapObject, SnapBounds, observed, SnapAllows, SnapState, beginner_at, snap_answer, after_snap_step, Client, StepReply, Quiet, Round, Follow, Stage, Placing, Proposing, Looking, Settled, Over, Pace, IsInTime, most_steps, paced, paced_step, ToGo, ToPropose, ToLook, is_taken, next_proposal, next, IsReply, RenameTerms, RenameObject, IsRecent, IsConflict, Allows, after, after_step, no_step, RenameState, after_wish, begun_snap, begun_unless, has_place, world_with, snap_step, rename_answer, after_rename_step, stage_refusal, followed, decided, named_by, spent_by, saw_by, number_of, written_round, first_round, first_wish}
+use Rattle.model_renaming.proofs.Common.{eqb_tells, leb_tells, set_at-same, set_at-other, value_of, Participant, Refusal, Finished, NoMemory, participant_of, beginner, participant_of-put, participant_of-push, Call, lacked_memory, steps_by, Began, Stepped, begin_refusal, done_unless, let_in, has_begun, goes_busy, KnownPlaces, GoesBusy, is_quiet, SnapReply, Silent, HasPlace, Written, Viewed, SnapCall, snap_next, IsSnapReply, Task, SnapObject, SnapBounds, observed, SnapAllows, SnapState, beginner_at, snap_answer, after_snap_step, Client, StepReply, Quiet, Round, Follow, RoundStage, Placing, Proposing, Looking, Settled, Over, Pace, IsInTime, most_steps, paced, paced_step, ToGo, ToPropose, ToLook, is_taken, next_proposal, next, IsReply, RenameTerms, RenameObject, IsRecent, IsConflict, Allows, after, after_step, no_step, RenameState, after_wish, begun_snap, begun_unless, has_place, world_with, snap_step, rename_answer, after_rename_step, stage_refusal, followed, decided, named_by, spent_by, saw_by, number_of, written_round, first_round, first_wish}
 use Rattle.model_snapshot.specs.Alone.{EndsAlone, EndsSoon, most_reads}
 use Rattle.model_snapshot.proofs.cited.Alone.{ends_alike}
 use Rattle.model_snapshot.specs.Snapshot.Task.{Absent, Placing as ToPlace, Scanning as ToScan, Updating as ToUpdate}
@@ -28,7 +28,7 @@ view_phase bounds t p r view limit =
 module _ {S R V U K : Type 0} (W : KnownPlaces S R V U K) (terms : RenameTerms) (bounds : SnapBounds) where
   -- alone, at most n steps are left until p is named. Before a place two rounds follow; a number that is free in the last
   -- moment stays free, so its proposal is the last one; one that was chosen among others may meet a conflict
-  abbrev LeftAt : RenameState S U K → RenameObject → Pace → ℕ → Round → Stage → ℕ → Type 0
+  abbrev LeftAt : RenameState S U K → RenameObject → Pace → ℕ → Round → RoundStage → ℕ → Type 0
   LeftAt w o t p r Placing n = (r.count + 2 ≤ terms.limit) × (bounds.placing bounds.most + 8 * bounds.collecting + 2 ≤ n + t.steps p)
   LeftAt w o t p r (Proposing number) n = (k : ℕ) × EndsAlone W w.snap p k × (
       (IsFree o p number × (k + 2 * bounds.collecting ≤ n))
@@ -92,16 +92,16 @@ module _ {S R V U K : Type 0} (W : KnownPlaces S R V U K) (terms : RenameTerms) 
         -- who has not stepped since it was asked
         new_update : (number : ℕ) → r.stage ≡ Proposing number → t.steps p ≡ 0 → EndsAlone W w.snap p (2 * bounds.collecting + 1)
         new_update number stage none =
-            let h : IsProposing terms o t i.object w.snap p number r = subst (λ (z : Stage). IsAtStage terms o t i.object w.snap p r z) stage (i.stages p v here) in
+            let h : IsProposing terms o t i.object w.snap p number r = subst (λ (z : RoundStage). IsAtStage terms o t i.object w.snap p r z) stage (i.stages p v here) in
             rw (← reads_are) ((grounds.soon w.snap i.object p i.tie).new_update number h.task (sym h.pace ∙ none))
 
         new_scan : r.stage ≡ Looking → t.steps p ≡ 0 → EndsAlone W w.snap p (2 * bounds.collecting)
         new_scan stage none =
-            let h : IsLooking terms o t i.object w.snap p r = subst (λ (z : Stage). IsAtStage terms o t i.object w.snap p r z) stage (i.stages p v here) in
+            let h : IsLooking terms o t i.object w.snap p r = subst (λ (z : RoundStage). IsAtStage terms o t i.object w.snap p r z) stage (i.stages p v here) in
             rw (← reads_are) ((grounds.soon w.snap i.object p i.tie).new_scan h.task (sym h.pace ∙ none))
 
         -- from any point on two rounds are enough
-        starts_at : (stage : Stage) → IsAtStage terms o t i.object w.snap p r stage → HasTwoLeft terms o p → LeftAt w o t p r stage (steps_alone bounds)
+        starts_at : (stage : RoundStage) → IsAtStage terms o t i.object w.snap p r stage → HasTwoLeft terms o p → LeftAt w o t p r stage (steps_alone bounds)
         starts_at Placing h two = let l = two.left in let e = (i.counts p v here).count in let c = some_reads ToPlace h.task (λ e. absurd (cc)) in (omega arith, omega arith)
         starts_at (Proposing number) h two =
             let l = two.left in
@@ -129,7 +129,7 @@ module _ {S R V U K : Type 0} (W : KnownPlaces S R V U K) (terms : RenameTerms) 
         on_way h (Viewed view) timed = absurd (let two : ToGo ≡ ToLook = sym h.phase ∙ view_phase bounds t p r view w.limit timed in cc)
 
         -- who has no step left is named
-        ends_at : (stage : Stage) → r.stage ≡ stage → IsAtStage terms o t i.object w.snap p r stage → LeftAt w o t p r stage 0 → is_some (o.name p) ≡ true
+        ends_at : (stage : RoundStage) → r.stage ≡ stage → IsAtStage terms o t i.object w.snap p r stage → LeftAt w o t p r stage 0 → is_some (o.name p) ≡ true
         ends_at Placing e h left = absurd (
             let k : GoesBusy W w.snap p 0 = goes_busy W w.snap p 0 h.stands in
             let gone = placing_gone W terms bounds Tie tie_goes w o t i p v here h e k in
@@ -154,7 +154,7 @@ module _ {S R V U K : Type 0} (W : KnownPlaces S R V U K) (terms : RenameTerms) 
       -- who has some left is named, or not spent
       pub goes_alone : (n : ℕ) → LeftAlone w o t p n → (is_some (o.name p) ≡ true) ⊎ (o.spent p ≡ false)
       goes_alone n h = by_stage h.0.program.stage (i.stages p h.0 h.1) h.2 where
-        by_stage : (stage : Stage) → IsAtStage terms o t i.object w.snap p h.0.program stage → LeftAt w o t p h.0.program stage n → (is_some (o.name p) ≡ true) ⊎ (o.spent p ≡ false)
+        by_stage : (stage : RoundStage) → IsAtStage terms o t i.object w.snap p h.0.program stage → LeftAt w o t p h.0.program stage n → (is_some (o.name p) ≡ true) ⊎ (o.spent p ≡ false)
         by_stage Settled k left = inl (ap is_some k.1)
         by_stage Over k left = absurd left
         by_stage stage k left = inr k.going.left
@@ -187,7 +187,7 @@ module _ {S R V U K : Type 0} (W : KnownPlaces S R V U K) (terms : RenameTerms) 
       placing_on h stage left Silent gone =
           let more = set_at-same t.steps p (t.steps p + 1) in
           let was = left.1 in
-          subst (λ (z : Stage). LeftAt (world_of (followed v.program p Silent w.limit)) o (paced_step t p Quiet) p v.program z n) (sym stage) (left.0, omega arith)
+          subst (λ (z : RoundStage). LeftAt (world_of (followed v.program p Silent w.limit)) o (paced_step t p Quiet) p v.program z n) (sym stage) (left.0, omega arith)
       placing_on h stage left (HasPlace x) gone =
           let was = left.1 in
           let one = on_way w o t i p v here h (HasPlace x) gone.timed in
@@ -204,7 +204,7 @@ module _ {S R V U K : Type 0} (W : KnownPlaces S R V U K) (terms : RenameTerms) 
       proposing_on number h stage left Silent answer gone =
           let on = quiet_on w.snap p left.0 left.1 answer in
           let less = on.1 in
-          subst (λ (z : Stage). LeftAt (world_of (followed v.program p Silent w.limit)) o (paced_step t p Quiet) p v.program z n) (sym stage) (
+          subst (λ (z : RoundStage). LeftAt (world_of (followed v.program p Silent w.limit)) o (paced_step t p Quiet) p v.program z n) (sym stage) (
             on.0,
             on.2,
             elim left.2 [
@@ -222,7 +222,7 @@ module _ {S R V U K : Type 0} (W : KnownPlaces S R V U K) (terms : RenameTerms) 
             elim left.2 [
               | inl a ↦
                   let l = a.1 in
-                  inl (last, λ q other e. a.0 q other (sym (others_stand o p (number_of v.program.stage) q other) ∙ e ∙ ap (λ (z : Stage). Some (number_of z)) stage), omega arith)
+                  inl (last, λ q other e. a.0 q other (sym (others_stand o p (number_of v.program.stage) q other) ∙ e ∙ ap (λ (z : RoundStage). Some (number_of z)) stage), omega arith)
               | inr a ↦
                   let l = a.1 in
                   let c = a.0 in
@@ -286,7 +286,7 @@ module _ {S R V U K : Type 0} (W : KnownPlaces S R V U K) (terms : RenameTerms) 
       looking_on h stage left Silent answer gone =
           let on = quiet_on w.snap p left.0 left.1 answer in
           let less = on.1 in
-          subst (λ (z : Stage). LeftAt (world_of (followed v.program p Silent w.limit)) o (paced_step t p Quiet) p v.program z n) (sym stage) (
+          subst (λ (z : RoundStage). LeftAt (world_of (followed v.program p Silent w.limit)) o (paced_step t p Quiet) p v.program z n) (sym stage) (
             on.0,
             on.2,
             elim left.2 [
@@ -314,7 +314,7 @@ module _ {S R V U K : Type 0} (W : KnownPlaces S R V U K) (terms : RenameTerms) 
             subst (λ (x : RenameState S U K). LeftAlone x (after_step o p said) (paced_step t p said) p n) state
             (subst (λ (x : StepReply). LeftAlone (world_of f) (after_step o p x) (paced_step t p x) p n) reported (beginner p f.round, round_put f, left))
 
-        nearer_at : (stage : Stage) → v.program.stage ≡ stage → IsAtStage terms o t i.object w.snap p v.program stage → LeftAt w o t p v.program stage (suc n) → Nearer
+        nearer_at : (stage : RoundStage) → v.program.stage ≡ stage → IsAtStage terms o t i.object w.snap p v.program stage → LeftAt w o t p v.program stage (suc n) → Nearer
         nearer_at Placing e h left =
             let k : GoesBusy W w.snap p 0 = goes_busy W w.snap p 0 h.stands in
             conclude k.reply k.answer (ap stage_refusal e) (placing_on h e left k.reply (placing_gone W terms bounds Tie tie_goes w o t i p v here h e k))
@@ -351,7 +351,7 @@ module _ {S R V U K : Type 0} (W : KnownPlaces S R V U K) (terms : RenameTerms) 
         abbrev t' : Pace
         t' = paced bounds t (Began q (Ok tt))
 
-        left_still : (n : ℕ) (stage : Stage) → LeftAt w o t p v.program stage n → LeftAt joined (after o (Began q (Ok tt))) t' p v.program stage n
+        left_still : (n : ℕ) (stage : RoundStage) → LeftAt w o t p v.program stage n → LeftAt joined (after o (Began q (Ok tt))) t' p v.program stage n
         left_still n Placing left = let same : t'.steps p ≡ t.steps p = set_at-other t.steps q 0 p other in let l = left.1 in (left.0, omega arith)
         left_still n (Proposing number) left = (left.0, ends_still left.0 left.1, left.2)
         left_still n Looking left = (left.0, ends_still left.0 left.1, left.2)

@@ -38,8 +38,8 @@ pub use Rattle.model_renaming.specs.RenameWorld.{rename_answer, after_rename_ste
 pub use Rattle.model_renaming.specs.declared.reply.Reply.TheVariants.{Quiet, Proposed, Saw, Placed, Named, Spent}
 pub use Rattle.model_renaming.specs.declared.round.Round.{Round}
 pub use Rattle.model_renaming.specs.declared.round.Follow.{Follow}
-pub use Rattle.model_renaming.specs.declared.round.Stage.{Stage}
-pub use Rattle.model_renaming.specs.declared.round.Stage.TheVariants.{Placing, Proposing, Looking, Settled, Over}
+pub use Rattle.model_renaming.specs.declared.round.RoundStage.{RoundStage}
+pub use Rattle.model_renaming.specs.declared.round.RoundStage.TheVariants.{Placing, Proposing, Looking, Settled, Over}
 pub use Rattle.model_renaming.specs.Pace.{Pace, IsInTime, most_steps, paced, paced_step, InTime}
 pub use Rattle.model_renaming.specs.Pace.Phase.{ToPlace as ToGo, ToPropose, ToLook}
 pub use Rattle.model_asked.specs.rounds.Proposals.{is_taken, next_proposal}

@@ -1,6 +1,6 @@
 -- every renaming world keeps the law of renaming
 use Rattle.std.proofs.Common.{◌≤◌, None, is_some, IsOk, ◌≡◌, ◌+◌, false, ℕ, ◌==◌, Bool, true, List, [], ◌∷◌, ◌++◌, Option, Some, refl, sym, ap, ◌∙◌, arith, option_map, option_and_then}
-use Rattle.model_renaming.proofs.Common.{Call, Began, Stepped, Participant, NotBegun, participant_of, Run, PlacesLaws, BoundsScans, KnownPlaces, Client, StandsAt, GoesBusy, goes_busy, client_of, access_of, snapshot, SnapCall, snap_next, IsSnapReply, is_tree, WorldKind, StepReply, Round, Stage, Placing, Proposing, Looking, Settled, Over, Reaches, RenameState, name_in, name_by, owner_by, shown_by, step_refusal, rename_answer, may_lack, name_at, stage_refusal, standing_by}
+use Rattle.model_renaming.proofs.Common.{Call, Began, Stepped, Participant, NotBegun, participant_of, Run, PlacesLaws, BoundsScans, KnownPlaces, Client, StandsAt, GoesBusy, goes_busy, client_of, access_of, snapshot, SnapCall, snap_next, IsSnapReply, is_tree, WorldKind, StepReply, Round, RoundStage, Placing, Proposing, Looking, Settled, Over, Reaches, RenameState, name_in, name_by, owner_by, shown_by, step_refusal, rename_answer, may_lack, name_at, stage_refusal, standing_by}
 use Rattle.model_steps.proofs.cited.RunLemmas.{run_more, run_keeps, run_one}
 use Rattle.model_snapshot.specs.SnapWorld.{SnapState, IsAccessFor}
 use Rattle.model_snapshot.proofs.cited.Following.{own_access_holds}
@@ -137,10 +137,10 @@ module _ {S R V U K : Type 0} (W : KnownPlaces S R V U K) (kind : WorldKind) (sc
   same : (o : RenameObject) → IsRun (terms_of W kind first) r o → k.object ≡ o
   same o run = run_one after (Allows (terms_of W kind first)) new_object r k.object o k.run run
 
-  abbrev AtStage : ℕ → Round → Stage → Type 0
+  abbrev AtStage : ℕ → Round → RoundStage → Type 0
   AtStage p round stage = IsAtStage (terms_of W kind first) k.object k.paces.0 k.tied.object w.snap p round stage
 
-  name_at_stage : (p : ℕ) (round : Round) (stage : Stage) → AtStage p round stage → name_at stage round.proposal ≡ k.object.name p
+  name_at_stage : (p : ℕ) (round : Round) (stage : RoundStage) → AtStage p round stage → name_at stage round.proposal ≡ k.object.name p
   name_at_stage p round Settled h = sym h.1
   name_at_stage p round Over h = sym h.0
   name_at_stage p round stage h = sym h.going.unnamed
@@ -186,7 +186,7 @@ module _ {S R V U K : Type 0} (W : KnownPlaces S R V U K) (kind : WorldKind) (sc
       let goes : GoesBusy W w.snap p n = goes_busy W w.snap p n stands in
       rw (here, unclosed, goes.answer) refl
 
-  open_answered : (p : ℕ) (v : Participant Round) → participant_of p w.rounds ≡ Some v → (stage : Stage) → v.program.stage ≡ stage → AtStage p v.program stage → stage_refusal stage ≡ None → IsOk (rename_answer W w p)
+  open_answered : (p : ℕ) (v : Participant Round) → participant_of p w.rounds ≡ Some v → (stage : RoundStage) → v.program.stage ≡ stage → AtStage p v.program stage → stage_refusal stage ≡ None → IsOk (rename_answer W w p)
   open_answered p v here Placing e h unclosed = busy_answered p v here (ap stage_refusal e ∙ unclosed) 0 h.stands
   open_answered p v here (Proposing number) e h unclosed = busy_answered p v here (ap stage_refusal e ∙ unclosed) (v.program.count + 1) h.stands
   open_answered p v here Looking e h unclosed = busy_answered p v here (ap stage_refusal e ∙ unclosed) v.program.count h.stands

@@ -9,28 +9,28 @@ use Rattle.model_renaming.specs.declared.round.Round.{Round}
 use Rattle.model_renaming.specs.declared.round.Follow.{Follow}
 use Rattle.model_renaming.specs.declared.round.Wish.{Wish}
 use Rattle.model_renaming.specs.declared.round.Wish.TheVariants.{Nothing, Update, Scan}
-use Rattle.model_renaming.specs.declared.round.Stage.{Stage}
-use Rattle.model_renaming.specs.declared.round.Stage.TheVariants.{Placing, Proposing, Looking, Settled, Over}
+use Rattle.model_renaming.specs.declared.round.RoundStage.{RoundStage}
+use Rattle.model_renaming.specs.declared.round.RoundStage.TheVariants.{Placing, Proposing, Looking, Settled, Over}
 use Rattle.model_asked.specs.rounds.Proposals.{is_taken, next_proposal}
 
 -- why there is no further step
-abbrev pub stage_refusal : Stage → Option Refusal
+abbrev pub stage_refusal : RoundStage → Option Refusal
 stage_refusal Settled = Some Finished
 stage_refusal Over = Some IsSpent
 stage_refusal s = None
 
 -- the number that is proposed next
-abbrev pub number_of : Stage → ℕ
+abbrev pub number_of : RoundStage → ℕ
 number_of (Proposing number) = number
 number_of s = 0
 
 -- the name that a round has ended with
-abbrev pub name_at : Stage → ℕ → Option ℕ
+abbrev pub name_at : RoundStage → ℕ → Option ℕ
 name_at Settled proposal = Some proposal
 name_at s proposal = None
 
 -- whether it has ended with this name
-abbrev pub has_name : Stage → ℕ → ℕ → Bool
+abbrev pub has_name : RoundStage → ℕ → ℕ → Bool
 has_name Settled proposal number = proposal == number
 has_name s proposal number = false
 
@@ -39,7 +39,7 @@ abbrev pub standing_by : Round → Option ℕ
 standing_by r = if r.count == 0 then None else Some r.proposal
 
 -- the round at another stage
-abbrev pub at_stage : Round → Stage → Round
+abbrev pub at_stage : Round → RoundStage → Round
 at_stage r stage = record { count = r.count; proposal = r.proposal; stage = stage }
 
 -- once its proposal is written

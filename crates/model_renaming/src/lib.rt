@@ -71,5 +71,5 @@ pub use model_asked::{Config, WorldKind};
 pub use places::RenamePlaces;
 pub use proposal::next_proposal;
 pub use reply::Reply;
-pub use round::{Follow, Round, Stage, Wish};
+pub use round::{Follow, Round, RoundStage, Wish};
 pub use world::RenameWorld;

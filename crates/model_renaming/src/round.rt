@@ -10,7 +10,7 @@ use model_steps::{Refusal, View};
 
 /// What a participant does in its round.
 #[derive(Clone, Copy, Debug, Drop, PartialEq, Eq)]
-pub enum Stage {
+pub enum RoundStage {
     /// It walks to its place.
     Placing,
     /// It proposes this number: its update is under way.
@@ -23,17 +23,17 @@ pub enum Stage {
     Over,
 }
 
-impl Stage {
+impl RoundStage {
     /// Returns the error of a step at this stage, or `None` if a step may be made.
     pub fn refusal(self) -> Option<Refusal>
         ensures { result ≡ stage_refusal self }
     {
         match self {
-            Stage::Placing => None,
-            Stage::Proposing(_) => None,
-            Stage::Looking => None,
-            Stage::Settled => Some(Refusal::Finished),
-            Stage::Over => Some(Refusal::Spent),
+            RoundStage::Placing => None,
+            RoundStage::Proposing(_) => None,
+            RoundStage::Looking => None,
+            RoundStage::Settled => Some(Refusal::Finished),
+            RoundStage::Over => Some(Refusal::Spent),
         }
     }
 
@@ -42,11 +42,11 @@ impl Stage {
         ensures { result ≡ number_of self }
     {
         match self {
-            Stage::Placing => 0,
-            Stage::Proposing(number) => number,
-            Stage::Looking => 0,
-            Stage::Settled => 0,
-            Stage::Over => 0,
+            RoundStage::Placing => 0,
+            RoundStage::Proposing(number) => number,
+            RoundStage::Looking => 0,
+            RoundStage::Settled => 0,
+            RoundStage::Over => 0,
         }
     }
 }
@@ -59,7 +59,7 @@ pub struct Round {
     /// Its last proposal, which is in the memory, or 0 if it has made none.
     pub proposal: u64,
     /// What it does now.
-    pub stage: Stage,
+    pub stage: RoundStage,
 }
 
 /// What a round needs from the snapshot object next.
@@ -106,9 +106,9 @@ impl Round {
             count: 0,
             proposal: 0,
             stage: if placed {
-                Stage::Proposing(1)
+                RoundStage::Proposing(1)
             } else {
-                Stage::Placing
+                RoundStage::Placing
             },
         }
     }
@@ -118,11 +118,11 @@ impl Round {
         ensures { result ≡ name_at self.now.stage self.now.proposal }
     {
         match self.stage {
-            Stage::Placing => None,
-            Stage::Proposing(_) => None,
-            Stage::Looking => None,
-            Stage::Settled => Some(self.proposal),
-            Stage::Over => None,
+            RoundStage::Placing => None,
+            RoundStage::Proposing(_) => None,
+            RoundStage::Looking => None,
+            RoundStage::Settled => Some(self.proposal),
+            RoundStage::Over => None,
         }
     }
 
@@ -131,11 +131,11 @@ impl Round {
         ensures { result ≡ has_name self.now.stage self.now.proposal number }
     {
         match self.stage {
-            Stage::Placing => false,
-            Stage::Proposing(_) => false,
-            Stage::Looking => false,
-            Stage::Settled => self.proposal == number,
-            Stage::Over => false,
+            RoundStage::Placing => false,
+            RoundStage::Proposing(_) => false,
+            RoundStage::Looking => false,
+            RoundStage::Settled => self.proposal == number,
+            RoundStage::Over => false,
         }
     }
 
@@ -151,7 +151,7 @@ impl Round {
     }
 
     /// This round at another stage.
-    fn at(self, stage: Stage) -> Self
+    fn at(self, stage: RoundStage) -> Self
         ensures { result ≡ at_stage self stage }
     {
         Round {
@@ -172,7 +172,7 @@ impl Round {
                 self.count
             },
             proposal: self.stage.number(),
-            stage: Stage::Looking,
+            stage: RoundStage::Looking,
         }
     }
 
@@ -182,21 +182,21 @@ impl Round {
     {
         if !is_taken(&view, id, self.proposal) {
             return Follow {
-                round: self.at(Stage::Settled),
+                round: self.at(RoundStage::Settled),
                 wish: Wish::Nothing,
                 reply: Reply::Named(self.proposal, view),
             };
         }
         if limit <= self.count {
             return Follow {
-                round: self.at(Stage::Over),
+                round: self.at(RoundStage::Over),
                 wish: Wish::Nothing,
                 reply: Reply::Spent,
             };
         }
         let number = next_proposal(&view, id);
         Follow {
-            round: self.at(Stage::Proposing(number)),
+            round: self.at(RoundStage::Proposing(number)),
             wish: Wish::Update(number),
             reply: Reply::Saw(view),
         }
@@ -213,7 +213,7 @@ impl Round {
                 reply: Reply::Quiet,
             },
             SnapReply::Placed(place) => Follow {
-                round: self.at(Stage::Proposing(1)),
+                round: self.at(RoundStage::Proposing(1)),
                 wish: Wish::Update(1),
                 reply: Reply::Placed(place),
             },

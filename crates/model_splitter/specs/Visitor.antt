@@ -10,8 +10,8 @@ use Rattle.model_steps.specs.Steps.{ProgramSteps}
 use Rattle.model_steps.specs.RegisterState.{Registers}
 use Rattle.model_steps.specs.Registers.{register_of, answer_of, after_access}
 use Rattle.model_splitter.specs.declared.way.Way.{Way}
-use Rattle.model_splitter.specs.declared.stage.Stage.{Stage}
-use Rattle.model_splitter.specs.declared.stage.Stage.TheVariants.{Outside, WroteX, SawClear, WroteY, Gone}
+use Rattle.model_splitter.specs.declared.stage.VisitStage.{VisitStage}
+use Rattle.model_splitter.specs.declared.stage.VisitStage.TheVariants.{Outside, WroteX, SawClear, WroteY, Gone}
 use Rattle.model_splitter.specs.declared.visitor.Visitor.{Visitor}
 use Rattle.model_splitter.specs.Stage.{x_after, y_after, stage_after}
 
@@ -19,7 +19,7 @@ use Rattle.model_splitter.specs.Stage.{x_after, y_after, stage_after}
 abbrev pub visitor_at : {R : Type 0} → ℕ → R → R → Visitor R
 visitor_at id x y = record { identity = id; x = x; y = y; stage = Outside }
 
-abbrev pub access_at : {R : Type 0} → ℕ → R → R → Stage → Access R ℕ
+abbrev pub access_at : {R : Type 0} → ℕ → R → R → VisitStage → Access R ℕ
 access_at p x y Outside = Write x p
 access_at p x y WroteX = Read y
 access_at p x y SawClear = Write y 1
@@ -37,13 +37,13 @@ value_in (WasSet was) = 0
 value_in Done = 0
 
 -- the stage of a visit after an answer. One access reads X or Y, so the answer is the value of either
-abbrev pub stage_by : {R : Type 0} → Visitor R → Answer ℕ → Stage
+abbrev pub stage_by : {R : Type 0} → Visitor R → Answer ℕ → VisitStage
 stage_by v got = stage_after v.identity v.stage (value_in got) (value_in got)
 
 abbrev pub visitor_after : {R : Type 0} → Visitor R → Answer ℕ → Visitor R
 visitor_after v got = record v { stage = stage_by v got }
 
-abbrev pub note_at : Stage → Note Way
+abbrev pub note_at : VisitStage → Note Way
 note_at Outside = Quiet
 note_at WroteX = Quiet
 note_at SawClear = Quiet

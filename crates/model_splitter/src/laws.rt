@@ -2,7 +2,7 @@
 
 ghost use Rattle.std.specs.Prelude.{◌≡◌, ◌≢◌, ◌↔◌, ℕ, ◌<◌, ◌≤◌, true, length, Some};
 ghost use Rattle.model_splitter.specs.Laws.{DoorSpec, GoesOn, TellsPlace, HasOneAtPlace, FourthPlaces, CountsOneMore};
-ghost use Rattle.model_splitter.specs.declared.stage.Stage.{Stage};
+ghost use Rattle.model_splitter.specs.declared.stage.VisitStage.{VisitStage};
 ghost use Rattle.model_splitter.specs.declared.visitor.Visitor.{Visitor};
 ghost use Rattle.model_splitter.specs.declared.way.Way.{Way};
 ghost use Rattle.model_splitter.specs.Invariant.{DoorSatisfiesSpec, IsSplitter};
@@ -22,15 +22,15 @@ ghost use Rattle.model_steps.specs.declared.note.Note.TheVariants.{Ended};
 /// A splitter that no visitor has entered is consistent, and each access of a visit keeps it consistent. A consistent
 /// splitter keeps the law of the splitter.
 pub fn law_of_one_door()
-    ensures fresh { (x : ℕ) → DoorSatisfiesSpec x 0 (λ p. Stage.Outside) }
+    ensures fresh { (x : ℕ) → DoorSatisfiesSpec x 0 (λ p. VisitStage.Outside) }
     ensures kept { DoorSpec }
-    ensures law { (x y : ℕ) (stage : ℕ → Stage) → DoorSatisfiesSpec x y stage → IsSplitter stage }
+    ensures law { (x y : ℕ) (stage : ℕ → VisitStage) → DoorSatisfiesSpec x y stage → IsSplitter stage }
 {}
 
 /// A law: a visitor that went right has ended that way, and so has one that went down.
 pub fn law_of_ways()
-    ensures right { (s : Stage) → went_right s ≡ true → s ≡ Stage.Gone Way.Right }
-    ensures down { (s : Stage) → went_down s ≡ true → s ≡ Stage.Gone Way.Down }
+    ensures right { (s : VisitStage) → went_right s ≡ true → s ≡ VisitStage.Gone Way.Right }
+    ensures down { (s : VisitStage) → went_down s ≡ true → s ≡ VisitStage.Gone Way.Down }
 {}
 
 /// A law of walks from door to door, each of which has a splitter.
@@ -42,9 +42,9 @@ pub fn law_of_walks<W>()
     ensures on { GoesOn W }
     ensures reported { TellsPlace W }
     ensures ended { (note : Note ℕ) (x : ℕ) → (note ≡ Ended x) ↔ (outcome_in note ≡ Some x) }
-    ensures place { (k : ℕ) (s : Stage) (place : ℕ) → place_at_door k s ≡ Some place → (s ≡ Stage.Gone Way.Stop) × (place ≡ k) }
+    ensures place { (k : ℕ) (s : VisitStage) (place : ℕ) → place_at_door k s ≡ Some place → (s ≡ VisitStage.Gone Way.Stop) × (place ≡ k) }
     ensures one { HasOneAtPlace }
-    ensures few { (s : Stage) → accesses_at s ≤ 4 }
+    ensures few { (s : VisitStage) → accesses_at s ≤ 4 }
     ensures last { FourthPlaces }
     ensures more { CountsOneMore }
 {}

@@ -38,7 +38,7 @@ pub mod world;
 pub use laws::{
     law_of_one_access, law_of_one_door, law_of_splitter_calls, law_of_walks, law_of_ways,
 };
-pub use stage::Stage;
+pub use stage::VisitStage;
 pub use visitor::Visitor;
 pub use way::Way;
 pub use world::SplitterWorld;

@@ -8,7 +8,7 @@ use model_steps::Place;
 
 /// The last access that a visit to a splitter made.
 #[derive(Clone, Copy, Debug, Drop, PartialEq, Eq)]
-pub enum Stage {
+pub enum VisitStage {
     /// It has made no access.
     Outside,
     /// It wrote its identity into X.
@@ -21,15 +21,16 @@ pub enum Stage {
     Gone(Way),
 }
 
-impl Stage {
+impl VisitStage {
     /// Returns `door` if the visit has stopped there, as the place of its walk; otherwise `None`.
     pub fn place_at(self, door: Place) -> Option<Place>
         ensures { result ≡ place_at_door door self }
     {
         match self {
-            Stage::Gone(Way::Stop) => Some(door),
-            Stage::Gone(Way::Right) | Stage::Gone(Way::Down) => None,
-            Stage::Outside | Stage::WroteX | Stage::SawClear | Stage::WroteY => None,
+            VisitStage::Gone(Way::Stop) => Some(door),
+            VisitStage::Gone(Way::Right) | VisitStage::Gone(Way::Down) => None,
+            VisitStage::Outside | VisitStage::WroteX | VisitStage::SawClear | VisitStage::WroteY =>
+                None,
         }
     }
 }

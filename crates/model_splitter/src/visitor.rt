@@ -3,7 +3,7 @@
 ghost use Rattle.std.specs.Prelude.{◌≡◌};
 ghost use Rattle.model_splitter.specs.Visitor.{visitor_at, visitor_steps, access_of, visitor_after, note_after};
 
-use crate::stage::Stage;
+use crate::stage::VisitStage;
 use crate::way::Way;
 use model_steps::{Access, Answer, Note, StepProgram};
 
@@ -28,7 +28,7 @@ pub struct Visitor<R> {
     /// The register that is its Y.
     pub y: R,
     /// The last access that the visit made.
-    pub stage: Stage,
+    pub stage: VisitStage,
 }
 
 impl<R: Copy> Visitor<R> {
@@ -40,7 +40,7 @@ impl<R: Copy> Visitor<R> {
             identity,
             x,
             y,
-            stage: Stage::Outside,
+            stage: VisitStage::Outside,
         }
     }
 }
@@ -58,11 +58,11 @@ impl<R: Copy> StepProgram for Visitor<R> {
         ensures { result ≡ access_of self.now }
     {
         match self.stage {
-            Stage::Outside => Access::Write(self.x, self.identity),
-            Stage::WroteX => Access::Read(self.y),
-            Stage::SawClear => Access::Write(self.y, SET),
-            Stage::WroteY => Access::Read(self.x),
-            Stage::Gone(_) => Access::Nothing,
+            VisitStage::Outside => Access::Write(self.x, self.identity),
+            VisitStage::WroteX => Access::Read(self.y),
+            VisitStage::SawClear => Access::Write(self.y, SET),
+            VisitStage::WroteY => Access::Read(self.x),
+            VisitStage::Gone(_) => Access::Nothing,
         }
     }
 
@@ -75,26 +75,26 @@ impl<R: Copy> StepProgram for Visitor<R> {
             _ => 0,
         };
         self.stage = match self.stage {
-            Stage::Outside => Stage::WroteX,
-            Stage::WroteX => {
+            VisitStage::Outside => VisitStage::WroteX,
+            VisitStage::WroteX => {
                 if found == 0 {
-                    Stage::SawClear
+                    VisitStage::SawClear
                 } else {
-                    Stage::Gone(Way::Right)
+                    VisitStage::Gone(Way::Right)
                 }
             }
-            Stage::SawClear => Stage::WroteY,
-            Stage::WroteY => {
+            VisitStage::SawClear => VisitStage::WroteY,
+            VisitStage::WroteY => {
                 if found == self.identity {
-                    Stage::Gone(Way::Stop)
+                    VisitStage::Gone(Way::Stop)
                 } else {
-                    Stage::Gone(Way::Down)
+                    VisitStage::Gone(Way::Down)
                 }
             }
-            Stage::Gone(way) => Stage::Gone(way),
+            VisitStage::Gone(way) => VisitStage::Gone(way),
         };
         match self.stage {
-            Stage::Gone(way) => Note::Ended(way),
+            VisitStage::Gone(way) => Note::Ended(way),
             _ => Note::Quiet,
         }
     }

@@ -34,7 +34,7 @@ const READ_ENTRIES: u64 = 10_000;
 
 /// What is to be done next for a compaction.
 #[derive(Clone, Copy, Debug, Drop, PartialEq, Eq)]
-enum Stage {
+enum CompactionStage {
     /// To read the log to its end, and to wait for the compaction of another.
     Read,
     /// To offer the entry that begins.
@@ -52,7 +52,7 @@ enum Stage {
 /// A compaction that this front end offers.
 #[derive(Drop)]
 struct Work {
-    stage: Stage,
+    stage: CompactionStage,
     /// The place of the entry that begins.
     first: u64,
     /// The hall with the shorter history, and how many of its events were offered.
@@ -186,7 +186,7 @@ impl Work {
     // Nothing was asked yet.
     fn new() -> Work {
         Work {
-            stage: Stage::Read,
+            stage: CompactionStage::Read,
             first: 0,
             new: None,
             told: 0,
@@ -229,16 +229,16 @@ impl Compaction {
         ensures { self.new.token ≡ self.old.token }
     {
         if !self.compactor.is_due(hall) {
-            work.stage = Stage::Rest;
+            work.stage = CompactionStage::Rest;
             return;
         }
         if MOST_BEGINNINGS <= work.beginnings {
             self.compactor.put_off(hall);
-            work.stage = Stage::Rest;
+            work.stage = CompactionStage::Rest;
             return;
         }
         work.beginnings += 1;
-        work.stage = Stage::Begin;
+        work.stage = CompactionStage::Begin;
     }
 
     // Reads the log to its end.
@@ -256,7 +256,7 @@ impl Compaction {
             Ok(true) => {}
             Ok(false) => return Ok(()),
             Err(cause) => {
-                work.stage = Stage::Rest;
+                work.stage = CompactionStage::Rest;
                 return match LogFault::of_cause(cause) {
                     Some(fault) => Err(fault),
                     None => Ok(()),
@@ -307,12 +307,12 @@ impl Compaction {
         };
         work.first = log.place();
         work.told = 0;
-        work.stage = Stage::Read;
+        work.stage = CompactionStage::Read;
         if self.offer(log, reply_queue)? {
             work.new = self.compactor.compacted(self.alloc, log.hall());
             work.stage = match work.new {
-                Some(_) => Stage::Tell,
-                None => Stage::Rest,
+                Some(_) => CompactionStage::Tell,
+                None => CompactionStage::Rest,
             };
         }
         Ok(())
@@ -351,7 +351,7 @@ impl Compaction {
     ) -> Result<(), LogFault>
         ensures told { HasToldAlone S.stands self.old.token self.new.token log.old log.new }
     {
-        work.stage = Stage::Read;
+        work.stage = CompactionStage::Read;
         let told = match self.put_told(work, log) {
             Ok(Some(told)) => told,
             Ok(None) => return Ok(()),
@@ -360,8 +360,8 @@ impl Compaction {
         if self.offer(log, reply_queue)? {
             work.told = told;
             work.stage = match &work.new {
-                Some(new) if new.len() <= told => Stage::End,
-                _ => Stage::Tell,
+                Some(new) if new.len() <= told => CompactionStage::End,
+                _ => CompactionStage::Tell,
             };
         }
         Ok(())
@@ -377,7 +377,7 @@ impl Compaction {
     ) -> Result<(), LogFault>
         ensures told { HasToldAlone S.stands self.old.token self.new.token log.old log.new }
     {
-        work.stage = Stage::Read;
+        work.stage = CompactionStage::Read;
         let Some(before) = log.under_way() else {
             return Ok(());
         };
@@ -392,7 +392,7 @@ impl Compaction {
             return Err(LogFault::Memory);
         };
         if self.offer(log, reply_queue)? {
-            work.stage = Stage::Note;
+            work.stage = CompactionStage::Note;
         }
         Ok(())
     }
@@ -409,16 +409,16 @@ impl Compaction {
         ensures told { HasToldAlone S.stands self.old.token self.new.token log.old log.new }
     {
         match work.stage {
-            Stage::Read => self.read(work, log, pause, reply_queue),
-            Stage::Begin => self.begin(work, log, reply_queue),
-            Stage::Tell => self.tell(work, log, reply_queue),
-            Stage::End => self.end(work, log, reply_queue),
-            Stage::Note => {
-                work.stage = Stage::Rest;
+            CompactionStage::Read => self.read(work, log, pause, reply_queue),
+            CompactionStage::Begin => self.begin(work, log, reply_queue),
+            CompactionStage::Tell => self.tell(work, log, reply_queue),
+            CompactionStage::End => self.end(work, log, reply_queue),
+            CompactionStage::Note => {
+                work.stage = CompactionStage::Rest;
                 log.put_hint(work.first);
                 Ok(())
             }
-            Stage::Rest => Ok(()),
+            CompactionStage::Rest => Ok(()),
         }
     }
 
@@ -445,7 +445,7 @@ impl Compaction {
         pause.begin();
         let mut work = Work::new();
         for _ in 0..MOST_TURNS {
-            if work.stage == Stage::Rest {
+            if work.stage == CompactionStage::Rest {
                 return Ok(());
             }
             self.turn(&mut work, log, pause, reply_queue)?;

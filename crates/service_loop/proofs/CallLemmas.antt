@@ -5,15 +5,15 @@ use Rattle.service_loop.proofs.Common.{cases_eq, SeatIs, EachIs}
 use Rattle.service_loop.specs.Seats.{CallsSome, Seating, Served}
 use Rattle.service_loop.specs.ConnectionBuffers.{HasTakenAll}
 use Rattle.service_loop.proofs.ReportedLemmas.{IsFirst, last}
-use Rattle.service_loop.specs.declared.connection.Stage.{Stage}
-use Rattle.service_loop.specs.declared.connection.Stage.TheVariants as stage
+use Rattle.service_loop.specs.declared.connection.ConnectionStage.{ConnectionStage}
+use Rattle.service_loop.specs.declared.connection.ConnectionStage.TheVariants as stage
 
 -- whoever rests is not due
-pub rests_idle : (s : Stage) → s ≡ stage.Idle → s ≡ stage.Queued → ⊥
+pub rests_idle : (s : ConnectionStage) → s ≡ stage.Idle → s ≡ stage.Queued → ⊥
 rests_idle s rests due = (let e : stage.Idle ≡ stage.Queued = sym rests ∙ due in absurd cc)
 
 -- who is neither due nor has still to send rests
-pub rests_else : (s : Stage) → (s ≡ stage.Queued → ⊥) → (s ≡ stage.Taken → ⊥) → s ≡ stage.Idle
+pub rests_else : (s : ConnectionStage) → (s ≡ stage.Queued → ⊥) → (s ≡ stage.Taken → ⊥) → s ≡ stage.Idle
 rests_else stage.Idle due taken = refl
 rests_else stage.Queued due taken = absurd (due refl)
 rests_else stage.Taken due taken = absurd (taken refl)

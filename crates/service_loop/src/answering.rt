@@ -6,7 +6,7 @@ ghost use Rattle.service_loop.specs.Queries.{query_text};
 ghost use Rattle.service_loop.specs.SharedBuffers.{AreShared};
 ghost use Rattle.service_loop.specs.Seats.{seats_of};
 
-use crate::connection::{Connection, Stage};
+use crate::connection::{Connection, ConnectionStage};
 use crate::persist::Persist;
 use crate::shared::SharedBuffers;
 use crate::stream::Stream;
@@ -25,12 +25,12 @@ fn answer_at<D, K: Persist<D>, S: Stream, A: Allocator, B: Allocator>(
 )
     requires { AreShared shared.old }
     ensures answered { (seats.new ≡ seats.old) ⊎
-        SeatAnswered (seats_of S.left S.gone) (query_text terms (K.holds persister.now service.now)) (λ c. c.stage ≡ Stage.Idle) key seats.old seats.new }
+        SeatAnswered (seats_of S.left S.gone) (query_text terms (K.holds persister.now service.now)) (λ c. c.stage ≡ ConnectionStage.Idle) key seats.old seats.new }
     ensures room { AreShared shared.new }
 {
     if key < seats.len() {
         if let Some(connection) = &mut seats[key] {
-            if let Stage::Idle = connection.stage {
+            if let ConnectionStage::Idle = connection.stage {
                 connection.answer(service, persister, terms, shared);
             }
         }

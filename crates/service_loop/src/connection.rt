@@ -39,7 +39,7 @@ const MOST_READ: usize = READ_ROOM - QUERY_MAX;
 
 /// Where a connection stands in a turn of the loop.
 #[derive(Clone, Copy, Debug, Drop, PartialEq, Eq)]
-pub enum Stage {
+pub enum ConnectionStage {
     /// Nothing is to be done for it.
     Idle,
     /// It has something to take or to send.
@@ -53,7 +53,7 @@ pub enum Stage {
 pub struct Connection<S, A: Allocator> {
     pub stream: S,
     pub buffers: Buffers<A>,
-    pub stage: Stage,
+    pub stage: ConnectionStage,
     /// Whether a read may give something.
     pub readable: bool,
     /// Whether a write may take something.
@@ -110,12 +110,12 @@ fn note_fault<A: Allocator>(fault: &io::Error, able: &mut bool, buffers: &mut Bu
 impl<S: Stream, A: Allocator> Connection<S, A> {
     /// A connection of which nothing was read.
     pub fn new(stream: S, buffers: Buffers<A>, since: u64) -> Connection<S, A>
-        ensures { (result.stream ≡ stream) × (result.buffers ≡ buffers) × (result.stage ≡ Stage.Idle) }
+        ensures { (result.stream ≡ stream) × (result.buffers ≡ buffers) × (result.stage ≡ ConnectionStage.Idle) }
     {
         Connection {
             stream,
             buffers,
-            stage: Stage::Idle,
+            stage: ConnectionStage::Idle,
             readable: false,
             writable: true,
             hung: false,
@@ -170,10 +170,10 @@ impl<S: Stream, A: Allocator> Connection<S, A> {
         ensures takes { SomeTaken D.may service.old service.new (S.left self.old.stream) self.old.buffers (S.left self.new.stream) self.new.buffers }
         ensures all { HasTakenAll self.new.buffers }
         ensures unsent { S.gone self.new.stream ≡ S.gone self.old.stream }
-        ensures stage { self.new.stage ≡ Stage.Taken }
+        ensures stage { self.new.stage ≡ ConnectionStage.Taken }
         ensures room { AreShared shared.new }
     {
-        self.stage = Stage::Taken;
+        self.stage = ConnectionStage::Taken;
         if !self.may_take() {
             return;
         }
@@ -203,10 +203,10 @@ impl<S: Stream, A: Allocator> Connection<S, A> {
         ensures takes { (turns : List Turn) × Runs D.may service.old turns service.new ×
             TakesPeeked turns self.old.peek (S.left self.old.stream) self.old.buffers (S.left self.new.stream) self.new.buffers }
         ensures unsent { S.gone self.new.stream ≡ S.gone self.old.stream }
-        ensures stage { self.new.stage ≡ Stage.Taken }
+        ensures stage { self.new.stage ≡ ConnectionStage.Taken }
         ensures room { AreShared shared.new }
     {
-        self.stage = Stage::Taken;
+        self.stage = ConnectionStage::Taken;
         let Some(peek) = self.peek else {
             return;
         };
@@ -341,7 +341,7 @@ impl<S: Stream, A: Allocator> Connection<S, A> {
         ensures whole { self.new.buffers.broken ≡ false → self.old.buffers.broken ≡ false }
         ensures stream { self.new.stream ≡ self.old.stream }
         ensures reported { asks_of self.old.peek ≡ true → self.new.buffers.broken ≡ true }
-        ensures stage { self.new.stage ≡ Stage.Idle }
+        ensures stage { self.new.stage ≡ ConnectionStage.Idle }
     {
         if let Some(peek) = self.peek {
             if peek.asks || peek.holds {
@@ -349,7 +349,7 @@ impl<S: Stream, A: Allocator> Connection<S, A> {
             }
             self.peek = Some(peek.untaken());
         }
-        self.stage = Stage::Idle;
+        self.stage = ConnectionStage::Idle;
     }
 
     // Reads once what came, if there is room.
@@ -458,10 +458,10 @@ impl<S: Stream, A: Allocator> Connection<S, A> {
         requires room { AreShared shared.old }
         ensures answers { MayAnswer (query_text terms (K.holds persister.now service.now)) self.old.buffers self.new.buffers }
         ensures stream { self.new.stream ≡ self.old.stream }
-        ensures stage { self.new.stage ≡ Stage.Taken }
+        ensures stage { self.new.stage ≡ ConnectionStage.Taken }
         ensures room { AreShared shared.new }
     {
-        self.stage = Stage::Taken;
+        self.stage = ConnectionStage::Taken;
         if !self.may_take() {
             return;
         }
@@ -516,10 +516,10 @@ impl<S: Stream, A: Allocator> Connection<S, A> {
         requires room { AreShared shared.old }
         ensures takes { (turns : List Turn) × Runs D.may service.old turns service.new × MayTakeNumber ahead turns self.old.buffers self.new.buffers }
         ensures stream { self.new.stream ≡ self.old.stream }
-        ensures stage { self.new.stage ≡ Stage.Taken }
+        ensures stage { self.new.stage ≡ ConnectionStage.Taken }
         ensures room { AreShared shared.new }
     {
-        self.stage = Stage::Taken;
+        self.stage = ConnectionStage::Taken;
         if !self.may_take() {
             return;
         }
@@ -534,9 +534,9 @@ impl<S: Stream, A: Allocator> Connection<S, A> {
     pub fn send(&mut self)
         ensures sends { SendsTo (S.gone self.old.stream) self.old.buffers (S.gone self.new.stream) self.new.buffers }
         ensures unread { S.left self.new.stream ≡ S.left self.old.stream }
-        ensures stage { self.new.stage ≡ Stage.Idle }
+        ensures stage { self.new.stage ≡ ConnectionStage.Idle }
     {
-        self.stage = Stage::Idle;
+        self.stage = ConnectionStage::Idle;
         let mut at = 0;
         while self.writable && !self.buffers.is_broken() && at < self.buffers.unsent().len() {
             let count = self.write(at);

@@ -4,7 +4,7 @@ ghost use Rattle.std.specs.Prelude.{◌≤◌, length};
 
 use crate::attended::Ending;
 use crate::buffers::Buffers;
-use crate::connection::{Connection, Stage};
+use crate::connection::{Connection, ConnectionStage};
 use crate::socket::Socket;
 use mio::event::Event;
 use mio::{Poll, Token};
@@ -157,8 +157,8 @@ impl ConnectionTable {
         connection.readable = connection.readable || hung || event.is_readable();
         connection.hung = connection.hung || hung;
         connection.writable = connection.writable || event.is_writable();
-        if connection.stage == Stage::Idle {
-            connection.stage = Stage::Queued;
+        if connection.stage == ConnectionStage::Idle {
+            connection.stage = ConnectionStage::Queued;
             self.ready.push(key)?;
         }
         Ok(())
@@ -179,7 +179,7 @@ impl ConnectionTable {
             connection.stream.end();
         }
         if connection.goes_on() {
-            connection.stage = Stage::Queued;
+            connection.stage = ConnectionStage::Queued;
             self.later.push(key)?;
         }
         if is_over {
@@ -217,8 +217,8 @@ impl ConnectionTable {
             return Ok(());
         };
         connection.buffers.fail();
-        if connection.stage == Stage::Idle {
-            connection.stage = Stage::Queued;
+        if connection.stage == ConnectionStage::Idle {
+            connection.stage = ConnectionStage::Queued;
             self.ready.push(key)?;
         }
         Ok(())
@@ -274,7 +274,7 @@ impl ConnectionTable {
         let quiet = tick.saturating_sub(connection.since);
         let leaving = connection.buffers.is_over() || connection.buffers.is_ended();
         let most = if leaving { Some(FLUSH_TICKS) } else { idle };
-        let rests = connection.stage == Stage::Idle;
+        let rests = connection.stage == ConnectionStage::Idle;
         match most {
             Some(most) if rests && most <= quiet => self.leave(key),
             _ => Ok(()),

@@ -12,7 +12,7 @@ ghost use Rattle.service_loop.specs.Gathering.{Gathered, SeatPeeked, SeatAsks, S
 ghost use Rattle.service_loop.specs.Reported.{SeatLines, all_lines, IsAmong};
 
 use crate::attended::Attended;
-use crate::connection::{Connection, Stage};
+use crate::connection::{Connection, ConnectionStage};
 use crate::losing::note_lost;
 use crate::peek::has_room;
 use crate::persist::{Persist, Prefetch};
@@ -81,15 +81,15 @@ fn gather_at<S: Stream, A: Allocator, B: Allocator>(
 )
     requires { AreShared shared.old }
     ensures gathered { Gathered (seats_of S.left S.gone) seats.old seats.new }
-    ensures peeked { ((batch.new ≡ batch.old) × (seats.new ≡ seats.old) × SeatIdle (λ c. c.stage ≡ Stage.Queued) (get_or seats.old key None)) ⊎
+    ensures peeked { ((batch.new ≡ batch.old) × (seats.new ≡ seats.old) × SeatIdle (λ c. c.stage ≡ ConnectionStage.Queued) (get_or seats.old key None)) ⊎
         ((more : List (List ℕ)) × (batch.new.lines.items ≡ batch.old.lines.items ++ with_ends more) ×
-        SeatPeeked (seats_of S.left S.gone) (λ c. c.peek) (λ c. c.stage ≡ Stage.Queued) batch.old.kind key seats.old seats.new more) }
+        SeatPeeked (seats_of S.left S.gone) (λ c. c.peek) (λ c. c.stage ≡ ConnectionStage.Queued) batch.old.kind key seats.old seats.new more) }
     ensures kind { batch.new.kind ≡ batch.old.kind }
     ensures room { AreShared shared.new }
 {
     if key < seats.len() {
         if let Some(connection) = &mut seats[key] {
-            if let Stage::Queued = connection.stage {
+            if let ConnectionStage::Queued = connection.stage {
                 connection.gather(batch.kind, batch.most, shared, &mut batch.lines);
             }
         }
@@ -107,7 +107,7 @@ pub fn gather<S: Stream, A: Allocator, B: Allocator>(
     requires { AreShared shared.old }
     ensures gathered { Gathered (seats_of S.left S.gone) seats.old seats.new }
     ensures reported { (reported : SeatLines) × (batch.new.lines.items ≡ with_ends (all_lines reported)) ×
-        Reported (seats_of S.left S.gone) (λ c. c.peek) (λ c. c.stage ≡ Stage.Queued) batch.old.kind (take result ready.now) reported seats.new }
+        Reported (seats_of S.left S.gone) (λ c. c.peek) (λ c. c.stage ≡ ConnectionStage.Queued) batch.old.kind (take result ready.now) reported seats.new }
     ensures kind { batch.new.kind ≡ batch.old.kind }
     ensures peeked { CallsSome ready.now result }
     ensures room { AreShared shared.new }
@@ -125,7 +125,7 @@ pub fn gather<S: Stream, A: Allocator, B: Allocator>(
 fn give_up_at<S: Stream, A: Allocator>(seats: &mut [Option<Connection<S, A>>], key: usize)
     ensures gathered { Gathered (seats_of S.left S.gone) seats.old seats.new }
     ensures reported { SeatAsks (λ c. c.peek) (get_or seats.old key None) → SeatBroken (seats_of S.left S.gone) (get_or seats.new key None) }
-    ensures rests { SeatIs (λ c. c.stage ≡ Stage.Idle) (get_or seats.new key None) }
+    ensures rests { SeatIs (λ c. c.stage ≡ ConnectionStage.Idle) (get_or seats.new key None) }
     ensures others { (i : ℕ) → (i ≡ key → ⊥) → get_or seats.new i None ≡ get_or seats.old i None }
 {
     if key < seats.len() {
@@ -140,7 +140,7 @@ fn give_up<S: Stream, A: Allocator>(seats: &mut [Option<Connection<S, A>>], call
     ensures gathered { Gathered (seats_of S.left S.gone) seats.old seats.new }
     ensures reported { (i : ℕ) → IsAmong i called.now → SeatAsks (λ c. c.peek) (get_or seats.old i None) →
         SeatBroken (seats_of S.left S.gone) (get_or seats.new i None) }
-    ensures rest { EachIs (λ c. c.stage ≡ Stage.Idle) called.now seats.new }
+    ensures rest { EachIs (λ c. c.stage ≡ ConnectionStage.Idle) called.now seats.new }
 {
     for key in called {
         give_up_at(seats, *key);
@@ -159,16 +159,16 @@ fn take_peeked_at<R, D: Service<R>, S: Stream, A: Allocator, B: Allocator>(
     requires knows { (q : Request) → D.knows q ≡ true }
     requires room { AreShared shared.old }
     ensures took { ((service.new ≡ service.old) × (seats.new ≡ seats.old)) ⊎
-        ((peeked : SeatTurnPeeked (seats_of S.left S.gone) (λ c. c.peek) (λ c. c.stage ≡ Stage.Queued) D.may key
+        ((peeked : SeatTurnPeeked (seats_of S.left S.gone) (λ c. c.peek) (λ c. c.stage ≡ ConnectionStage.Queued) D.may key
         service.old.service seats.old service.new.service seats.new) ×
         Hears (acts_of number peeked.turn.turns) service.old service.new) }
-    ensures done { SeatIs (λ c. c.stage ≡ Stage.Queued → ⊥) (get_or seats.new key None) }
+    ensures done { SeatIs (λ c. c.stage ≡ ConnectionStage.Queued → ⊥) (get_or seats.new key None) }
     ensures others { (i : ℕ) → (i ≡ key → ⊥) → get_or seats.new i None ≡ get_or seats.old i None }
     ensures room { AreShared shared.new }
 {
     if key < seats.len() {
         if let Some(connection) = &mut seats[key] {
-            if let Stage::Queued = connection.stage {
+            if let ConnectionStage::Queued = connection.stage {
                 service.listen_to(number);
                 connection.take_peeked(rt, service, shared);
                 shared.note_turn(connection.buffers.has_input());
@@ -189,9 +189,9 @@ fn take_peeked<R, D: Service<R>, S: Stream, A: Allocator, B: Allocator>(
     requires knows { (q : Request) → D.knows q ≡ true }
     requires room { AreShared shared.old }
     ensures taken { (log : TurnLog) × TurnsTaken (seats_of S.left S.gone) D.may service.old.service seats.old log service.new.service seats.new ×
-        TakenPeeked (seats_of S.left S.gone) (λ c. c.peek) (λ c. c.stage ≡ Stage.Queued) called.now log seats.old seats.new ×
+        TakenPeeked (seats_of S.left S.gone) (λ c. c.peek) (λ c. c.stage ≡ ConnectionStage.Queued) called.now log seats.old seats.new ×
         Hears (acts_in (number_at numbers.now) log) service.old service.new }
-    ensures done { EachIs (λ c. c.stage ≡ Stage.Queued → ⊥) called.now seats.new }
+    ensures done { EachIs (λ c. c.stage ≡ ConnectionStage.Queued → ⊥) called.now seats.new }
     ensures room { AreShared shared.new }
 {
     for key in called {
@@ -252,7 +252,7 @@ pub fn iterate_prefetched<R, D: Service<R>, K: Persist<D>, S: Stream, A: Allocat
     requires knows { (q : Request) → D.knows q ≡ true }
     requires room { AreShared shared.old }
     ensures served { (called : ℕ) → result ≡ Ok (Called.Served called) →
-        (turned : PrefetchedIteration (seats_of S.left S.gone) (λ c. c.peek) (λ c. c.stage ≡ Stage.Queued) D.may K.prefetches K.persists batch.old.kind
+        (turned : PrefetchedIteration (seats_of S.left S.gone) (λ c. c.peek) (λ c. c.stage ≡ ConnectionStage.Queued) D.may K.prefetches K.persists batch.old.kind
         persister.old service.old.service seats.old batch.new.lines.items persister.new service.new.service seats.new) ×
         Hears (acts_in (number_at numbers.now) turned.turn.log) service.old service.new }
     ensures unserved { (called : ℕ) → result ≡ Ok (Called.Unserved called) →
@@ -261,7 +261,7 @@ pub fn iterate_prefetched<R, D: Service<R>, K: Persist<D>, S: Stream, A: Allocat
         Hears (lost_acts batch.old.kind service.old.stays (whole_lines batch.new.lines.items)) service.old service.new }
     ensures unsent { OnErr result (NoneSent (seats_of S.left S.gone) seats.old seats.new) }
     ensures called { IfOk result (λ called. CallsSome ready.now (count_of called)) }
-    ensures rest { IfOk result (λ called. EachIs (λ c. c.stage ≡ Stage.Idle) (take (count_of called) ready.now) seats.new) }
+    ensures rest { IfOk result (λ called. EachIs (λ c. c.stage ≡ ConnectionStage.Idle) (take (count_of called) ready.now) seats.new) }
     ensures room { AreShared shared.new }
 {
     let peeked = gather(batch, shared, seats, ready);

@@ -72,7 +72,7 @@ pub mod watching;
 pub use answering::answer_queries;
 pub use attended::{Attended, Ending};
 pub use buffers::{Buffers, MOST_LINES, UNSENT_ROOM};
-pub use connection::{Connection, Stage};
+pub use connection::{Connection, ConnectionStage};
 pub use gathering::{Batch, Called, gather, iterate_prefetched};
 pub use host_fault::HostFault;
 pub use hosting::{HostOptions, Hosted, host};

@@ -16,7 +16,7 @@ ghost use Rattle.service_loop.specs.SharedBuffers.{AreShared};
 ghost use Rattle.service_loop.specs.Taking.{IsTaking, NumbersTaken, SaysTaking, SeatGivenUp, SeatTook, TakingsGivenUp, TakingsKept, TakingsPrefetched, probed, wants_probe};
 
 use crate::attended::Attended;
-use crate::connection::{Connection, Stage};
+use crate::connection::{Connection, ConnectionStage};
 use crate::gathering::{Batch, Called, prefetch};
 use crate::losing::note_lost;
 use crate::persist::{Persist, Prefetch};
@@ -112,13 +112,13 @@ fn take_number_at<R, D: Service<R>, S: Stream, A: Allocator, B: Allocator>(
     requires knows { (q : Request) → D.knows q ≡ true }
     requires room { AreShared shared.old }
     ensures took { ((service.new ≡ service.old) × (seats.new ≡ seats.old)) ⊎
-        ((turn : SeatTook (seats_of S.left S.gone) ahead D.may (λ c. c.stage ≡ Stage.Idle) key service.old.service seats.old service.new.service seats.new) ×
+        ((turn : SeatTook (seats_of S.left S.gone) ahead D.may (λ c. c.stage ≡ ConnectionStage.Idle) key service.old.service seats.old service.new.service seats.new) ×
         Hears (acts_of number turn.turns) service.old service.new) }
     ensures room { AreShared shared.new }
 {
     if key < seats.len() {
         if let Some(connection) = &mut seats[key] {
-            if let Stage::Idle = connection.stage {
+            if let ConnectionStage::Idle = connection.stage {
                 service.listen_to(number);
                 connection.take_number(rt, service, shared, ahead);
             }

@@ -9,7 +9,7 @@ ghost use Rattle.service_loop.specs.ConnectionBuffers.{HasTakenAll};
 ghost use Rattle.service_loop.specs.Seats.{seats_of, CallsSome, EachIs, SeatIs, Served, TurnsTaken, RepliesSent, NoneSent, SeatTurn, SeatSent, ServedIteration};
 
 use crate::attended::Attended;
-use crate::connection::{Connection, Stage};
+use crate::connection::{Connection, ConnectionStage};
 use crate::persist::Persist;
 use crate::shared::SharedBuffers;
 use crate::stream::Stream;
@@ -35,16 +35,16 @@ fn take_at<R, D: Service<R>, S: Stream, A: Allocator, B: Allocator>(
     requires knows { (q : Request) → D.knows q ≡ true }
     requires room { AreShared shared.old }
     ensures took { ((service.new ≡ service.old) × (seats.new ≡ seats.old)) ⊎
-        ((turn : SeatTurn (seats_of S.left S.gone) D.may (λ c. c.stage ≡ Stage.Queued) key service.old.service seats.old service.new.service seats.new) ×
+        ((turn : SeatTurn (seats_of S.left S.gone) D.may (λ c. c.stage ≡ ConnectionStage.Queued) key service.old.service seats.old service.new.service seats.new) ×
         Hears (acts_of number turn.turns) service.old service.new) }
-    ensures done { SeatIs (λ c. c.stage ≡ Stage.Queued → ⊥) (get_or seats.new key None) }
+    ensures done { SeatIs (λ c. c.stage ≡ ConnectionStage.Queued → ⊥) (get_or seats.new key None) }
     ensures all { (seats.new ≡ seats.old) ⊎ SeatIs (λ c. HasTakenAll c.buffers) (get_or seats.new key None) }
     ensures others { (i : ℕ) → (i ≡ key → ⊥) → get_or seats.new i None ≡ get_or seats.old i None }
     ensures room { AreShared shared.new }
 {
     if key < seats.len() {
         if let Some(connection) = &mut seats[key] {
-            if let Stage::Queued = connection.stage {
+            if let ConnectionStage::Queued = connection.stage {
                 service.listen_to(number);
                 connection.take(rt, service, shared);
                 shared.note_turn(connection.buffers.has_input());
@@ -69,8 +69,8 @@ pub fn take_turns<R, D: Service<R>, K: Persist<D>, S: Stream, A: Allocator, B: A
     ensures taken { (log : TurnLog) × TurnsTaken (seats_of S.left S.gone) D.may service.old.service seats.old log service.new.service seats.new ×
         Hears (acts_in (number_at numbers.now) log) service.old service.new }
     ensures called { CallsSome ready.now result }
-    ensures done { EachIs (λ c. c.stage ≡ Stage.Queued → ⊥) (take result ready.now) seats.new }
-    ensures served { Served (seats_of S.left S.gone) (λ c. c.stage ≡ Stage.Queued) (take result ready.now) seats.old seats.new }
+    ensures done { EachIs (λ c. c.stage ≡ ConnectionStage.Queued → ⊥) (take result ready.now) seats.new }
+    ensures served { Served (seats_of S.left S.gone) (λ c. c.stage ≡ ConnectionStage.Queued) (take result ready.now) seats.old seats.new }
     ensures room { AreShared shared.new }
 {
     let mut called = 0;
@@ -85,14 +85,14 @@ pub fn take_turns<R, D: Service<R>, K: Persist<D>, S: Stream, A: Allocator, B: A
 // The connection of a seat sends what waits, where there is one and its turn is taken.
 fn send_at<S: Stream, A: Allocator>(seats: &mut [Option<Connection<S, A>>], key: usize)
     ensures sent { (seats.new ≡ seats.old) ⊎
-        SeatSent (seats_of S.left S.gone) (λ c. c.stage ≡ Stage.Taken) key seats.old seats.new }
-    ensures rests { SeatIs (λ c. c.stage ≡ Stage.Queued → ⊥) (get_or seats.old key None) →
-        SeatIs (λ c. c.stage ≡ Stage.Idle) (get_or seats.new key None) }
+        SeatSent (seats_of S.left S.gone) (λ c. c.stage ≡ ConnectionStage.Taken) key seats.old seats.new }
+    ensures rests { SeatIs (λ c. c.stage ≡ ConnectionStage.Queued → ⊥) (get_or seats.old key None) →
+        SeatIs (λ c. c.stage ≡ ConnectionStage.Idle) (get_or seats.new key None) }
     ensures others { (i : ℕ) → (i ≡ key → ⊥) → get_or seats.new i None ≡ get_or seats.old i None }
 {
     if key < seats.len() {
         if let Some(connection) = &mut seats[key] {
-            if let Stage::Taken = connection.stage {
+            if let ConnectionStage::Taken = connection.stage {
                 connection.send();
             }
         }
@@ -105,7 +105,7 @@ pub fn send_replies<S: Stream, A: Allocator>(
     called: &[usize],
 )
     ensures sent { RepliesSent (seats_of S.left S.gone) seats.old seats.new }
-    ensures rest { EachIs (λ c. c.stage ≡ Stage.Queued → ⊥) called.now seats.old → EachIs (λ c. c.stage ≡ Stage.Idle) called.now seats.new }
+    ensures rest { EachIs (λ c. c.stage ≡ ConnectionStage.Queued → ⊥) called.now seats.old → EachIs (λ c. c.stage ≡ ConnectionStage.Idle) called.now seats.new }
 {
     for key in called {
         send_at(seats, *key);
@@ -129,12 +129,12 @@ pub fn iterate<R, D: Service<R>, K: Persist<D>, S: Stream, A: Allocator, B: Allo
     requires knows { (q : Request) → D.knows q ≡ true }
     requires room { AreShared shared.old }
     ensures turned { IfOk result (λ called.
-        (turned : ServedIteration (seats_of S.left S.gone) D.may K.persists (λ c. c.stage ≡ Stage.Queued) (take called ready.now)
+        (turned : ServedIteration (seats_of S.left S.gone) D.may K.persists (λ c. c.stage ≡ ConnectionStage.Queued) (take called ready.now)
         persister.old service.old.service seats.old persister.new service.new.service seats.new) ×
         Hears (acts_in (number_at numbers.now) turned.turn.log) service.old service.new) }
     ensures unsent { OnErr result (NoneSent (seats_of S.left S.gone) seats.old seats.new) }
     ensures called { IfOk result (λ called. CallsSome ready.now called) }
-    ensures rest { IfOk result (λ called. EachIs (λ c. c.stage ≡ Stage.Idle) (take called ready.now) seats.new) }
+    ensures rest { IfOk result (λ called. EachIs (λ c. c.stage ≡ ConnectionStage.Idle) (take called ready.now) seats.new) }
     ensures room { AreShared shared.new }
 {
     let called = take_turns(rt, service, persister, shared, seats, numbers, ready);

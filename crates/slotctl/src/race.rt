@@ -10,13 +10,13 @@ use std::io::Write;
 use std::thread::{self, Threads};
 use text_player::Fault;
 use tool_work::Racing;
-use words_names::{Dealer, FreshSeat, Names};
+use words_names::{FreshNameSeat, NameDealer, Names};
 
 /// One thread's part of a race.
 #[derive(Drop)]
 struct Racer<'a> {
     names: &'a Names<Global>,
-    seat: FreshSeat,
+    seat: FreshNameSeat,
     ghost ours: { seat.names ≡ names.now },
 }
 
@@ -41,7 +41,7 @@ fn draw_identity(words: &mut Lcg64Xsh32, number: u64) -> u64
 fn racers_of<'a>(
     alloc: Global,
     names: &'a Names<Global>,
-    mut dealer: Dealer,
+    mut dealer: NameDealer,
     threads: u64,
     words: &mut Lcg64Xsh32,
 ) -> Result<Vec<Racer<'a>, Global>, AllocError>

@@ -7,10 +7,10 @@ use model_splitter::Way;
 use std::alloc::Global;
 use std::test::Fail;
 use std::thread::{Threads, join};
-use words_machine::parts::{EnteredSeat, FreshSeat, RawSplitter};
+use words_machine::parts::{EnteredSplitterSeat, FreshSplitterSeat, RawSplitter};
 
 /// Whether the only seat of a splitter for one stops.
-fn one_stops(splitter: &RawSplitter<Global>, seat: FreshSeat) -> bool
+fn one_stops(splitter: &RawSplitter<Global>, seat: FreshSplitterSeat) -> bool
     requires { seat.splitter ≡ splitter.now }
 {
     let (entered, way) = splitter.enter(seat);
@@ -29,7 +29,11 @@ fn one_alone_stops(rt: HostRuntime) -> Result<(), Fail> {
 }
 
 /// Whether of two seats that enter one after the other the first stops and the second goes right.
-fn first_stops(splitter: &RawSplitter<Global>, first: FreshSeat, second: FreshSeat) -> bool
+fn first_stops(
+    splitter: &RawSplitter<Global>,
+    first: FreshSplitterSeat,
+    second: FreshSplitterSeat,
+) -> bool
     requires first { first.splitter ≡ splitter.now }
     requires second { second.splitter ≡ splitter.now }
 {
@@ -53,19 +57,19 @@ fn the_first_of_a_pair_stops_in_both_orders(rt: HostRuntime) -> Result<(), Fail>
 fn are_split<R: Threads + Sync>(
     rt: &R,
     splitter: &RawSplitter<Global>,
-    first: FreshSeat,
-    second: FreshSeat,
+    first: FreshSplitterSeat,
+    second: FreshSplitterSeat,
 ) -> bool
     requires first { first.splitter ≡ splitter.now }
     requires second { second.splitter ≡ splitter.now }
 {
     let ((mut one, first_way), (mut other, second_way)) = join(
         rt,
-        move || -> (EnteredSeat, Way)
+        move || -> (EnteredSplitterSeat, Way)
             requires { first.splitter ≡ splitter.now }
             ensures { result.0.splitter ≡ splitter.entry.now }
         { splitter.enter(first) },
-        move || -> (EnteredSeat, Way)
+        move || -> (EnteredSplitterSeat, Way)
             requires { second.splitter ≡ splitter.now }
             ensures { result.0.splitter ≡ splitter.entry.now }
         { splitter.enter(second) },

@@ -6,7 +6,7 @@ use crate::common::same;
 use model_steps::{Place, Refusal};
 use std::alloc::{AllocError, Global};
 use std::thread::{self, Threads};
-use words_machine::grid::{Dealer, FreshSeat, WordGrid};
+use words_machine::grid::{FreshGridSeat, GridDealer, WordGrid};
 
 /// How many places the rows of a triangle have, so many rows.
 fn places_of_rows(rows: u64) -> Place {
@@ -15,7 +15,7 @@ fn places_of_rows(rows: u64) -> Place {
 }
 
 /// Enters with the next seat: the depth and the column of its door, its place, and its number.
-fn walk_next(grid: &WordGrid<Global>, dealer: &mut Dealer) -> Option<(u64, u8, Place, u64)>
+fn walk_next(grid: &WordGrid<Global>, dealer: &mut GridDealer) -> Option<(u64, u8, Place, u64)>
     requires ours { dealer.old.grid ≡ grid.now }
     ensures ours { dealer.new.grid ≡ grid.now }
 {
@@ -28,7 +28,7 @@ fn walk_next(grid: &WordGrid<Global>, dealer: &mut Dealer) -> Option<(u64, u8, P
 }
 
 /// Whether each seat in turn has the place at the right end of its row, and there are as many as the grid says.
-fn go_right(grid: &WordGrid<Global>, mut dealer: Dealer) -> bool
+fn go_right(grid: &WordGrid<Global>, mut dealer: GridDealer) -> bool
     requires ours { dealer.grid ≡ grid.now }
 {
     for before in 0..grid.most() {
@@ -67,7 +67,7 @@ fn each_that_comes_later_goes_right(rt: HostRuntime) {
 #[derive(Drop)]
 struct Visitor<'a> {
     grid: &'a WordGrid<Global>,
-    seat: FreshSeat,
+    seat: FreshGridSeat,
     ghost ours: { seat.grid ≡ grid.now },
 }
 
@@ -81,7 +81,7 @@ fn place_of(visitor: Visitor<'_>) -> Place {
 fn visitors_of<'a>(
     alloc: Global,
     grid: &'a WordGrid<Global>,
-    mut dealer: Dealer,
+    mut dealer: GridDealer,
     count: u64,
 ) -> Result<Vec<Visitor<'a>, Global>, AllocError>
     requires ours { dealer.grid ≡ grid.now }

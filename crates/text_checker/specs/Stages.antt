@@ -4,8 +4,8 @@ use Rattle.text_lines.specs.Lines.{pieces_from}
 use Rattle.text_records.specs.RecordLine.{IsHeaderLine}
 use Rattle.text_checker.specs.declared.row_judge.RowJudge.{RowJudge}
 use Rattle.text_checker.specs.declared.judge.Judge.{Judge}
-use Rattle.text_checker.specs.declared.judge.Stage.{Stage}
-use Rattle.text_checker.specs.declared.judge.Stage.TheVariants.{Opening, Judging, Over}
+use Rattle.text_checker.specs.declared.judge.JudgeStage.{JudgeStage}
+use Rattle.text_checker.specs.declared.judge.JudgeStage.TheVariants.{Opening, Judging, Over}
 use Rattle.text_checker.specs.declared.verdict.Verdict.{Verdict}
 use Rattle.text_checker.specs.SoFar.{RowsSoFar}
 use Rattle.text_checker.specs.Verdict.{IsSaid, IsSaidOfRows}
@@ -28,7 +28,7 @@ pub record HasOpened (j : RowJudge) (lines : List (List ℕ)) : Type 0 where
   pub judged : HasJudged j rows
 
 -- after these lines it stands so: there was none; or all were read and taken; or a verdict is said, whatever lines follow
-abbrev pub StandsAfter : List (List ℕ) → Stage → Type 0
+abbrev pub StandsAfter : List (List ℕ) → JudgeStage → Type 0
 StandsAfter lines Opening = lines ≡ []
 StandsAfter lines (Judging j) = HasOpened j lines
 StandsAfter lines (Over v) = (more : List (List ℕ)) → IsSaid (lines ++ more) v

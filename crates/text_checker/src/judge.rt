@@ -14,7 +14,7 @@ use text_records::read_header;
 
 /// How far the lines of a record are judged.
 #[derive(Drop)]
-pub enum Stage {
+pub enum JudgeStage {
     /// There is no line yet.
     Opening,
     /// The lines so far can follow one another.
@@ -29,22 +29,22 @@ pub enum Stage {
 pub struct Judge {
     alloc: Global,
     held: Vec<u8>,
-    stage: Stage,
+    stage: JudgeStage,
 }
 
 // The stage after the first line.
-fn opened(alloc: Global, line: &[u8]) -> Result<Stage, AllocError>
+fn opened(alloc: Global, line: &[u8]) -> Result<JudgeStage, AllocError>
     ensures { IfOk result (StandsAfter (line.now ∷ [])) }
 {
     match read_header(alloc, line)? {
-        Some(header) => Ok(Stage::Judging(RowJudge::new(alloc, header)?)),
-        None => Ok(Stage::Over(Verdict::BadRecord(1))),
+        Some(header) => Ok(JudgeStage::Judging(RowJudge::new(alloc, header)?)),
+        None => Ok(JudgeStage::Over(Verdict::BadRecord(1))),
     }
 }
 
 // Takes the first line. It is a function of its own, since the new stage is a kilobyte, for which each line would clear room.
 #[inline(never)]
-fn take_first(alloc: Global, stage: &mut Stage, line: &[u8]) -> Result<(), AllocError>
+fn take_first(alloc: Global, stage: &mut JudgeStage, line: &[u8]) -> Result<(), AllocError>
     ensures { OnOk result (StandsAfter (line.now ∷ []) stage.new) }
 {
     *stage = opened(alloc, line)?;
@@ -53,37 +53,37 @@ fn take_first(alloc: Global, stage: &mut Stage, line: &[u8]) -> Result<(), Alloc
 
 // Stores a verdict. It is a function of its own for the same reason.
 #[inline(never)]
-fn conclude(stage: &mut Stage, verdict: Verdict)
-    ensures { stage.new ≡ Stage.Over verdict }
+fn conclude(stage: &mut JudgeStage, verdict: Verdict)
+    ensures { stage.new ≡ JudgeStage.Over verdict }
 {
-    *stage = Stage::Over(verdict);
+    *stage = JudgeStage::Over(verdict);
 }
 
 // Judges one more line, without its LF.
-fn judge_line(alloc: Global, stage: &mut Stage, line: &[u8]) -> Result<(), AllocError>
+fn judge_line(alloc: Global, stage: &mut JudgeStage, line: &[u8]) -> Result<(), AllocError>
     ensures { OnOk result ((lines : List (List ℕ)) → StandsAfter lines stage.old → StandsAfter (lines ++ line.now ∷ []) stage.new) }
 {
     match stage {
-        Stage::Opening => take_first(alloc, stage, line),
-        Stage::Judging(judge) => match judge.take(alloc, line)? {
+        JudgeStage::Opening => take_first(alloc, stage, line),
+        JudgeStage::Judging(judge) => match judge.take(alloc, line)? {
             Some(verdict) => {
                 conclude(stage, verdict);
                 Ok(())
             }
             None => Ok(()),
         },
-        Stage::Over(_) => Ok(()),
+        JudgeStage::Over(_) => Ok(()),
     }
 }
 
 // The verdict if no line follows.
-fn verdict_of(stage: &Stage) -> Verdict
+fn verdict_of(stage: &JudgeStage) -> Verdict
     ensures { (lines : List (List ℕ)) → StandsAfter lines stage.now → IsSaid lines result }
 {
     match stage {
-        Stage::Opening => Verdict::BadRecord(1),
-        Stage::Judging(_) => Verdict::Yes,
-        Stage::Over(verdict) => *verdict,
+        JudgeStage::Opening => Verdict::BadRecord(1),
+        JudgeStage::Judging(_) => Verdict::Yes,
+        JudgeStage::Over(verdict) => *verdict,
     }
 }
 
@@ -95,7 +95,7 @@ impl Judge {
         Judge {
             alloc,
             held: Vec::new(alloc),
-            stage: Stage::Opening,
+            stage: JudgeStage::Opening,
         }
     }
 

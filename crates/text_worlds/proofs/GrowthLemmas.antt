@@ -9,8 +9,8 @@ use Rattle.model_asked.specs.declared.config.Config.{Config}
 use Rattle.model_asked.specs.declared.kind.WorldKind.{WorldKind}
 use Rattle.model_asked.specs.declared.kind.WorldKind.TheVariants.{Rename, Tree}
 use Rattle.model_renaming.specs.declared.round.Round.{Round}
-use Rattle.model_renaming.specs.declared.round.Stage.{Stage}
-use Rattle.model_renaming.specs.declared.round.Stage.TheVariants.{Settled as IsSettled, Over}
+use Rattle.model_renaming.specs.declared.round.RoundStage.{RoundStage}
+use Rattle.model_renaming.specs.declared.round.RoundStage.TheVariants.{Settled as IsSettled, Over}
 use Rattle.model_renaming.specs.RenameWorld.{owner_by, refusal_by}
 use Rattle.model_renaming.specs.Round.{stage_refusal}
 use Rattle.model_pool.specs.declared.stay.Stay.{Stay}
@@ -50,7 +50,7 @@ other_if : (b : Bool) (why : Refusal) (rest : Option Refusal) → is_of_memory w
 other_if true why rest here there = here
 other_if false why rest here there = there
 
-other_stage : (s : Stage) → IsOther (stage_refusal s)
+other_stage : (s : RoundStage) → IsOther (stage_refusal s)
 other_stage IsSettled = refl
 other_stage Over = refl
 other_stage s = tt

@@ -7,23 +7,23 @@ ghost use Rattle.words_c.specs.Grids.{IsNextOf, IsReportedAs};
 
 use std::alloc::Global;
 use std::sync::Arc;
-use words_machine::grid::{Dealer, EnteredSeat, FreshSeat, WordGrid};
+use words_machine::grid::{EnteredGridSeat, FreshGridSeat, GridDealer, WordGrid};
 
 /// The grid, which all members share; who deals its seats, at the first member alone; the seat that this member has not
 /// entered with; and the walk that it has made.
 #[derive(Drop)]
 pub struct GridMember {
     pub(crate) grid: Arc<WordGrid<Global>, Global>,
-    pub(crate) dealer: Option<Dealer>,
-    pub(crate) seat: Option<FreshSeat>,
-    pub(crate) entered: Option<EnteredSeat>,
+    pub(crate) dealer: Option<GridDealer>,
+    pub(crate) seat: Option<FreshGridSeat>,
+    pub(crate) entered: Option<EnteredGridSeat>,
     ghost dealt: { IfSome dealer (λ d. d.grid ≡ arc_value grid) } by { Prim.hlevel props },
     ghost ours: { IfSome seat (λ s. s.grid ≡ arc_value grid) } by { Prim.hlevel props },
 }
 
 impl GridMember {
     /// A seat for a further member, where this one deals them and one is left.
-    pub fn deal(&mut self) -> Option<FreshSeat>
+    pub fn deal(&mut self) -> Option<FreshGridSeat>
         ensures grid { arc_value self.new.grid ≡ arc_value self.old.grid }
         ensures same { (self.new.seat ≡ self.old.seat) × (self.new.entered ≡ self.old.entered) }
         ensures ours { IfSome result (λ s. s.grid ≡ arc_value self.old.grid) }

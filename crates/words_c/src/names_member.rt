@@ -8,15 +8,15 @@ ghost use Rattle.words_names.specs.Seats.{no_deal};
 
 use std::alloc::Global;
 use std::sync::Arc;
-use words_names::{Dealer, FreshSeat, Names, Renamed};
+use words_names::{FreshNameSeat, NameDealer, Names, Renamed};
 
 /// The names, which all members share; who deals their seats, at the first member alone; the seat that this member was not
 /// renamed with; and how it was renamed.
 #[derive(Drop)]
 pub struct NamesMember {
     pub(crate) names: Arc<Names<Global>, Global>,
-    pub(crate) dealer: Option<Dealer>,
-    pub(crate) seat: Option<FreshSeat>,
+    pub(crate) dealer: Option<NameDealer>,
+    pub(crate) seat: Option<FreshNameSeat>,
     pub(crate) renamed: Option<Renamed>,
     ghost dealt: { IfSome dealer (λ d. d.names ≡ arc_value names) } by { Prim.hlevel props },
     ghost ours: { IfSome seat (λ s. s.names ≡ arc_value names) } by { Prim.hlevel props },
@@ -25,7 +25,7 @@ pub struct NamesMember {
 
 impl NamesMember {
     /// A seat for a further member, of this identity, where this one deals them.
-    pub fn deal(&mut self, identity: u64) -> Option<FreshSeat>
+    pub fn deal(&mut self, identity: u64) -> Option<FreshNameSeat>
         ensures names { arc_value self.new.names ≡ arc_value self.old.names }
         ensures same { (self.new.seat ≡ self.old.seat) × (self.new.renamed ≡ self.old.renamed) }
         ensures ours { IfSome result (λ s. (s.names ≡ arc_value self.old.names) × (s.identity ≡ identity)) }

@@ -34,5 +34,5 @@ pub mod seats;
 pub mod word_grid;
 
 pub use laws::law_of_the_grid_rule;
-pub use seats::{Claim, Dealer, EnteredSeat, FreshSeat};
+pub use seats::{EnteredGridSeat, FreshGridSeat, GridClaim, GridDealer};
 pub use word_grid::WordGrid;

@@ -63,4 +63,4 @@ pub use board::Board;
 pub use board_seats::{Grant, LastRead, ReaderSeat};
 pub use laws::{law_of_the_board, law_of_the_rule};
 pub use raw_splitter::RawSplitter;
-pub use seats::{EnteredSeat, FreshSeat};
+pub use seats::{EnteredSplitterSeat, FreshSplitterSeat};

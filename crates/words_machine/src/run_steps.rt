@@ -22,47 +22,47 @@ impl<S, P: WordProgram> TableRule<S, SeatView<P, P::Output>, u64> for Running<P>
 }
 
 /// The load of the word of a register: the participant's read.
-pub struct Get<P> {
+pub struct GetWord<P> {
     of: PhantomData<P>,
 }
 
-impl<S, P: WordProgram> Play<S, SeatView<P, P::Output>> for Get<P> {
+impl<S, P: WordProgram> Play<S, SeatView<P, P::Output>> for GetWord<P> {
     ghost then = { Reads P.steps P.law };
 }
 
 /// The store of the word of a register: the participant's write.
-pub struct Put<P> {
+pub struct PutWord<P> {
     of: PhantomData<P>,
 }
 
-impl<S, P: WordProgram> Play<S, SeatView<P, P::Output>> for Put<P> {
+impl<S, P: WordProgram> Play<S, SeatView<P, P::Output>> for PutWord<P> {
     ghost then = { Writes P.steps P.law };
 }
 
 /// The first participant goes to a new seat: where a seat is dealt out, and where two that met part again.
-pub struct Deal;
+pub struct DealRun;
 
-impl<P, O> Split<SeatView<P, O>> for Deal {
+impl<P, O> Split<SeatView<P, O>> for DealRun {
     ghost left = { λ v. view_of v.most (drop 1 v.stands) v.endings };
 
     ghost right = { λ v. view_of v.most (take 1 v.stands) [] };
 }
 
 /// A seat takes in the participants of another, before its own. The other is spent: no participant is its to step.
-pub struct Unite;
+pub struct UniteRuns;
 
-impl<P, O> Join<SeatView<P, O>> for Unite {
+impl<P, O> Join<SeatView<P, O>> for UniteRuns {
     ghost both = { λ v w. view_of v.most (w.stands ++ v.stands) v.endings };
 
     ghost spent = { view_of 0 [] [] };
 }
 
 /// A load that changes nothing, and shows that the view is one under the rule.
-pub struct Look<P> {
+pub struct LookAtRun<P> {
     of: PhantomData<P>,
 }
 
-impl<S, P: WordProgram> Play<S, SeatView<P, P::Output>> for Look<P> {
+impl<S, P: WordProgram> Play<S, SeatView<P, P::Output>> for LookAtRun<P> {
     ghost then = { Looks P.law };
 }
 

@@ -8,7 +8,9 @@ ghost use Rattle.words_machine.specs.declared.seat_view.Stand.{Stand};
 ghost use Rattle.words_machine.specs.declared.seat_view.Ending.{Ending};
 
 use crate::program::WordProgram;
-use crate::run_steps::{Deal, Forget, Get, Learn, Look, Put, Running, Tell, Unite};
+use crate::run_steps::{
+    DealRun, Forget, GetWord, Learn, LookAtRun, PutWord, Running, Tell, UniteRuns,
+};
 use crate::seat_view::SeatView;
 use crate::word_access::WordAccess;
 use atomic_table::{Seat, Table};
@@ -76,7 +78,7 @@ impl<P: WordProgram, A: Allocator> Words<P, A> {
         ensures undealt { rest.new.me ≡ (undealt_from (number + 1) self.now.most, []) }
         ensures seat { result.me ≡ (lone_view self.now.most (unbegun number), []) }
     {
-        self.table.shared.split_seat::<Deal>(rest)
+        self.table.shared.split_seat::<DealRun>(rest)
     }
 
     /// A seat whose participant has ended and another become one, look, and part again: what the rule says of all their
@@ -98,9 +100,9 @@ impl<P: WordProgram, A: Allocator> Words<P, A> {
         ensures met { IsUnderRule P.law (view_of self.now.most (left.me.0.stands ++ right.me.0.stands) []) }
     {
         let mut both = right;
-        self.table.shared.join_seat::<Unite>(&mut both, left);
-        self.table.shared.load::<Look<P>>(&mut both, 0);
-        let left = self.table.shared.split_seat::<Deal>(&mut both);
+        self.table.shared.join_seat::<UniteRuns>(&mut both, left);
+        self.table.shared.load::<LookAtRun<P>>(&mut both, 0);
+        let left = self.table.shared.split_seat::<DealRun>(&mut both);
         (left, both)
     }
 
@@ -137,7 +139,7 @@ impl<P: WordProgram, A: Allocator> Words<P, A> {
     {
         let mut both = right;
         self.table.shared.join_seat::<Learn>(&mut both, left);
-        self.table.shared.load::<Look<P>>(&mut both, 0);
+        self.table.shared.load::<LookAtRun<P>>(&mut both, 0);
         let left = self.table.shared.split_seat::<Forget>(&mut both);
         (left, both)
     }
@@ -159,7 +161,7 @@ impl<P: WordProgram, A: Allocator> Words<P, A> {
         ensures after { HasStepped P.law self.now.most number identity program.new result seat.old.me seat.new.me }
     {
         let at = P::place(self.most, register);
-        let word = self.table.shared.load::<Get<P>>(seat, at);
+        let word = self.table.shared.load::<GetWord<P>>(seat, at);
         program.take_word(word)
     }
 
@@ -181,7 +183,7 @@ impl<P: WordProgram, A: Allocator> Words<P, A> {
         ensures after { HasStepped P.law self.now.most number identity program.new result seat.old.me seat.new.me }
     {
         let at = P::place(self.most, register);
-        self.table.shared.store::<Put<P>>(seat, at, word);
+        self.table.shared.store::<PutWord<P>>(seat, at, word);
         program.take_done()
     }
 

@@ -31,4 +31,4 @@ pub mod names;
 pub mod seats;
 
 pub use names::Names;
-pub use seats::{Claim, Dealer, FreshSeat, Renamed, Renaming};
+pub use seats::{FreshNameSeat, NameClaim, NameDealer, Renamed, Renaming};

@@ -5,7 +5,7 @@ ghost use Rattle.words_names.specs.NameLaw.{NameSpec};
 ghost use Rattle.words_names.specs.Seats.{claim_of, dealer_of, no_deal, seat_of, IsSize};
 ghost use Rattle.model_steps.specs.declared.refusal.Refusal.TheVariants as refused;
 
-use crate::seats::{Claim, Dealer, FreshSeat, MOST_SEATS, Renamed, Renaming};
+use crate::seats::{FreshNameSeat, MOST_SEATS, NameClaim, NameDealer, Renamed, Renaming};
 use model_recursion::Namer;
 use model_steps::Refusal;
 use std::alloc::Allocator;
@@ -33,7 +33,7 @@ impl<A: Allocator + Clone> Names<A> {
     ///
     /// - `OutOfRange`: `most` is not from 1 to 64.
     /// - `NoMemory`: an allocation failed.
-    pub fn new(alloc: A, most: u64) -> Result<(Names<A>, Dealer), Refusal>
+    pub fn new(alloc: A, most: u64) -> Result<(Names<A>, NameDealer), Refusal>
         ensures names { IfOk result (λ r. r.0.most ≡ most) }
         ensures dealer { IfOk result (λ r. r.1 ≡ dealer_of r.0 0 []) }
         ensures range { IsOk result → IsSize most }
@@ -45,7 +45,7 @@ impl<A: Allocator + Clone> Names<A> {
         }
         let (machine, dealer) = WordMachine::new(alloc, most)?;
         let identities = [0; MOST_SEATS];
-        Ok((Names { machine }, Dealer { dealer, identities }))
+        Ok((Names { machine }, NameDealer { dealer, identities }))
     }
 }
 
@@ -66,7 +66,7 @@ impl<A: Allocator> Names<A> {
     /// - `ZeroIdentity`: the identity is 0.
     /// - `AlreadyBegun`: a seat was dealt to this identity.
     /// - `Full`: all seats were dealt.
-    pub fn deal(&self, dealer: &mut Dealer, identity: u64) -> Result<FreshSeat, Refusal>
+    pub fn deal(&self, dealer: &mut NameDealer, identity: u64) -> Result<FreshNameSeat, Refusal>
         requires ours { dealer.old.names ≡ self.now }
         ensures seat { IfOk result (λ s. s ≡ seat_of self.now dealer.old.dealt identity) }
         ensures dealt { IsOk result → dealer.new ≡ dealer_of self.now (dealer.old.dealt + 1) (dealer.old.known ++ identity ∷ []) }
@@ -87,7 +87,7 @@ impl<A: Allocator> Names<A> {
             return Err(Refusal::Full);
         };
         dealer.identities[dealt as usize] = identity;
-        Ok(FreshSeat { identity, seat })
+        Ok(FreshNameSeat { identity, seat })
     }
 
     /// Makes the accesses of a seat of these names, one after another, until it has a name, by reads and writes (Gafni and
@@ -96,23 +96,23 @@ impl<A: Allocator> Names<A> {
     /// # Steps
     ///
     /// At most `m(m + 1)` accesses of `m` seats, whatever the other seats do.
-    pub fn rename(&self, fresh: FreshSeat) -> Renamed
+    pub fn rename(&self, fresh: FreshNameSeat) -> Renamed
         requires ours { fresh.names ≡ self.now }
         ensures seat { (result.names ≡ fresh.names) × (result.number ≡ fresh.number) × (result.identity ≡ fresh.identity) }
         ensures law { NameSpec result }
     {
-        let FreshSeat { identity, seat } = fresh;
+        let FreshNameSeat { identity, seat } = fresh;
         let seat = self.machine.enter(seat, identity);
         Renamed { seat }
     }
 
     /// Returns a seat of these names before its first access, to make its accesses one at a time.
-    pub fn begin(&self, fresh: FreshSeat) -> Renaming
+    pub fn begin(&self, fresh: FreshNameSeat) -> Renaming
         requires ours { fresh.names ≡ self.now }
         ensures seat { (result.names ≡ fresh.names) × (result.number ≡ fresh.number) × (result.identity ≡ fresh.identity) }
         ensures first { result.accesses ≡ 0 }
     {
-        let FreshSeat { identity, seat } = fresh;
+        let FreshNameSeat { identity, seat } = fresh;
         let seat = self.machine.begin(seat, identity);
         Renaming { seat }
     }
@@ -161,7 +161,7 @@ impl<A: Allocator> Names<A> {
     /// Compares a renamed seat with the dealer, both of these names, which stay as they are.
     ///
     /// Where `d` seats were dealt, at most `d` had begun when this one got its name. So the name is at most `2d - 1`.
-    pub fn tally(&self, dealer: &mut Dealer, renamed: &mut Renamed)
+    pub fn tally(&self, dealer: &mut NameDealer, renamed: &mut Renamed)
         requires dealer { dealer.old.names ≡ self.now }
         requires renamed { renamed.old.names ≡ self.now }
         ensures same { (dealer.new ≡ dealer.old) × (renamed.new ≡ renamed.old) }
@@ -172,18 +172,18 @@ impl<A: Allocator> Names<A> {
     }
 
     /// Makes a claim of the name of a renamed seat of these names, which stays as it is.
-    pub fn claim(&self, renamed: &mut Renamed) -> Claim
+    pub fn claim(&self, renamed: &mut Renamed) -> NameClaim
         requires ours { renamed.old.names ≡ self.now }
         ensures same { renamed.new ≡ renamed.old }
         ensures claim { result ≡ claim_of renamed.old }
     {
         let identity = renamed.seat.identity();
         let claim = self.machine.claim(&mut renamed.seat);
-        Claim { identity, claim }
+        NameClaim { identity, claim }
     }
 
     /// Compares two claims of these names, which stay as they are. If their names are equal, so are their seats.
-    pub fn compare(&self, one: &mut Claim, other: &mut Claim)
+    pub fn compare(&self, one: &mut NameClaim, other: &mut NameClaim)
         requires one { one.old.names ≡ self.now }
         requires other { other.old.names ≡ self.now }
         ensures same { (one.new ≡ one.old) × (other.new ≡ other.old) }

@@ -11,13 +11,13 @@ pub const MOST_SEATS: usize = 64;
 
 /// The seats that are still to be dealt, by rising number.
 #[derive(Drop)]
-pub struct Dealer {
+pub struct NameDealer {
     pub(crate) dealer: words_machine::Dealer<Namer>,
     // The identities of the seats that were dealt come first.
     pub(crate) identities: [u64; MOST_SEATS],
 }
 
-impl Model for Dealer {
+impl Model for NameDealer {
     ghost use Rattle.std.specs.Prelude.{◌≤◌, take};
     ghost use Rattle.words_names.specs.Seats.{DealerId, dealer_of};
 
@@ -28,7 +28,7 @@ impl Model for Dealer {
     ghost invariant = { λ d. d.dealer.dealt ≤ 64 };
 }
 
-impl Dealer {
+impl NameDealer {
     /// Returns how many seats were dealt.
     pub fn dealt(&self) -> u64
         ensures { result ≡ self.now.dealt }
@@ -39,12 +39,12 @@ impl Dealer {
 
 /// A seat that was not renamed. `rename` takes it, so no seat is renamed twice.
 #[derive(Drop)]
-pub struct FreshSeat {
+pub struct FreshNameSeat {
     pub(crate) identity: u64,
     pub(crate) seat: words_machine::FreshSeat<Namer>,
 }
 
-impl Model for FreshSeat {
+impl Model for FreshNameSeat {
     ghost use Rattle.std.specs.Prelude.{◌≤◌};
     ghost use Rattle.words_names.specs.Seats.{SeatId, seat_of};
 
@@ -55,7 +55,7 @@ impl Model for FreshSeat {
     ghost invariant = { λ f. 1 ≤ f.identity };
 }
 
-impl FreshSeat {
+impl FreshNameSeat {
     /// Returns the seat's number, from 0.
     pub fn number(&self) -> u64
         ensures { result ≡ self.now.number }
@@ -164,12 +164,12 @@ impl Renamed {
 
 /// A claim: a seat has a name. It stays true.
 #[derive(Drop)]
-pub struct Claim {
+pub struct NameClaim {
     pub(crate) identity: u64,
     pub(crate) claim: words_machine::Claim<Namer>,
 }
 
-impl Model for Claim {
+impl Model for NameClaim {
     ghost use Rattle.words_names.specs.Seats.{ClaimId, claim_at};
 
     ghost Value = { ClaimId };
@@ -177,7 +177,7 @@ impl Model for Claim {
     ghost view = { λ c. claim_at c.claim.words c.claim.number c.identity c.claim.outcome };
 }
 
-impl Claim {
+impl NameClaim {
     /// Returns the number of the seat whose name it is, from 0.
     pub fn number(&self) -> u64
         ensures { result ≡ self.now.number }

@@ -10,7 +10,7 @@ pub use Rattle.words_pool.specs.PoolView.{read_at, at_rest, coming, sighting, pa
 pub use Rattle.words_pool.specs.PoolSteps.{IsWordFor, Comes, Looks, Frees, LooksOn, IsUnderRule}
 pub use Rattle.words_pool.specs.Pools.{set_places, PoolId, CallId}
 pub use Rattle.words_pool.specs.PoolRule.{KeepsPoolRule, word_of}
-pub use Rattle.words_pool.specs.declared.pool_view.Stage.{Stage}
-pub use Rattle.words_pool.specs.declared.pool_view.Stage.TheVariants.{AtRest, Seeking, Holding, Ended}
+pub use Rattle.words_pool.specs.declared.pool_view.CallStage.{CallStage}
+pub use Rattle.words_pool.specs.declared.pool_view.CallStage.TheVariants.{AtRest, Seeking, Holding, Ended}
 pub use Rattle.words_pool.specs.LineRule.{undealt, by_stage, from, rests, KeepsLine, KeepsLineRule}
 pub use Rattle.words_pool.specs.NumberSteps.{KeepsSteps}

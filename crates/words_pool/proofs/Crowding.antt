@@ -1,6 +1,6 @@
 -- each step keeps the law of a crowd
 use Rattle.std.proofs.Common.{◌≡◌, ◌≢◌, ℕ, zero, suc, ◌+◌, ◌-◌, ◌≤◌, ◌<◌, ⊎_elim, subst, sym, refl, ap, ◌∙◌, eqb, eq-eqb, ne_eqb, arith, List, [], ◌∷◌, ◌++◌, set}
-use Rattle.words_pool.proofs.Common.{Stage, AtRest, Seeking, Holding, Ended, Call, PoolView, at_rest, coming, sighting, passing, taking, going, lone, view_of, no_call, united, sum_of, tally, one_if, if_holding, holding, undealt}
+use Rattle.words_pool.proofs.Common.{CallStage, AtRest, Seeking, Holding, Ended, Call, PoolView, at_rest, coming, sighting, passing, taking, going, lone, view_of, no_call, united, sum_of, tally, one_if, if_holding, holding, undealt}
 use mathlib.Core.Option.{some, some-ne-none, some-injective}
 use mathlib.Core.Logic.{dite}
 use native.Mathlib.Decide.{ℕ_discrete}
@@ -17,7 +17,7 @@ module _ (views next : List PoolView) (same : (t : ℕ) → t ≤ now views → 
 
 module _ (views next : List PoolView) (up : now views ≤ now next) (same : (t : ℕ) → t ≤ now views → tally (competed t) next ≡ tally (competed t) views)
     (goes_on : (came m : ℕ) → came ≤ now views → ((j : ℕ) → j ≤ m → WasCrowded views came j) → (j : ℕ) → j ≤ m → WasCrowded next came j) where
-  lift_at : (stage : Stage) (c : Call) → crowded_at stage views c → crowded_at stage next c
+  lift_at : (stage : CallStage) (c : Call) → crowded_at stage views c → crowded_at stage next c
   lift_at AtRest c h = tt
   lift_at Seeking c h = (omega (arith, h.0), goes_on c.came c.place h.0 h.1)
   lift_at Holding c h = (omega (arith, h.0), omega (arith, h.1), h.2 ∙ log_stays views next same c.came (suc c.took - c.came) (omega (arith, h.0, h.1)), h.3)
@@ -71,7 +71,7 @@ tally_same f g h (v ∷ vs) = let a = tally_same f g h vs in let b = sums v.call
   sums [] = refl
   sums (c ∷ cs) = let a = sums cs in let b = h c in omega arith
 
-from_first : (stage : Stage) (place : ℕ) → by_each stage 0 (1 - (0 - place)) (1 - (0 - place)) 0 ≡ by_each stage 0 1 1 0
+from_first : (stage : CallStage) (place : ℕ) → by_each stage 0 (1 - (0 - place)) (1 - (0 - place)) 0 ≡ by_each stage 0 1 1 0
 from_first AtRest place = omega arith
 from_first stage place = omega arith
 
@@ -114,7 +114,7 @@ module _ (views : List PoolView) (kept : KeepsCrowd views) (seat : ℕ) (c : Cal
 
   module _ (is : c.stage ≡ Seeking) where
     own_claim : (c.came ≤ now views) × ((place : ℕ) → place ≤ c.place → WasCrowded views c.came place)
-    own_claim = subst (λ (s : Stage). crowded_at s views c) is (kept.crowd seat (lone c past) there).0
+    own_claim = subst (λ (s : CallStage). crowded_at s views c) is (kept.crowd seat (lone c past) there).0
 
     -- it looks at a free place
     pub sighting_crowd : KeepsCrowd (next (sighting c) past)
@@ -129,7 +129,7 @@ module _ (views : List PoolView) (kept : KeepsCrowd views) (seat : ℕ) (c : Cal
         step_crowd views kept seat (lone c past) (lone (sighting c) past) there up same claims
         (λ t. let a = all (moved_by t) refl in let k = kept.clock t in omega arith)
         (λ t le. let a = all (competed t) refl in let b = all competes refl in let k = kept.present t (omega arith) in omega arith)
-        (subst (λ (s : Stage). crowded_at s n (sighting c)) (sym is) (let o = own_claim.0 in omega arith, claims c.came c.place own_claim.0 own_claim.1), tt)
+        (subst (λ (s : CallStage). crowded_at s n (sighting c)) (sym is) (let o = own_claim.0 in omega arith, claims c.came c.place own_claim.0 own_claim.1), tt)
 
     -- it leaves its place to another, which stands there too
     pub passing_crowd : (lost : ℕ) → tally (beyond (suc c.place)) views + 2 ≤ tally (beyond c.place) views → KeepsCrowd (next (passing lost c) past)
@@ -187,7 +187,7 @@ module _ (views : List PoolView) (kept : KeepsCrowd views) (seat : ℕ) (c : Cal
   going_crowd is =
       let d : Call = going (suc (now views)) c in
       let n : List PoolView = next at_rest (d ∷ past) in
-      let o = subst (λ (s : Stage). crowded_at s views c) is (kept.crowd seat (lone c past) there).0 in
+      let o = subst (λ (s : CallStage). crowded_at s views c) is (kept.crowd seat (lone c past) there).0 in
       let all : (f : Call → ℕ) → tally f n + f c ≡ tally f views + (f at_rest + f d) = (λ f. let a = changed at_rest (d ∷ past) f in omega arith) in
       let mine : moves c ≡ 1 = rw is refl in
       let clock = all moves in
@@ -318,7 +318,7 @@ crowd_opens n = record {
   lone_seat (suc k) v e = absurd (some-ne-none v (sym e))
 
 -- who holds a place stands there, and not further on
-holder_beyond : (stage : Stage) (place p : ℕ) → by_each stage 0 (1 - (suc p - place)) (1 - (suc p - place)) 0 + if_holding stage (one_if (eqb place p)) ≤ by_each stage 0 (1 - (p - place)) (1 - (p - place)) 0
+holder_beyond : (stage : CallStage) (place p : ℕ) → by_each stage 0 (1 - (suc p - place)) (1 - (suc p - place)) 0 + if_holding stage (one_if (eqb place p)) ≤ by_each stage 0 (1 - (p - place)) (1 - (p - place)) 0
 holder_beyond Holding place p = dite (ℕ_discrete place p) (λ e. let a = eq-eqb place p e in rw a (omega arith)) (λ ne. let a = ne_eqb place p ne in rw a (omega arith))
 holder_beyond stage place p = omega arith
 
@@ -341,10 +341,10 @@ two_beyond views p seat c past there is here held =
 
 -- a law of all views: what a call that holds a number has kept is so, and its number is small
 pub adaptive : (views : List PoolView) → KeepsCrowd views → (seat : ℕ) (c : Call) (past : List Call) → get_elem? views seat ≡ some (lone c past) → c.stage ≡ Holding → (c.crowds ≡ log_of_call views c) × IsSmall c
-adaptive views kept seat c past there is = let h = subst (λ (s : Stage). crowded_at s views c) is (kept.crowd seat (lone c past) there).0 in (h.2, h.3)
+adaptive views kept seat c past there is = let h = subst (λ (s : CallStage). crowded_at s views c) is (kept.crowd seat (lone c past) there).0 in (h.2, h.3)
 
 -- a call that competes has moved once, and that is its coming
-moved_once : (stage : Stage) (came went t : ℕ) → by_each stage 0 1 1 0 ≡ 1 → (by_each stage 0 1 1 2 ≡ 1) × (by_each stage 0 (1 - (came - t)) (1 - (came - t)) ((1 - (came - t)) + (1 - (went - t))) ≡ 1 - (came - t))
+moved_once : (stage : CallStage) (came went t : ℕ) → by_each stage 0 1 1 0 ≡ 1 → (by_each stage 0 1 1 2 ≡ 1) × (by_each stage 0 (1 - (came - t)) (1 - (came - t)) ((1 - (came - t)) + (1 - (went - t))) ≡ 1 - (came - t))
 moved_once AtRest came went t e = absurd (omega arith)
 moved_once Seeking came went t e = (refl, refl)
 moved_once Holding came went t e = (refl, refl)

@@ -1,6 +1,6 @@
 -- the words of a line at its end
 use Rattle.std.proofs.Common.{◌≡◌, ℕ, zero, suc, ◌+◌, ◌-◌, ◌*◌, ◌<◌, ◌≤◌, eqb, eq-eqb, ne_eqb, sym, refl, ap, ◌∙◌, arith, List, slice_index}
-use Rattle.words_pool.proofs.Common.{Final, Seen, Stage, Holding, PoolView, own, tally, holding, if_holding, one_if, sum_below, KeepsPoolRule, by_stage, from, rests, KeepsLine, KeepsLineRule}
+use Rattle.words_pool.proofs.Common.{Final, Seen, CallStage, Holding, PoolView, own, tally, holding, if_holding, one_if, sum_below, KeepsPoolRule, by_stage, from, rests, KeepsLine, KeepsLineRule}
 use mathlib.Core.Logic.{dite}
 use native.Mathlib.Decide.{ℕ_discrete}
 use lib.ListN.{get_elem?}
@@ -17,7 +17,7 @@ one_below place (suc n) = let s = one_below place n in
     dite (ℕ_discrete place n) (λ e. let a = eq-eqb place n e in let b = ap one_if a in omega arith) (λ ne. let a = ne_eqb place n ne in let b = ap one_if a in omega arith)
 
 -- a call holds at most one place, and none while it rests
-holds_below : (n : ℕ) (stage : Stage) (place : ℕ) → sum_below (λ p. if_holding stage (one_if (eqb place p))) n + by_stage stage 1 0 ≤ by_stage stage (1 - 0) (1 - (0 - place))
+holds_below : (n : ℕ) (stage : CallStage) (place : ℕ) → sum_below (λ p. if_holding stage (one_if (eqb place p))) n + by_stage stage 1 0 ≤ by_stage stage (1 - 0) (1 - (0 - place))
 holds_below n Holding place = let a = one_below place n in omega arith
 holds_below n stage place = let a = none_below n in omega arith
 

@@ -7,14 +7,14 @@ use lib.ListN.{get_elem?}
 use Rattle.words_pool.specs.LineRule.{by_stage, from, rests, undealt, KeepsLine, KeepsLineRule, ComesBySwapInLine, TakesInLine, NeverComes}
 use Rattle.words_pool.proofs.Keeping.{both, may_unite, may_sever, united_own, apart_own}
 use Rattle.std.proofs.Common.{slice_set}
-use Rattle.words_pool.proofs.Common.{State, Step, Allows, Splits, Stage, Seeking, Holding, Call, PoolView, at_rest, coming, sighting, passing, races, taking, going, lone, resting, view_of, sum_of, own, tally, one_if, if_holding, holding, set_again, Comes, Looks, Frees, LooksOn, Joins, no_call, united, looked, swapped, keeps, KeepsSteps}
+use Rattle.words_pool.proofs.Common.{State, Step, Allows, Splits, CallStage, Seeking, Holding, Call, PoolView, at_rest, coming, sighting, passing, races, taking, going, lone, resting, view_of, sum_of, own, tally, one_if, if_holding, holding, set_again, Comes, Looks, Frees, LooksOn, Joins, no_call, united, looked, swapped, keeps, KeepsSteps}
 use Rattle.words_pool.specs.Crowd.{now, IsSmall, KeepsCrowd}
 use Rattle.words_pool.proofs.Crowding.{two_beyond, come_there, comes_and_looks, comes_and_passes, came_views, log_at_coming, comes_and_takes, small_at_coming, sighting_crowd, passing_crowd, log_so_far, small_so_far, taking_crowd, there_set, going_crowd, unites_crowd, parts_crowd, each_undealt, crowd_opens}
 use Rattle.words_pool.proofs.Tallies.{tally_set, tally_snoc, tally_has, tally_sum}
 use Rattle.words_pool.proofs.Keeping.{come_kept, come_by_swap_kept, look_kept, take_kept, free_kept, reread, seeks_none, opens}
 
 -- who holds a place stands there, and not further on
-holder_here : (stage : Stage) (place p : ℕ) → by_stage stage (1 - suc p) (1 - (suc p - place)) + if_holding stage (one_if (eqb place p)) ≤ by_stage stage (1 - p) (1 - (p - place))
+holder_here : (stage : CallStage) (place p : ℕ) → by_stage stage (1 - suc p) (1 - (suc p - place)) + if_holding stage (one_if (eqb place p)) ≤ by_stage stage (1 - p) (1 - (p - place))
 holder_here Holding place p = dite (ℕ_discrete place p) (λ e. let a = eq-eqb place p e in rw a (omega arith)) (λ ne. let a = ne_eqb place p ne in rw a (omega arith))
 holder_here stage place p = omega arith
 

@@ -5,14 +5,14 @@
 use Rattle.std.specs.Prelude.{◌≡◌, ◌≤◌, ◌+◌, ◌-◌, ℕ, zero, suc, max, List, [], ◌∷◌}
 use mathlib.Core.Option.{some}
 use lib.ListN.{get_elem?}
-use Rattle.words_pool.specs.declared.pool_view.Stage.{Stage}
-use Rattle.words_pool.specs.declared.pool_view.Stage.TheVariants.{AtRest, Seeking, Holding, Ended}
+use Rattle.words_pool.specs.declared.pool_view.CallStage.{CallStage}
+use Rattle.words_pool.specs.declared.pool_view.CallStage.TheVariants.{AtRest, Seeking, Holding, Ended}
 use Rattle.words_pool.specs.declared.pool_view.Call.{Call}
 use Rattle.words_pool.specs.declared.pool_view.PoolView.{PoolView}
 use Rattle.words_pool.specs.Tally.{tally}
 
 -- one of four numbers
-abbrev pub by_each : Stage → ℕ → ℕ → ℕ → ℕ → ℕ
+abbrev pub by_each : CallStage → ℕ → ℕ → ℕ → ℕ → ℕ
 by_each AtRest rests seeks holds ended = rests
 by_each Seeking rests seeks holds ended = seeks
 by_each Holding rests seeks holds ended = holds
@@ -67,7 +67,7 @@ pub record WasCrowded (views : List PoolView) (since place : ℕ) : Type 0 where
   pub before : moment ≤ now views
   pub many : tally (beyond place) views + place ≤ tally (competed moment) views
 
-abbrev pub crowded_at : Stage → List PoolView → Call → Type 0
+abbrev pub crowded_at : CallStage → List PoolView → Call → Type 0
 crowded_at AtRest views c = Unit {0}
 crowded_at Seeking views c = (c.came ≤ now views) × ((place : ℕ) → place ≤ c.place → WasCrowded views c.came place)
 crowded_at Holding views c = (c.came ≤ now views) × (c.took ≤ now views) × (c.crowds ≡ log_of_call views c) × IsSmall c

@@ -5,8 +5,8 @@ use Rattle.std.specs.Prelude.{◌≡◌, ◌≤◌, ◌<◌, ◌-◌, ℕ, zero,
 use mathlib.Core.Option.{some}
 use lib.ListN.{get_elem?}
 use Rattle.atomic_table.specs.Table.{State, Me, Step}
-use Rattle.words_pool.specs.declared.pool_view.Stage.{Stage}
-use Rattle.words_pool.specs.declared.pool_view.Stage.TheVariants.{AtRest, Seeking, Holding, Ended}
+use Rattle.words_pool.specs.declared.pool_view.CallStage.{CallStage}
+use Rattle.words_pool.specs.declared.pool_view.CallStage.TheVariants.{AtRest, Seeking, Holding, Ended}
 use Rattle.words_pool.specs.declared.pool_view.Call.{Call}
 use Rattle.words_pool.specs.declared.pool_view.PoolView.{PoolView}
 use Rattle.words_pool.specs.PoolView.{at_rest, lone, call_of}
@@ -16,7 +16,7 @@ use Rattle.words_pool.specs.PoolRule.{KeepsPool}
 use Rattle.words_pool.specs.Crowd.{competes, now, log_of_call, IsSmall, KeepsCrowd}
 
 -- one of two numbers: for a call that rests, and for one that competes; 0 for one that has ended
-abbrev pub by_stage : Stage → ℕ → ℕ → ℕ
+abbrev pub by_stage : CallStage → ℕ → ℕ → ℕ
 by_stage AtRest rests competes = rests
 by_stage Seeking rests competes = competes
 by_stage Holding rests competes = competes

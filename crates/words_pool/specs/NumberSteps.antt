@@ -1,7 +1,7 @@
 -- what a rule of the words of so many numbers has to let every pool do, whatever else it says
 use Rattle.std.specs.Prelude.{◌≡◌, ◌<◌, ℕ, List, [], ◌∷◌, ◌++◌, length, replicate}
 use Rattle.atomic_table.specs.Table.{State, Step, Allows, Joins, Splits, opening}
-use Rattle.words_pool.specs.declared.pool_view.Stage.TheVariants.{Seeking, Holding}
+use Rattle.words_pool.specs.declared.pool_view.CallStage.TheVariants.{Seeking, Holding}
 use Rattle.words_pool.specs.declared.pool_view.Call.{Call}
 use Rattle.words_pool.specs.declared.pool_view.PoolView.{PoolView}
 use Rattle.words_pool.specs.PoolView.{lone, no_call, united, view_of}

@@ -1,7 +1,7 @@
 -- what a seat of a pool knows, and how a call goes on by its accesses
 use Rattle.std.specs.Prelude.{◌≡◌, ◌≢◌, ◌≤◌, ◌+◌, ◌==◌, ℕ, zero, suc, List, [], ◌∷◌, ◌++◌, true, false, if◌then◌else◌}
-use Rattle.words_pool.specs.declared.pool_view.Stage.{Stage}
-use Rattle.words_pool.specs.declared.pool_view.Stage.TheVariants.{AtRest, Seeking, Holding, Ended}
+use Rattle.words_pool.specs.declared.pool_view.CallStage.{CallStage}
+use Rattle.words_pool.specs.declared.pool_view.CallStage.TheVariants.{AtRest, Seeking, Holding, Ended}
 use Rattle.words_pool.specs.declared.pool_view.Call.{Call}
 use Rattle.words_pool.specs.declared.pool_view.PoolView.{PoolView}
 use Rattle.words_pool.specs.Tally.{one_if}
@@ -133,7 +133,7 @@ places_from first zero = []
 places_from first (suc count) = (first + count) ∷ places_from first count
 
 -- the view of a seat with one call, of this stage, at this place: its walk has met all places below held
-pub record IsAt (stage : Stage) (place : ℕ) (v : PoolView) : Type 0 where
+pub record IsAt (stage : CallStage) (place : ℕ) (v : PoolView) : Type 0 where
   pub view_is : v ≡ lone (call_of v) v.past
   pub stage_is : (call_of v).stage ≡ stage
   pub place_is : (call_of v).place ≡ place

@@ -1,7 +1,7 @@
 -- pools and what is held of them, as callers see them
 use Rattle.std.specs.Prelude.{◌≡◌, ◌<◌, ◌≤◌, ◌+◌, ◌-◌, ◌⊎◌, ◌==◌, ℕ, zero, suc, List, [], ◌∷◌, drop, slice_index, if◌then◌else◌}
 use Rattle.atomic_table.specs.Seated.{TableId}
-use Rattle.words_pool.specs.declared.pool_view.Stage.TheVariants.{Holding}
+use Rattle.words_pool.specs.declared.pool_view.CallStage.TheVariants.{Holding}
 use Rattle.words_pool.specs.declared.pool_view.Call.{Call}
 use Rattle.words_pool.specs.declared.pool_view.PoolView.{PoolView}
 use Rattle.words_pool.specs.PoolView.{lone, call_in, past_in, first_of, first_places, places_from}

@@ -1,7 +1,7 @@
 -- sums over the calls of all seats
 use Rattle.std.specs.Prelude.{◌+◌, ◌==◌, ℕ, List, [], ◌∷◌, Bool, true, false, zero, suc}
-use Rattle.words_pool.specs.declared.pool_view.Stage.{Stage}
-use Rattle.words_pool.specs.declared.pool_view.Stage.TheVariants.{Holding}
+use Rattle.words_pool.specs.declared.pool_view.CallStage.{CallStage}
+use Rattle.words_pool.specs.declared.pool_view.CallStage.TheVariants.{Holding}
 use Rattle.words_pool.specs.declared.pool_view.Call.{Call}
 use Rattle.words_pool.specs.declared.pool_view.PoolView.{PoolView}
 
@@ -23,7 +23,7 @@ abbrev pub one_if : Bool → ℕ
 one_if true = 1
 one_if false = 0
 
-abbrev pub if_holding : Stage → ℕ → ℕ
+abbrev pub if_holding : CallStage → ℕ → ℕ
 if_holding Holding n = n
 if_holding s n = 0
 

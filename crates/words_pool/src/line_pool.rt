@@ -12,7 +12,7 @@ ghost use lib.ListN.{get_elem?};
 ghost use mathlib.Core.Option.{some};
 
 use crate::held::Held;
-use crate::line_steps::{ComeBySwapInLine, Deal, Lining, Never, TakeInLine};
+use crate::line_steps::{ComeBySwapInLine, DealNumber, Lining, Never, TakeInLine};
 use crate::pool_over::{PoolOver, STRIDE};
 use crate::pool_steps::Come;
 use crate::pool_view::PoolView;
@@ -60,7 +60,7 @@ impl<A: Allocator> PoolOver<Lining, A> {
         }
         let Tickets { left, seat } = tickets;
         *left -= 1;
-        let dealt = self.table.shared.split_seat::<Deal>(seat);
+        let dealt = self.table.shared.split_seat::<DealNumber>(seat);
         Some(Ticket {
             badge: dealt.into_badge(),
         })

@@ -17,9 +17,9 @@ impl<S> TableRule<S, PoolView, u64> for Lining {
 }
 
 /// A split: the first call goes to the new seat.
-pub struct Deal;
+pub struct DealNumber;
 
-impl Split<PoolView> for Deal {
+impl Split<PoolView> for DealNumber {
     ghost left = { λ v. view_of (drop 1 v.calls) v.past };
 
     ghost right = { λ v. view_of (take 1 v.calls) [] };

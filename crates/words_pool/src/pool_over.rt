@@ -10,7 +10,7 @@ ghost use Rattle.words_pool.specs.NumberSteps.{KeepsSteps};
 ghost use Rattle.words_pool.specs.Pools.{CallId, HasNumberOf, IsHeldAt, IsStill};
 
 use crate::held::Held;
-use crate::pool_steps::{Free, Look, LookOn, Sever, Unite};
+use crate::pool_steps::{Free, LookAtNumber, LookAtStay, Sever, UniteStays};
 use crate::pool_view::PoolView;
 use atomic_table::{Badge, Seat, Table, TableRule};
 use model_steps::Refusal;
@@ -105,7 +105,7 @@ impl<R: TableRule<u8, PoolView, u64>, A: Allocator> PoolOver<R, A> {
             let found = self
                 .table
                 .shared
-                .load::<Look>(seat, (place * STRIDE) as usize);
+                .load::<LookAtNumber>(seat, (place * STRIDE) as usize);
             if found == 0 {
                 return place;
             }
@@ -160,8 +160,8 @@ impl<R: TableRule<u8, PoolView, u64>, A: Allocator> PoolOver<R, A> {
         ensures calls { (call_of result.0.me.0 ≡ call_of left.me.0) × (call_of result.1.me.0 ≡ call_of right.me.0) }
         ensures met { _one ≢ _other }
     {
-        self.table.shared.join_seat::<Unite>(&mut left, right);
-        self.table.shared.load::<LookOn>(&mut left, 0);
+        self.table.shared.join_seat::<UniteStays>(&mut left, right);
+        self.table.shared.load::<LookAtStay>(&mut left, 0);
         let right = self.table.shared.split_seat::<Sever>(&mut left);
         (left, right)
     }
@@ -194,6 +194,6 @@ impl<R: TableRule<u8, PoolView, u64>, A: Allocator> PoolOver<R, A> {
         let Held { place: _, badge } = held;
         self.table
             .shared
-            .join_seat::<Unite>(seat, badge.into_seat::<u8>());
+            .join_seat::<UniteStays>(seat, badge.into_seat::<u8>());
     }
 }

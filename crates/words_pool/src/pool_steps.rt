@@ -32,9 +32,9 @@ impl<S> Play<S, PoolView> for ComeBySwap {
 }
 
 /// A call reads the word of its place.
-pub struct Look;
+pub struct LookAtNumber;
 
-impl<S> Play<S, PoolView> for Look {
+impl<S> Play<S, PoolView> for LookAtNumber {
     ghost then = { Looks };
 }
 
@@ -67,9 +67,9 @@ impl<S> Play<S, PoolView> for Free {
 }
 
 /// A load that changes nothing, and shows that what the seat holds keeps the invariant.
-pub struct LookOn;
+pub struct LookAtStay;
 
-impl<S> Play<S, PoolView> for LookOn {
+impl<S> Play<S, PoolView> for LookAtStay {
     ghost then = { LooksOn };
 }
 
@@ -88,9 +88,9 @@ impl<S> Play<S, PoolView> for ReadOn {
 }
 
 /// A join: one seat gets the calls of both. The other then has none.
-pub struct Unite;
+pub struct UniteStays;
 
-impl Join<PoolView> for Unite {
+impl Join<PoolView> for UniteStays {
     ghost both = { united };
 
     ghost spent = { no_call };

@@ -3,7 +3,7 @@
 use std::collections::LinkedList;
 
 /// What a call does.
-pub enum Stage {
+pub enum CallStage {
     /// It competes for no number: it has not begun, or has tried a hint alone.
     AtRest,
     /// It walks from number 1 upward.
@@ -17,7 +17,7 @@ pub enum Stage {
 /// One stay in the pool: from the first access that seeks a number to the one that gives it back.
 pub struct Call {
     /// What it does.
-    pub stage: Stage,
+    pub stage: CallStage,
     /// The place that it tries next, or that it holds: the number less one.
     pub place: u64,
     /// The places that its walk found held, the newest first.

@@ -4,7 +4,7 @@ use crate::error::Error;
 use crate::kit::alloc::Global;
 use crate::proved::model_steps::refusal::Refusal;
 use crate::proved::words_names::names::Names as Machine;
-use crate::proved::words_names::seats::{Dealer, FreshSeat};
+use crate::proved::words_names::seats::{NameDealer, FreshNameSeat};
 use core::fmt;
 use std_alloc::sync::Arc;
 
@@ -33,7 +33,7 @@ pub const MAX_SEATS: usize = 64;
 /// ```
 pub struct Names {
     names: Arc<Machine<Global>>,
-    dealer: Dealer,
+    dealer: NameDealer,
 }
 
 impl Names {
@@ -107,7 +107,7 @@ impl fmt::Debug for Names {
 #[must_use = "a seat that is dropped is lost"]
 pub struct Seat {
     names: Arc<Machine<Global>>,
-    fresh: FreshSeat,
+    fresh: FreshNameSeat,
 }
 
 impl fmt::Debug for Seat {

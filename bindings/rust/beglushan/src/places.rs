@@ -3,7 +3,7 @@
 use crate::error::Error;
 use crate::kit::alloc::Global;
 use crate::proved::model_steps::refusal::Refusal;
-use crate::proved::words_machine::grid::seats::{Dealer, FreshSeat};
+use crate::proved::words_machine::grid::seats::{GridDealer, FreshGridSeat};
 use crate::proved::words_machine::grid::word_grid::WordGrid;
 use core::fmt;
 use std_alloc::sync::Arc;
@@ -30,7 +30,7 @@ pub const MAX_PLACE_SEATS: usize = 64;
 /// ```
 pub struct Places {
     grid: Arc<WordGrid<Global>>,
-    dealer: Dealer,
+    dealer: GridDealer,
 }
 
 impl Places {
@@ -92,7 +92,7 @@ impl fmt::Debug for Places {
 #[must_use = "a seat that is dropped is lost"]
 pub struct PlaceSeat {
     grid: Arc<WordGrid<Global>>,
-    fresh: FreshSeat,
+    fresh: FreshGridSeat,
 }
 
 impl fmt::Debug for PlaceSeat {

@@ -1,6 +1,6 @@
 -- each call of a renaming world keeps it tied to the object of its law
 use Rattle.std.proofs.Common.{◌≢◌, cond, ◌≡◌, ℕ, ◌+◌, true, false, Some, None, Result, Ok, Err, inl, inr, refl, sym, ap, subst, ◌∙◌, is_some, option_map}
-use Rattle.model_renaming.proofs.Common.{Participant, Refusal, participant_of, program_of, Call, lacked_memory, Stepped, SnapState, SnapCall, snap_next, IsSnapReply, ToPlace, ToScan, ToUpdate, StepReply, Round, Stage, Placing, Proposing, Looking, Settled, Over, stage_refusal, followed, RenameState, KnownPlaces, Pace, InTime, paced, next, IsReply, after_follow, rename_answer, after_rename_step, step_refusal, may_lack, RenameTerms, RenameObject, no_step, Allows, after, GoesBusy, goes_busy}
+use Rattle.model_renaming.proofs.Common.{Participant, Refusal, participant_of, program_of, Call, lacked_memory, Stepped, SnapState, SnapCall, snap_next, IsSnapReply, ToPlace, ToScan, ToUpdate, StepReply, Round, RoundStage, Placing, Proposing, Looking, Settled, Over, stage_refusal, followed, RenameState, KnownPlaces, Pace, InTime, paced, next, IsReply, after_follow, rename_answer, after_rename_step, step_refusal, may_lack, RenameTerms, RenameObject, no_step, Allows, after, GoesBusy, goes_busy}
 use Rattle.model_steps.specs.declared.refusal.Refusal.TheVariants.{NotBegun, Finished, Spent as IsSpent, NoMemory}
 use Rattle.model_snapshot.specs.SnapCalls.SnapCall.{Stepped as SnapStepped}
 use Rattle.model_snapshot.specs.Snapshot.{SnapObject, SnapBounds, observed, has_begun, has_nothing_pending, step_due, Allows as SnapAllows}
@@ -63,7 +63,7 @@ module _ {S R V U K : Type 0} (W : KnownPlaces S R V U K) (terms : RenameTerms) 
           conclude (Ok (followed v.program p k.reply w.limit).reply) (after_follow W w p (followed v.program p k.reply w.limit))
           (rw (program_is, unclosed, k.answer) refl) refl (rw (program_is, unclosed, k.answer) refl) (none, gone.allowed) gone.timed gone.tied
 
-      stage_goes : (stage : Stage) → v.program.stage ≡ stage → IsAtStage terms o t i.object w.snap p v.program stage → Answered
+      stage_goes : (stage : RoundStage) → v.program.stage ≡ stage → IsAtStage terms o t i.object w.snap p v.program stage → Answered
       stage_goes Placing e h =
           let k = goes_busy W w.snap p 0 h.stands in
           open_goes 0 k (ap stage_refusal e) (open_step h.going.unnamed h.going.left) (placing_gone W terms bounds Tie tie_goes w o t i p v here h e k)
@@ -87,7 +87,7 @@ module _ {S R V U K : Type 0} (W : KnownPlaces S R V U K) (terms : RenameTerms) 
 
     -- a step for which a growth was refused: only one who has no place yet makes such a step
     module _ (v : Participant Round) (here : participant_of p w.rounds ≡ Some v) where
-      stage_lacks : (stage : Stage) → IsAtStage terms o t i.object w.snap p v.program stage → stage_refusal stage ≡ None → i.object.task p ≡ ToPlace → (no_step o p ≡ None) × (o.place p ≡ None)
+      stage_lacks : (stage : RoundStage) → IsAtStage terms o t i.object w.snap p v.program stage → stage_refusal stage ≡ None → i.object.task p ≡ ToPlace → (no_step o p ≡ None) × (o.place p ≡ None)
       stage_lacks Placing h none e = (open_step v here h.going.unnamed h.going.left, h.unplaced)
       stage_lacks (Proposing number) h none e = absurd (let no : ToUpdate number ≡ ToPlace = sym h.task ∙ e in cc)
       stage_lacks Looking h none e = absurd (let no : ToScan ≡ ToPlace = sym h.task ∙ e in cc)

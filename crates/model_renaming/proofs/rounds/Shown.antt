@@ -1,6 +1,6 @@
 -- the proposals that stand in the memory, and who has a name, by the rounds
 use Rattle.std.proofs.Common.{suc, ◌<◌, get_or, drop, drop-cons, ◌≡◌, ◌≢◌, ℕ, ◌+◌, ◌≤◌, ◌==◌, true, false, cond, List, [], ◌∷◌, length, Option, Some, None, inl, inr, refl, sym, ap, ◌∙◌, arith, option_map, option_and_then}
-use Rattle.model_renaming.proofs.Common.{eqb_tells, Participant, AreDistinct, participant_of, program_of, IsRising, value_of, Round, Stage, Settled}
+use Rattle.model_renaming.proofs.Common.{eqb_tells, Participant, AreDistinct, participant_of, program_of, IsRising, value_of, Round, RoundStage, Settled}
 use Rattle.model_steps.proofs.cited.ViewLemmas.{IsRising-inserted, value_of-inserted, length-inserted}
 use Rattle.model_renaming.specs.RenameWorld.{name_by, owner_by, shown_with, shown_by}
 use Rattle.model_renaming.specs.Round.{name_at, has_name, standing_by}
@@ -63,11 +63,11 @@ pub shown_is : (q : ℕ) (vs : List (Participant Round)) → AreDistinct vs → 
 shown_is q vs d = shown_value q [] vs d ∙ or_none (standing_of q vs)
 
 -- a round has a name where it has ended with it
-named_at : (stage : Stage) (proposal n : ℕ) → has_name stage proposal n ≡ true → name_at stage proposal ≡ Some n
+named_at : (stage : RoundStage) (proposal n : ℕ) → has_name stage proposal n ≡ true → name_at stage proposal ≡ Some n
 named_at Settled proposal n h = elim (eqb_tells proposal n) [ inl e ↦ ap Some e.1 | inr e ↦ absurd (let no : true ≡ false = sym h ∙ e.0 in cc) ]
 named_at stage proposal n h = absurd (cc)
 
-unnamed_at : (stage : Stage) (proposal n : ℕ) → has_name stage proposal n ≡ false → name_at stage proposal ≢ Some n
+unnamed_at : (stage : RoundStage) (proposal n : ℕ) → has_name stage proposal n ≡ false → name_at stage proposal ≢ Some n
 unnamed_at Settled proposal n h e = elim (eqb_tells proposal n) [ inl f ↦ absurd (let no : false ≡ true = sym h ∙ f.0 in cc) | inr f ↦ f.1 (cc) ]
 unnamed_at stage proposal n h e = absurd (cc)
 

@@ -1,6 +1,6 @@
 -- a step of a renaming world, by what its snapshot object answers
 use Rattle.std.proofs.Common.{◌≡◌, ◌≢◌, ℕ, ◌+◌, ◌-◌, ◌*◌, ◌<◌, ◌≤◌, Bool, true, false, not, cond, List, length, Option, Some, Ok, inl, inr, refl, sym, ap, subst, ◌∙◌, arith, is_some, nat_lt, nat_le}
-use Rattle.model_renaming.proofs.Common.{eqb_tells, leb_tells, set_at, value_of, set_at-same, Participant, participant_of, done_unless, KnownPlaces, SnapReply, Silent, HasPlace, Written, Viewed, SnapState, after_scan, after_update, SnapCall, snap_next, IsSnapReply, ToPlace, ToScan, ToUpdate, Idle, Saw, Quiet, Placed, Proposed, Named, Spent, Round, Follow, Nothing, Update, Scan, Stage, Placing, Proposing, Looking, Settled, Over, is_taken, next_proposal, RenameState, after_wish, world_with, snap_step, snap_reported, ToGo, ToPropose, ToLook, StandsAt, GoesBusy, is_quiet, goes_idle}
+use Rattle.model_renaming.proofs.Common.{eqb_tells, leb_tells, set_at, value_of, set_at-same, Participant, participant_of, done_unless, KnownPlaces, SnapReply, Silent, HasPlace, Written, Viewed, SnapState, after_scan, after_update, SnapCall, snap_next, IsSnapReply, ToPlace, ToScan, ToUpdate, Idle, Saw, Quiet, Placed, Proposed, Named, Spent, Round, Follow, Nothing, Update, Scan, RoundStage, Placing, Proposing, Looking, Settled, Over, is_taken, next_proposal, RenameState, after_wish, world_with, snap_step, snap_reported, ToGo, ToPropose, ToLook, StandsAt, GoesBusy, is_quiet, goes_idle}
 use Rattle.std.proofs.lemmas.Bool.{lt-ltb}
 use Rattle.model_steps.proofs.cited.ParticipantLemmas.{some_begun}
 use Rattle.model_snapshot.specs.SnapCalls.SnapCall.{Updated, Scanned, Stepped as SnapStepped}
@@ -18,7 +18,7 @@ same_moment : (m n : ℕ → ℕ → Option ℕ) (l k : ℕ) (t : Task) (p value
 same_moment m n l k t p value e f g = rw (e, f, g) refl
 
 -- who has made proposals, the last of them stands in the memory
-pub standing_made : (count proposal : ℕ) (stage : Stage) → 1 ≤ count → standing_by (record { count = count; proposal = proposal; stage = stage }) ≡ Some proposal
+pub standing_made : (count proposal : ℕ) (stage : RoundStage) → 1 ≤ count → standing_by (record { count = count; proposal = proposal; stage = stage }) ≡ Some proposal
 standing_made count proposal stage some = elim (eqb_tells count 0) [ inl e ↦ absurd (let no = e.1 in omega arith) | inr e ↦ rw e.0 refl ]
 
 module _ {S R V U K : Type 0} (W : KnownPlaces S R V U K) (terms : RenameTerms) (bounds : SnapBounds)
@@ -254,7 +254,7 @@ module _ {S R V U K : Type 0} (W : KnownPlaces S R V U K) (terms : RenameTerms) 
     written_gone : HasGone (followed r p Written w.limit)
     written_gone =
         let is : followed r p Written w.limit ≡ written_follow =
-        ap (λ (z : Round). record { round = z; wish = Scan; reply = Proposed (number_of r.stage) }) raised ∙ ap (λ (z : Stage). record { round = written_r; wish = Scan; reply = Proposed (number_of z) }) at in
+        ap (λ (z : Round). record { round = z; wish = Scan; reply = Proposed (number_of r.stage) }) raised ∙ ap (λ (z : RoundStage). record { round = written_r; wish = Scan; reply = Proposed (number_of z) }) at in
         subst HasGone (sym is) written_next
 
   -- a view
@@ -384,7 +384,7 @@ module _ {S R V U K : Type 0} (W : KnownPlaces S R V U K) (terms : RenameTerms) 
         ] refl
 
   -- any answer that the snapshot object gives to one who stands there
-  abbrev AtQuiet : Stage → Type 0
+  abbrev AtQuiet : RoundStage → Type 0
   AtQuiet stage = IsAtStage terms o (paced_step t p Quiet) (stepped_to s p (s.task p)) snap' p r stage
 
   quiet_pace : t.steps p ≡ s.steps p → set_at t.steps p (t.steps p + 1) p ≡ set_at s.steps p (s.steps p + 1) p

@@ -1,6 +1,6 @@
 -- a renaming world with the object and the pace of its law
 use Rattle.std.proofs.Common.{◌≡◌, ◌≢◌, ℕ, ◌+◌, ◌-◌, ◌*◌, ◌<◌, ◌≤◌, ◌==◌, Bool, true, false, cond, length, Some, None, inl, inr, refl, sym, ap, ◌∙◌, arith, is_some}
-use Rattle.model_renaming.proofs.Common.{eqb_tells, set_at, set_at-same, set_at-other, Participant, AreDistinct, participant_of, with_participant, beginner, participant_of-put, length-with_participant, SnapState, SnapReply, Silent, ToPlace, ToScan, ToUpdate, Idle, Round, Stage, Placing, Proposing, Looking, Settled, Over, Pace, paced_step, StepReply, Quiet, Placed, Proposed, Saw, Named, Spent, RenameTerms, RenameObject, after_step, next_proposal, RenameState, world_with, standing_by, StandsAt}
+use Rattle.model_renaming.proofs.Common.{eqb_tells, set_at, set_at-same, set_at-other, Participant, AreDistinct, participant_of, with_participant, beginner, participant_of-put, length-with_participant, SnapState, SnapReply, Silent, ToPlace, ToScan, ToUpdate, Idle, Round, RoundStage, Placing, Proposing, Looking, Settled, Over, Pace, paced_step, StepReply, Quiet, Placed, Proposed, Saw, Named, Spent, RenameTerms, RenameObject, after_step, next_proposal, RenameState, world_with, standing_by, StandsAt}
 use Rattle.model_snapshot.specs.Snapshot.{Task, SnapObject, since_of, with_task, observed_step}
 use Rattle.model_renaming.specs.Pace.Phase.{ToPlace as ToGo, ToPropose, ToLook, AtEnd}
 use Rattle.model_renaming.proofs.Large.{IsAsLarge}
@@ -47,7 +47,7 @@ pub record IsLooking {S U K : Type 0} (terms : RenameTerms) (o : RenameObject) (
   pub pace : t.steps p ≡ s.steps p
 
 -- where a participant stands in its round agrees with the objects
-abbrev pub IsAtStage : {S U K : Type 0} → RenameTerms → RenameObject → Pace → SnapObject → SnapState S U K → ℕ → Round → Stage → Type 0
+abbrev pub IsAtStage : {S U K : Type 0} → RenameTerms → RenameObject → Pace → SnapObject → SnapState S U K → ℕ → Round → RoundStage → Type 0
 IsAtStage terms o t s w p r Placing = IsPlacing o t s w p r
 IsAtStage terms o t s w p r (Proposing n) = IsProposing terms o t s w p n r
 IsAtStage terms o t s w p r Looking = IsLooking terms o t s w p r
@@ -98,7 +98,7 @@ module _ {S U K : Type 0} (terms : RenameTerms) (o o' : RenameObject) (t t' : Pa
   pub counted_on : (r : Round) → IsCounted o q r → IsCounted o' q r
   counted_on r h = record { count = k.count ∙ h.count; now = k.now ∙ h.now }
 
-  pub stage_on : (r : Round) (stage : Stage) → IsAtStage terms o t s w q r stage → IsAtStage terms o' t' s' w' q r stage
+  pub stage_on : (r : Round) (stage : RoundStage) → IsAtStage terms o t s w q r stage → IsAtStage terms o' t' s' w' q r stage
   stage_on r Placing h = record { going = going_on h.going; none = h.none; unplaced = k.place ∙ h.unplaced; task = k.task ∙ h.task; stands = stands_on false 0 h.stands; phase = k.phase ∙ h.phase; pace = k.pace ∙ h.pace ∙ sym k.snap_pace }
   stage_on r (Proposing n) h = record { going = going_on h.going; rounds = h.rounds; positive = h.positive; small = (let a = h.small in let b = k.many in omega arith); task = k.task ∙ h.task; stands = stands_on false (r.count + 1) h.stands; phase = k.phase ∙ h.phase; pace = k.pace ∙ h.pace ∙ sym k.snap_pace }
   stage_on r Looking h = record { going = going_on h.going; some = h.some; rounds = h.rounds; task = k.task ∙ h.task; later = (let a = h.later in let b = k.later in let c = k.since in omega arith); stands = stands_on false r.count h.stands; phase = k.phase ∙ h.phase; pace = k.pace ∙ h.pace ∙ sym k.snap_pace }

@@ -1,22 +1,22 @@
 -- each access keeps the law of one splitter
 use Rattle.std.proofs.Common.{◌≡◌, ◌≢◌, ℕ, true, false, inl, inr, refl, sym, subst, ◌∙◌, arith}
-use Rattle.model_splitter.proofs.Common.{eqb_tells, Stop, Right, Down, Stage, Outside, WroteX, SawClear, WroteY, Gone, DoorSatisfiesSpec, IsSplitter, set_at}
+use Rattle.model_splitter.proofs.Common.{eqb_tells, Stop, Right, Down, VisitStage, Outside, WroteX, SawClear, WroteY, Gone, DoorSatisfiesSpec, IsSplitter, set_at}
 use Rattle.model_splitter.specs.Stage.{has_entered, has_set, is_between, has_stopped, went_right, went_down, x_after, y_after, stage_after}
 use Rattle.model_steps.proofs.cited.SetAtLemmas.{set_at-same, set_at-other, set_at-cases, set_at-as_is}
 use Rattle.model_splitter.proofs.Changed.{passed_before, passes_still, passes_too, fails_still}
 
-set_not_right : (s : Stage) → has_set s ≡ true → (has_entered s ≡ true) × (went_right s ≡ false)
+set_not_right : (s : VisitStage) → has_set s ≡ true → (has_entered s ≡ true) × (went_right s ≡ false)
 set_not_right WroteY h = (refl, refl)
 set_not_right (Gone Stop) h = (refl, refl)
 set_not_right (Gone Down) h = (refl, refl)
 set_not_right s h = absurd (cc)
 
-stopped_set : (s : Stage) → has_stopped s ≡ true → has_set s ≡ true
+stopped_set : (s : VisitStage) → has_stopped s ≡ true → has_set s ≡ true
 stopped_set (Gone Stop) h = refl
 stopped_set s h = absurd (cc)
 
 -- a lawful splitter keeps the law
-pub law_of : (x y : ℕ) (stage : ℕ → Stage) → DoorSatisfiesSpec x y stage → IsSplitter stage
+pub law_of : (x y : ℕ) (stage : ℕ → VisitStage) → DoorSatisfiesSpec x y stage → IsSplitter stage
 law_of x y stage d = record {
   one_stops = λ p q h k. d.one p q (rw h refl) (rw k refl);
   not_all_right = λ p e. elim (eqb_tells y 0) [
@@ -38,7 +38,7 @@ lawful_new x = record {
   one = λ p q h k. absurd (cc);
 }
 
-module _ (x y : ℕ) (stage : ℕ → Stage) (p : ℕ) (d : DoorSatisfiesSpec x y stage) where
+module _ (x y : ℕ) (stage : ℕ → VisitStage) (p : ℕ) (d : DoorSatisfiesSpec x y stage) where
   -- the first access: p writes X
   wrote_x : stage p ≡ Outside → DoorSatisfiesSpec p y (set_at stage p WroteX)
   wrote_x s = record {
@@ -125,9 +125,9 @@ module _ (x y : ℕ) (stage : ℕ → Stage) (p : ℕ) (d : DoorSatisfiesSpec x 
   }
 
   -- any access of p keeps the law. One that has gone makes none
-  pub kept : (s : Stage) → stage p ≡ s → DoorSatisfiesSpec (x_after p s x) (y_after s y) (set_at stage p (stage_after p s x y))
+  pub kept : (s : VisitStage) → stage p ≡ s → DoorSatisfiesSpec (x_after p s x) (y_after s y) (set_at stage p (stage_after p s x y))
   kept Outside s = wrote_x s
   kept WroteX s = elim (eqb_tells y 0) [ inl w ↦ rw w.0 (saw_clear s w.1) | inr w ↦ rw w.0 (turned_right s w.1) ]
   kept SawClear s = wrote_y s
   kept WroteY s = elim (eqb_tells x p) [ inl w ↦ rw w.0 (stopped s w.1) | inr w ↦ rw w.0 (turned_down s w.1) ]
-  kept (Gone way) s = subst (λ (f : ℕ → Stage). DoorSatisfiesSpec x y f) (sym (set_at-as_is stage p (Gone way) (sym s))) d
+  kept (Gone way) s = subst (λ (f : ℕ → VisitStage). DoorSatisfiesSpec x y f) (sym (set_at-as_is stage p (Gone way) (sym s))) d

@@ -1,6 +1,6 @@
 -- what ties a splitter's world to the calls that it is after
 use Rattle.std.proofs.Common.{◌≡◌, ◌≢◌, ℕ, ◌+◌, ◌<◌, ◌≤◌, true, false, cond, ◌==◌, inl, inr, List, [], ◌∷◌, ◌++◌, length, Option, Some, None, Result, Ok, Err, IfOk, refl, sym, ap, subst, ◌∙◌, arith, is_some, option_map, IsSome}
-use Rattle.model_splitter.proofs.Common.{eqb_tells, set_at, set_at-cases, Stop, Right, Down, Stage, Outside, WroteX, SawClear, WroteY, Gone, Visitor, DoorSatisfiesSpec, IsSplitter}
+use Rattle.model_splitter.proofs.Common.{eqb_tells, set_at, set_at-cases, Stop, Right, Down, VisitStage, Outside, WroteX, SawClear, WroteY, Gone, Visitor, DoorSatisfiesSpec, IsSplitter}
 use Rattle.std.proofs.Math.Path.{fun_ext}
 use Rattle.model_steps.specs.declared.participant.Participant.{Participant}
 use Rattle.model_steps.specs.Note.{ends}
@@ -27,20 +27,20 @@ use Rattle.model_splitter.specs.Machine.{SplitterState, fresh, visit_of, splitte
 use Rattle.model_splitter.proofs.cited.DoorKept.{kept, law_of, lawful_new}
 use Rattle.model_splitter.proofs.cited.VisitorAccess.{is_access_of}
 
-stage_in : Option (Visitor ℕ) → Stage
+stage_in : Option (Visitor ℕ) → VisitStage
 stage_in None = Outside
 stage_in (Some v) = v.stage
 
 -- how far each identity has come
-stages : List (Participant (Visitor ℕ)) → ℕ → Stage
+stages : List (Participant (Visitor ℕ)) → ℕ → VisitStage
 stages ps p = stage_in (program_of p ps)
 
-way_at : Stage → Option Way
+way_at : VisitStage → Option Way
 way_at (Gone way) = Some way
 way_at s = None
 
 -- the accesses that a visit has made
-accesses : Stage → ℕ
+accesses : VisitStage → ℕ
 accesses Outside = 0
 accesses WroteX = 1
 accesses SawClear = 2
@@ -95,7 +95,7 @@ begun_kept w r id in_ t =
     }
 
 -- an access of a visit that has not ended is one more, and tells the way where it ends
-one_more : (p : ℕ) (s : Stage) (x y : ℕ) → is_gone s ≡ false → accesses (stage_after p s x y) ≡ accesses s + 1
+one_more : (p : ℕ) (s : VisitStage) (x y : ℕ) → is_gone s ≡ false → accesses (stage_after p s x y) ≡ accesses s + 1
 unfolding accesses
 one_more p Outside x y h = refl
 one_more p WroteX x y h = elim (y == 0) as (λ t. accesses (cond t SawClear (Gone Right)) ≡ 2) [ true ↦ refl | false ↦ refl ]
@@ -103,7 +103,7 @@ one_more p SawClear x y h = refl
 one_more p WroteY x y h = elim (x == p) as (λ t. accesses (cond t (Gone Stop) (Gone Down)) ≡ 4) [ true ↦ refl | false ↦ refl ]
 one_more p (Gone way) x y h = absurd (cc)
 
-way_reported : (s : Stage) → outcome_in (note_at s) ≡ way_at s
+way_reported : (s : VisitStage) → outcome_in (note_at s) ≡ way_at s
 unfolding way_at
 way_reported Outside = refl
 way_reported WroteX = refl
@@ -111,11 +111,11 @@ way_reported SawClear = refl
 way_reported WroteY = refl
 way_reported (Gone way) = refl
 
-end_reported : (s : Stage) → ends (note_at s) ≡ is_gone s
+end_reported : (s : VisitStage) → ends (note_at s) ≡ is_gone s
 end_reported Outside = refl
 end_reported s = refl
 
-no_way_yet : (s : Stage) → is_gone s ≡ false → way_at s ≡ None
+no_way_yet : (s : VisitStage) → is_gone s ≡ false → way_at s ≡ None
 unfolding way_at
 no_way_yet Outside h = refl
 no_way_yet WroteX h = refl
@@ -137,7 +137,7 @@ going_kept w r id v here goes t =
     let stage_is : stages w.participants id ≡ v.program.stage = rw here refl in
     let there : is_some (participant_of v.identity w.participants) ≡ true = rw (visit.own, here) refl in
     let put : (q : ℕ) → participant_of q (with_participant new w.participants) ≡ set_at (λ u. participant_of u w.participants) id (Some new) q = (λ q. participant_of-put w.participants new there q ∙ rw visit.own refl) in
-    let after : Stage = stage_after id v.program.stage (word_of w.memory 0) (word_of w.memory 1) in
+    let after : VisitStage = stage_after id v.program.stage (word_of w.memory 0) (word_of w.memory 1) in
     let all : stages (with_participant new w.participants) ≡ set_at (stages w.participants) id after =
     fun_ext (λ q. ap (λ o. stage_in (option_map (λ u. u.program) o)) (put q)
     ∙ elim (eqb_tells q id) [ inl e ↦ rw (e.0) reached | inr e ↦ rw (e.0) refl ]) in
@@ -147,7 +147,7 @@ going_kept w r id v here goes t =
     ap (word_of m') (sym visit.y) ∙ access.y ∙ ap (λ x. y_after v.program.stage (word_of w.memory x)) visit.y in
     let way : outcome_in (note_after v.program (answer_of w.memory (access_of v.program))) ≡ way_at after = way_reported (stage_by v.program (answer_of w.memory (access_of v.program))) ∙ ap way_at reached in
     let none : way_at (stages w.participants id) ≡ None = ap way_at stage_is ∙ no_way_yet v.program.stage on in
-    let more : accesses after ≡ accesses (stages w.participants id) + 1 = one_more id v.program.stage (word_of w.memory 0) (word_of w.memory 1) on ∙ ap (λ (s : Stage). accesses s + 1) (sym stage_is) in
+    let more : accesses after ≡ accesses (stages w.participants id) + 1 = one_more id v.program.stage (word_of w.memory 0) (word_of w.memory 1) on ∙ ap (λ (s : VisitStage). accesses s + 1) (sym stage_is) in
     record {
       registers = access.registers ∙ t.registers;
       visits = λ p u h. set_at-cases (λ z. participant_of z w.participants) id (Some new) (λ o. o ≡ Some u → IsVisitOf p u) p
@@ -178,7 +178,7 @@ tied_new most = record {
 }
 
 -- what the accesses of a visit tell
-entered_by : (s : Stage) → 0 < accesses s → has_entered s ≡ true
+entered_by : (s : VisitStage) → 0 < accesses s → has_entered s ≡ true
 unfolding accesses
 entered_by Outside h = absurd (omega arith)
 entered_by WroteX h = refl
@@ -186,7 +186,7 @@ entered_by SawClear h = refl
 entered_by WroteY h = refl
 entered_by (Gone way) h = refl
 
-some_access : (s : Stage) → has_entered s ≡ true → 0 < accesses s
+some_access : (s : VisitStage) → has_entered s ≡ true → 0 < accesses s
 unfolding accesses
 some_access Outside h = absurd (cc)
 some_access WroteX h = omega arith
@@ -196,7 +196,7 @@ some_access (Gone Stop) h = omega arith
 some_access (Gone Right) h = omega arith
 some_access (Gone Down) h = omega arith
 
-few_accesses : (s : Stage) → accesses s ≤ 4
+few_accesses : (s : VisitStage) → accesses s ≤ 4
 unfolding accesses
 few_accesses Outside = omega arith
 few_accesses WroteX = omega arith
@@ -206,7 +206,7 @@ few_accesses (Gone Stop) = omega arith
 few_accesses (Gone Right) = omega arith
 few_accesses (Gone Down) = omega arith
 
-fourth_ends : (s : Stage) → accesses s ≡ 4 → IsSome (way_at s)
+fourth_ends : (s : VisitStage) → accesses s ≡ 4 → IsSome (way_at s)
 unfolding accesses way_at
 fourth_ends Outside h = absurd (omega arith)
 fourth_ends WroteX h = absurd (omega arith)
@@ -214,7 +214,7 @@ fourth_ends SawClear h = absurd (omega arith)
 fourth_ends WroteY h = absurd (omega arith)
 fourth_ends (Gone way) h = refl
 
-gone_by : (s : Stage) (way : Way) → way_at s ≡ Some way → s ≡ Gone way
+gone_by : (s : VisitStage) (way : Way) → way_at s ≡ Some way → s ≡ Gone way
 unfolding way_at
 gone_by Outside way h = absurd (cc)
 gone_by WroteX way h = absurd (cc)

@@ -1,6 +1,6 @@
 -- what an access of a visit does to its two registers
 use Rattle.std.proofs.Common.{◌≢◌, ℕ, ◌<◌, length, refl, sym}
-use Rattle.model_splitter.proofs.Common.{Stage, Outside, WroteX, SawClear, WroteY, Gone, Visitor}
+use Rattle.model_splitter.proofs.Common.{VisitStage, Outside, WroteX, SawClear, WroteY, Gone, Visitor}
 use Rattle.std.proofs.lemmas.List.{get_or-set_same, get_or-set_other}
 use Rattle.std.proofs.Math.ListN.{length-set}
 use Rattle.model_steps.specs.RegisterState.{Registers}
@@ -8,15 +8,15 @@ use Rattle.model_steps.specs.Steps.{ReadsOrWrites}
 use Rattle.model_splitter.specs.Visitor.{IsAccessOf, access_at}
 
 -- it reads or writes a register, or reaches none
-pub own_access : (id x y : ℕ) (s : Stage) → ReadsOrWrites (access_at id x y s)
+pub own_access : (id x y : ℕ) (s : VisitStage) → ReadsOrWrites (access_at id x y s)
 own_access id x y Outside = tt
 own_access id x y s = tt
 
 module _ (m : Registers ℕ) (id x y : ℕ) (apart : x ≢ y) (x_in : x < length m.values) (y_in : y < length m.values) where
-  abbrev visit : Stage → Visitor ℕ
+  abbrev visit : VisitStage → Visitor ℕ
   visit s = record { identity = id; x = x; y = y; stage = s }
 
-  at_stage : (s : Stage) → IsAccessOf m (visit s)
+  at_stage : (s : VisitStage) → IsAccessOf m (visit s)
   at_stage Outside = record {
     stage = refl;
     x = get_or-set_same m.values x id m.first x_in;

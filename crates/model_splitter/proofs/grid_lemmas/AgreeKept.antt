@@ -1,6 +1,6 @@
 -- what each access of a walk, and each beginning, keeps of the doors and the walks of a grid
 use Rattle.std.proofs.Common.{◌≡◌, ◌≢◌, ℕ, zero, suc, ◌<◌, ◌≤◌, Bool, true, false, cond, ◌==◌, ◌⊎◌, inl, inr, [], ◌∷◌, length, get_or, Option, Some, None, refl, sym, ap, subst, ◌∙◌, arith}
-use Rattle.model_splitter.proofs.grid_lemmas.Common.{eqb_tells, set_at, Stage, Outside, WroteX, SawClear, WroteY, Gone, has_entered, went_right, went_down, x_after, y_after, stage_after, Walker, door_number, number_of, door_at, walker_at, walk_of, visit_on}
+use Rattle.model_splitter.proofs.grid_lemmas.Common.{eqb_tells, set_at, VisitStage, Outside, WroteX, SawClear, WroteY, Gone, has_entered, went_right, went_down, x_after, y_after, stage_after, Walker, door_number, number_of, door_at, walker_at, walk_of, visit_on}
 use Rattle.model_steps.proofs.cited.SetAtLemmas.{set_at-same, set_at-other, set_at-cases}
 use Rattle.model_splitter.specs.declared.way.Way.TheVariants.{Stop, Right, Down}
 use Rattle.model_splitter.specs.Invariant.{DoorSatisfiesSpec}
@@ -28,28 +28,28 @@ with_door-cases seen d c e f = set_at-cases seen d (set_at (seen d) c true) (λ 
     (λ x. set_at-cases (seen d) c true (λ w. w ≡ true → ((e ≡ d) × (f ≡ c)) ⊎ (seen e f ≡ true)) f (λ y _. inl (x, y)) (λ _ h. inr (rw x h))) (λ _ h. inr h)
 
 -- one visit further
-pub visited : (ℕ → ℕ → Stage) → ℕ → ℕ → Stage → ℕ → ℕ → Stage
+pub visited : (ℕ → ℕ → VisitStage) → ℕ → ℕ → VisitStage → ℕ → ℕ → VisitStage
 visited stage k p s = set_at stage k (set_at (stage k) p s)
 
-visit_own : (stage : ℕ → ℕ → Stage) (k p : ℕ) (s : Stage) → visited stage k p s k p ≡ s
+visit_own : (stage : ℕ → ℕ → VisitStage) (k p : ℕ) (s : VisitStage) → visited stage k p s k p ≡ s
 unfolding visited
-visit_own stage k p s = ap (λ (w : ℕ → Stage). w p) (set_at-same stage k (set_at (stage k) p s)) ∙ set_at-same (stage k) p s
+visit_own stage k p s = ap (λ (w : ℕ → VisitStage). w p) (set_at-same stage k (set_at (stage k) p s)) ∙ set_at-same (stage k) p s
 
-visit_door : (stage : ℕ → ℕ → Stage) (k p : ℕ) (s : Stage) (j q : ℕ) → j ≢ k → visited stage k p s j q ≡ stage j q
+visit_door : (stage : ℕ → ℕ → VisitStage) (k p : ℕ) (s : VisitStage) (j q : ℕ) → j ≢ k → visited stage k p s j q ≡ stage j q
 unfolding visited
-visit_door stage k p s j q n = ap (λ (w : ℕ → Stage). w q) (set_at-other stage k (set_at (stage k) p s) j n)
+visit_door stage k p s j q n = ap (λ (w : ℕ → VisitStage). w q) (set_at-other stage k (set_at (stage k) p s) j n)
 
-visit_person : (stage : ℕ → ℕ → Stage) (k p : ℕ) (s : Stage) (j q : ℕ) → q ≢ p → visited stage k p s j q ≡ stage j q
+visit_person : (stage : ℕ → ℕ → VisitStage) (k p : ℕ) (s : VisitStage) (j q : ℕ) → q ≢ p → visited stage k p s j q ≡ stage j q
 unfolding visited
-visit_person stage k p s j q n = set_at-cases stage k (set_at (stage k) p s) (λ (w : ℕ → Stage). w q ≡ stage j q) j
+visit_person stage k p s j q n = set_at-cases stage k (set_at (stage k) p s) (λ (w : ℕ → VisitStage). w q ≡ stage j q) j
     (λ x. set_at-other (stage k) p s q n ∙ ap (λ (i : ℕ). stage i q) (sym x)) (λ _. refl)
 
-entered_after : (p : ℕ) (s : Stage) (x y : ℕ) → has_entered (stage_after p s x y) ≡ true
+entered_after : (p : ℕ) (s : VisitStage) (x y : ℕ) → has_entered (stage_after p s x y) ≡ true
 entered_after p WroteX x y = elim (y == 0) as (λ b. has_entered (cond b SawClear (Gone Right)) ≡ true) [ true ↦ refl | false ↦ refl ]
 entered_after p WroteY x y = elim (x == p) as (λ b. has_entered (cond b (Gone Stop) (Gone Down)) ≡ true) [ true ↦ refl | false ↦ refl ]
 entered_after p s x y = refl
 
-pub x_own : (p : ℕ) (s : Stage) (x : ℕ) → (x_after p s x ≡ p) ⊎ (x_after p s x ≡ x)
+pub x_own : (p : ℕ) (s : VisitStage) (x : ℕ) → (x_after p s x ≡ p) ⊎ (x_after p s x ≡ x)
 x_own p Outside x = inl refl
 x_own p s x = inr refl
 
@@ -57,10 +57,10 @@ module _ (b : ℕ) (x_of y_of : ℕ → ℕ) (walker : ℕ → Option Walker) (g
   abbrev at : ℕ
   at = number_of v.door
 
-  abbrev after : Stage
+  abbrev after : VisitStage
   after = stage_after p v.visitor.stage (x_of at) (y_of at)
 
-  abbrev stage' : ℕ → ℕ → Stage
+  abbrev stage' : ℕ → ℕ → VisitStage
   stage' = visited g.stage at p after
 
   -- the doors after the step
@@ -205,7 +205,7 @@ module _ (b : ℕ) (x_of y_of : ℕ → ℕ) (walker : ℕ → Option Walker) (g
   abbrev door : ℕ
   door = number_of v.door
 
-  abbrev next_stage : Stage
+  abbrev next_stage : VisitStage
   next_stage = stage_after p v.visitor.stage (x_of door) (y_of door)
 
   deeper_door : (d c : ℕ) → c ≤ d → v.door.depth < d → door_number d c ≢ door

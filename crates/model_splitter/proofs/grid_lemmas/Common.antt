@@ -10,8 +10,8 @@ pub use Rattle.model_steps.specs.declared.participant.Participant.{Participant}
 pub use Rattle.model_steps.specs.declared.refusal.Refusal.{Refusal}
 pub use Rattle.model_steps.specs.Calls.Call.{Began, Stepped}
 pub use Rattle.model_steps.specs.declared.access.Answer.{Answer}
-pub use Rattle.model_splitter.specs.declared.stage.Stage.{Stage}
-pub use Rattle.model_splitter.specs.declared.stage.Stage.TheVariants.{Outside, WroteX, SawClear, WroteY, Gone}
+pub use Rattle.model_splitter.specs.declared.stage.VisitStage.{VisitStage}
+pub use Rattle.model_splitter.specs.declared.stage.VisitStage.TheVariants.{Outside, WroteX, SawClear, WroteY, Gone}
 pub use Rattle.model_splitter.specs.Stage.{has_entered, went_right, went_down, x_after, y_after, stage_after}
 pub use Rattle.model_splitter.specs.declared.grid.walker.Walker.{Walker}
 pub use Rattle.model_splitter.specs.grid.Door.{door_number, number_of, door_at, right_of, down_of, IsDoorWithin}

@@ -1,6 +1,6 @@
 -- an identity stands in X of just the doors that were entered
 use Rattle.std.proofs.Common.{◌≡◌, ◌≢◌, ℕ, ◌+◌, ◌*◌, true, false, cond, ◌⊎◌, inl, inr, List, [], length, Option, Some, None, Ok, Err, Result, refl, sym, ap, subst, ◌∙◌, ◌↔◌}
-use Rattle.model_splitter.proofs.grid_lemmas.Common.{cases_Bool, eqb_tells, Participant, Refusal, Registers, answer_of, after_access, memory_steps, set_at, Began, Stepped, Stage, Outside, has_entered, x_after, Walker, number_of, walk_of, walker_steps, walker_note, next_access, x_in, IsConsistent, GridState, fresh, grid, empty_doors}
+use Rattle.model_splitter.proofs.grid_lemmas.Common.{cases_Bool, eqb_tells, Participant, Refusal, Registers, answer_of, after_access, memory_steps, set_at, Began, Stepped, VisitStage, Outside, has_entered, x_after, Walker, number_of, walk_of, walker_steps, walker_note, next_access, x_in, IsConsistent, GridState, fresh, grid, empty_doors}
 use Rattle.model_steps.specs.declared.refusal.Refusal.TheVariants.{NotBegun, Finished}
 use Rattle.model_steps.specs.Participant.{participant_of}
 use Rattle.model_steps.specs.World.{begin_refusal, begun_unless, after_begin, after_step_by, step_answer_by}
@@ -26,7 +26,7 @@ module _ (most b : ℕ) (m : Registers ℕ) (walker : ℕ → Option Walker) (c 
   not_nobody p u is e = absurd (let k : Some u ≡ None = sym is ∙ ap walker e ∙ c.agree.nobody in cc)
 
   -- after an access of p an identity stands in X of its door
-  writes_x : (p : ℕ) (u : Walker) → walker p ≡ Some u → (s : Stage) → u.visitor.stage ≡ s → x_after p s (x_in m (number_of u.door)) ≢ 0
+  writes_x : (p : ℕ) (u : Walker) → walker p ≡ Some u → (s : VisitStage) → u.visitor.stage ≡ s → x_after p s (x_in m (number_of u.door)) ≢ 0
   writes_x p u is Outside e = not_nobody p u is
   writes_x p u is s e = entered_in_x (number_of u.door) p (ap has_entered ((c.agree.walks p u is).here ∙ e))
 

@@ -14,8 +14,8 @@ pub use Rattle.model_steps.specs.declared.record.Record.{Record}
 pub use Rattle.model_steps.specs.declared.access.Access.{Access}
 pub use Rattle.model_steps.specs.Count.{count_to}
 pub use Rattle.model_steps.proofs.cited.CountLemmas.{count_le, count_none, count_more}
-pub use Rattle.model_splitter.specs.declared.stage.Stage.{Stage}
-pub use Rattle.model_splitter.specs.declared.stage.Stage.TheVariants.{Outside, Gone}
+pub use Rattle.model_splitter.specs.declared.stage.VisitStage.{VisitStage}
+pub use Rattle.model_splitter.specs.declared.stage.VisitStage.TheVariants.{Outside, Gone}
 pub use Rattle.model_splitter.specs.Visitor.{access_at, stage_by}
 pub use Rattle.model_splitter.specs.declared.way.Way.TheVariants.{Right, Down}
 pub use Rattle.model_splitter.specs.Stage.{has_entered, went_right, went_down, x_after, y_after, stage_after}

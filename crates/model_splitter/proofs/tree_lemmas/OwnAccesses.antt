@@ -1,13 +1,13 @@
 -- the accesses of a participant
 use Rattle.std.proofs.Common.{◌≡◌, ℕ, Bool, true, false, cond, Option, Some, None, refl, sym, ap, ◌∙◌}
-use Rattle.model_splitter.proofs.tree_lemmas.WorldCommon.{Write, Participant, Record, participant_of, Stage, Outside, TreeRegister, Mark, X, Y, Contents, TreeValue, Word, Walker, Client, Task, Placing, Storing, access_for, write_at, record_of, TreeWorldState, tree, tree_steps}
+use Rattle.model_splitter.proofs.tree_lemmas.WorldCommon.{Write, Participant, Record, participant_of, VisitStage, Outside, TreeRegister, Mark, X, Y, Contents, TreeValue, Word, Walker, Client, Task, Placing, Storing, access_for, write_at, record_of, TreeWorldState, tree, tree_steps}
 use Rattle.model_steps.specs.Steps.{ReadsOrWrites}
 use Rattle.model_splitter.specs.Visitor.{access_at, access_of}
 use Rattle.model_splitter.specs.tree.Walk.{in_words, place_of, StandsAtNode}
 use Rattle.model_steps.specs.Machine.{OnEveryHistory}
 use Rattle.model_splitter.proofs.tree_lemmas.TreeProved.{tied}
 
-own_words : (id : ℕ) (x y : TreeRegister) (s : Stage) → ReadsOrWrites (in_words (access_at id x y s))
+own_words : (id : ℕ) (x y : TreeRegister) (s : VisitStage) → ReadsOrWrites (in_words (access_at id x y s))
 own_words id x y Outside = tt
 own_words id x y s = tt
 
@@ -26,7 +26,7 @@ own_access c (Storing value) = own_write (place_of c.walker) (record_of c value)
 own_access c t = tt
 
 -- on the way no segment is written
-no_segment : (id k place : ℕ) (value : TreeValue) (s : Stage) → in_words (access_at id (X k) (Y k) s) ≡ Write (Contents place) value → ⊥
+no_segment : (id k place : ℕ) (value : TreeValue) (s : VisitStage) → in_words (access_at id (X k) (Y k) s) ≡ Write (Contents place) value → ⊥
 no_segment id k place value Outside h = cc
 no_segment id k place value s h = cc
 

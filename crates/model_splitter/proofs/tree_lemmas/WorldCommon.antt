@@ -23,8 +23,8 @@ pub use Rattle.model_steps.specs.Runs.{Run}
 pub use Rattle.model_steps.proofs.cited.WorldKeeps.{let_in}
 pub use Rattle.model_steps.specs.Count.{count_to}
 pub use Rattle.model_steps.proofs.cited.CountLemmas.{count_le, count_more}
-pub use Rattle.model_splitter.specs.declared.stage.Stage.{Stage}
-pub use Rattle.model_splitter.specs.declared.stage.Stage.TheVariants.{Outside}
+pub use Rattle.model_splitter.specs.declared.stage.VisitStage.{VisitStage}
+pub use Rattle.model_splitter.specs.declared.stage.VisitStage.TheVariants.{Outside}
 pub use Rattle.model_splitter.specs.declared.tree.register.TreeRegister.{TreeRegister}
 pub use Rattle.model_splitter.specs.declared.tree.register.TreeValue.{TreeValue}
 pub use Rattle.model_splitter.specs.declared.tree.collect.Collect.{Collect}

@@ -2,8 +2,8 @@
 use Rattle.std.specs.Prelude.{◌≡◌, ◌≢◌, ℕ, ◌+◌, ◌*◌, ◌<◌, ◌≤◌, Bool, true, false, not, ◌==◌, ◌⊎◌, List, length, Option, Some, None, IsSome}
 use Rattle.std.proofs.Common.{suc, get_or}
 use Rattle.model_steps.specs.RegisterState.{Registers}
-use Rattle.model_splitter.specs.declared.stage.Stage.{Stage}
-use Rattle.model_splitter.specs.declared.stage.Stage.TheVariants.{Outside}
+use Rattle.model_splitter.specs.declared.stage.VisitStage.{VisitStage}
+use Rattle.model_splitter.specs.declared.stage.VisitStage.TheVariants.{Outside}
 use Rattle.model_splitter.specs.Stage.{has_entered, went_right, went_down}
 use Rattle.model_splitter.specs.Invariant.{DoorSatisfiesSpec}
 use Rattle.model_splitter.specs.Visitor.{word_of}
@@ -34,7 +34,7 @@ pub record StandsAt (walker : ℕ → Option Walker) (p depth column : ℕ) : Ty
 
 -- the walk of p agrees with the visits. It is at a door that was reached, has not left it, and has entered no deeper
 -- door
-pub record IsWalkOf (stage : ℕ → ℕ → Stage) (reached : ℕ → ℕ → Bool) (p : ℕ) (u : Walker) : Type 0 where
+pub record IsWalkOf (stage : ℕ → ℕ → VisitStage) (reached : ℕ → ℕ → Bool) (p : ℕ) (u : Walker) : Type 0 where
   pub identity : u.visitor.identity ≡ p
   pub x : u.visitor.x ≡ 2 * number_of u.door
   pub y : u.visitor.y ≡ 2 * number_of u.door + 1
@@ -49,7 +49,7 @@ pub record IsWalkOf (stage : ℕ → ℕ → Stage) (reached : ℕ → ℕ → B
 -- values. Two fields have the past: the stage of p's visit to door k, and the doors that were reached, by depth and
 -- column
 pub record DoorsAgree (limit b : ℕ) (x_of y_of : ℕ → ℕ) (walker : ℕ → Option Walker) : Type 0 where
-  pub stage : ℕ → ℕ → Stage
+  pub stage : ℕ → ℕ → VisitStage
   pub reached : ℕ → ℕ → Bool
   -- the participants that have begun
   pub identities : List ℕ

@@ -4,7 +4,7 @@ use Rattle.model_steps.specs.declared.access.Access.{Access}
 use Rattle.model_steps.specs.declared.access.Answer.{Answer}
 use Rattle.model_steps.specs.declared.note.Note.{Note}
 use Rattle.model_steps.specs.Steps.{ProgramSteps}
-use Rattle.model_splitter.specs.declared.stage.Stage.{Stage}
+use Rattle.model_splitter.specs.declared.stage.VisitStage.{VisitStage}
 use Rattle.model_splitter.specs.Visitor.{access_of, visitor_at, stage_by}
 use Rattle.model_splitter.specs.Walk.{gone_on, note_at_door, place_at_door, accesses_at}
 use Rattle.model_splitter.specs.declared.grid.door.Door.{Door}
@@ -23,11 +23,11 @@ walk_of id = walker_at id corner
 abbrev pub next_access : Walker → Access ℕ ℕ
 next_access u = access_of u.visitor
 
-abbrev pub visit_on : Walker → Stage → Walker
+abbrev pub visit_on : Walker → VisitStage → Walker
 visit_on u s = record u { visitor = record u.visitor { stage = s } }
 
 -- the walk whose visit is at this stage. After a visit that ends right or down it is before the next door
-abbrev pub walked_to : Walker → Stage → Walker
+abbrev pub walked_to : Walker → VisitStage → Walker
 walked_to u s = gone_on (visit_on u) (walker_at u.visitor.identity (right_of u.door)) (walker_at u.visitor.identity (down_of u.door)) s
 
 -- the walk after an answer

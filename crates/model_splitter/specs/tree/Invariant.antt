@@ -2,8 +2,8 @@
 use Rattle.std.specs.Prelude.{◌≡◌, ◌≢◌, ℕ, ◌+◌, ◌-◌, ◌*◌, ◌<◌, ◌≤◌, Bool, true, false, not, ◌==◌, if◌then◌else◌, List, length, Option, Some, None, IsSome}
 use Rattle.std.proofs.Common.{get_or}
 use Rattle.model_steps.specs.Steps.{MemorySteps}
-use Rattle.model_splitter.specs.declared.stage.Stage.{Stage}
-use Rattle.model_splitter.specs.declared.stage.Stage.TheVariants.{Outside}
+use Rattle.model_splitter.specs.declared.stage.VisitStage.{VisitStage}
+use Rattle.model_splitter.specs.declared.stage.VisitStage.TheVariants.{Outside}
 use Rattle.model_splitter.specs.Stage.{has_entered, went_right, went_down}
 use Rattle.model_splitter.specs.Invariant.{DoorSatisfiesSpec}
 use Rattle.model_splitter.specs.Walk.{accesses_at}
@@ -20,7 +20,7 @@ use Rattle.model_steps.specs.Distinct.{AreDistinct}
 
 -- the walk of p agrees with the visits. It is at a node that it reached, writes the mark before it visits, has not left
 -- the node, and has entered no node of a larger number
-pub record IsWalkOf (mark : ℕ → ℕ) (stage : ℕ → ℕ → Stage) (came : ℕ → ℕ → Bool) (p : ℕ) (u : Walker) : Type 0 where
+pub record IsWalkOf (mark : ℕ → ℕ) (stage : ℕ → ℕ → VisitStage) (came : ℕ → ℕ → Bool) (p : ℕ) (u : Walker) : Type 0 where
   pub identity : u.visitor.identity ≡ p
   pub x : u.visitor.x ≡ X u.place
   pub y : u.visitor.y ≡ Y u.place
@@ -35,7 +35,7 @@ pub record IsWalkOf (mark : ℕ → ℕ) (stage : ℕ → ℕ → Stage) (came :
 -- b have begun, and the mark, X and Y of node k hold these values. Two fields have the past: the stage of p's visit to
 -- node k, and whether p reached it. If it did, it is before it, visits it, or has passed it
 pub record NodesAgree (b : ℕ) (mark x_of y_of : ℕ → ℕ) (walker : ℕ → Option Walker) : Type 0 where
-  pub stage : ℕ → ℕ → Stage
+  pub stage : ℕ → ℕ → VisitStage
   pub came : ℕ → ℕ → Bool
   -- the participants that have begun
   pub identities : List ℕ

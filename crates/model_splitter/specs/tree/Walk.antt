@@ -7,7 +7,7 @@ use Rattle.model_steps.specs.declared.access.Answer.TheVariants.{Value, WasSet, 
 use Rattle.model_steps.specs.declared.note.Note.{Note}
 use Rattle.model_steps.specs.declared.note.Note.TheVariants.{Quiet}
 use Rattle.model_steps.specs.Steps.{ProgramSteps}
-use Rattle.model_splitter.specs.declared.stage.Stage.{Stage}
+use Rattle.model_splitter.specs.declared.stage.VisitStage.{VisitStage}
 use Rattle.model_splitter.specs.Visitor.{access_of, visitor_at, stage_by}
 use Rattle.model_splitter.specs.Walk.{gone_on, note_at_door, place_at_door}
 use Rattle.model_splitter.specs.declared.tree.register.TreeRegister.{TreeRegister}
@@ -51,11 +51,11 @@ reported Done = Done
 abbrev pub next_access : Walker → Access TreeRegister TreeValue
 next_access u = if u.is_marking then Write (Mark u.place) (Word 1) else in_words (access_of u.visitor)
 
-abbrev pub visit_on : Walker → Stage → Walker
+abbrev pub visit_on : Walker → VisitStage → Walker
 visit_on u s = record u { visitor = record u.visitor { stage = s } }
 
 -- the walk whose visit is at this stage. After a visit that ends right or down it is before the next node
-abbrev pub walked_to : Walker → Stage → Walker
+abbrev pub walked_to : Walker → VisitStage → Walker
 walked_to u s = gone_on (visit_on u) (walker_at u.visitor.identity (right_child u.place)) (walker_at u.visitor.identity (left_child u.place)) s
 
 -- the walk after an answer

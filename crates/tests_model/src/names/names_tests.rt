@@ -6,7 +6,7 @@ use model_steps::Refusal;
 use std::alloc::{AllocError, Global};
 use std::process::Abort;
 use std::thread::{self, Threads};
-use words_names::{Dealer, FreshSeat, Names};
+use words_names::{FreshNameSeat, NameDealer, Names};
 
 /// What an integration test tells of what was made: whether it goes so; or why it was not made.
 pub type Reported = Result<bool, Refusal>;
@@ -22,7 +22,7 @@ pub fn identity_at(number: u64) -> u64 {
 }
 
 /// The name of the next seat.
-fn name_next(names: &Names<Global>, dealer: &mut Dealer) -> Option<u64>
+fn name_next(names: &Names<Global>, dealer: &mut NameDealer) -> Option<u64>
     requires ours { dealer.old.names ≡ names.now }
     ensures ours { dealer.new.names ≡ names.now }
 {
@@ -96,7 +96,7 @@ fn the_greater_identity_has_the_greater_name(rt: HostRuntime) {
 #[derive(Drop)]
 struct Caller<'a> {
     names: &'a Names<Global>,
-    seat: FreshSeat,
+    seat: FreshNameSeat,
     ghost ours: { seat.names ≡ names.now },
 }
 
@@ -110,7 +110,7 @@ fn name_of(caller: Caller<'_>) -> u64 {
 fn callers_of<'a>(
     alloc: Global,
     names: &'a Names<Global>,
-    mut dealer: Dealer,
+    mut dealer: NameDealer,
     count: u64,
 ) -> Result<Vec<Caller<'a>, Global>, AllocError>
     requires ours { dealer.names ≡ names.now }

@@ -11,7 +11,7 @@ use rand_core::utils::NextWord;
 use rand_pcg::Lcg64Xsh32;
 use std::alloc::{AllocError, Global};
 use std::thread::{self, Threads};
-use words_names::{Dealer, FreshSeat, Names, Renamed, Renaming};
+use words_names::{FreshNameSeat, NameDealer, Names, Renamed, Renaming};
 
 /// The most accesses of a run.
 const MOST_STEPS: u64 = 60_000;
@@ -31,7 +31,7 @@ struct Runner<'a> {
 #[derive(Drop)]
 struct Racer<'a> {
     names: &'a Names<Global>,
-    seat: FreshSeat,
+    seat: FreshNameSeat,
     ghost ours: { seat.names ≡ names.now },
 }
 
@@ -95,7 +95,7 @@ fn step_both(lane: &mut Lane<'_>, words: &mut Vec<u64, Global>) -> bool {
 fn lanes_of<'a>(
     alloc: Global,
     names: &'a Names<Global>,
-    mut dealer: Dealer,
+    mut dealer: NameDealer,
     count: u8,
 ) -> Result<Vec<Lane<'a>, Global>, Refusal>
     requires ours { dealer.names ≡ names.now }
@@ -169,7 +169,7 @@ fn name_of(racer: Racer<'_>) -> u64 {
 fn racers_of<'a>(
     alloc: Global,
     names: &'a Names<Global>,
-    mut dealer: Dealer,
+    mut dealer: NameDealer,
     count: u64,
 ) -> Result<Vec<Racer<'a>, Global>, AllocError>
     requires ours { dealer.names ≡ names.now }

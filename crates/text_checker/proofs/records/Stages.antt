@@ -4,8 +4,8 @@ use Rattle.text_checker.proofs.Common.{append-nil, Header, Line, Judge, Verdict,
 use Rattle.text_lines.specs.Lines.{pieces_from, unless_empty}
 use Rattle.text_records.specs.RecordLine.{IsHeaderLine}
 use Rattle.text_records.specs.Records.{lines_from, lines_of, record_lines}
-use Rattle.text_checker.specs.declared.judge.Stage.{Stage}
-use Rattle.text_checker.specs.declared.judge.Stage.TheVariants.{Over}
+use Rattle.text_checker.specs.declared.judge.JudgeStage.{JudgeStage}
+use Rattle.text_checker.specs.declared.judge.JudgeStage.TheVariants.{Over}
 use Rattle.text_checker.specs.declared.row_judge.RowJudge.{RowJudge}
 use Rattle.text_checker.specs.Stages.{HasJudged, HasOpened, HasTakenAll, HasTakenBut, JudgesRow, StandsAfter}
 use Rattle.text_checker.proofs.records.Rows.{all_rows, next_row}
@@ -127,7 +127,7 @@ one_more_row old new row t same at rows so_far = λ left.
     (subst (λ (k : List (List ℕ)). RowsSoFar old.header k left new.checker (old.number + 1)) (sym (append_assoc rows (row ∷ []) left)) next)))
 
 -- what stands before the end with no LF is the last line
-pub a_last_line : (lines : List (List ℕ)) (held : List ℕ) (s : Stage) → (held ≡ [] → ⊥) → StandsAfter (lines ++ held ∷ []) s → StandsAfter (lines ++ unless_empty held) s
+pub a_last_line : (lines : List (List ℕ)) (held : List ℕ) (s : JudgeStage) → (held ≡ [] → ⊥) → StandsAfter (lines ++ held ∷ []) s → StandsAfter (lines ++ unless_empty held) s
 a_last_line lines [] s some h = absurd (some refl)
 a_last_line lines (b ∷ bs) s some h = h
 

@@ -11,8 +11,8 @@ use Rattle.model_steps.proofs.cited.SetAtLemmas.{set_at-cases}
 use Rattle.model_steps.proofs.cited.WorldKeeps.{IsKept, moved, steps_of-push, world_keeps}
 use Rattle.std.proofs.lemmas.Bool.Decides.{Decides-eqb}
 use Rattle.std.proofs.Common.{ne_eqb}
-use Rattle.model_splitter.specs.declared.stage.Stage.{Stage}
-use Rattle.model_splitter.specs.declared.stage.Stage.TheVariants.{Outside, WroteX, SawClear, WroteY, Gone}
+use Rattle.model_splitter.specs.declared.stage.VisitStage.{VisitStage}
+use Rattle.model_splitter.specs.declared.stage.VisitStage.TheVariants.{Outside, WroteX, SawClear, WroteY, Gone}
 use Rattle.model_splitter.specs.declared.way.Way.TheVariants.{Stop, Right, Down}
 use Rattle.model_splitter.specs.Stage.{is_gone, stage_after, went_right, went_down}
 use Rattle.model_splitter.specs.Visitor.{value_in}
@@ -31,7 +31,7 @@ accesses_made None = 0
 accesses_made (Some u) = 2 * (u.door.depth + u.door.column) + accesses_at u.visitor.stage
 
 -- an access of a walk that stands here is one more of those that it made
-made_more : (u : Walker) (p x y : ℕ) (s : Stage) → u.visitor.stage ≡ s → is_gone s ≡ false → u.door.depth < 255 → u.door.column < 255
+made_more : (u : Walker) (p x y : ℕ) (s : VisitStage) → u.visitor.stage ≡ s → is_gone s ≡ false → u.door.depth < 255 → u.door.column < 255
     → accesses_made (Some u) + 1 ≡ accesses_made (Some (walked_to u (stage_after p s x y)))
 made_more u p x y Outside is on deep wide = rw is (omega arith)
 made_more u p x y WroteX is on deep wide =
@@ -45,7 +45,7 @@ made_more u p x y WroteY is on deep wide =
 made_more u p x y (Gone way) is on deep wide = absurd (cc)
 
 -- a visit that has not left its door, and has no place there, is not over
-not_gone : (k : ℕ) (s : Stage) → went_right s ≡ false → went_down s ≡ false → is_some (place_at_door k s) ≡ false → is_gone s ≡ false
+not_gone : (k : ℕ) (s : VisitStage) → went_right s ≡ false → went_down s ≡ false → is_some (place_at_door k s) ≡ false → is_gone s ≡ false
 not_gone k Outside right down still = refl
 not_gone k WroteX right down still = refl
 not_gone k SawClear right down still = refl

@@ -1,6 +1,6 @@
 -- what a run of a walk's program says of its door and its place
 use Rattle.std.proofs.Common.{◌≡◌, ◌≢◌, ℕ, ◌+◌, ◌*◌, ◌/◌, ◌<◌, ◌≤◌, Some, subst, sym, refl, ap, ◌∙◌, arith, option_map}
-use Rattle.model_splitter.specs.declared.stage.Stage.TheVariants.{Gone}
+use Rattle.model_splitter.specs.declared.stage.VisitStage.TheVariants.{Gone}
 use Rattle.model_splitter.specs.declared.way.Way.TheVariants.{Stop}
 use Rattle.model_splitter.proofs.cited.WalkLemmas.{place_is}
 use Rattle.model_splitter.specs.declared.grid.door.Door.{Door}

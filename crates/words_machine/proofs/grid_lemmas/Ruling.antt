@@ -2,7 +2,7 @@
 use Rattle.std.proofs.Common.{◌≡◌, ℕ, ◌+◌, ◌*◌, ◌<◌, true, false, length, Option, sym, ap, ◌∙◌, arith}
 use Rattle.std.proofs.lemmas.List.{ext_get_or}
 use Rattle.model_steps.specs.RegisterState.{Registers}
-use Rattle.model_splitter.specs.declared.stage.Stage.{Stage}
+use Rattle.model_splitter.specs.declared.stage.VisitStage.{VisitStage}
 use Rattle.model_splitter.specs.Stage.{has_entered, has_set, went_right, went_down}
 use Rattle.model_splitter.proofs.cited.DoorKept.{law_of}
 use Rattle.model_splitter.proofs.cited.StageLemmas.{gone_right, gone_down}
@@ -19,11 +19,11 @@ pub low_places : PlacesAreLow
 low_places most words views h p place at = (grid_proved.law h.w most h.r h.holds.after).within p place (sym (place_always h.w p most h.r h.holds.after) ∙ at)
 
 -- who went right has not set Y
-right_unset : (s : Stage) → went_right s ≡ true → has_set s ≡ false
+right_unset : (s : VisitStage) → went_right s ≡ true → has_set s ≡ false
 right_unset s r = ap has_set (gone_right s r)
 
 -- who went down has entered
-down_entered : (s : Stage) → went_down s ≡ true → has_entered s ≡ true
+down_entered : (s : VisitStage) → went_down s ≡ true → has_entered s ≡ true
 down_entered s d = ap has_entered (gone_down s d)
 
 -- doors that agree with walks are splitters, at each of which another stays behind

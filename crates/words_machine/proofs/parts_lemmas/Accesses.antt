@@ -1,11 +1,11 @@
 -- each access of a visit keeps the rule
 use Rattle.std.proofs.Common.{◌≡◌, ◌≢◌, ℕ, suc, ◌<◌, ◌≤◌, true, false, cond, ◌==◌, eq-eqb, ne_eqb, List, [], ◌∷◌, set, slice_set, slice_index, subst, sym, refl, ap, ◌∙◌, arith}
-use Rattle.words_machine.proofs.parts_lemmas.Common.{set-get_or, Me, Step, Allows, keeps, set_at, Stop, Right, Down, Stage, Visit, SplitterView, own_word, visit_at, lone_view, set_at-cases, set_at-same, set_at-other}
+use Rattle.words_machine.proofs.parts_lemmas.Common.{set-get_or, Me, Step, Allows, keeps, set_at, Stop, Right, Down, VisitStage, Visit, SplitterView, own_word, visit_at, lone_view, set_at-cases, set_at-same, set_at-other}
 use mathlib.Core.Option.{some}
 use mathlib.Core.Logic.{dite}
 use native.Mathlib.Decide.{ℕ_discrete}
 use lib.ListN.{get_elem?}
-use Rattle.model_splitter.specs.declared.stage.Stage.TheVariants.{Outside, WroteX, SawClear, WroteY, Gone}
+use Rattle.model_splitter.specs.declared.stage.VisitStage.TheVariants.{Outside, WroteX, SawClear, WroteY, Gone}
 use Rattle.model_splitter.specs.Stage.{has_entered, has_set, x_after, y_after, stage_after}
 use Rattle.model_splitter.proofs.cited.DoorKept.{kept}
 use Rattle.words_machine.specs.parts.SplitterRule.{SatisfiesSpec, IsShown, IsAmong, IsLast, Meets, Shows, IsKept, KeepsRule}
@@ -22,18 +22,18 @@ pub same_number : (p q : ℕ) → own_word p ≡ own_word q → p ≡ q
 same_number p q e = omega arith
 
 -- whoever has made an access has begun
-entered_after : (p : ℕ) (s : Stage) (x y : ℕ) → has_entered (stage_after p s x y) ≡ true
+entered_after : (p : ℕ) (s : VisitStage) (x y : ℕ) → has_entered (stage_after p s x y) ≡ true
 entered_after p WroteX x y = elim (y == 0) as (λ t. has_entered (cond t SawClear (Gone Right)) ≡ true) [ true ↦ refl | false ↦ refl ]
 entered_after p WroteY x y = elim (x == p) as (λ t. has_entered (cond t (Gone Stop) (Gone Down)) ≡ true) [ true ↦ refl | false ↦ refl ]
 entered_after p s x y = refl
 
-module _ (seats x y p : ℕ) (stage : ℕ → Stage) (h : SatisfiesSpec seats x y stage) (within : (0 < p) × (p ≤ seats)) where
+module _ (seats x y p : ℕ) (stage : ℕ → VisitStage) (h : SatisfiesSpec seats x y stage) (within : (0 < p) × (p ≤ seats)) where
   -- whoever stands in X has begun still
-  begun_still : (s : Stage) → x ≢ 0 → has_entered (set_at stage p (stage_after p s x y) x) ≡ true
+  begun_still : (s : VisitStage) → x ≢ 0 → has_entered (set_at stage p (stage_after p s x y) x) ≡ true
   begun_still s ne = set_at-cases stage p (stage_after p s x y) (λ v. has_entered v ≡ true) x (λ _. entered_after p s x y) (λ _. h.begun ne)
 
   -- whoever stands in X after the access has begun
-  begun_after : (s : Stage) → x_after p s x ≢ 0 → has_entered (set_at stage p (stage_after p s x y) (x_after p s x)) ≡ true
+  begun_after : (s : VisitStage) → x_after p s x ≢ 0 → has_entered (set_at stage p (stage_after p s x y) (x_after p s x)) ≡ true
   begun_after Outside ne = rw (set_at-same stage p WroteX)
   begun_after WroteX ne = begun_still WroteX ne
   begun_after SawClear ne = begun_still SawClear ne
@@ -41,7 +41,7 @@ module _ (seats x y p : ℕ) (stage : ℕ → Stage) (h : SatisfiesSpec seats x 
   begun_after (Gone way) ne = begun_still (Gone way) ne
 
   -- the words and the stages after the access are lawful
-  lawful_after : (s : Stage) → stage p ≡ s → SatisfiesSpec seats (x_after p s x) (y_after s y) (set_at stage p (stage_after p s x y))
+  lawful_after : (s : VisitStage) → stage p ≡ s → SatisfiesSpec seats (x_after p s x) (y_after s y) (set_at stage p (stage_after p s x y))
   lawful_after s is = record {
     door = kept x y stage p h.door s is;
     seated = λ q. set_at-cases stage p (stage_after p s x y) (λ v. has_entered v ≡ true → (0 < q) × (q ≤ seats)) q
@@ -50,7 +50,7 @@ module _ (seats x y p : ℕ) (stage : ℕ → Stage) (h : SatisfiesSpec seats x 
   }
 
 -- who had set Y has set it after an access of its own
-set_after : (p : ℕ) (s : Stage) (x y : ℕ) → has_set s ≡ true → has_set (stage_after p s x y) ≡ true
+set_after : (p : ℕ) (s : VisitStage) (x y : ℕ) → has_set s ≡ true → has_set (stage_after p s x y) ≡ true
 set_after p Outside x y h = absurd (cc)
 set_after p WroteX x y h = absurd (cc)
 set_after p SawClear x y h = refl
@@ -58,23 +58,23 @@ set_after p WroteY x y h = elim (x == p) as (λ t. has_set (cond t (Gone Stop) (
 set_after p (Gone way) x y h = h
 
 -- who set Y has begun
-pub set_entered : (s : Stage) → has_set s ≡ true → has_entered s ≡ true
+pub set_entered : (s : VisitStage) → has_set s ≡ true → has_entered s ≡ true
 set_entered WroteY h = refl
 set_entered (Gone way) h = refl
 set_entered s h = absurd (cc)
 
 -- who has begun keeps its turn
-same_turn : (s : Stage) (turn old : ℕ) → has_entered s ≡ true → turn_after s turn old ≡ old
+same_turn : (s : VisitStage) (turn old : ℕ) → has_entered s ≡ true → turn_after s turn old ≡ old
 same_turn Outside turn old h = absurd (cc)
 same_turn s turn old h = refl
 
 -- what stands in X and Y, the stages and turns, and the visit of word p at the stage a, which makes an access
-module _ (n x y p : ℕ) (stage : ℕ → Stage) (turn : ℕ → ℕ) (lawful : SatisfiesSpec n x y stage) (last : IsLast x stage turn) (a : Stage) (is : stage p ≡ a) where
+module _ (n x y p : ℕ) (stage : ℕ → VisitStage) (turn : ℕ → ℕ) (lawful : SatisfiesSpec n x y stage) (last : IsLast x stage turn) (a : VisitStage) (is : stage p ≡ a) where
   -- the turn that a visit gets where it begins now
   abbrev pub next_turn : ℕ
   next_turn = suc (turn x)
 
-  abbrev pub stages : ℕ → Stage
+  abbrev pub stages : ℕ → VisitStage
   stages = set_at stage p (stage_after p a x y)
 
   abbrev pub turns : ℕ → ℕ
@@ -82,29 +82,29 @@ module _ (n x y p : ℕ) (stage : ℕ → Stage) (turn : ℕ → ℕ) (lawful : 
 
   kept_turn : (q : ℕ) → has_entered (stage q) ≡ true → turns q ≡ turn q
   kept_turn q h = set_at-cases turn p (turn_after a next_turn (turn p)) (λ t. t ≡ turn q) q
-      (λ e. same_turn a next_turn (turn p) (subst (λ (t : Stage). has_entered t ≡ true) (ap stage e ∙ is) h) ∙ ap turn (sym e)) (λ _. refl)
+      (λ e. same_turn a next_turn (turn p) (subst (λ (t : VisitStage). has_entered t ≡ true) (ap stage e ∙ is) h) ∙ ap turn (sym e)) (λ _. refl)
 
   kept_entered : (q : ℕ) → has_entered (stage q) ≡ true → has_entered (stages q) ≡ true
   kept_entered q h = set_at-cases stage p (stage_after p a x y) (λ t. has_entered t ≡ true) q (λ _. entered_after p a x y) (λ _. h)
 
   kept_set : (q : ℕ) → has_set (stage q) ≡ true → has_set (stages q) ≡ true
   kept_set q h = set_at-cases stage p (stage_after p a x y) (λ t. has_set t ≡ true) q
-      (λ e. set_after p a x y (subst (λ (t : Stage). has_set t ≡ true) (ap stage e ∙ is) h)) (λ _. h)
+      (λ e. set_after p a x y (subst (λ (t : VisitStage). has_set t ≡ true) (ap stage e ∙ is) h)) (λ _. h)
 
   -- so each visit that met another has met it still
-  pub still_meets : (v : Visit) (s : Stage) → Meets n stage turn v s → Meets n stages turns v s
+  pub still_meets : (v : Visit) (s : VisitStage) → Meets n stage turn v s → Meets n stages turns v s
   still_meets v (Gone Right) h = (h.0, kept_set v.met h.1)
   still_meets v (Gone Down) h = (h.0, kept_entered v.met h.1, (let t = kept_turn v.met h.1 in let u = h.2 in omega arith))
   still_meets v s h = h
 
   begun_before : (q : ℕ) → q ≢ p → has_entered (stages q) ≡ true → has_entered (stage q) ≡ true
-  begun_before q ne h = subst (λ (t : Stage). has_entered t ≡ true) (set_at-other stage p (stage_after p a x y) q ne) h
+  begun_before q ne h = subst (λ (t : VisitStage). has_entered t ≡ true) (set_at-other stage p (stage_after p a x y) q ne) h
 
   -- who stands in X stays the last to have written there, where the visit had begun before
   stays_last : has_entered a ≡ true → IsLast x stages turns
   stays_last begun q h ne =
       let was : has_entered (stage q) ≡ true = dite (ℕ_discrete q p)
-      (λ e. subst (λ (t : Stage). has_entered t ≡ true) (sym (ap stage e ∙ is)) begun) (λ other. begun_before q other h) in
+      (λ e. subst (λ (t : VisitStage). has_entered t ≡ true) (sym (ap stage e ∙ is)) begun) (λ other. begun_before q other h) in
       let held : has_entered (stage x) ≡ true = lawful.door.in_x q was in
       let mine = kept_turn q was in
       let theirs = kept_turn x held in
@@ -112,7 +112,7 @@ module _ (n x y p : ℕ) (stage : ℕ → Stage) (turn : ℕ → ℕ) (lawful : 
       omega arith
 
 -- and where it begins now, it is the last
-pub last_after : (n x y p : ℕ) (stage : ℕ → Stage) (turn : ℕ → ℕ) (lawful : SatisfiesSpec n x y stage) (last : IsLast x stage turn) (a : Stage) (is : stage p ≡ a)
+pub last_after : (n x y p : ℕ) (stage : ℕ → VisitStage) (turn : ℕ → ℕ) (lawful : SatisfiesSpec n x y stage) (last : IsLast x stage turn) (a : VisitStage) (is : stage p ≡ a)
     → IsLast (x_after p a x) (stages n x y p stage turn lawful last a is) (turns n x y p stage turn lawful last a is)
 last_after n x y p stage turn lawful last Outside is q h ne =
     let was = begun_before n x y p stage turn lawful last Outside is q ne h in
@@ -127,13 +127,13 @@ last_after n x y p stage turn lawful last WroteY is q h ne = stays_last n x y p 
 last_after n x y p stage turn lawful last (Gone way) is q h ne = stays_last n x y p stage turn lawful last (Gone way) is refl q h ne
 
 -- the access of the visit of number k, whose seat is of a splitter with m seats, under the rule for n seats
-module _ (n m k seat : ℕ) (a : Stage) (acc tu met : ℕ) (words : List ℕ) (views : List SplitterView) (h : IsKept n words views)
+module _ (n m k seat : ℕ) (a : VisitStage) (acc tu met : ℕ) (words : List ℕ) (views : List SplitterView) (h : IsKept n words views)
     (e : get_elem? views seat ≡ some (lone_view m (visit_at k a acc tu met))) where
   pub mine : IsShown n h.seat_of h.stage h.turn seat (lone_view m (visit_at k a acc tu met)) (visit_at k a acc tu met)
   mine = (h.shown seat (lone_view m (visit_at k a acc tu met)) e).0.0
 
   -- the stages and the turns afterwards
-  abbrev pub now : ℕ → Stage
+  abbrev pub now : ℕ → VisitStage
   now = stages n h.x h.y (own_word k) h.stage h.turn h.lawful h.last a mine.stage_is
 
   abbrev pub turned : ℕ → ℕ
@@ -193,7 +193,7 @@ pub under_rule : (n seat : ℕ) (words : List ℕ) (views : List SplitterView) (
 under_rule n seat words views v same h e = record { words = words; views = views; seat = seat; kept = subst (λ (j : ℕ). IsKept j words views) (sym same) h; there = e }
 
 -- whom a visit met that has read Y, or X, by what it found
-module _ (n k x y acc tu met : ℕ) (stage : ℕ → Stage) (turn : ℕ → ℕ) (none_yet : met ≡ 0) where
+module _ (n k x y acc tu met : ℕ) (stage : ℕ → VisitStage) (turn : ℕ → ℕ) (none_yet : met ≡ 0) where
   right_of : (setter : ℕ) → (y ≢ 0 → ((0 < setter) × (setter ≤ n) × (setter ≢ own_word k)) × (has_set (stage setter) ≡ true))
       → Meets n stage turn (visit_at k (stage_after (own_word k) WroteX x y) acc tu (met_after (own_word k) WroteX y setter met)) (stage_after (own_word k) WroteX x y)
   right_of setter h = dite (ℕ_discrete y 0)
@@ -207,7 +207,7 @@ module _ (n k x y acc tu met : ℕ) (stage : ℕ → Stage) (turn : ℕ → ℕ)
       (λ z. let b = ne_eqb x (own_word k) z in let t = h z in rw b ((t.0.0, t.0.1, z), t.1, t.2))
 
 -- who set Y where it is not clear, or 0
-setter_or_none : (n x y : ℕ) (stage : ℕ → Stage) → SatisfiesSpec n x y stage → (setter : ℕ) × (y ≢ 0 → has_set (stage setter) ≡ true)
+setter_or_none : (n x y : ℕ) (stage : ℕ → VisitStage) → SatisfiesSpec n x y stage → (setter : ℕ) × (y ≢ 0 → has_set (stage setter) ≡ true)
 setter_or_none n x y stage h = dite (ℕ_discrete y 0) (λ z. (0, λ ne. absurd (ne z))) (λ z. let w = h.door.setter z in (w.0, λ _. w.1))
 
 module _ (n m k seat acc tu met : ℕ) (words : List ℕ) (views : List SplitterView) (h : IsKept n words views) where

@@ -1,6 +1,6 @@
 -- each step of a name board keeps its rule
 use Rattle.std.proofs.Common.{◌≡◌, ◌≢◌, ◌⊎◌, ℕ, zero, suc, ◌<◌, ◌≤◌, inl, inr, ⊎_elim, cond, eqb, eq-eqb, ne_eqb, ◌||◌, subst, sym, refl, ap, ◌∙◌, arith, List, [], ◌∷◌, ◌++◌, length, set, slice_set, slice_index}
-use Rattle.words_machine.proofs.parts_lemmas.Common.{Claim, BoardView}
+use Rattle.words_machine.proofs.parts_lemmas.Common.{BoardClaim, BoardView}
 use Rattle.std.proofs.lemmas.List.{set-get_or, length-set, take-replicate, length-replicate}
 use mathlib.Core.Option.{some, none, some-ne-none, some-injective}
 use mathlib.Core.Logic.{dite}
@@ -25,7 +25,7 @@ at-index_of (w ∷ ws) zero x h e = ap some e
 at-index_of (w ∷ ws) (suc i) x h e = at-index_of ws i x (omega arith) e
 
 -- no claim is of a word that was 0
-still_so : (ws : List ℕ) (i x : ℕ) (cs : List Claim) → slice_index ws i ≡ 0 → AreSo ws cs → AreSo (set ws i x) cs
+still_so : (ws : List ℕ) (i x : ℕ) (cs : List BoardClaim) → slice_index ws i ≡ 0 → AreSo ws cs → AreSo (set ws i x) cs
 still_so ws i x [] z h = tt
 still_so ws i x (c ∷ cs) z h =
     ((set_else ws i c.word x (λ e. h.0.1 (sym (index_of-at ws i c.identity (ap (λ (k : ℕ). get_elem? ws k) (sym e) ∙ h.0.0)) ∙ z)) ∙ h.0.0, h.0.1), still_so ws i x cs z h.1)
@@ -34,28 +34,28 @@ each_seat : (P : BoardView → Type 0) (views : List BoardView) (i : ℕ) (w : B
 each_seat P views i w mine others j u e = ⊎_elim (λ (x : (j ≡ i) × (w ≡ u)). subst P x.1 mine) (λ (x : (j ≢ i) × (get_elem? views j ≡ some u)). others j u x.1) (at_set views i j w u e)
 
 -- the claims of two seats
-so_both : (ws : List ℕ) (cs ds : List Claim) → AreSo ws cs → AreSo ws ds → AreSo ws (cs ++ ds)
+so_both : (ws : List ℕ) (cs ds : List BoardClaim) → AreSo ws cs → AreSo ws ds → AreSo ws (cs ++ ds)
 so_both ws [] ds h k = k
 so_both ws (c ∷ cs) ds h k = (h.0, so_both ws cs ds h.1 k)
 
-pub claimed_first : (c : Claim) (cs ds : List Claim) → IsClaimed c cs → IsClaimed c (cs ++ ds)
+pub claimed_first : (c : BoardClaim) (cs ds : List BoardClaim) → IsClaimed c cs → IsClaimed c (cs ++ ds)
 claimed_first c [] ds h = absurd h
 claimed_first c (d ∷ cs) ds h = ⊎_elim inl (λ t. inr (claimed_first c cs ds t)) h
 
-pub claimed_second : (c : Claim) (cs ds : List Claim) → IsClaimed c ds → IsClaimed c (cs ++ ds)
+pub claimed_second : (c : BoardClaim) (cs ds : List BoardClaim) → IsClaimed c ds → IsClaimed c (cs ++ ds)
 claimed_second c [] ds h = h
 claimed_second c (d ∷ cs) ds h = inr (claimed_second c cs ds h)
 
 -- claims that are so agree with what stands in each word
-agree : (ws : List ℕ) (word : ℕ) (cs : List Claim) → AreSo ws cs → AgreeWith word (slice_index ws word) cs
+agree : (ws : List ℕ) (word : ℕ) (cs : List BoardClaim) → AreSo ws cs → AgreeWith word (slice_index ws word) cs
 agree ws word [] h = tt
 agree ws word (c ∷ cs) h = ((λ e. index_of-at ws word c.identity (ap (λ (k : ℕ). get_elem? ws k) (sym e) ∙ h.0.0)), agree ws word cs h.1)
 
 -- what a claim says of a word that agrees
-pub agreed : (word found : ℕ) (c : Claim) (cs : List Claim) → AgreeWith word found cs → IsClaimed c cs → c.word ≡ word → found ≡ c.identity
+pub agreed : (word found : ℕ) (c : BoardClaim) (cs : List BoardClaim) → AgreeWith word found cs → IsClaimed c cs → c.word ≡ word → found ≡ c.identity
 agreed word found c [] h k e = absurd k
 agreed word found c (d ∷ ds) h k e = ⊎_elim
-    (λ (same : c ≡ d). h.0 (sym (ap (λ (x : Claim). x.word) same) ∙ e) ∙ sym (ap (λ (x : Claim). x.identity) same))
+    (λ (same : c ≡ d). h.0 (sym (ap (λ (x : BoardClaim). x.word) same) ∙ e) ∙ sym (ap (λ (x : BoardClaim). x.identity) same))
     (λ t. agreed word found c ds h.1 t e) k
 
 -- the view of a seat that has one
@@ -65,17 +65,17 @@ set_there (x ∷ xs) zero old new e = refl
 set_there (x ∷ xs) (suc i) old new e = set_there xs i old new e
 
 -- what a claim's seat has, where that is the seat with this view
-has_it : (views : List BoardView) (i : ℕ) (old : BoardView) (c : Claim) (g : IsGranted views c) → get_elem? views i ≡ some old → g.seat ≡ i → IsClaimed c old.claims
+has_it : (views : List BoardView) (i : ℕ) (old : BoardView) (c : BoardClaim) (g : IsGranted views c) → get_elem? views i ≡ some old → g.seat ≡ i → IsClaimed c old.claims
 has_it views i old c g e same = subst (λ (v : BoardView). IsClaimed c v.claims) (some-injective g.view old (sym g.there ∙ ap (λ (k : ℕ). get_elem? views k) same ∙ e)) g.claimed
 
 -- a claim is still some seat's where a seat's view becomes one that has what it had
-still_granted : (views : List BoardView) (i : ℕ) (old new : BoardView) (c : Claim) → get_elem? views i ≡ some old → (IsClaimed c old.claims → IsClaimed c new.claims) → IsGranted views c → IsGranted (set views i new) c
+still_granted : (views : List BoardView) (i : ℕ) (old new : BoardView) (c : BoardClaim) → get_elem? views i ≡ some old → (IsClaimed c old.claims → IsClaimed c new.claims) → IsGranted views c → IsGranted (set views i new) c
 still_granted views i old new c e more g = dite (ℕ_discrete g.seat i)
     (λ same. record { seat = i; view = new; there = set_there views i old new e; claimed = more (has_it views i old c g e same) })
     (λ other. record { seat = g.seat; view = g.view; there = set_else views i g.seat new other ∙ g.there; claimed = g.claimed })
 
 -- or is cut in two, which have what it had
-cut_granted : (views : List BoardView) (i : ℕ) (old left right : BoardView) (c : Claim) → get_elem? views i ≡ some old → (IsClaimed c old.claims → IsClaimed c left.claims ⊎ IsClaimed c right.claims) → IsGranted views c → IsGranted (set views i left ++ right ∷ []) c
+cut_granted : (views : List BoardView) (i : ℕ) (old left right : BoardView) (c : BoardClaim) → get_elem? views i ≡ some old → (IsClaimed c old.claims → IsClaimed c left.claims ⊎ IsClaimed c right.claims) → IsGranted views c → IsGranted (set views i left ++ right ∷ []) c
 cut_granted views i old left right c e more g = dite (ℕ_discrete g.seat i)
     (λ same. ⊎_elim
     (λ l. record { seat = i; view = left; there = at_longer (set views i left) (right ∷ []) i left (set_there views i old left e); claimed = l })
@@ -84,7 +84,7 @@ cut_granted views i old left right c e more g = dite (ℕ_discrete g.seat i)
     (λ other. record { seat = g.seat; view = g.view; there = at_longer (set views i left) (right ∷ []) g.seat g.view (set_else views i g.seat left other ∙ g.there); claimed = g.claimed })
 
 -- or where two become one, which has what they had
-joined_granted : (views : List BoardView) (i other : ℕ) (v w both spent : BoardView) (c : Claim) → get_elem? views i ≡ some v → other ≢ i → get_elem? (set views i both) other ≡ some w
+joined_granted : (views : List BoardView) (i other : ℕ) (v w both spent : BoardView) (c : BoardClaim) → get_elem? views i ≡ some v → other ≢ i → get_elem? (set views i both) other ≡ some w
     → (IsClaimed c v.claims → IsClaimed c both.claims) → (IsClaimed c w.claims → IsClaimed c both.claims) → IsGranted views c → IsGranted (set (set views i both) other spent) c
 joined_granted views i other v w both spent c e apart e' mine theirs g =
     let once : IsGranted (set views i both) c = still_granted views i v both c e mine g in
@@ -105,7 +105,7 @@ module _ {S : Type 0} (count slots seat : ℕ) where
       let new : BoardView = board_view (cond (eqb found 0 || eqb found who) (claim word who ∷ []) []) (suc acc) found [] in
       let words : List ℕ = slice_set s.words word (either (eqb found 0) who found) in
       let long : word < length s.words = rw h.as_many within in
-      let F : ℕ → Type 0 = λ x. ((cs : List Claim) → AreSo s.words cs → AreSo (set s.words word x) cs) in
+      let F : ℕ → Type 0 = λ x. ((cs : List BoardClaim) → AreSo s.words cs → AreSo (set s.words word x) cs) in
       let others : F (either (eqb found 0) who found) = exchanged found 0 who F (λ z cs t. still_so s.words word who cs z t) (λ z cs t. rw (set-get_or s.words word 0) t) in
       let mine : AreSo words new.claims = dite (ℕ_discrete found 0)
       (λ z. let a = eq-eqb found 0 z in rw a ((set_here s.words word who long, some_one), tt))
@@ -197,14 +197,14 @@ module _ {S : Type 0} (count slots seat : ℕ) where
         }
 
 -- each of these claims is so
-is_so : (words : List ℕ) (c : Claim) (cs : List Claim) → AreSo words cs → IsClaimed c cs → IsSo words c
+is_so : (words : List ℕ) (c : BoardClaim) (cs : List BoardClaim) → AreSo words cs → IsClaimed c cs → IsSo words c
 is_so words c [] h k = absurd k
-is_so words c (d ∷ ds) h k = ⊎_elim (λ (e : c ≡ d). subst (λ (x : Claim). IsSo words x) (sym e) h.0) (λ (m : IsClaimed c ds). is_so words c ds h.1 m) k
+is_so words c (d ∷ ds) h k = ⊎_elim (λ (e : c ≡ d). subst (λ (x : BoardClaim). IsSo words x) (sym e) h.0) (λ (m : IsClaimed c ds). is_so words c ds h.1 m) k
 
-pub granted_is_so : (count : ℕ) (words : List ℕ) (views : List BoardView) (c : Claim) → KeepsBoard count words views → IsGranted views c → IsSo words c
+pub granted_is_so : (count : ℕ) (words : List ℕ) (views : List BoardView) (c : BoardClaim) → KeepsBoard count words views → IsGranted views c → IsSo words c
 granted_is_so count words views c kept has = is_so words c has.view.claims (kept.claimed has.seat has.view has.there) has.claimed
 
-pub granted_one : (count : ℕ) (words : List ℕ) (views : List BoardView) (c d : Claim) → KeepsBoard count words views → IsGranted views c → IsGranted views d → c.word ≡ d.word → c.identity ≡ d.identity
+pub granted_one : (count : ℕ) (words : List ℕ) (views : List BoardView) (c d : BoardClaim) → KeepsBoard count words views → IsGranted views c → IsGranted views d → c.word ≡ d.word → c.identity ≡ d.identity
 granted_one count words views c d kept has others same =
     some-injective c.identity d.identity (sym (granted_is_so count words views c kept has).0 ∙ ap (λ (k : ℕ). get_elem? words k) same ∙ (granted_is_so count words views d kept others).0)
 
@@ -215,8 +215,8 @@ before (x ∷ xs) m zero h = refl
 before (x ∷ xs) m (suc k) h = before xs m k (omega arith)
 
 -- so what claims say of the words that were read, they say of one more
-pub read_more : (out : List ℕ) (i x : ℕ) (cs : List Claim) → length out ≡ i → ((c : Claim) → IsClaimed c cs → c.word < i → slice_index out c.word ≡ c.identity) → AgreeWith i x cs
-    → (c : Claim) → IsClaimed c cs → c.word < suc i → slice_index (out ++ x ∷ []) c.word ≡ c.identity
+pub read_more : (out : List ℕ) (i x : ℕ) (cs : List BoardClaim) → length out ≡ i → ((c : BoardClaim) → IsClaimed c cs → c.word < i → slice_index out c.word ≡ c.identity) → AgreeWith i x cs
+    → (c : BoardClaim) → IsClaimed c cs → c.word < suc i → slice_index (out ++ x ∷ []) c.word ≡ c.identity
 read_more out i x cs n h new c k lt = dite (ℕ_discrete c.word i)
     (λ z. index_of-at (out ++ x ∷ []) c.word c.identity (ap (λ (j : ℕ). get_elem? (out ++ x ∷ []) j) (z ∙ sym n) ∙ at_last out x (length out) refl ∙ ap some (agreed i x c cs new k z)))
     (λ z. let long : c.word < length out = omega arith in index_of-at (out ++ x ∷ []) c.word c.identity (before out (x ∷ []) c.word long ∙ at-index_of out c.word c.identity long (h c k (omega arith))))

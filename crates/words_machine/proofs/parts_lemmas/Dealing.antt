@@ -1,6 +1,6 @@
 -- a table opens under the rule, and keeps it where a seat is dealt out
 use Rattle.std.proofs.Common.{◌≡◌, ◌≢◌, ℕ, zero, suc, ◌+◌, ◌-◌, ◌<◌, ◌≤◌, inl, inr, ⊎_elim, sym, refl, ap, ◌∙◌, subst, arith, List, [], ◌∷◌, ◌++◌, length, set, take, drop}
-use Rattle.words_machine.proofs.parts_lemmas.Common.{set_at, Stage, Outside, Visit, SplitterView, IsShown, Meets, IsAmong, Shows, KeepsRule, set_at-cases, set_at-same, set_at-other}
+use Rattle.words_machine.proofs.parts_lemmas.Common.{set_at, VisitStage, Outside, Visit, SplitterView, IsShown, Meets, IsAmong, Shows, KeepsRule, set_at-cases, set_at-same, set_at-other}
 use mathlib.Core.Option.{some, some-ne-none, some-injective}
 use mathlib.Core.Logic.{dite}
 use native.Mathlib.Decide.{ℕ_discrete}
@@ -42,11 +42,11 @@ opens S n = record {
 }
 
 -- a visit that another seat makes is shown where only k changes its seat
-pub elsewhere : (n k new seat : ℕ) (seat_of : ℕ → ℕ) (stage : ℕ → Stage) (turn : ℕ → ℕ) (u : SplitterView) (v : Visit) → v.number ≢ k → IsShown n seat_of stage turn seat u v → IsShown n (set_at seat_of k new) stage turn seat u v
+pub elsewhere : (n k new seat : ℕ) (seat_of : ℕ → ℕ) (stage : ℕ → VisitStage) (turn : ℕ → ℕ) (u : SplitterView) (v : Visit) → v.number ≢ k → IsShown n seat_of stage turn seat u v → IsShown n (set_at seat_of k new) stage turn seat u v
 elsewhere n k new seat seat_of stage turn u v ne x = record { seats_are = x.seats_are; in_range = x.in_range; own = set_at-other seat_of k new v.number ne ∙ x.own; stage_is = x.stage_is; turn_is = x.turn_is; meets = x.meets }
 
 -- and so is the whole view of a seat that k does not leave
-pub shows_elsewhere : (n k new seat : ℕ) (seat_of : ℕ → ℕ) (stage : ℕ → Stage) (turn : ℕ → ℕ) (u : SplitterView) → seat_of k ≢ seat → Shows n seat_of stage turn seat u → Shows n (set_at seat_of k new) stage turn seat u
+pub shows_elsewhere : (n k new seat : ℕ) (seat_of : ℕ → ℕ) (stage : ℕ → VisitStage) (turn : ℕ → ℕ) (u : SplitterView) → seat_of k ≢ seat → Shows n seat_of stage turn seat u → Shows n (set_at seat_of k new) stage turn seat u
 shows_elsewhere n k new seat seat_of stage turn u ne s = (
   each_map (IsShown n seat_of stage turn seat u) (IsShown n (set_at seat_of k new) stage turn seat u)
       (λ t x. elsewhere n k new seat seat_of stage turn u t (λ e. ne (ap seat_of (sym e) ∙ x.own)) x) u.visits s.0,

@@ -1,6 +1,6 @@
 -- what the rule says of visits that ended under it
 use Rattle.std.proofs.Common.{◌≡◌, ◌≢◌, ℕ, ◌<◌, ◌≤◌, ne_eqb, inl, inr, ⊎_elim, true, false, sym, refl, ap, ◌∙◌, subst, arith, List, [], ◌∷◌}
-use Rattle.words_machine.proofs.parts_lemmas.Common.{TableId, Me, Stop, Right, Down, Stage, WroteX, WroteY, Gone, SplitterView, own_word, visit_at, view_of, lone_view, IsShown, Meets}
+use Rattle.words_machine.proofs.parts_lemmas.Common.{TableId, Me, Stop, Right, Down, VisitStage, WroteX, WroteY, Gone, SplitterView, own_word, visit_at, view_of, lone_view, IsShown, Meets}
 use mathlib.Core.Logic.{dite}
 use native.Mathlib.Decide.{ℕ_discrete}
 use Rattle.model_splitter.specs.declared.way.Way.{Way}
@@ -70,7 +70,7 @@ badge_view views table number way e s v one is of single =
 
 -- two visits that ended, under one rule
 module _ (n : ℕ) (a b : EndedVisit) (u : IsUnderRule (view_of n (gone_at a ∷ gone_at b ∷ []))) where
-  abbrev stage : ℕ → Stage
+  abbrev stage : ℕ → VisitStage
   stage = u.kept.stage
 
   law : IsSplitter stage

@@ -11,8 +11,8 @@ use Rattle.model_steps.proofs.cited.LocalWorldLemmas.{world_fresh, world_takes}
 use Rattle.model_steps.proofs.cited.ParticipantLemmas.{identity_of}
 use Rattle.model_splitter.specs.declared.way.Way.{Way}
 use Rattle.model_splitter.specs.declared.visitor.Visitor.{Visitor}
-use Rattle.model_splitter.specs.declared.stage.Stage.{Stage}
-use Rattle.model_splitter.specs.declared.stage.Stage.TheVariants.{Outside, WroteX, SawClear, WroteY, Gone}
+use Rattle.model_splitter.specs.declared.stage.VisitStage.{VisitStage}
+use Rattle.model_splitter.specs.declared.stage.VisitStage.TheVariants.{Outside, WroteX, SawClear, WroteY, Gone}
 use Rattle.model_splitter.specs.Law.{SplitterSpec}
 use Rattle.model_splitter.specs.Machine.{visit_of}
 use Rattle.model_splitter.specs.Stage.{is_gone}
@@ -32,7 +32,7 @@ tests_none : (v : Visitor ℕ) (r : ℕ) → access_of v ≢ TestAndSet r
 tests_none v r is = subst ReadsOrWrites is (own_access v.identity v.x v.y v.stage)
 
 -- one that is not gone reads or writes X or Y
-reaches : (n p x y : ℕ) (s : Stage) → x < n → y < n → is_gone s ≡ false → IsWithin n (access_at p x y s)
+reaches : (n p x y : ℕ) (s : VisitStage) → x < n → y < n → is_gone s ≡ false → IsWithin n (access_at p x y s)
 reaches n p x y Outside a b on = a
 reaches n p x y WroteX a b on = b
 reaches n p x y SawClear a b on = b

@@ -11,8 +11,8 @@ use Rattle.model_steps.specs.Steps.{ReadsOrWrites}
 use Rattle.model_steps.proofs.cited.LocalWorldLemmas.{world_fresh, world_takes}
 use Rattle.model_steps.proofs.cited.ParticipantLemmas.{identity_of}
 use Rattle.model_steps.proofs.cited.WorldKeeps.{run_most}
-use Rattle.model_splitter.specs.declared.stage.Stage.{Stage}
-use Rattle.model_splitter.specs.declared.stage.Stage.TheVariants.{Outside, WroteX, SawClear, WroteY, Gone}
+use Rattle.model_splitter.specs.declared.stage.VisitStage.{VisitStage}
+use Rattle.model_splitter.specs.declared.stage.VisitStage.TheVariants.{Outside, WroteX, SawClear, WroteY, Gone}
 use Rattle.model_splitter.specs.declared.way.Way.TheVariants.{Stop, Right, Down}
 use Rattle.model_splitter.specs.Stage.{went_right, went_down}
 use Rattle.model_splitter.specs.Visitor.{access_at}
@@ -38,7 +38,7 @@ tests_none : (u : Walker) (r : ℕ) → next_access u ≢ TestAndSet r
 tests_none u r is = subst ReadsOrWrites is (own_access u.visitor.identity u.visitor.x u.visitor.y u.visitor.stage)
 
 -- a visit that has not stopped, and has not left its door, reads or writes X or Y
-reaches : (n p x y k : ℕ) (s : Stage) → x < n → y < n → went_right s ≡ false → went_down s ≡ false → is_some (place_at_door k s) ≡ false → IsWithin n (access_at p x y s)
+reaches : (n p x y k : ℕ) (s : VisitStage) → x < n → y < n → went_right s ≡ false → went_down s ≡ false → is_some (place_at_door k s) ≡ false → IsWithin n (access_at p x y s)
 reaches n p x y k Outside a b right down still = a
 reaches n p x y k WroteX a b right down still = b
 reaches n p x y k SawClear a b right down still = b

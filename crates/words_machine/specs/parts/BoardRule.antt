@@ -5,25 +5,25 @@ use Rattle.std.specs.Prelude.{◌≡◌, ◌≢◌, ◌⊎◌, ℕ, List, [], �
 use mathlib.Core.Option.{some}
 use lib.ListN.{get_elem?}
 use Rattle.atomic_table.specs.Table.{State}
-use Rattle.words_machine.specs.declared.parts.board_view.Claim.{Claim}
+use Rattle.words_machine.specs.declared.parts.board_view.BoardClaim.{BoardClaim}
 use Rattle.words_machine.specs.declared.parts.board_view.BoardView.{BoardView}
 use Rattle.words_machine.specs.parts.BoardView.{claim}
 
 -- the word of this claim holds its identity, which is not 0
-abbrev pub IsSo : List ℕ → Claim → Type 0
+abbrev pub IsSo : List ℕ → BoardClaim → Type 0
 IsSo words c = (get_elem? words c.word ≡ some c.identity) × (c.identity ≢ 0)
 
 -- this claim is one of these
-abbrev pub IsClaimed : Claim → List Claim → Type 0
+abbrev pub IsClaimed : BoardClaim → List BoardClaim → Type 0
 IsClaimed c [] = ⊥
 IsClaimed c (d ∷ ds) = (c ≡ d) ⊎ IsClaimed c ds
 
-abbrev pub AreSo : List ℕ → List Claim → Type 0
+abbrev pub AreSo : List ℕ → List BoardClaim → Type 0
 AreSo words [] = Unit {0}
 AreSo words (c ∷ cs) = IsSo words c × AreSo words cs
 
 -- some seat has this claim
-pub record IsGranted (views : List BoardView) (c : Claim) : Type 0 where
+pub record IsGranted (views : List BoardView) (c : BoardClaim) : Type 0 where
   pub seat : ℕ
   pub view : BoardView
   pub there : get_elem? views seat ≡ some view
@@ -41,12 +41,12 @@ KeepsBoardRule count s = KeepsBoard count s.words s.views
 
 -- where the rule is kept, the word of a claim that some seat has holds its identity
 abbrev pub HoldsWhatIsClaimed : Type 0
-HoldsWhatIsClaimed = (count : ℕ) (words : List ℕ) (views : List BoardView) (c : Claim) → KeepsBoard count words views → IsGranted views c → IsSo words c
+HoldsWhatIsClaimed = (count : ℕ) (words : List ℕ) (views : List BoardView) (c : BoardClaim) → KeepsBoard count words views → IsGranted views c → IsSo words c
 
 -- and two claims of one word are of one identity
 abbrev pub HasOneIdentity : Type 0
 HasOneIdentity =
-    (count : ℕ) (words : List ℕ) (views : List BoardView) (c d : Claim) → KeepsBoard count words views → IsGranted views c → IsGranted views d →
+    (count : ℕ) (words : List ℕ) (views : List BoardView) (c d : BoardClaim) → KeepsBoard count words views → IsGranted views c → IsGranted views d →
     c.word ≡ d.word → c.identity ≡ d.identity
 
 -- and what stands in a word that is not 0 some seat claims

@@ -1,7 +1,7 @@
 -- what each kind of step tells the seat that makes it
 use Rattle.std.specs.Prelude.{◌≡◌, ℕ, suc, List, [], ◌∷◌, length, if◌then◌else◌, ◌==◌, ◌||◌}
 use Rattle.atomic_table.specs.Table.{Me, Step}
-use Rattle.words_machine.specs.declared.parts.board_view.Claim.{Claim}
+use Rattle.words_machine.specs.declared.parts.board_view.BoardClaim.{BoardClaim}
 use Rattle.words_machine.specs.declared.parts.board_view.BoardView.{BoardView}
 use Rattle.words_machine.specs.parts.BoardView.{claim, board_view}
 use Rattle.words_machine.specs.parts.BoardRule.{AreSo}
@@ -31,7 +31,7 @@ abbrev pub LooksOn : {S : Type 0} → Step S → Me S BoardView → ℕ → Me S
 LooksOn s before found after = (after ≡ before) × AreTogether after.0 × (length before.0.claims ≡ 2)
 
 -- of these claims those of this word are of what was found in it
-abbrev pub AgreeWith : ℕ → ℕ → List Claim → Type 0
+abbrev pub AgreeWith : ℕ → ℕ → List BoardClaim → Type 0
 AgreeWith word found [] = Unit {0}
 AgreeWith word found (c ∷ cs) = (c.word ≡ word → found ≡ c.identity) × AgreeWith word found cs
 

@@ -1,16 +1,16 @@
 -- what a seat of a name board knows
 use Rattle.std.specs.Prelude.{ℕ, suc, ◌+◌, List, [], ◌∷◌, ◌++◌}
-use Rattle.words_machine.specs.declared.parts.board_view.Claim.{Claim}
+use Rattle.words_machine.specs.declared.parts.board_view.BoardClaim.{BoardClaim}
 use Rattle.words_machine.specs.declared.parts.board_view.BoardView.{BoardView}
 
-abbrev pub claim : ℕ → ℕ → Claim
+abbrev pub claim : ℕ → ℕ → BoardClaim
 claim word identity = record { word = word; identity = identity }
 
-abbrev pub board_view : List Claim → ℕ → ℕ → List ℕ → BoardView
+abbrev pub board_view : List BoardClaim → ℕ → ℕ → List ℕ → BoardView
 board_view claims accesses found read = record { claims = claims; accesses = accesses; found = found; read = read }
 
 -- the view of a seat with these claims, which has made no access
-abbrev pub claims_of : List Claim → BoardView
+abbrev pub claims_of : List BoardClaim → BoardView
 claims_of claims = board_view claims 0 0 []
 
 -- the view of a seat that claims nothing, and has made so many accesses, of which the last post or look found this

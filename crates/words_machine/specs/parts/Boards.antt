@@ -3,7 +3,7 @@ use Rattle.std.specs.Prelude.{◌≡◌, ◌≢◌, ◌<◌, ◌≤◌, ◌+◌,
 use Rattle.atomic_table.specs.Seated.{TableId}
 use Rattle.words_machine.specs.declared.parts.board_view.BoardView.{BoardView}
 use Rattle.words_machine.specs.parts.BoardView.{claim}
-use Rattle.words_machine.specs.declared.parts.board_view.Claim.{Claim}
+use Rattle.words_machine.specs.declared.parts.board_view.BoardClaim.{BoardClaim}
 use Rattle.words_machine.specs.parts.BoardRule.{IsClaimed}
 
 -- the table of a board: from 1 to 127 words, as many as its rule speaks of, and no slots
@@ -62,4 +62,4 @@ HasClaimOf v g = IsClaimed (claim (g.name - 1) g.identity) v.claims × (g.name -
 
 -- each claim of this view on one of so many words finds its identity there
 abbrev pub FindsClaims : BoardView → ℕ → List ℕ → Type 0
-FindsClaims v count words = (c : Claim) → IsClaimed c v.claims → c.word < count → slice_index words c.word ≡ c.identity
+FindsClaims v count words = (c : BoardClaim) → IsClaimed c v.claims → c.word < count → slice_index words c.word ≡ c.identity

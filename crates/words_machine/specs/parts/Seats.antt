@@ -3,7 +3,7 @@ use Rattle.std.specs.Prelude.{◌≡◌, ◌≢◌, ◌<◌, ◌≤◌, ℕ, zer
 use Rattle.atomic_table.specs.Seated.{TableId}
 use Rattle.model_splitter.specs.declared.way.Way.{Way}
 use Rattle.model_splitter.specs.declared.way.Way.TheVariants.{Stop, Right, Down}
-use Rattle.model_splitter.specs.declared.stage.Stage.TheVariants.{Gone}
+use Rattle.model_splitter.specs.declared.stage.VisitStage.TheVariants.{Gone}
 use Rattle.words_machine.specs.declared.parts.splitter_view.Visit.{Visit}
 use Rattle.words_machine.specs.declared.parts.splitter_view.SplitterView.{SplitterView}
 use Rattle.words_machine.specs.parts.SplitterView.{own_word, fresh_visit, lone_view, visit_at}

@@ -8,8 +8,8 @@ use mathlib.Core.Option.{some}
 use lib.ListN.{get_elem?}
 use Rattle.atomic_table.specs.Table.{State}
 use Rattle.model_splitter.specs.declared.way.Way.TheVariants.{Right, Down}
-use Rattle.model_splitter.specs.declared.stage.Stage.{Stage}
-use Rattle.model_splitter.specs.declared.stage.Stage.TheVariants.{Gone}
+use Rattle.model_splitter.specs.declared.stage.VisitStage.{VisitStage}
+use Rattle.model_splitter.specs.declared.stage.VisitStage.TheVariants.{Gone}
 use Rattle.model_splitter.specs.Stage.{has_entered, has_set}
 use Rattle.model_splitter.specs.Invariant.{DoorSatisfiesSpec}
 use Rattle.words_machine.specs.declared.parts.splitter_view.Visit.{Visit}
@@ -18,7 +18,7 @@ use Rattle.words_machine.specs.parts.Numbered.{Each, NoneTwice}
 use Rattle.words_machine.specs.parts.SplitterView.{own_word, view_of}
 
 -- what stands in X and in Y agrees with how far the visit of each seat has come
-pub record SatisfiesSpec (seats x y : ℕ) (stage : ℕ → Stage) : Type 0 where
+pub record SatisfiesSpec (seats x y : ℕ) (stage : ℕ → VisitStage) : Type 0 where
   pub door : DoorSatisfiesSpec x y stage
   -- only what seats write into X enters, so 0 does not
   pub seated : (word : ℕ) → has_entered (stage word) ≡ true → (0 < word) × (word ≤ seats)
@@ -31,17 +31,17 @@ IsAnother seats v = (0 < v.met) × (v.met ≤ seats) × (v.met ≢ own_word v.nu
 
 -- a visit went right only where another had set Y, and down only where another had written X after it, whose turn is greater;
 -- it met none while it goes on, and where it stopped
-abbrev pub Meets : ℕ → (ℕ → Stage) → (ℕ → ℕ) → Visit → Stage → Type 0
+abbrev pub Meets : ℕ → (ℕ → VisitStage) → (ℕ → ℕ) → Visit → VisitStage → Type 0
 Meets seats stage turn v (Gone Right) = IsAnother seats v × (has_set (stage v.met) ≡ true)
 Meets seats stage turn v (Gone Down) = IsAnother seats v × (has_entered (stage v.met) ≡ true) × (v.turn < turn v.met)
 Meets seats stage turn v s = v.met ≡ 0
 
 -- of all that have begun, who stands in X was the last to write there
-abbrev pub IsLast : ℕ → (ℕ → Stage) → (ℕ → ℕ) → Type 0
+abbrev pub IsLast : ℕ → (ℕ → VisitStage) → (ℕ → ℕ) → Type 0
 IsLast x stage turn = (word : ℕ) → has_entered (stage word) ≡ true → word ≢ x → turn word < turn x
 
 -- what a view of a seat says of a visit is so
-pub record IsShown (seats : ℕ) (seat_of : ℕ → ℕ) (stage : ℕ → Stage) (turn : ℕ → ℕ) (seat : ℕ) (view : SplitterView) (v : Visit) : Type 0 where
+pub record IsShown (seats : ℕ) (seat_of : ℕ → ℕ) (stage : ℕ → VisitStage) (turn : ℕ → ℕ) (seat : ℕ) (view : SplitterView) (v : Visit) : Type 0 where
   pub seats_are : view.seats ≡ seats
   pub in_range : v.number < seats
   pub own : seat_of v.number ≡ seat
@@ -50,7 +50,7 @@ pub record IsShown (seats : ℕ) (seat_of : ℕ → ℕ) (stage : ℕ → Stage)
   pub meets : Meets seats stage turn v v.stage
 
 -- what a view says is so
-abbrev pub Shows : ℕ → (ℕ → ℕ) → (ℕ → Stage) → (ℕ → ℕ) → ℕ → SplitterView → Type 0
+abbrev pub Shows : ℕ → (ℕ → ℕ) → (ℕ → VisitStage) → (ℕ → ℕ) → ℕ → SplitterView → Type 0
 Shows seats seat_of stage turn seat view = Each (IsShown seats seat_of stage turn seat view) view.visits × NoneTwice (λ (w : Visit). w.number) view.visits
 
 -- the visit of this number is one of these
@@ -69,7 +69,7 @@ pub record IsKept (seats : ℕ) (words : List ℕ) (views : List SplitterView) :
   pub x : ℕ
   pub y : ℕ
   pub words_are : words ≡ x ∷ y ∷ []
-  pub stage : ℕ → Stage
+  pub stage : ℕ → VisitStage
   pub lawful : SatisfiesSpec seats x y stage
   pub turn : ℕ → ℕ
   pub last : IsLast x stage turn

@@ -5,8 +5,8 @@ use lib.ListN.{get_elem?}
 use Rattle.atomic_table.specs.Table.{Me, Step}
 use Rattle.model_splitter.specs.declared.way.Way.{Way}
 use Rattle.model_splitter.specs.declared.way.Way.TheVariants.{Stop, Right, Down}
-use Rattle.model_splitter.specs.declared.stage.Stage.{Stage}
-use Rattle.model_splitter.specs.declared.stage.Stage.TheVariants.{Outside, WroteX, WroteY, Gone}
+use Rattle.model_splitter.specs.declared.stage.VisitStage.{VisitStage}
+use Rattle.model_splitter.specs.declared.stage.VisitStage.TheVariants.{Outside, WroteX, WroteY, Gone}
 use Rattle.model_splitter.specs.Stage.{stage_after}
 use Rattle.words_machine.specs.declared.parts.splitter_view.Visit.{Visit}
 use Rattle.words_machine.specs.declared.parts.splitter_view.SplitterView.{SplitterView}
@@ -14,13 +14,13 @@ use Rattle.words_machine.specs.parts.SplitterView.{own_word, visit_at, view_of, 
 use Rattle.words_machine.specs.parts.SplitterRule.{IsKept}
 
 -- the turn of a visit after an access: it gets one by its first
-abbrev pub turn_after : Stage → ℕ → ℕ → ℕ
+abbrev pub turn_after : VisitStage → ℕ → ℕ → ℕ
 turn_after Outside turn old = turn
 turn_after s turn old = old
 
 -- whom a visit with this word met after an access that found this: where it finds Y set, one who has set it; where X has
 -- another's word, that one
-abbrev pub met_after : ℕ → Stage → ℕ → ℕ → ℕ → ℕ
+abbrev pub met_after : ℕ → VisitStage → ℕ → ℕ → ℕ → ℕ
 met_after word WroteX found setter old = if found == 0 then old else setter
 met_after word WroteY found setter old = if found == word then old else found
 met_after word s found setter old = old

@@ -1,7 +1,7 @@
 -- what a seat of a splitter knows
 use Rattle.std.specs.Prelude.{ℕ, ◌+◌, ◌-◌, List, [], ◌∷◌}
-use Rattle.model_splitter.specs.declared.stage.Stage.{Stage}
-use Rattle.model_splitter.specs.declared.stage.Stage.TheVariants.{Outside}
+use Rattle.model_splitter.specs.declared.stage.VisitStage.{VisitStage}
+use Rattle.model_splitter.specs.declared.stage.VisitStage.TheVariants.{Outside}
 use Rattle.words_machine.specs.parts.Numbered.{numbered_from}
 use Rattle.words_machine.specs.declared.parts.splitter_view.Visit.{Visit}
 use Rattle.words_machine.specs.declared.parts.splitter_view.SplitterView.{SplitterView}
@@ -10,7 +10,7 @@ use Rattle.words_machine.specs.declared.parts.splitter_view.SplitterView.{Splitt
 abbrev pub own_word : ℕ → ℕ
 own_word number = number + 1
 
-abbrev pub visit_at : ℕ → Stage → ℕ → ℕ → ℕ → Visit
+abbrev pub visit_at : ℕ → VisitStage → ℕ → ℕ → ℕ → Visit
 visit_at number stage accesses turn met = record { number = number; stage = stage; accesses = accesses; turn = turn; met = met }
 
 -- a visit that has not begun

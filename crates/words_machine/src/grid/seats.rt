@@ -10,11 +10,11 @@ use std::marker::Model;
 
 /// The seats of a grid that are not dealt yet, by rising number.
 #[derive(Drop)]
-pub struct Dealer {
+pub struct GridDealer {
     pub(crate) dealer: crate::Dealer<Walker>,
 }
 
-impl Model for Dealer {
+impl Model for GridDealer {
     ghost use Rattle.words_machine.specs.grid.Seats.{DealerId, dealer_of};
 
     ghost Value = { DealerId };
@@ -22,7 +22,7 @@ impl Model for Dealer {
     ghost view = { λ d. dealer_of d.dealer.words d.dealer.dealt };
 }
 
-impl Dealer {
+impl GridDealer {
     /// Returns the number of seats that were dealt.
     pub fn dealt(&self) -> u64
         ensures { result ≡ self.now.dealt }
@@ -33,11 +33,11 @@ impl Dealer {
 
 /// A seat that has not entered. `enter` takes it, so no seat enters twice.
 #[derive(Drop)]
-pub struct FreshSeat {
+pub struct FreshGridSeat {
     pub(crate) seat: crate::FreshSeat<Walker>,
 }
 
-impl Model for FreshSeat {
+impl Model for FreshGridSeat {
     ghost use Rattle.words_machine.specs.grid.Seats.{SeatId, seat_of};
 
     ghost Value = { SeatId };
@@ -45,7 +45,7 @@ impl Model for FreshSeat {
     ghost view = { λ f. seat_of f.seat.words f.seat.number };
 }
 
-impl FreshSeat {
+impl FreshGridSeat {
     /// Returns the seat's number, from 0.
     pub fn number(&self) -> u64
         ensures { result ≡ self.now.number }
@@ -56,11 +56,11 @@ impl FreshSeat {
 
 /// A seat that has entered, with the door at which its walk stopped.
 #[derive(Drop)]
-pub struct EnteredSeat {
+pub struct EnteredGridSeat {
     pub(crate) seat: crate::EnteredSeat<Walker>,
 }
 
-impl Model for EnteredSeat {
+impl Model for EnteredGridSeat {
     ghost use Rattle.words_machine.specs.grid.Seats.{EndedWalk, walk_of_run};
     ghost use Rattle.words_machine.specs.Ids.{HasRun};
     ghost use Rattle.words_machine.specs.lemmas.Walks.{walk_law};
@@ -72,7 +72,7 @@ impl Model for EnteredSeat {
     ghost invariant = { λ e. HasRun walk_law e.seat };
 }
 
-impl EnteredSeat {
+impl EnteredGridSeat {
     /// Returns the seat's number, from 0.
     pub fn number(&self) -> u64
         ensures { result ≡ self.now.number }
@@ -103,11 +103,11 @@ impl EnteredSeat {
 
 /// A claim: the walk of a seat has ended at a place. It stays true.
 #[derive(Drop)]
-pub struct Claim {
+pub struct GridClaim {
     pub(crate) claim: crate::Claim<Walker>,
 }
 
-impl Model for Claim {
+impl Model for GridClaim {
     ghost use Rattle.words_machine.specs.grid.Seats.{ClaimId, claim_at};
 
     ghost Value = { ClaimId };
@@ -115,7 +115,7 @@ impl Model for Claim {
     ghost view = { λ c. claim_at c.claim.words c.claim.number c.claim.outcome };
 }
 
-impl Claim {
+impl GridClaim {
     /// Returns the number of the seat whose place it is, from 0.
     pub fn number(&self) -> u64
         ensures { result ≡ self.now.number }

@@ -6,7 +6,7 @@ ghost use Rattle.words_machine.specs.grid.Law.{WalkSpec};
 ghost use Rattle.words_machine.specs.grid.Seats.{claim_of, dealer_of, place_of, seat_of};
 
 use crate::WordMachine;
-use crate::grid::seats::{Claim, Dealer, EnteredSeat, FreshSeat};
+use crate::grid::seats::{EnteredGridSeat, FreshGridSeat, GridClaim, GridDealer};
 use model_splitter::grid::Walker;
 use model_steps::Refusal;
 use std::alloc::Allocator;
@@ -36,7 +36,7 @@ impl<A: Allocator + Clone> WordGrid<A> {
     ///
     /// - `OutOfRange`: `most` is not from 1 to 64.
     /// - `NoMemory`: an allocation failed.
-    pub fn new(alloc: A, most: u64) -> Result<(WordGrid<A>, Dealer), Refusal>
+    pub fn new(alloc: A, most: u64) -> Result<(WordGrid<A>, GridDealer), Refusal>
         ensures grid { IfOk result (λ r. r.0.most ≡ most) }
         ensures dealer { IfOk result (λ r. r.1 ≡ dealer_of r.0 0) }
         ensures range { IsOk result → (1 ≤ most) × (most ≤ 64) }
@@ -47,7 +47,7 @@ impl<A: Allocator + Clone> WordGrid<A> {
             return Err(Refusal::OutOfRange);
         }
         let (machine, dealer) = WordMachine::new(alloc, most)?;
-        Ok((WordGrid { machine }, Dealer { dealer }))
+        Ok((WordGrid { machine }, GridDealer { dealer }))
     }
 }
 
@@ -62,7 +62,7 @@ impl<A: Allocator> WordGrid<A> {
 
     /// Deals the seat of the least number that was not dealt, or returns `None` if all seats were dealt. The dealer is
     /// of this grid.
-    pub fn deal(&self, dealer: &mut Dealer) -> Option<FreshSeat>
+    pub fn deal(&self, dealer: &mut GridDealer) -> Option<FreshGridSeat>
         requires ours { dealer.old.grid ≡ self.now }
         ensures ours { dealer.new.grid ≡ self.now }
         ensures some { IsSome result ↔ (dealer.old.dealt < self.now.most) }
@@ -70,7 +70,7 @@ impl<A: Allocator> WordGrid<A> {
         ensures none { IfNone result (dealer.new ≡ dealer.old) }
     {
         let seat = self.machine.deal(&mut dealer.dealer)?;
-        Some(FreshSeat { seat })
+        Some(FreshGridSeat { seat })
     }
 
     /// Makes the walk of a seat of this grid, by reads and writes (Moir and Anderson 1995).
@@ -81,7 +81,7 @@ impl<A: Allocator> WordGrid<A> {
     /// # Steps
     ///
     /// At most `4b` accesses, where `b` walks had begun when this one ended, whatever the other seats do.
-    pub fn enter(&self, fresh: FreshSeat) -> EnteredSeat
+    pub fn enter(&self, fresh: FreshGridSeat) -> EnteredGridSeat
         requires ours { fresh.grid ≡ self.now }
         ensures seat { (result.grid ≡ fresh.grid) × (result.number ≡ fresh.number) }
         ensures law { WalkSpec result }
@@ -91,11 +91,11 @@ impl<A: Allocator> WordGrid<A> {
     {
         let own = self.machine.own_number(&fresh.seat);
         let seat = self.machine.enter(fresh.seat, own);
-        EnteredSeat { seat }
+        EnteredGridSeat { seat }
     }
 
     /// Compares two entered seats of this grid, which stay as they are. Their places differ.
-    pub fn meet(&self, one: &mut EnteredSeat, other: &mut EnteredSeat)
+    pub fn meet(&self, one: &mut EnteredGridSeat, other: &mut EnteredGridSeat)
         requires one { one.old.grid ≡ self.now }
         requires other { other.old.grid ≡ self.now }
         ensures same { (one.new ≡ one.old) × (other.new ≡ other.old) }
@@ -109,7 +109,7 @@ impl<A: Allocator> WordGrid<A> {
     ///
     /// Where `d` seats were dealt, at most `d` walks had begun when this one ended. So its place is below `d(d + 1)/2`,
     /// and its walk made at most `4d` accesses.
-    pub fn tally(&self, dealer: &mut Dealer, entered: &mut EnteredSeat)
+    pub fn tally(&self, dealer: &mut GridDealer, entered: &mut EnteredGridSeat)
         requires dealer { dealer.old.grid ≡ self.now }
         requires entered { entered.old.grid ≡ self.now }
         ensures same { (dealer.new ≡ dealer.old) × (entered.new ≡ entered.old) }
@@ -122,17 +122,17 @@ impl<A: Allocator> WordGrid<A> {
     }
 
     /// Makes a claim of the place of an entered seat of this grid, which stays as it is.
-    pub fn claim(&self, entered: &mut EnteredSeat) -> Claim
+    pub fn claim(&self, entered: &mut EnteredGridSeat) -> GridClaim
         requires ours { entered.old.grid ≡ self.now }
         ensures same { entered.new ≡ entered.old }
         ensures claim { result ≡ claim_of entered.old }
     {
         let claim = self.machine.claim(&mut entered.seat);
-        Claim { claim }
+        GridClaim { claim }
     }
 
     /// Compares two claims of this grid, which stay as they are. If their places are equal, so are their seats.
-    pub fn compare(&self, one: &mut Claim, other: &mut Claim)
+    pub fn compare(&self, one: &mut GridClaim, other: &mut GridClaim)
         requires one { one.old.grid ≡ self.now }
         requires other { other.old.grid ≡ self.now }
         ensures same { (one.new ≡ one.old) × (other.new ≡ other.old) }

@@ -3,13 +3,13 @@
 ghost use Rattle.std.specs.Prelude.{[], ◌≡◌, ◌≢◌, ◌<◌, ◌≤◌, ◌+◌, ◌-◌, ◌⊎◌, ◌↔◌, ℕ, Err, IfErr, IfOk, IfSome, IfNone, IsOk, IsSome, vec_len, slice_index, reverse};
 ghost use lib.ListN.{get_elem?};
 ghost use mathlib.Core.Option.{some};
-ghost use Rattle.words_machine.specs.declared.parts.board_view.Claim.{Claim};
+ghost use Rattle.words_machine.specs.declared.parts.board_view.BoardClaim.{BoardClaim};
 ghost use Rattle.words_machine.specs.parts.BoardRule.{IsClaimed};
 ghost use Rattle.words_machine.specs.parts.BoardView.{lone_claim};
 ghost use Rattle.words_machine.specs.parts.Boards.{IsBoardTable, FindsClaims, GrantId, HasClaimOf, HasReadAll, MayHold, grant_of, look_cost, post_cost, reader_of};
 
 use crate::parts::board_seats::{Grant, LastRead, ReaderSeat};
-use crate::parts::board_steps::{Boarding, Find, Hand, LookOn, Part, Post, Read, Unite};
+use crate::parts::board_steps::{Boarding, Find, Hand, LookAtBoard, Part, Post, Read, UniteGrants};
 use crate::parts::board_view::BoardView;
 use atomic_table::{Badge, Seat, Shared, Table};
 use model_steps::Refusal;
@@ -40,8 +40,8 @@ fn look_together(
     ensures right { result.1.me ≡ right.me }
     ensures met { _one.0 ≡ _other.0 → _one.1 ≡ _other.1 }
 {
-    table.join_seat::<Unite>(&mut left, right);
-    table.load::<LookOn>(&mut left, 0);
+    table.join_seat::<UniteGrants>(&mut left, right);
+    table.load::<LookAtBoard>(&mut left, 0);
     let right = table.split_seat::<Part>(&mut left);
     (left, right)
 }
@@ -67,10 +67,10 @@ fn gather(table: &Words, seat: &mut Seat<u8, BoardView>, grant: Grant)
     requires grant { grant.board ≡ table.now.table_id }
     ensures ours { (seat.new.table_id ≡ table.now.table_id) × (seat.new.me.1 ≡ []) }
     ensures same { (seat.new.me.0.accesses ≡ seat.old.me.0.accesses + 1) × (seat.new.me.0.read ≡ seat.old.me.0.read) }
-    ensures more { (c : Claim) → IsClaimed c seat.old.me.0.claims → IsClaimed c seat.new.me.0.claims }
+    ensures more { (c : BoardClaim) → IsClaimed c seat.old.me.0.claims → IsClaimed c seat.new.me.0.claims }
     ensures claim { HasClaimOf seat.new.me.0 grant }
 {
-    table.join_seat::<Unite>(seat, claimed_by(grant));
+    table.join_seat::<UniteGrants>(seat, claimed_by(grant));
 }
 
 /// Adds the claims of some grants to a seat, by one access each.

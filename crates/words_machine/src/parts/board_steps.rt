@@ -42,18 +42,18 @@ impl Split<BoardView> for Hand {
 
 /// A join: the first seat gets the claims and the accesses of both, and one access more. The second then claims
 /// nothing.
-pub struct Unite;
+pub struct UniteGrants;
 
-impl Join<BoardView> for Unite {
+impl Join<BoardView> for UniteGrants {
     ghost both = { united };
 
     ghost spent = { no_claim };
 }
 
 /// A load that changes nothing, and shows that all claims of the seat are true at once.
-pub struct LookOn;
+pub struct LookAtBoard;
 
-impl<S> Play<S, BoardView> for LookOn {
+impl<S> Play<S, BoardView> for LookAtBoard {
     ghost then = { LooksOn };
 }
 

@@ -3,7 +3,7 @@
 use std::collections::LinkedList;
 
 /// A word, from 0, and the identity that it holds and always will.
-pub struct Claim {
+pub struct BoardClaim {
     /// The number of the word.
     pub word: u64,
     /// The identity that it holds.
@@ -13,7 +13,7 @@ pub struct Claim {
 /// The ghost state of a seat of a board.
 pub struct BoardView {
     /// The claims that are this seat's: none, one, two while two of them meet, or more when a board ends.
-    pub claims: LinkedList<Claim>,
+    pub claims: LinkedList<BoardClaim>,
     /// The number of accesses that it has made.
     pub accesses: u64,
     /// What its last post or confirm found in the word, or 0.

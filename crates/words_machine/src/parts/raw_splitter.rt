@@ -8,8 +8,8 @@ ghost use Rattle.words_machine.specs.parts.SplitterView.{fresh_visit, view_of, l
 ghost use Rattle.words_machine.specs.parts.SplitterSteps.{IsUnderRule, HasEnded, accesses_by};
 ghost use Rattle.words_machine.specs.parts.Seats.{seat_of, first_seats, gone_at, HasMet, IsVisitOf, MetBy, IsEither, EitherTook};
 
-use crate::parts::seats::{EnteredSeat, FreshSeat};
-use crate::parts::splitter_steps::{Access, Deal, Look, Splitting, Unite};
+use crate::parts::seats::{EnteredSplitterSeat, FreshSplitterSeat};
+use crate::parts::splitter_steps::{DealVisit, LookAtVisits, Splitting, UniteVisits, VisitAccess};
 use crate::parts::splitter_view::SplitterView;
 use atomic_table::{Badge, Seat, Shared, Table};
 use model_splitter::Way;
@@ -43,12 +43,12 @@ fn visit(words: &Words, seat: &mut Seat<u8, SplitterView>, number: u64) -> Way
     ensures ended { HasEnded words.now.key number result seat.new.me }
 {
     let own = number + 1;
-    words.store::<Access>(seat, X, own);
-    if words.load::<Access>(seat, Y) != 0 {
+    words.store::<VisitAccess>(seat, X, own);
+    if words.load::<VisitAccess>(seat, Y) != 0 {
         return Way::Right;
     }
-    words.store::<Access>(seat, Y, SET);
-    if words.load::<Access>(seat, X) == own {
+    words.store::<VisitAccess>(seat, Y, SET);
+    if words.load::<VisitAccess>(seat, X) == own {
         Way::Stop
     } else {
         Way::Down
@@ -70,9 +70,9 @@ fn look_together(
     ensures right { result.1.me ≡ right.me }
     ensures met { IsUnderRule (view_of words.now.key (left.me.0.visits ++ right.me.0.visits)) }
 {
-    words.join_seat::<Unite>(&mut right, left);
-    words.load::<Look>(&mut right, Y);
-    let left = words.split_seat::<Deal>(&mut right);
+    words.join_seat::<UniteVisits>(&mut right, left);
+    words.load::<LookAtVisits>(&mut right, Y);
+    let left = words.split_seat::<DealVisit>(&mut right);
     (left, right)
 }
 
@@ -109,7 +109,7 @@ impl<A: Allocator + Clone> RawSplitter<A> {
     ///
     /// - `OutOfRange`: `seats` is not from 1 to 64.
     /// - `NoMemory`: an allocation failed.
-    pub fn new(alloc: A, seats: u64) -> Result<(RawSplitter<A>, Vec<FreshSeat, A>), Refusal>
+    pub fn new(alloc: A, seats: u64) -> Result<(RawSplitter<A>, Vec<FreshSplitterSeat, A>), Refusal>
         ensures splitter { IfOk result (λ r. r.0.seats ≡ seats) }
         ensures seats { IfOk result (λ r. r.1.items ≡ first_seats r.0 seats) }
         ensures range { IsOk result → (1 ≤ seats) × (seats ≤ 64) }
@@ -135,7 +135,7 @@ impl<A: Allocator> RawSplitter<A> {
     /// # Errors
     ///
     /// `NoMemory`: an allocation failed.
-    pub fn pair(alloc: A) -> Result<(RawSplitter<A>, FreshSeat, FreshSeat), Refusal>
+    pub fn pair(alloc: A) -> Result<(RawSplitter<A>, FreshSplitterSeat, FreshSplitterSeat), Refusal>
         ensures splitter { IfOk result (λ r. r.0.seats ≡ 2) }
         ensures seats { IfOk result (λ r. (r.1 ≡ seat_of r.0 0) × (r.2 ≡ seat_of r.0 1)) }
         ensures only { IfErr result (λ r. r ≡ Refusal.NoMemory) }
@@ -156,7 +156,7 @@ impl<A: Allocator> RawSplitter<A> {
     }
 
     /// Deals the seat of the least number that is not dealt.
-    fn deal(&self, rest: &mut Seat<u8, SplitterView>, number: u64) -> FreshSeat
+    fn deal(&self, rest: &mut Seat<u8, SplitterView>, number: u64) -> FreshSplitterSeat
         requires ours { rest.old.table_id ≡ self.now.table }
         requires undealt { rest.old.me ≡ (undealt_from number self.now.seats, []) }
         requires range { (number < self.now.seats) × (number < 64) }
@@ -164,8 +164,8 @@ impl<A: Allocator> RawSplitter<A> {
         ensures undealt { rest.new.me ≡ (undealt_from (number + 1) self.now.seats, []) }
         ensures seat { result ≡ seat_of self.now number }
     {
-        let seat = self.table.shared.split_seat::<Deal>(rest);
-        FreshSeat { number, seat }
+        let seat = self.table.shared.split_seat::<DealVisit>(rest);
+        FreshSplitterSeat { number, seat }
     }
 
     /// Makes the visit of a seat of this splitter, and returns the way that it ended (Moir and Anderson 1995).
@@ -176,7 +176,7 @@ impl<A: Allocator> RawSplitter<A> {
     /// # Steps
     ///
     /// Two accesses if it goes right, otherwise four, whatever the other seats do.
-    pub fn enter(&self, fresh: FreshSeat) -> (EnteredSeat, Way)
+    pub fn enter(&self, fresh: FreshSplitterSeat) -> (EnteredSplitterSeat, Way)
         requires ours { fresh.splitter ≡ self.now }
         ensures seat { IsVisitOf fresh result.1 result.0 }
         ensures accesses { result.0.accesses ≡ accesses_by result.1 }
@@ -186,17 +186,17 @@ impl<A: Allocator> RawSplitter<A> {
         ensures lawful { IsUnderRule (lone_view self.now.seats (gone_at result.0)) }
         ensures alone { self.now.seats ≡ 1 → result.1 ≡ Stop }
     {
-        let FreshSeat { number, mut seat } = fresh;
+        let FreshSplitterSeat { number, mut seat } = fresh;
         let way = visit(&self.table.shared, &mut seat, number);
         let badge = seat.into_badge();
-        (EnteredSeat { number, way, badge }, way)
+        (EnteredSplitterSeat { number, way, badge }, way)
     }
 
     /// Compares two entered seats of this splitter, which stay as they are. They did not both stop.
     ///
     /// If `one` met `other` and went right, `other` did not. If it met `other` and went down, `other` wrote X after it.
     /// The two seats of a pair went neither both right nor both down.
-    pub fn meet(&self, one: &mut EnteredSeat, other: &mut EnteredSeat)
+    pub fn meet(&self, one: &mut EnteredSplitterSeat, other: &mut EnteredSplitterSeat)
         requires one { one.old.splitter ≡ self.now }
         requires other { other.old.splitter ≡ self.now }
         ensures one { one.new ≡ one.old }

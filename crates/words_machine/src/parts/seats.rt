@@ -9,12 +9,12 @@ use std::marker::Model;
 
 /// A seat that has not entered. `enter` takes it, so no seat enters twice.
 #[derive(Drop)]
-pub struct FreshSeat {
+pub struct FreshSplitterSeat {
     pub(crate) number: u64,
     pub(crate) seat: Seat<u8, SplitterView>,
 }
 
-impl Model for FreshSeat {
+impl Model for FreshSplitterSeat {
     ghost use Rattle.std.specs.Prelude.{◌≡◌, ◌<◌, []};
     ghost use Rattle.words_machine.specs.parts.SplitterView.{fresh_visit, lone_view};
     ghost use Rattle.words_machine.specs.parts.Seats.{SeatId};
@@ -28,13 +28,13 @@ impl Model for FreshSeat {
 
 /// A seat that has entered, with the way that its visit ended.
 #[derive(Drop)]
-pub struct EnteredSeat {
+pub struct EnteredSplitterSeat {
     pub(crate) number: u64,
     pub(crate) way: Way,
     pub(crate) badge: Badge<SplitterView>,
 }
 
-impl Model for EnteredSeat {
+impl Model for EnteredSplitterSeat {
     ghost use Rattle.words_machine.specs.parts.Seats.{EndedVisit, IsOfEnded, ended_visit};
 
     ghost Value = { EndedVisit };
@@ -44,7 +44,7 @@ impl Model for EnteredSeat {
     ghost invariant = { λ e. IsOfEnded e.number e.way e.badge.views };
 }
 
-impl EnteredSeat {
+impl EnteredSplitterSeat {
     /// Returns the seat's number, from 0.
     pub fn number(&self) -> u64
         ensures { result ≡ self.now.number }

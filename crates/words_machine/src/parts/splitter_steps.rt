@@ -18,33 +18,33 @@ impl<S> TableRule<S, SplitterView, u64> for Splitting {
 }
 
 /// A split: the first visit goes to the new seat. A seat is dealt so, and two that met part so.
-pub struct Deal;
+pub struct DealVisit;
 
-impl Split<SplitterView> for Deal {
+impl Split<SplitterView> for DealVisit {
     ghost left = { λ v. view_of v.seats (drop 1 v.visits) };
 
     ghost right = { λ v. view_of v.seats (take 1 v.visits) };
 }
 
 /// An access of a visit: the store or the load that comes next.
-pub struct Access;
+pub struct VisitAccess;
 
-impl<S> Play<S, SplitterView> for Access {
+impl<S> Play<S, SplitterView> for VisitAccess {
     ghost then = { MovesOn };
 }
 
 /// A join: one seat gets the visits of both, the other's first. The other then has none.
-pub struct Unite;
+pub struct UniteVisits;
 
-impl Join<SplitterView> for Unite {
+impl Join<SplitterView> for UniteVisits {
     ghost both = { λ v w. view_of v.seats (w.visits ++ v.visits) };
 
     ghost spent = { view_of 0 [] };
 }
 
 /// A load that changes nothing, and shows that the ghost state of the seat keeps the invariant.
-pub struct Look;
+pub struct LookAtVisits;
 
-impl<S> Play<S, SplitterView> for Look {
+impl<S> Play<S, SplitterView> for LookAtVisits {
     ghost then = { Looks };
 }

@@ -1,6 +1,6 @@
 //! The ghost state of a seat of a splitter. No value of these types is made: they exist in proofs alone.
 
-use model_splitter::Stage;
+use model_splitter::VisitStage;
 use std::collections::LinkedList;
 
 /// The visit of a seat.
@@ -8,7 +8,7 @@ pub struct Visit {
     /// The number of its seat.
     pub number: u64,
     /// The last access that it made.
-    pub stage: Stage,
+    pub stage: VisitStage,
     /// The number of accesses that it has made.
     pub accesses: u64,
     /// The rank of its write to X: greater than that of each visit that wrote X before it. 0 before it has begun.

@@ -1,4 +1,4 @@
-// Erased by bindings/rust/erase from crates/model_renaming/src/lib.rt, sha256 854edd7096db4b4567c37f2edea7e63becc930ec532c1a0b501c4e362447f4ed.
+// Erased by bindings/rust/erase from crates/model_renaming/src/lib.rt, sha256 f9ecfaf99d122f07616f82729b9ff66e5846ecee94329e39485e1122ad0320cc.
 //! Adaptive renaming: participants with 64-bit identities get distinct names in `1..=2b-1`, where `b` have begun (the
 //! problem: Attiya et al. 1990).
 //!

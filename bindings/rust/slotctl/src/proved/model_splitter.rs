@@ -1,4 +1,4 @@
-// Erased by bindings/rust/erase from crates/model_splitter/src/lib.rt, sha256 a281185444173dab1287a20ed873648ccba5ea98f942a3d70c69b5e9b09bec2e.
+// Erased by bindings/rust/erase from crates/model_splitter/src/lib.rt, sha256 6cd955c3e75d9343135d514b78c3d7a58823190b7695140804874cf16a8fd976.
 //! The splitter of Moir and Anderson (1995).
 //!
 //! A splitter has two registers: X, which holds an identity, and Y, a bit. A visitor makes at most four accesses and

@@ -1,4 +1,4 @@
-// Erased by bindings/rust/erase from crates/service_loop/src/lib.rt, sha256 3c65d35c76b8bace338975891d492585823732a064c448d59da2f9d0c0182279.
+// Erased by bindings/rust/erase from crates/service_loop/src/lib.rt, sha256 6979ace5d7e649bf4a274471317d9d3e9d02e5a35447299a2b2a3434f704fb93.
 //! Connections that share one service, in one thread.
 //!
 //! `Buffers` are a connection without its stream: one side of a transcript (`Responder`), what came and is not taken yet, and what was said and is not

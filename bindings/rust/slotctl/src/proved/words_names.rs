@@ -1,4 +1,4 @@
-// Erased by bindings/rust/erase from crates/words_names/src/lib.rt, sha256 1907fc1e22f9de10ded06f123524e6f76706c4424b7651842b26c8191c548ad5.
+// Erased by bindings/rust/erase from crates/words_names/src/lib.rt, sha256 81a498dc9cae12f6ad0b3aea784335d5d5b6fe8d4be97fd02137d71b33615c28.
 //! Names given to threads over atomic words, by reads and writes alone (the problem: Attiya et al. 1990).
 //!
 //! The participant is the program of `model_recursion` (Gafni and Rajsbaum 2010), which a [`words_machine::WordMachine`]

@@ -1,6 +1,6 @@
 -- doors and walks that agree: what keeps them so, and what follows
 use Rattle.std.proofs.Common.{◌≡◌, ◌≢◌, ℕ, zero, suc, ◌+◌, ◌*◌, ◌<◌, ◌≤◌, false, inl, inr, length, replicate, get_or, Option, Some, None, refl, sym, ap, subst, ◌∙◌, arith}
-use Rattle.model_splitter.proofs.grid_lemmas.Common.{fun_ext, eqb_tells, Registers, answer_of, after_access, set_at, Stage, Gone, went_right, went_down, x_after, y_after, stage_after, Walker, walker_at, walk_of, visit_on, walked_to, walker_after, next_access, x_in, y_in, DoorsAgree, IsConsistent, empty_doors}
+use Rattle.model_splitter.proofs.grid_lemmas.Common.{fun_ext, eqb_tells, Registers, answer_of, after_access, set_at, VisitStage, Gone, went_right, went_down, x_after, y_after, stage_after, Walker, walker_at, walk_of, visit_on, walked_to, walker_after, next_access, x_in, y_in, DoorsAgree, IsConsistent, empty_doors}
 use Rattle.std.proofs.Math.ListN.{length-replicate}
 use Rattle.model_splitter.specs.declared.way.Way.TheVariants.{Right, Down}
 use Rattle.model_splitter.specs.Visitor.{IsAccessOf, stage_by, word_of}
@@ -19,14 +19,14 @@ module _ (b : ℕ) (few : b ≤ 255) (x_of y_of : ℕ → ℕ) (walker : ℕ →
   abbrev door : ℕ
   door = number_of u.door
 
-  abbrev next_stage : Stage
+  abbrev next_stage : VisitStage
   next_stage = stage_after p u.visitor.stage (x_of door) (y_of door)
 
   abbrev AgreesWith : Walker → Type 0
   AgreesWith new = DoorsAgree b b (set_at x_of door (x_after p u.visitor.stage (x_of door))) (set_at y_of door (y_after u.visitor.stage (y_of door))) (set_at walker p (Some new))
 
-  stays : (s : Stage) → next_stage ≡ s → went_right s ≡ false → went_down s ≡ false → AgreesWith (visit_on u s)
-  stays s k r d = subst (λ (x : Stage). AgreesWith (visit_on u x)) k (stayed b x_of y_of walker g p u is (rw k r) (rw k d))
+  stays : (s : VisitStage) → next_stage ≡ s → went_right s ≡ false → went_down s ≡ false → AgreesWith (visit_on u s)
+  stays s k r d = subst (λ (x : VisitStage). AgreesWith (visit_on u x)) k (stayed b x_of y_of walker g p u is (rw k r) (rw k d))
 
   shallow : u.door.depth < 255
   shallow = let within = g.within u.door.depth u.door.column (g.walks p u is).arrived in omega arith
@@ -44,7 +44,7 @@ module _ (b : ℕ) (few : b ≤ 255) (x_of y_of : ℕ → ℕ) (walker : ℕ →
       let next : walker_at p (door_at (suc u.door.depth) (suc u.door.column)) ≡ walker_at u.visitor.identity (down_of u.door) = rw (walk.identity, deeper_is u.door.depth shallow, deeper_is u.door.column narrow) refl in
       subst AgreesWith next (moved_on b x_of y_of walker g p u is (suc u.door.column) (inr (rw k refl, refl)))
 
-  agrees_next : (s : Stage) → next_stage ≡ s → AgreesWith (walked_to u s)
+  agrees_next : (s : VisitStage) → next_stage ≡ s → AgreesWith (walked_to u s)
   agrees_next s k = elim (goes_on (visit_on u) (walker_at u.visitor.identity (right_of u.door)) (walker_at u.visitor.identity (down_of u.door)) s) [
     | inl e ↦ subst AgreesWith (sym e.2) (stays s k e.0 e.1)
     | inr o ↦ elim o [ inl e ↦ subst AgreesWith (sym e.1) (goes_right (k ∙ e.0)) | inr e ↦ subst AgreesWith (sym e.1) (goes_down (k ∙ e.0)) ]

@@ -1,6 +1,6 @@
 -- doors and walks that agree keep the law of the grid
 use Rattle.std.proofs.Common.{◌≡◌, ◌≢◌, ◌↔◌, ℕ, suc, ◌+◌, ◌*◌, ◌<◌, ◌≤◌, true, not, ◌==◌, inl, inr, Option, Some, None, refl, sym, subst, arith, IsSome}
-use Rattle.model_splitter.proofs.grid_lemmas.Common.{Answer, Registers, Stage, has_entered, Walker, door_number, number_of, right_of, down_of, IsDoorWithin, count_to, x_in, y_in, was_entered, IsConsistent, IsGrid}
+use Rattle.model_splitter.proofs.grid_lemmas.Common.{Answer, Registers, VisitStage, has_entered, Walker, door_number, number_of, right_of, down_of, IsDoorWithin, count_to, x_in, y_in, was_entered, IsConsistent, IsGrid}
 use Rattle.std.proofs.lemmas.Option.{option_and_then_some}
 use Rattle.model_steps.specs.declared.note.Note.TheVariants.{Ended}
 use Rattle.model_steps.specs.Calls.{outcome_in}
@@ -79,7 +79,7 @@ module _ (most b : ℕ) (m : Registers ℕ) (walker : ℕ → Option Walker) (c 
   }
 
 -- a walk that went on has made one access more
-counted : (u : Walker) → u.door.depth < 255 → (s : Stage) → accesses_at u.visitor.stage + 1 ≤ accesses_at s → accesses_at u.visitor.stage ≤ 3 → accesses_of u + 1 ≤ accesses_of (walked_to u s)
+counted : (u : Walker) → u.door.depth < 255 → (s : VisitStage) → accesses_at u.visitor.stage + 1 ≤ accesses_at s → accesses_at u.visitor.stage ≤ 3 → accesses_of u + 1 ≤ accesses_of (walked_to u s)
 counted u narrow s l k =
     let next = deeper_is u.door.depth narrow in
     elim (goes_on (visit_on u) (walker_at u.visitor.identity (right_of u.door)) (walker_at u.visitor.identity (down_of u.door)) s) [
@@ -113,7 +113,7 @@ some_walk most b m walker c p u is =
     omega arith
 
 -- what a walk says tells its place
-pub place_reported : (u : Walker) (s : Stage) → outcome_in (note_at_door (number_of u.door) s) ≡ place_of (walked_to u s)
+pub place_reported : (u : Walker) (s : VisitStage) → outcome_in (note_at_door (number_of u.door) s) ≡ place_of (walked_to u s)
 place_reported u s = tells_place (visit_on u) (walker_at u.visitor.identity (right_of u.door)) (walker_at u.visitor.identity (down_of u.door)) place_of (number_of u.door) s refl refl refl
 
 -- a walk says that it has ended exactly where it has reached a place

@@ -1,6 +1,6 @@
 -- what ties a grid's world to the calls that it is after
 use Rattle.std.proofs.Common.{◌≡◌, ℕ, suc, ◌≤◌, true, false, List, [], ◌∷◌, ◌++◌, length, Option, Some, None, Result, Ok, Err, IfOk, refl, sym, ap, subst, ◌∙◌, arith, length-append, is_some, option_map}
-use Rattle.model_splitter.proofs.grid_lemmas.Common.{fun_ext, Answer, Participant, answer_of, memory_steps, set_at, Began, Stepped, Refusal, Stage, Walker, number_of, walk_of, walker_steps, walked_to, walker_after, walker_note, next_access, place_of, place_by, accesses_by, IsConsistent, IsGrid}
+use Rattle.model_splitter.proofs.grid_lemmas.Common.{fun_ext, Answer, Participant, answer_of, memory_steps, set_at, Began, Stepped, Refusal, VisitStage, Walker, number_of, walk_of, walker_steps, walked_to, walker_after, walker_note, next_access, place_of, place_by, accesses_by, IsConsistent, IsGrid}
 use Rattle.model_steps.specs.Note.{ends}
 use Rattle.model_steps.specs.Participant.{participant_of, program_of, with_participant, beginner}
 use Rattle.model_steps.specs.Calls.{Call, steps_by, outcome_of, outcome_by, outcome_in, begun_in, begun_by}
@@ -66,7 +66,7 @@ begun_kept w r id in_ t =
     }
 
 -- a walk says that it has ended where it has a place
-end_reported : (u : Walker) (s : Stage) → ends (note_at_door (number_of u.door) s) ≡ is_some (place_of (walked_to u s))
+end_reported : (u : Walker) (s : VisitStage) → ends (note_at_door (number_of u.door) s) ≡ is_some (place_of (walked_to u s))
 end_reported u s = sym (outcomes_tell (note_at_door (number_of u.door) s)) ∙ ap is_some (place_reported u s)
 
 no_place : (o : Option ℕ) → is_some o ≡ false → o ≡ None

@@ -1,21 +1,21 @@
 -- what each access of a walk, and each beginning, keeps of the nodes and the walks of a tree
 use Rattle.std.proofs.Common.{◌≡◌, ◌≢◌, ℕ, zero, suc, ◌+◌, ◌*◌, ◌<◌, ◌≤◌, Bool, true, false, ◌⊎◌, inl, inr, [], ◌∷◌, Option, Some, None, refl, sym, ap, subst, ◌∙◌, arith}
-use Rattle.model_splitter.proofs.tree_lemmas.Common.{eqb_tells, set_at, set_at-same, set_at-other, set_at-cases, Right, Down, Stage, Outside, Gone, has_entered, went_right, went_down, x_after, y_after, stage_after, Walker, walker_at, walk_of, visit_on}
+use Rattle.model_splitter.proofs.tree_lemmas.Common.{eqb_tells, set_at, set_at-same, set_at-other, set_at-cases, Right, Down, VisitStage, Outside, Gone, has_entered, went_right, went_down, x_after, y_after, stage_after, Walker, walker_at, walk_of, visit_on}
 use Rattle.model_splitter.specs.Invariant.{DoorSatisfiesSpec}
 use Rattle.model_splitter.proofs.cited.DoorKept.{kept, lawful_new}
 use Rattle.model_splitter.specs.tree.Invariant.{IsWalkOf, NodesAgree}
 use Rattle.model_splitter.proofs.tree_lemmas.nodes.VisitsKept.{with_visit, with_visit-node, with_visit-other_node, with_visit-own, with_visit-other, with_comer, with_comer-has, with_comer-keeps, with_comer-cases}
 
-pub right_entered : (s : Stage) → went_right s ≡ true → has_entered s ≡ true
+pub right_entered : (s : VisitStage) → went_right s ≡ true → has_entered s ≡ true
 right_entered (Gone Right) h = refl
 right_entered s h = absurd (cc)
 
-pub down_entered : (s : Stage) → went_down s ≡ true → has_entered s ≡ true
+pub down_entered : (s : VisitStage) → went_down s ≡ true → has_entered s ≡ true
 down_entered (Gone Down) h = refl
 down_entered s h = absurd (cc)
 
 -- a walk agrees with visits still where its own are as before, and no mark and nobody's coming is lost
-walk_still : (mark mark' : ℕ → ℕ) (stage stage' : ℕ → ℕ → Stage) (came came' : ℕ → ℕ → Bool) (p : ℕ) (u : Walker) →
+walk_still : (mark mark' : ℕ → ℕ) (stage stage' : ℕ → ℕ → VisitStage) (came came' : ℕ → ℕ → Bool) (p : ℕ) (u : Walker) →
     ((k : ℕ) → mark k ≡ 1 → mark' k ≡ 1) → ((k : ℕ) → stage' k p ≡ stage k p) → ((k : ℕ) → came k p ≡ true → came' k p ≡ true) →
     IsWalkOf mark stage came p u → IsWalkOf mark' stage' came' p u
 walk_still mark mark' stage stage' came came' p u marks stages comes w = record {
@@ -88,10 +88,10 @@ module _ (b : ℕ) (mark x_of y_of : ℕ → ℕ) (walker : ℕ → Option Walke
 
   -- p takes an access of its visit
   module _ (visits : v.is_marking ≡ false) where
-    abbrev after : Stage
+    abbrev after : VisitStage
     after = stage_after p v.visitor.stage (x_of at) (y_of at)
 
-    abbrev stage' : ℕ → ℕ → Stage
+    abbrev stage' : ℕ → ℕ → VisitStage
     stage' = with_visit g.stage at p after
 
     abbrev x_of' : ℕ → ℕ
@@ -113,7 +113,7 @@ module _ (b : ℕ) (mark x_of y_of : ℕ → ℕ) (walker : ℕ → Option Walke
     stage_cases j q = elim (eqb_tells q p) [
       | inr n ↦ inr (with_visit-other g.stage at p after j q n.1)
       | inl e ↦ elim (eqb_tells j at) [
-        | inr n ↦ inr (ap (λ (w : ℕ → Stage). w q) (with_visit-other_node g.stage at p after j n.1))
+        | inr n ↦ inr (ap (λ (w : ℕ → VisitStage). w q) (with_visit-other_node g.stage at p after j n.1))
         | inl k ↦ inl (k.1, e.1)
       ]
     ]
@@ -152,7 +152,7 @@ module _ (b : ℕ) (mark x_of y_of : ℕ → ℕ) (walker : ℕ → Option Walke
       ]
 
       -- who comes to a child has left its parent on that side
-      child_after : (went : Stage → Bool) (child : ℕ → ℕ) → ((k q : ℕ) → 1 ≤ k → g.came (child k) q ≡ true → went (g.stage k q) ≡ true) → went v.visitor.stage ≡ false →
+      child_after : (went : VisitStage → Bool) (child : ℕ → ℕ) → ((k q : ℕ) → 1 ≤ k → g.came (child k) q ≡ true → went (g.stage k q) ≡ true) → went v.visitor.stage ≡ false →
           ((k : ℕ) → 1 ≤ k → child k ≡ v'.place → went (stage' k p) ≡ true) → (k q : ℕ) → 1 ≤ k → came' (child k) q ≡ true → went (stage' k q) ≡ true
       child_after went child before stays here k q l h = elim (cases (child k) q h) [
         | inl e ↦ rw e.1 (here k l e.0)
@@ -193,7 +193,7 @@ module _ (b : ℕ) (mark x_of y_of : ℕ → ℕ) (walker : ℕ → Option Walke
 
     -- who came to a child left its parent before, so the parent is another node than p's
     stage_above : (k j : ℕ) → at ≡ j → k < j → stage' k p ≡ g.stage k p
-    stage_above k j e l = ap (λ (w : ℕ → Stage). w p) (with_visit-other_node g.stage at p after k (λ h. absurd (omega arith)))
+    stage_above k j e l = ap (λ (w : ℕ → VisitStage). w p) (with_visit-other_node g.stage at p after k (λ h. absurd (omega arith)))
 
     pub stayed : went_right after ≡ false → went_down after ≡ false → NodesAgree b mark x_of' y_of' (set_at walker p (Some staying))
     stayed r d =
@@ -209,7 +209,7 @@ module _ (b : ℕ) (mark x_of y_of : ℕ → ℕ) (walker : ℕ → Option Walke
           marked = old.marked;
           not_right = r;
           not_down = d;
-          below = λ k l. ap (λ (w : ℕ → Stage). w p) (with_visit-other_node g.stage at p after k (λ h. absurd (omega arith))) ∙ old.below k l;
+          below = λ k l. ap (λ (w : ℕ → VisitStage). w p) (with_visit-other_node g.stage at p after k (λ h. absurd (omega arith))) ∙ old.below k l;
         })
         positive
         (λ k l e. ap went_down (stage_above k (2 * k) (sym e) (omega arith)) ∙ g.came_down k p l (subst (λ (i : ℕ). g.came i p ≡ true) (sym e) old.arrived))
@@ -220,7 +220,7 @@ module _ (b : ℕ) (mark x_of y_of : ℕ → ℕ) (walker : ℕ → Option Walke
         (down : (k : ℕ) → 1 ≤ k → 2 * k ≡ child → went_down (stage' k p) ≡ true)
         (right : (k : ℕ) → 1 ≤ k → 2 * k + 1 ≡ child → went_right (stage' k p) ≡ true) where
       below_child : (k : ℕ) → at < k → stage' k p ≡ Outside
-      below_child k l = ap (λ (w : ℕ → Stage). w p) (with_visit-other_node g.stage at p after k (λ h. absurd (omega arith))) ∙ (g.walks p v is).below k l
+      below_child k l = ap (λ (w : ℕ → VisitStage). w p) (with_visit-other_node g.stage at p after k (λ h. absurd (omega arith))) ∙ (g.walks p v is).below k l
 
       pub moved_on : NodesAgree b mark x_of' y_of' (set_at walker p (Some (walker_at p child)))
       moved_on = stepped (walker_at p child)

@@ -1,6 +1,6 @@
 use Rattle.std.proofs.Common.{◌≡◌, inl, inr}
 use Rattle.service_loop.proofs.Common.{seats_of}
-use Rattle.service_loop.specs.declared.connection.Stage.TheVariants as stage
+use Rattle.service_loop.specs.declared.connection.ConnectionStage.TheVariants as stage
 use Rattle.service_loop.specs.Queries.{query_text}
 use Rattle.service_loop.proofs.AnswerLemmas.{Answering, answering_none, answering_on}
 use Rattle.service_loop.proofs.answering.answer_all.Goals as goal

@@ -1,6 +1,6 @@
 use Rattle.std.proofs.Common.{◌≡◌}
 use Rattle.service_loop.proofs.Common.{AreShared, seats_of}
-use Rattle.service_loop.specs.declared.connection.Stage.TheVariants as stage
+use Rattle.service_loop.specs.declared.connection.ConnectionStage.TheVariants as stage
 use Rattle.service_loop.specs.Queries.{query_text}
 use Rattle.service_loop.proofs.AnswerLemmas.{Answering}
 use Rattle.service_loop.proofs.answering.answer_all.Given as goal

@@ -1,7 +1,7 @@
 use borrow.Author.Rules.{scaled_Fits}
 use Rattle.std.proofs.Common.{◌≡◌, ◌+◌, ◌∙◌, ◌++◌, true, false, inl, inr, [], ap, refl, subst, sym, arith, get_or}
 use Rattle.service_loop.proofs.Common.{WorldKind, with_ends, tagged, SeatPeeked, seats_of, SeatLines, all_lines}
-use Rattle.service_loop.specs.declared.connection.Stage.TheVariants as stage
+use Rattle.service_loop.specs.declared.connection.ConnectionStage.TheVariants as stage
 use Rattle.service_loop.proofs.CallLemmas.{calls_all, calls_some}
 use Rattle.service_loop.proofs.GatherLemmas.{gathered_none, gathered_more}
 use Rattle.service_loop.proofs.ReportedLemmas.{Telling, telling_none, telling_idle, telling_more, telling_all, reported_behind}

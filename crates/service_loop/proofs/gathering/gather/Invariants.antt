@@ -1,6 +1,6 @@
 use Rattle.std.proofs.Common.{◌≡◌, ◌≤◌, ◌-◌, [], length}
 use Rattle.service_loop.proofs.Common.{with_ends, AreShared, seats_of, Gathered, SeatLines, all_lines}
-use Rattle.service_loop.specs.declared.connection.Stage.TheVariants as stage
+use Rattle.service_loop.specs.declared.connection.ConnectionStage.TheVariants as stage
 use Rattle.service_loop.proofs.ReportedLemmas.{Telling}
 use Rattle.service_loop.proofs.gathering.gather.Given as goal
 

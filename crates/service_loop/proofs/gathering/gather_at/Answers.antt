@@ -4,7 +4,7 @@ use Rattle.std.proofs.Common.{◌≡◌, ◌∙◌, inl, inr, None, refl, sym, s
 use Rattle.service_loop.proofs.Common.{get_or_default, Consumes-nil, seats_of, SeatIdle, requests_seen, Gathered}
 use Rattle.service_loop.proofs.GatherLemmas.{gathered_at, gathers_none, gathered_none}
 use Rattle.service_loop.proofs.ReportedLemmas.{seat_peeked, set_same}
-use Rattle.service_loop.specs.declared.connection.Stage.TheVariants as stage
+use Rattle.service_loop.specs.declared.connection.ConnectionStage.TheVariants as stage
 use Rattle.service_loop.proofs.gathering.gather_at.Goals as goal
 
 pub returns-in_default-stage-clause-gathered : goal.returns-in_default-stage-clause-gathered

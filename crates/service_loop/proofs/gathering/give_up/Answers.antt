@@ -1,5 +1,5 @@
 use Rattle.std.proofs.Common.{◌≡◌, get_or, None}
-use Rattle.service_loop.specs.declared.connection.Stage.TheVariants as stage
+use Rattle.service_loop.specs.declared.connection.ConnectionStage.TheVariants as stage
 use Rattle.service_loop.specs.Seats.{seats_of}
 use Rattle.service_loop.proofs.GatherLemmas.{gathered_none, gathered_more}
 use Rattle.service_loop.proofs.ReportedLemmas.{SeatGivesUp, called_all, called_none, called_on, gives_up_still}

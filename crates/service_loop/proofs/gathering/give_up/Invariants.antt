@@ -1,6 +1,6 @@
 use Rattle.std.proofs.Common.{◌≡◌}
 use Rattle.service_loop.proofs.Common.{seats_of, Gathered}
-use Rattle.service_loop.specs.declared.connection.Stage.TheVariants as stage
+use Rattle.service_loop.specs.declared.connection.ConnectionStage.TheVariants as stage
 use Rattle.service_loop.proofs.ReportedLemmas.{CalledSo, SeatGivesUp}
 use Rattle.service_loop.proofs.CallLemmas.{FirstAre}
 use Rattle.service_loop.proofs.gathering.give_up.Given as goal

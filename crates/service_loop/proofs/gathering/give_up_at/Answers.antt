@@ -2,7 +2,7 @@ use borrow.Author.Rules.{scaled_Fits}
 use Rattle.std.proofs.lemmas.List.{set-get_or, get_or_past}
 use Rattle.std.proofs.Common.{◌≡◌, ◌∙◌, Some, None, ap, subst, sym, get_or, refl}
 use Rattle.service_loop.proofs.Common.{get_or_default, get_or-set_same, get_or-set_other, SeatAsks, SeatBroken, SeatIs, seats_of, Gathered}
-use Rattle.service_loop.specs.declared.connection.Stage.TheVariants as stage
+use Rattle.service_loop.specs.declared.connection.ConnectionStage.TheVariants as stage
 use Rattle.service_loop.proofs.GatherLemmas.{gathered_none, kept_at}
 use Rattle.service_loop.proofs.gathering.give_up_at.Goals as goal
 

@@ -1,6 +1,6 @@
 use Rattle.std.proofs.lemmas.List.{length-take-le}
 use Rattle.std.proofs.Common.{◌≡◌, [], None, Ok, ap, get_or, subst, sym, take}
-use Rattle.service_loop.specs.declared.connection.Stage.TheVariants as stage
+use Rattle.service_loop.specs.declared.connection.ConnectionStage.TheVariants as stage
 use Rattle.service_loop.specs.Seats.{NoneSent, seats_of}
 use Rattle.service_loop.proofs.RoundLemmas.{always_wrong, gave_none, owes_none}
 use Rattle.service_loop.proofs.SeatLemmas.{seat_rests}

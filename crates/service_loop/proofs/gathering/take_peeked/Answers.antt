@@ -1,6 +1,6 @@
 use Rattle.std.proofs.Common.{◌≡◌, ◌+◌, inl, inr, ◌++◌, [], ℕ, length, get_or, refl, subst, arith}
 use Rattle.service_loop.proofs.Common.{TurnLog, tagged, seats_of}
-use Rattle.service_loop.specs.declared.connection.Stage.TheVariants as stage
+use Rattle.service_loop.specs.declared.connection.ConnectionStage.TheVariants as stage
 use Rattle.service_loop.proofs.SeatLemmas.{Going, going_none, going_on}
 use Rattle.service_loop.proofs.ReportedLemmas.{Taking, taking_idle, taking_on, taking_all}
 use Rattle.service_loop.proofs.CallLemmas.{first_none, first_on, first_all}

@@ -1,6 +1,6 @@
 use Rattle.std.proofs.Common.{◌≡◌}
 use Rattle.service_loop.proofs.Common.{TurnLog, AreShared, seats_of}
-use Rattle.service_loop.specs.declared.connection.Stage.TheVariants as stage
+use Rattle.service_loop.specs.declared.connection.ConnectionStage.TheVariants as stage
 use Rattle.service_loop.proofs.SeatLemmas.{Going}
 use Rattle.service_loop.proofs.ReportedLemmas.{Taking}
 use Rattle.service_loop.proofs.CallLemmas.{FirstAre}

@@ -2,7 +2,7 @@ use borrow.Author.Rules.{scaled_Fits}
 use Rattle.std.proofs.lemmas.List.{set-get_or}
 use Rattle.std.proofs.Common.{◌≡◌, ◌∙◌, inl, inr, None, refl, sym, set, ap, subst}
 use Rattle.service_loop.proofs.Common.{get_or_default, seats_of}
-use Rattle.service_loop.specs.declared.connection.Stage.TheVariants as stage
+use Rattle.service_loop.specs.declared.connection.ConnectionStage.TheVariants as stage
 use Rattle.service_loop.proofs.AttendedLemmas.{runs_listened}
 use Rattle.service_loop.proofs.TakingLemmas.{seat_took_number}
 use Rattle.service_loop.proofs.taking.take_number_at.Goals as goal

@@ -1,6 +1,6 @@
 use Rattle.std.proofs.Common.{inl, inr, ℕ, ◌++◌, [], subst, get_or, ◌≡◌}
 use Rattle.service_loop.proofs.Common.{TurnLog, tagged, seats_of}
-use Rattle.service_loop.specs.declared.connection.Stage.TheVariants as stage
+use Rattle.service_loop.specs.declared.connection.ConnectionStage.TheVariants as stage
 use Rattle.service_loop.specs.Attending.{Hears, acts_in, acts_of, number_at}
 use Rattle.service_loop.proofs.AttendedLemmas.{hears_none, hears_on}
 use Rattle.service_loop.proofs.TakingLemmas.{Taking, taking_none, taking_on}

@@ -1,6 +1,6 @@
 use Rattle.std.proofs.Common.{◌≡◌}
 use Rattle.service_loop.proofs.Common.{TurnLog, AreShared, seats_of}
-use Rattle.service_loop.specs.declared.connection.Stage.TheVariants as stage
+use Rattle.service_loop.specs.declared.connection.ConnectionStage.TheVariants as stage
 use Rattle.service_loop.specs.Attending.{Hears, acts_in, number_at}
 use Rattle.service_loop.proofs.TakingLemmas.{Taking}
 use Rattle.service_loop.proofs.taking.take_numbers.Given as goal

@@ -2,7 +2,7 @@ use borrow.Author.Rules.{scaled_Fits}
 use Rattle.std.proofs.lemmas.List.{set-get_or, get_or_past}
 use Rattle.std.proofs.Common.{◌≡◌, ◌∙◌, inr, Some, None, sym, inl, refl, subst, set, ap, get_or}
 use Rattle.service_loop.proofs.Common.{get_or_default, get_or-set_same, get_or-set_other, SeatIs, seats_of}
-use Rattle.service_loop.specs.declared.connection.Stage.TheVariants as stage
+use Rattle.service_loop.specs.declared.connection.ConnectionStage.TheVariants as stage
 use Rattle.service_loop.proofs.SeatLemmas.{seat_sent}
 use Rattle.service_loop.proofs.CallLemmas.{rests_else}
 use Rattle.service_loop.proofs.turns.send_at.Goals as goal

@@ -1,5 +1,5 @@
 use Rattle.std.proofs.Common.{◌≡◌, inl, inr}
-use Rattle.service_loop.specs.declared.connection.Stage.TheVariants as stage
+use Rattle.service_loop.specs.declared.connection.ConnectionStage.TheVariants as stage
 use Rattle.service_loop.specs.Seats.{seats_of}
 use Rattle.service_loop.proofs.SeatLemmas.{Sending, sending_none, sending_on}
 use Rattle.service_loop.proofs.CallLemmas.{first_none, first_all, resting_on, rests_idle}

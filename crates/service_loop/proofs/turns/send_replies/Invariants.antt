@@ -1,6 +1,6 @@
 use Rattle.std.proofs.Common.{◌≡◌}
 use Rattle.service_loop.proofs.Common.{EachIs}
-use Rattle.service_loop.specs.declared.connection.Stage.TheVariants as stage
+use Rattle.service_loop.specs.declared.connection.ConnectionStage.TheVariants as stage
 use Rattle.service_loop.specs.Seats.{seats_of}
 use Rattle.service_loop.proofs.SeatLemmas.{Sending}
 use Rattle.service_loop.proofs.CallLemmas.{Resting}

@@ -1,7 +1,7 @@
 use borrow.Author.Rules.{scaled_Fits}
 use Rattle.std.proofs.Common.{◌≡◌, ◌∙◌, true, false, sym, inl, inr, ℕ, ◌++◌, [], refl, subst, get_or, take, arith}
 use Rattle.service_loop.proofs.Common.{TurnLog, eq-eqb, tagged, seats_of}
-use Rattle.service_loop.specs.declared.connection.Stage.TheVariants as stage
+use Rattle.service_loop.specs.declared.connection.ConnectionStage.TheVariants as stage
 use Rattle.service_loop.proofs.SeatLemmas.{Going, going_none, going_on}
 use Rattle.service_loop.proofs.CallLemmas.{calls_all, calls_some, first_none, first_on, first_called, same_on, same_served}
 use Rattle.service_loop.specs.ConnectionBuffers.{HasTakenAll}

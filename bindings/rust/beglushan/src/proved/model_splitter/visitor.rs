@@ -1,7 +1,7 @@
-// Erased by bindings/rust/erase from crates/model_splitter/src/visitor.rt, sha256 af16947a80e2d24a4e6c354c3f086cb0b0e67f1fee053b4303e42cce408fe509.
+// Erased by bindings/rust/erase from crates/model_splitter/src/visitor.rt, sha256 ee464aeb39c2bf84fc5ae068bf4869938e4dd08240183729f9e2e7131cbcef47.
 //! One visit to a splitter.
 
-use crate::proved::model_splitter::stage::Stage;
+use crate::proved::model_splitter::stage::VisitStage;
 use crate::proved::model_splitter::way::Way;
 use crate::proved::model_steps::access::{Access, Answer};
 use crate::proved::model_steps::note::Note;
@@ -28,7 +28,7 @@ pub struct Visitor<R> {
     /// The register that is its Y.
     pub y: R,
     /// The last access that the visit made.
-    pub stage: Stage,
+    pub stage: VisitStage,
 }
 
 impl<R: Copy> Visitor<R> {
@@ -38,7 +38,7 @@ impl<R: Copy> Visitor<R> {
             identity,
             x,
             y,
-            stage: Stage::Outside,
+            stage: VisitStage::Outside,
         }
     }
 }
@@ -52,11 +52,11 @@ impl<R: Copy> StepProgram for Visitor<R> {
 
     fn next(&self) -> Access<R, u64> {
         match self.stage {
-            Stage::Outside => Access::Write(self.x, self.identity),
-            Stage::WroteX => Access::Read(self.y),
-            Stage::SawClear => Access::Write(self.y, SET),
-            Stage::WroteY => Access::Read(self.x),
-            Stage::Gone(_) => Access::Nothing,
+            VisitStage::Outside => Access::Write(self.x, self.identity),
+            VisitStage::WroteX => Access::Read(self.y),
+            VisitStage::SawClear => Access::Write(self.y, SET),
+            VisitStage::WroteY => Access::Read(self.x),
+            VisitStage::Gone(_) => Access::Nothing,
         }
     }
 
@@ -66,26 +66,26 @@ impl<R: Copy> StepProgram for Visitor<R> {
             _ => 0,
         };
         self.stage = match self.stage {
-            Stage::Outside => Stage::WroteX,
-            Stage::WroteX => {
+            VisitStage::Outside => VisitStage::WroteX,
+            VisitStage::WroteX => {
                 if found == 0 {
-                    Stage::SawClear
+                    VisitStage::SawClear
                 } else {
-                    Stage::Gone(Way::Right)
+                    VisitStage::Gone(Way::Right)
                 }
             }
-            Stage::SawClear => Stage::WroteY,
-            Stage::WroteY => {
+            VisitStage::SawClear => VisitStage::WroteY,
+            VisitStage::WroteY => {
                 if found == self.identity {
-                    Stage::Gone(Way::Stop)
+                    VisitStage::Gone(Way::Stop)
                 } else {
-                    Stage::Gone(Way::Down)
+                    VisitStage::Gone(Way::Down)
                 }
             }
-            Stage::Gone(way) => Stage::Gone(way),
+            VisitStage::Gone(way) => VisitStage::Gone(way),
         };
         match self.stage {
-            Stage::Gone(way) => Note::Ended(way),
+            VisitStage::Gone(way) => Note::Ended(way),
             _ => Note::Quiet,
         }
     }

@@ -1,4 +1,4 @@
-// Erased by bindings/rust/erase from crates/words_machine/src/run_steps.rt, sha256 4fe1cb0edd0c796d46ecf96ec0eefe285dd888994c878925f2ae0a49f80f9ed5.
+// Erased by bindings/rust/erase from crates/words_machine/src/run_steps.rt, sha256 4ff678f2b658a0500b4fca7c369f03ddb62a99cdee58791bf2215fe63995803f.
 //! The rule of a table of words, and the kinds of step that keep it.
 
 use crate::kit::atomic_table::{Play, Split, TableRule};
@@ -14,20 +14,20 @@ pub struct Running<P> {
 impl<S, P: WordProgram> TableRule<S, SeatView<P, P::Output>, u64> for Running<P> {}
 
 /// The load of the word of a register: the participant's read.
-pub struct Get<P> {
+pub struct GetWord<P> {
     of: PhantomData<P>,
 }
 
-impl<S, P: WordProgram> Play<S, SeatView<P, P::Output>> for Get<P> {}
+impl<S, P: WordProgram> Play<S, SeatView<P, P::Output>> for GetWord<P> {}
 
 /// The store of the word of a register: the participant's write.
-pub struct Put<P> {
+pub struct PutWord<P> {
     of: PhantomData<P>,
 }
 
-impl<S, P: WordProgram> Play<S, SeatView<P, P::Output>> for Put<P> {}
+impl<S, P: WordProgram> Play<S, SeatView<P, P::Output>> for PutWord<P> {}
 
 /// The first participant goes to a new seat: where a seat is dealt out, and where two that met part again.
-pub struct Deal;
+pub struct DealRun;
 
-impl<P, O> Split<SeatView<P, O>> for Deal {}
+impl<P, O> Split<SeatView<P, O>> for DealRun {}

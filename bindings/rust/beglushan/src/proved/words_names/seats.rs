@@ -1,4 +1,4 @@
-// Erased by bindings/rust/erase from crates/words_names/src/seats.rt, sha256 ce1d8710588fcb22ef98baa87053923465e0b21594e4e776ffa82a49fa18d4ee.
+// Erased by bindings/rust/erase from crates/words_names/src/seats.rt, sha256 2221955e297f5a5873643da1c8d6a48ff8d628b27d75a88d7df7b72a2c402af8.
 //! The seats: before they are dealt, before and after they are renamed, and what they can show of their names.
 
 use crate::proved::model_recursion::namer::Namer;
@@ -7,13 +7,13 @@ use crate::proved::model_recursion::namer::Namer;
 pub const MOST_SEATS: usize = 64;
 
 /// The seats that are still to be dealt, by rising number.
-pub struct Dealer {
+pub struct NameDealer {
     pub(crate) dealer: crate::proved::words_machine::seats::Dealer<Namer>,
     // The identities of the seats that were dealt come first.
     pub(crate) identities: [u64; MOST_SEATS],
 }
 
-impl Dealer {
+impl NameDealer {
     /// Returns how many seats were dealt.
     pub fn dealt(&self) -> u64 {
         self.dealer.dealt()
@@ -21,12 +21,12 @@ impl Dealer {
 }
 
 /// A seat that was not renamed. `rename` takes it, so no seat is renamed twice.
-pub struct FreshSeat {
+pub struct FreshNameSeat {
     pub(crate) identity: u64,
     pub(crate) seat: crate::proved::words_machine::seats::FreshSeat<Namer>,
 }
 
-impl FreshSeat {
+impl FreshNameSeat {
     /// Returns the identity that the seat was dealt to.
     pub fn identity(&self) -> u64 {
         self.identity

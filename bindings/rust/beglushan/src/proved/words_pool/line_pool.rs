@@ -1,4 +1,4 @@
-// Erased by bindings/rust/erase from crates/words_pool/src/line_pool.rt, sha256 afc646b83b34038a07072f6e55a77a8aaf8dca72ad4657086da89e1ca1ec4a82.
+// Erased by bindings/rust/erase from crates/words_pool/src/line_pool.rt, sha256 aa7e1f6243ffd19e5a0540544e71778a2311b2486587bb0e6943f1d34155800b.
 //! A pool with as many tickets as numbers.
 
 use crate::kit::alloc::Allocator;
@@ -6,7 +6,9 @@ use crate::kit::atomic_table::Seat;
 use crate::kit::Clone;
 use crate::proved::model_steps::refusal::Refusal;
 use crate::proved::words_pool::held::Held;
-use crate::proved::words_pool::line_steps::{ComeBySwapInLine, Deal, Lining, Never, TakeInLine};
+use crate::proved::words_pool::line_steps::{
+    ComeBySwapInLine, DealNumber, Lining, Never, TakeInLine,
+};
 use crate::proved::words_pool::pool_over::{PoolOver, STRIDE};
 use crate::proved::words_pool::pool_steps::Come;
 use crate::proved::words_pool::pool_view::PoolView;
@@ -38,7 +40,7 @@ impl<A: Allocator> PoolOver<Lining, A> {
         }
         let Tickets { left, seat } = tickets;
         *left -= 1;
-        let dealt = self.table.shared.split_seat::<Deal>(seat);
+        let dealt = self.table.shared.split_seat::<DealNumber>(seat);
         Some(Ticket {
             badge: dealt.into_badge(),
         })

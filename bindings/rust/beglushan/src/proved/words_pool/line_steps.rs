@@ -1,4 +1,4 @@
-// Erased by bindings/rust/erase from crates/words_pool/src/line_steps.rt, sha256 27a88effa140da10f7ef98931920209f7ec471f9eb40b6126df739ce9a641a0e.
+// Erased by bindings/rust/erase from crates/words_pool/src/line_steps.rt, sha256 85e8e172bb77e94d800c0ba06586fbf3e4d8dd11b2636f4490af37c726e2b120.
 //! The invariant of a line's table, and the kinds of step that only a line has.
 
 use crate::kit::atomic_table::{Play, Split, TableRule};
@@ -10,9 +10,9 @@ pub struct Lining;
 impl<S> TableRule<S, PoolView, u64> for Lining {}
 
 /// A split: the first call goes to the new seat.
-pub struct Deal;
+pub struct DealNumber;
 
-impl Split<PoolView> for Deal {}
+impl Split<PoolView> for DealNumber {}
 
 /// A call begins, by a swap of 1 into the first word. It holds the number if the word was 0.
 pub struct ComeBySwapInLine;

@@ -1,4 +1,4 @@
-// Erased by bindings/rust/erase from crates/words_pool/src/pool_over.rt, sha256 3dee8124a9fdca899bfe5d32d3f689fb35f448a2f494255c77c790b547605d3c.
+// Erased by bindings/rust/erase from crates/words_pool/src/pool_over.rt, sha256 18c7031f9ac8303357bead61f5b8a2845fdd492e2516a31a7906957dee1652ac.
 //! The words of numbers under any invariant of a pool, and what each pool does with them in the same way.
 
 use crate::kit::alloc::{AllocError, Allocator};
@@ -7,7 +7,7 @@ use crate::kit::Clone;
 use crate::kit::Vec;
 use crate::proved::model_steps::refusal::Refusal;
 use crate::proved::words_pool::held::Held;
-use crate::proved::words_pool::pool_steps::{Free, Look};
+use crate::proved::words_pool::pool_steps::{Free, LookAtNumber};
 use crate::proved::words_pool::pool_view::PoolView;
 
 /// The most numbers of a pool.
@@ -59,7 +59,7 @@ impl<R: TableRule<u8, PoolView, u64>, A: Allocator> PoolOver<R, A> {
             let found = self
                 .table
                 .shared
-                .load::<Look>(seat, (place * STRIDE) as usize);
+                .load::<LookAtNumber>(seat, (place * STRIDE) as usize);
             if found == 0 {
                 return place;
             }

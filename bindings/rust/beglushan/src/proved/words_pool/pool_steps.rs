@@ -1,4 +1,4 @@
-// Erased by bindings/rust/erase from crates/words_pool/src/pool_steps.rt, sha256 be15069eb21635c3db36724d83fe26f72b21f09a56c5094c2865bb27c24c2235.
+// Erased by bindings/rust/erase from crates/words_pool/src/pool_steps.rt, sha256 038d6f6c647f5c435893deff0b76a90dae1fdbfd981074bfd2cc48e069b446d4.
 //! The invariant of a pool's table, and the kinds of step that keep it.
 
 use crate::kit::atomic_table::{Play, TableRule};
@@ -20,9 +20,9 @@ pub struct ComeBySwap;
 impl<S> Play<S, PoolView> for ComeBySwap {}
 
 /// A call reads the word of its place.
-pub struct Look;
+pub struct LookAtNumber;
 
-impl<S> Play<S, PoolView> for Look {}
+impl<S> Play<S, PoolView> for LookAtNumber {}
 
 /// A call swaps 1 into the word of its place. It holds the number if the word was 0.
 pub struct Take;

@@ -1,4 +1,4 @@
-// Erased by bindings/rust/erase from crates/words_pool/src/pool_view.rt, sha256 afbd2f7db546dac6cfe3f45b771e2ff4ea1328cbf3ab239d6f7d308c10912144.
+// Erased by bindings/rust/erase from crates/words_pool/src/pool_view.rt, sha256 ec784c59c60bed0ffc002645a807769053efea24d957fd6fd1d73fef056bbcbc.
 //! The ghost state of a seat of a pool. No value of these types is made: they exist in proofs alone.
 
 /// The ghost state of a seat of a pool.

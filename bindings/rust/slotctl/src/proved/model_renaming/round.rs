@@ -1,4 +1,4 @@
-// Erased by bindings/rust/erase from crates/model_renaming/src/round.rt, sha256 e9ec9296c550d356308d65985a8999fd5e06a7e739f5df09289f9286560cc93b.
+// Erased by bindings/rust/erase from crates/model_renaming/src/round.rt, sha256 1e766105911fa67431208c67b91841e1944233bb5a9655a6a32508a9634e3cd0.
 //! Rounds of proposals.
 
 use crate::proved::model_renaming::proposal::{is_taken, next_proposal};
@@ -9,7 +9,7 @@ use crate::proved::model_steps::view::View;
 
 /// What a participant does in its round.
 #[derive(Clone, Copy, Debug, PartialEq, Eq)]
-pub enum Stage {
+pub enum RoundStage {
     /// It walks to its place.
     Placing,
     /// It proposes this number: its update is under way.
@@ -22,26 +22,26 @@ pub enum Stage {
     Over,
 }
 
-impl Stage {
+impl RoundStage {
     /// Returns the error of a step at this stage, or `None` if a step may be made.
     pub fn refusal(self) -> Option<Refusal> {
         match self {
-            Stage::Placing => None,
-            Stage::Proposing(_) => None,
-            Stage::Looking => None,
-            Stage::Settled => Some(Refusal::Finished),
-            Stage::Over => Some(Refusal::Spent),
+            RoundStage::Placing => None,
+            RoundStage::Proposing(_) => None,
+            RoundStage::Looking => None,
+            RoundStage::Settled => Some(Refusal::Finished),
+            RoundStage::Over => Some(Refusal::Spent),
         }
     }
 
     /// The number that it proposes, or 0.
     fn number(self) -> u64 {
         match self {
-            Stage::Placing => 0,
-            Stage::Proposing(number) => number,
-            Stage::Looking => 0,
-            Stage::Settled => 0,
-            Stage::Over => 0,
+            RoundStage::Placing => 0,
+            RoundStage::Proposing(number) => number,
+            RoundStage::Looking => 0,
+            RoundStage::Settled => 0,
+            RoundStage::Over => 0,
         }
     }
 }
@@ -54,7 +54,7 @@ pub struct Round {
     /// Its last proposal, which is in the memory, or 0 if it has made none.
     pub proposal: u64,
     /// What it does now.
-    pub stage: Stage,
+    pub stage: RoundStage,
 }
 
 /// What a round needs from the snapshot object next.
@@ -97,9 +97,9 @@ impl Round {
             count: 0,
             proposal: 0,
             stage: if placed {
-                Stage::Proposing(1)
+                RoundStage::Proposing(1)
             } else {
-                Stage::Placing
+                RoundStage::Placing
             },
         }
     }
@@ -107,27 +107,27 @@ impl Round {
     /// Returns the name that the round has ended with, or `None`.
     pub fn name(&self) -> Option<u64> {
         match self.stage {
-            Stage::Placing => None,
-            Stage::Proposing(_) => None,
-            Stage::Looking => None,
-            Stage::Settled => Some(self.proposal),
-            Stage::Over => None,
+            RoundStage::Placing => None,
+            RoundStage::Proposing(_) => None,
+            RoundStage::Looking => None,
+            RoundStage::Settled => Some(self.proposal),
+            RoundStage::Over => None,
         }
     }
 
     /// Whether the round has ended with this name.
     pub fn has_name(&self, number: u64) -> bool {
         match self.stage {
-            Stage::Placing => false,
-            Stage::Proposing(_) => false,
-            Stage::Looking => false,
-            Stage::Settled => self.proposal == number,
-            Stage::Over => false,
+            RoundStage::Placing => false,
+            RoundStage::Proposing(_) => false,
+            RoundStage::Looking => false,
+            RoundStage::Settled => self.proposal == number,
+            RoundStage::Over => false,
         }
     }
 
     /// This round at another stage.
-    fn at(self, stage: Stage) -> Self {
+    fn at(self, stage: RoundStage) -> Self {
         Round {
             count: self.count,
             proposal: self.proposal,
@@ -144,7 +144,7 @@ impl Round {
                 self.count
             },
             proposal: self.stage.number(),
-            stage: Stage::Looking,
+            stage: RoundStage::Looking,
         }
     }
 
@@ -152,21 +152,21 @@ impl Round {
     fn decided(self, id: u64, view: View, limit: u64) -> Follow {
         if !is_taken(&view, id, self.proposal) {
             return Follow {
-                round: self.at(Stage::Settled),
+                round: self.at(RoundStage::Settled),
                 wish: Wish::Nothing,
                 reply: Reply::Named(self.proposal, view),
             };
         }
         if limit <= self.count {
             return Follow {
-                round: self.at(Stage::Over),
+                round: self.at(RoundStage::Over),
                 wish: Wish::Nothing,
                 reply: Reply::Spent,
             };
         }
         let number = next_proposal(&view, id);
         Follow {
-            round: self.at(Stage::Proposing(number)),
+            round: self.at(RoundStage::Proposing(number)),
             wish: Wish::Update(number),
             reply: Reply::Saw(view),
         }
@@ -181,7 +181,7 @@ impl Round {
                 reply: Reply::Quiet,
             },
             SnapReply::Placed(place) => Follow {
-                round: self.at(Stage::Proposing(1)),
+                round: self.at(RoundStage::Proposing(1)),
                 wish: Wish::Update(1),
                 reply: Reply::Placed(place),
             },

@@ -1,4 +1,4 @@
-// Erased by bindings/rust/erase from crates/model_splitter/src/stage.rt, sha256 ecb1aad0b32294b43e16a2efda0a462f5b96fa21060ab621f8b98fc289b7f53e.
+// Erased by bindings/rust/erase from crates/model_splitter/src/stage.rt, sha256 59f8de9df75d909f744158f6d04e77d3c74a24214caae7fe64f153591e57924b.
 //! The last access of a visit.
 
 use crate::proved::model_splitter::way::Way;
@@ -6,7 +6,7 @@ use crate::proved::model_steps::place::Place;
 
 /// The last access that a visit to a splitter made.
 #[derive(Clone, Copy, Debug, PartialEq, Eq)]
-pub enum Stage {
+pub enum VisitStage {
     /// It has made no access.
     Outside,
     /// It wrote its identity into X.
@@ -19,13 +19,16 @@ pub enum Stage {
     Gone(Way),
 }
 
-impl Stage {
+impl VisitStage {
     /// Returns `door` if the visit has stopped there, as the place of its walk; otherwise `None`.
     pub fn place_at(self, door: Place) -> Option<Place> {
         match self {
-            Stage::Gone(Way::Stop) => Some(door),
-            Stage::Gone(Way::Right) | Stage::Gone(Way::Down) => None,
-            Stage::Outside | Stage::WroteX | Stage::SawClear | Stage::WroteY => None,
+            VisitStage::Gone(Way::Stop) => Some(door),
+            VisitStage::Gone(Way::Right) | VisitStage::Gone(Way::Down) => None,
+            VisitStage::Outside
+            | VisitStage::WroteX
+            | VisitStage::SawClear
+            | VisitStage::WroteY => None,
         }
     }
 }

@@ -1,8 +1,8 @@
-// Erased by bindings/rust/erase from crates/service_loop/src/answering.rt, sha256 5fc9f97e9eb56b6ea6e7b608ed4b9d9a5a8bd5aff47ce082e4d26c6dc332578f.
+// Erased by bindings/rust/erase from crates/service_loop/src/answering.rt, sha256 21465d2a81e4ff3a5af7cd5739be49cdd7dd6b19e39833283bd831495ee2f3cb.
 //! Lines that ask who holds numbers, or the terms, after a turn of the loop.
 
 use crate::kit::alloc::Allocator;
-use crate::proved::service_loop::connection::{Connection, Stage};
+use crate::proved::service_loop::connection::{Connection, ConnectionStage};
 use crate::proved::service_loop::persist::Persist;
 use crate::proved::service_loop::shared::SharedBuffers;
 use crate::proved::service_loop::stream::Stream;
@@ -20,7 +20,7 @@ fn answer_at<D, K: Persist<D>, S: Stream, A: Allocator, B: Allocator>(
 ) {
     if key < seats.len() {
         if let Some(connection) = &mut seats[key] {
-            if let Stage::Idle = connection.stage {
+            if let ConnectionStage::Idle = connection.stage {
                 connection.answer(service, persister, terms, shared);
             }
         }

@@ -1,4 +1,4 @@
-// Erased by bindings/rust/erase from crates/service_loop/src/connection.rt, sha256 0e512efa247abf0166d2b105e9dfb1738b667de500a79479ad4e4680aa76d6bd.
+// Erased by bindings/rust/erase from crates/service_loop/src/connection.rt, sha256 a6d55a915ca7240b27aae72b50b02d2cc75b7a475cef77172f1adebbca4d82fb.
 //! A connection: its stream, and what is held of it.
 
 use crate::kit::alloc::Allocator;
@@ -22,7 +22,7 @@ const MOST_READ: usize = READ_ROOM - QUERY_MAX;
 
 /// Where a connection stands in a turn of the loop.
 #[derive(Clone, Copy, Debug, PartialEq, Eq)]
-pub enum Stage {
+pub enum ConnectionStage {
     /// Nothing is to be done for it.
     Idle,
     /// It has something to take or to send.
@@ -35,7 +35,7 @@ pub enum Stage {
 pub struct Connection<S, A: Allocator> {
     pub stream: S,
     pub buffers: Buffers<A>,
-    pub stage: Stage,
+    pub stage: ConnectionStage,
     /// Whether a read may give something.
     pub readable: bool,
     /// Whether a write may take something.
@@ -77,7 +77,7 @@ impl<S: Stream, A: Allocator> Connection<S, A> {
         Connection {
             stream,
             buffers,
-            stage: Stage::Idle,
+            stage: ConnectionStage::Idle,
             readable: false,
             writable: true,
             hung: false,
@@ -114,7 +114,7 @@ impl<S: Stream, A: Allocator> Connection<S, A> {
         service: &mut D,
         shared: &mut SharedBuffers<B>,
     ) {
-        self.stage = Stage::Taken;
+        self.stage = ConnectionStage::Taken;
         if !self.may_take() {
             return;
         }
@@ -139,7 +139,7 @@ impl<S: Stream, A: Allocator> Connection<S, A> {
         service: &mut D,
         shared: &mut SharedBuffers<B>,
     ) {
-        self.stage = Stage::Taken;
+        self.stage = ConnectionStage::Taken;
         let Some(peek) = self.peek else {
             return;
         };
@@ -245,7 +245,7 @@ impl<S: Stream, A: Allocator> Connection<S, A> {
             }
             self.peek = Some(peek.untaken());
         }
-        self.stage = Stage::Idle;
+        self.stage = ConnectionStage::Idle;
     }
 
     // Reads once what came, if there is room.
@@ -319,7 +319,7 @@ impl<S: Stream, A: Allocator> Connection<S, A> {
         terms: Terms,
         shared: &mut SharedBuffers<B>,
     ) {
-        self.stage = Stage::Taken;
+        self.stage = ConnectionStage::Taken;
         if !self.may_take() {
             return;
         }
@@ -366,7 +366,7 @@ impl<S: Stream, A: Allocator> Connection<S, A> {
         shared: &mut SharedBuffers<B>,
         ahead: bool,
     ) {
-        self.stage = Stage::Taken;
+        self.stage = ConnectionStage::Taken;
         if !self.may_take() {
             return;
         }
@@ -379,7 +379,7 @@ impl<S: Stream, A: Allocator> Connection<S, A> {
 
     /// Sends what waits, where it has taken its turn, as far as its stream takes it now.
     pub fn send(&mut self) {
-        self.stage = Stage::Idle;
+        self.stage = ConnectionStage::Idle;
         let mut at = 0;
         while self.writable && !self.buffers.is_broken() && at < self.buffers.unsent().len() {
             let count = self.write(at);

@@ -1,4 +1,4 @@
-// Erased by bindings/rust/erase from crates/service_loop/src/connections.rt, sha256 0d6a25756c9b9bd3daa0f220e47dc06cb8b66f952a9a37220cb6157a9bee3b1a.
+// Erased by bindings/rust/erase from crates/service_loop/src/connections.rt, sha256 c69a3b8e1e9d6e5730bdb557d407d6d1469e7f4d7fc5aa608cc902cdb26c4680.
 //! The connections of a server, their seats, and who is to have a turn.
 
 use crate::kit::alloc::{AllocError, Global};
@@ -9,7 +9,7 @@ use crate::proved::model_asked::kind::WorldKind;
 use crate::proved::model_pool::stays::stays::Stays;
 use crate::proved::service_loop::attended::Ending;
 use crate::proved::service_loop::buffers::Buffers;
-use crate::proved::service_loop::connection::{Connection, Stage};
+use crate::proved::service_loop::connection::{Connection, ConnectionStage};
 use crate::proved::service_loop::socket::Socket;
 use std::mem;
 
@@ -156,8 +156,8 @@ impl ConnectionTable {
         connection.readable = connection.readable || hung || event.is_readable();
         connection.hung = connection.hung || hung;
         connection.writable = connection.writable || event.is_writable();
-        if connection.stage == Stage::Idle {
-            connection.stage = Stage::Queued;
+        if connection.stage == ConnectionStage::Idle {
+            connection.stage = ConnectionStage::Queued;
             self.ready.push(key)?;
         }
         Ok(())
@@ -178,7 +178,7 @@ impl ConnectionTable {
             connection.stream.end();
         }
         if connection.goes_on() {
-            connection.stage = Stage::Queued;
+            connection.stage = ConnectionStage::Queued;
             self.later.push(key)?;
         }
         if is_over {
@@ -216,8 +216,8 @@ impl ConnectionTable {
             return Ok(());
         };
         connection.buffers.fail();
-        if connection.stage == Stage::Idle {
-            connection.stage = Stage::Queued;
+        if connection.stage == ConnectionStage::Idle {
+            connection.stage = ConnectionStage::Queued;
             self.ready.push(key)?;
         }
         Ok(())
@@ -271,7 +271,7 @@ impl ConnectionTable {
         let quiet = tick.saturating_sub(connection.since);
         let leaving = connection.buffers.is_over() || connection.buffers.is_ended();
         let most = if leaving { Some(FLUSH_TICKS) } else { idle };
-        let rests = connection.stage == Stage::Idle;
+        let rests = connection.stage == ConnectionStage::Idle;
         match most {
             Some(most) if rests && most <= quiet => self.leave(key),
             _ => Ok(()),

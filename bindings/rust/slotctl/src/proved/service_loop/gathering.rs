@@ -1,11 +1,11 @@
-// Erased by bindings/rust/erase from crates/service_loop/src/gathering.rt, sha256 444cce183bb1d91126c21f5ad51864b7223ab068a95908873b3d31bb1fe744dc.
+// Erased by bindings/rust/erase from crates/service_loop/src/gathering.rt, sha256 c57b8cf0f7ab60587dedd45ad8451f58f360077051dbeb9acd53eac8234f8e2d.
 //! One turn of the loop over a service that learns its answers before.
 
 use crate::kit::alloc::Allocator;
 use crate::kit::Vec;
 use crate::proved::model_asked::kind::WorldKind;
 use crate::proved::service_loop::attended::Attended;
-use crate::proved::service_loop::connection::{Connection, Stage};
+use crate::proved::service_loop::connection::{Connection, ConnectionStage};
 use crate::proved::service_loop::losing::note_lost;
 use crate::proved::service_loop::peek::has_room;
 use crate::proved::service_loop::persist::{Persist, Prefetch};
@@ -66,7 +66,7 @@ fn gather_at<S: Stream, A: Allocator, B: Allocator>(
 ) {
     if key < seats.len() {
         if let Some(connection) = &mut seats[key] {
-            if let Stage::Queued = connection.stage {
+            if let ConnectionStage::Queued = connection.stage {
                 connection.gather(batch.kind, batch.most, shared, &mut batch.lines);
             }
         }
@@ -117,7 +117,7 @@ fn take_peeked_at<R, D: Service<R>, S: Stream, A: Allocator, B: Allocator>(
 ) {
     if key < seats.len() {
         if let Some(connection) = &mut seats[key] {
-            if let Stage::Queued = connection.stage {
+            if let ConnectionStage::Queued = connection.stage {
                 service.listen_to(number);
                 connection.take_peeked(rt, service, shared);
                 shared.note_turn(connection.buffers.has_input());

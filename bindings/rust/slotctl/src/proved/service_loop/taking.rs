@@ -1,4 +1,4 @@
-// Erased by bindings/rust/erase from crates/service_loop/src/taking.rt, sha256 555408aa86fe9ae8b8a3b688950780de5e3d4fe6d5f5d31eb3e5e7d498342ff2.
+// Erased by bindings/rust/erase from crates/service_loop/src/taking.rt, sha256 1b566b552b0a9ea578e4e302b90a4aa2b4ec4bdc562b9dffac0b082dedc15b3b.
 //! Lines that take a number, after a turn of the loop: `take ID` is `enter ID`, and `probe ID` as often as it takes.
 
 use crate::kit::alloc::{AllocError, Allocator};
@@ -8,7 +8,7 @@ use crate::proved::model_asked::reply::Reply;
 use crate::proved::model_pool::pool::MOST_NUMBERS;
 use crate::proved::model_steps::view::View;
 use crate::proved::service_loop::attended::Attended;
-use crate::proved::service_loop::connection::{Connection, Stage};
+use crate::proved::service_loop::connection::{Connection, ConnectionStage};
 use crate::proved::service_loop::gathering::{prefetch, Batch, Called};
 use crate::proved::service_loop::losing::note_lost;
 use crate::proved::service_loop::persist::{Persist, Prefetch};
@@ -88,7 +88,7 @@ fn take_number_at<R, D: Service<R>, S: Stream, A: Allocator, B: Allocator>(
 ) {
     if key < seats.len() {
         if let Some(connection) = &mut seats[key] {
-            if let Stage::Idle = connection.stage {
+            if let ConnectionStage::Idle = connection.stage {
                 service.listen_to(number);
                 connection.take_number(rt, service, shared, ahead);
             }

@@ -1,9 +1,9 @@
-// Erased by bindings/rust/erase from crates/service_loop/src/turns.rt, sha256 f4a20364a26f6bbf88e345502699b34c1252a656bc2dff531d64144fc76a5243.
+// Erased by bindings/rust/erase from crates/service_loop/src/turns.rt, sha256 e798907281c20c0aca3f82a475cdd9b7aba0eaaad5672bfc5794250fb20761b9.
 //! One turn of the loop.
 
 use crate::kit::alloc::Allocator;
 use crate::proved::service_loop::attended::Attended;
-use crate::proved::service_loop::connection::{Connection, Stage};
+use crate::proved::service_loop::connection::{Connection, ConnectionStage};
 use crate::proved::service_loop::persist::Persist;
 use crate::proved::service_loop::shared::SharedBuffers;
 use crate::proved::service_loop::stream::Stream;
@@ -29,7 +29,7 @@ fn take_at<R, D: Service<R>, S: Stream, A: Allocator, B: Allocator>(
 ) {
     if key < seats.len() {
         if let Some(connection) = &mut seats[key] {
-            if let Stage::Queued = connection.stage {
+            if let ConnectionStage::Queued = connection.stage {
                 service.listen_to(number);
                 connection.take(rt, service, shared);
                 shared.note_turn(connection.buffers.has_input());
@@ -62,7 +62,7 @@ pub fn take_turns<R, D: Service<R>, K: Persist<D>, S: Stream, A: Allocator, B: A
 fn send_at<S: Stream, A: Allocator>(seats: &mut [Option<Connection<S, A>>], key: usize) {
     if key < seats.len() {
         if let Some(connection) = &mut seats[key] {
-            if let Stage::Taken = connection.stage {
+            if let ConnectionStage::Taken = connection.stage {
                 connection.send();
             }
         }

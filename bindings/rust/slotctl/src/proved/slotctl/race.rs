@@ -1,4 +1,4 @@
-// Erased by bindings/rust/erase from crates/slotctl/src/race.rt, sha256 3481d0f40f7de8e9c02f56b77c35efc198e78eda0a81ea24aea70dbae2f7dd5b.
+// Erased by bindings/rust/erase from crates/slotctl/src/race.rt, sha256 8047ce3bbaf1e1ea780efc332c79f48610cc015e03ad6d8beb504d487398c9d6.
 //! Threads that race for names over shared atomic words, with no lock.
 
 use crate::kit::alloc::{AllocError, Global};
@@ -12,12 +12,12 @@ use crate::kit::Vec;
 use crate::proved::text_lines::fault::Fault;
 use crate::proved::tool_work::asked::Racing;
 use crate::proved::words_names::names::Names;
-use crate::proved::words_names::seats::{Dealer, FreshSeat};
+use crate::proved::words_names::seats::{FreshNameSeat, NameDealer};
 
 /// One thread's part of a race.
 struct Racer<'a> {
     names: &'a Names<Global>,
-    seat: FreshSeat,
+    seat: FreshNameSeat,
 }
 
 /// How a thread came out of a race.
@@ -39,7 +39,7 @@ fn draw_identity(words: &mut Lcg64Xsh32, number: u64) -> u64 {
 fn racers_of<'a>(
     alloc: Global,
     names: &'a Names<Global>,
-    mut dealer: Dealer,
+    mut dealer: NameDealer,
     threads: u64,
     words: &mut Lcg64Xsh32,
 ) -> Result<Vec<Racer<'a>, Global>, AllocError> {

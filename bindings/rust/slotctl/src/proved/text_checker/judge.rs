@@ -1,4 +1,4 @@
-// Erased by bindings/rust/erase from crates/text_checker/src/judge.rt, sha256 d317976e48f419162cd435b7b3aaab6e2da49a8d1a6b205c52a87d1b69b3f2e0.
+// Erased by bindings/rust/erase from crates/text_checker/src/judge.rt, sha256 d07bfef288fa781461d47ed189bbd4bd802a73354f6d959c596e741b3ce424f6.
 //! Judges a record whose bytes are given part by part.
 
 use crate::kit::alloc::{AllocError, Global};
@@ -9,7 +9,7 @@ use crate::proved::text_lines::words::cut;
 use crate::proved::text_records::record_line::read_header;
 
 /// How far the lines of a record are judged.
-pub enum Stage {
+pub enum JudgeStage {
     /// There is no line yet.
     Opening,
     /// The lines so far can follow one another.
@@ -23,51 +23,51 @@ pub enum Stage {
 pub struct Judge {
     alloc: Global,
     held: Vec<u8>,
-    stage: Stage,
+    stage: JudgeStage,
 }
 
 // The stage after the first line.
-fn opened(alloc: Global, line: &[u8]) -> Result<Stage, AllocError> {
+fn opened(alloc: Global, line: &[u8]) -> Result<JudgeStage, AllocError> {
     match read_header(alloc, line)? {
-        Some(header) => Ok(Stage::Judging(RowJudge::new(alloc, header)?)),
-        None => Ok(Stage::Over(Verdict::BadRecord(1))),
+        Some(header) => Ok(JudgeStage::Judging(RowJudge::new(alloc, header)?)),
+        None => Ok(JudgeStage::Over(Verdict::BadRecord(1))),
     }
 }
 
 // Takes the first line. It is a function of its own, since the new stage is a kilobyte, for which each line would clear room.
 #[inline(never)]
-fn take_first(alloc: Global, stage: &mut Stage, line: &[u8]) -> Result<(), AllocError> {
+fn take_first(alloc: Global, stage: &mut JudgeStage, line: &[u8]) -> Result<(), AllocError> {
     *stage = opened(alloc, line)?;
     Ok(())
 }
 
 // Stores a verdict. It is a function of its own for the same reason.
 #[inline(never)]
-fn conclude(stage: &mut Stage, verdict: Verdict) {
-    *stage = Stage::Over(verdict);
+fn conclude(stage: &mut JudgeStage, verdict: Verdict) {
+    *stage = JudgeStage::Over(verdict);
 }
 
 // Judges one more line, without its LF.
-fn judge_line(alloc: Global, stage: &mut Stage, line: &[u8]) -> Result<(), AllocError> {
+fn judge_line(alloc: Global, stage: &mut JudgeStage, line: &[u8]) -> Result<(), AllocError> {
     match stage {
-        Stage::Opening => take_first(alloc, stage, line),
-        Stage::Judging(judge) => match judge.take(alloc, line)? {
+        JudgeStage::Opening => take_first(alloc, stage, line),
+        JudgeStage::Judging(judge) => match judge.take(alloc, line)? {
             Some(verdict) => {
                 conclude(stage, verdict);
                 Ok(())
             }
             None => Ok(()),
         },
-        Stage::Over(_) => Ok(()),
+        JudgeStage::Over(_) => Ok(()),
     }
 }
 
 // The verdict if no line follows.
-fn verdict_of(stage: &Stage) -> Verdict {
+fn verdict_of(stage: &JudgeStage) -> Verdict {
     match stage {
-        Stage::Opening => Verdict::BadRecord(1),
-        Stage::Judging(_) => Verdict::Yes,
-        Stage::Over(verdict) => *verdict,
+        JudgeStage::Opening => Verdict::BadRecord(1),
+        JudgeStage::Judging(_) => Verdict::Yes,
+        JudgeStage::Over(verdict) => *verdict,
     }
 }
 
@@ -77,7 +77,7 @@ impl Judge {
         Judge {
             alloc,
             held: Vec::new(alloc),
-            stage: Stage::Opening,
+            stage: JudgeStage::Opening,
         }
     }
 

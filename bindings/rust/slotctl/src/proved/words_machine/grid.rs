@@ -1,4 +1,4 @@
-// Erased by bindings/rust/erase from crates/words_machine/src/grid.rt, sha256 13926f8ba130bdae99d2e3236ab0e5fba782e969ef0c41cd2ba554a5fc1751bb.
+// Erased by bindings/rust/erase from crates/words_machine/src/grid.rt, sha256 7e9cb15a60c6ea05decf783f49ef66493d5c85e1098a0a6f1ac2bb3faad5e020.
 //! A triangular grid of splitters over shared atomic words (Moir and Anderson 1995): each thread that enters gets a
 //! place of its own, by reads and writes alone.
 //!

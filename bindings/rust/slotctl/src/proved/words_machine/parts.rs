@@ -1,4 +1,4 @@
-// Erased by bindings/rust/erase from crates/words_machine/src/parts.rt, sha256 6aab8633068fa825e439fd465447ce82389da83f62a783155c5f828d61fb141b.
+// Erased by bindings/rust/erase from crates/words_machine/src/parts.rt, sha256 fdf7deda7f34881ffed7d65711470d8ee9e5fded9cefc3990e5f05ba4696aeb7.
 //! Parts over shared atomic words, in which no call waits: a splitter that threads visit, and a name board on which
 //! threads post their names and confirm others'.
 //!

@@ -1,4 +1,4 @@
-// Erased by bindings/rust/erase from crates/words_machine/src/words.rt, sha256 599f17e0361e762f238fec69bf146f6810b490a9505360f4bfcf94057e0743dc.
+// Erased by bindings/rust/erase from crates/words_machine/src/words.rt, sha256 d870626adab5a9b1b1bdfdde1a602835cfa7fd31e0fc6fa6d5a91c35e972b27d.
 //! The words. They are reached through this type alone, of which each access of a program is counted in the view of its seat.
 
 use crate::kit::alloc::{AllocError, Allocator};
@@ -7,7 +7,7 @@ use crate::kit::Clone;
 use crate::kit::Vec;
 use crate::proved::model_steps::note::Note;
 use crate::proved::words_machine::program::WordProgram;
-use crate::proved::words_machine::run_steps::{Deal, Get, Put, Running};
+use crate::proved::words_machine::run_steps::{DealRun, GetWord, PutWord, Running};
 use crate::proved::words_machine::seat_view::SeatView;
 use crate::proved::words_machine::word_access::WordAccess;
 
@@ -42,7 +42,7 @@ impl<P: WordProgram, A: Allocator> Words<P, A> {
         rest: &mut Seat<u8, SeatView<P, P::Output>>,
         _number: u64,
     ) -> Seat<u8, SeatView<P, P::Output>> {
-        self.table.shared.split_seat::<Deal>(rest)
+        self.table.shared.split_seat::<DealRun>(rest)
     }
 
     /// Loads a register, and gives the program the word.
@@ -56,7 +56,7 @@ impl<P: WordProgram, A: Allocator> Words<P, A> {
         register: P::Reg,
     ) -> Note<P::Output> {
         let at = P::place(self.most, register);
-        let word = self.table.shared.load::<Get<P>>(seat, at);
+        let word = self.table.shared.load::<GetWord<P>>(seat, at);
         program.take_word(word)
     }
 
@@ -72,7 +72,7 @@ impl<P: WordProgram, A: Allocator> Words<P, A> {
         word: u64,
     ) -> Note<P::Output> {
         let at = P::place(self.most, register);
-        self.table.shared.store::<Put<P>>(seat, at, word);
+        self.table.shared.store::<PutWord<P>>(seat, at, word);
         program.take_done()
     }
 

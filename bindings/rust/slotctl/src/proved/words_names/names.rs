@@ -1,4 +1,4 @@
-// Erased by bindings/rust/erase from crates/words_names/src/names.rt, sha256 480813f89093ac5ea4f4809e7bb5c1fd27049177d4f71acde90098faf2da382a.
+// Erased by bindings/rust/erase from crates/words_names/src/names.rt, sha256 4a145c0108fb8252a0222d92f3191b512dfae3eaa2e636d4976dbb31f092c866.
 //! The names.
 
 use crate::kit::alloc::Allocator;
@@ -6,7 +6,7 @@ use crate::kit::Clone;
 use crate::proved::model_recursion::namer::Namer;
 use crate::proved::model_steps::refusal::Refusal;
 use crate::proved::words_machine::word_machine::WordMachine;
-use crate::proved::words_names::seats::{Dealer, FreshSeat, Renamed, MOST_SEATS};
+use crate::proved::words_names::seats::{FreshNameSeat, NameDealer, Renamed, MOST_SEATS};
 
 /// Names for as many seats as they are made for.
 pub struct Names<A: Allocator> {
@@ -20,13 +20,13 @@ impl<A: Allocator + Clone> Names<A> {
     ///
     /// - `OutOfRange`: `most` is not from 1 to 64.
     /// - `NoMemory`: an allocation failed.
-    pub fn new(alloc: A, most: u64) -> Result<(Names<A>, Dealer), Refusal> {
+    pub fn new(alloc: A, most: u64) -> Result<(Names<A>, NameDealer), Refusal> {
         if most < 1 || (MOST_SEATS as u64) < most {
             return Err(Refusal::OutOfRange);
         }
         let (machine, dealer) = WordMachine::new(alloc, most)?;
         let identities = [0; MOST_SEATS];
-        Ok((Names { machine }, Dealer { dealer, identities }))
+        Ok((Names { machine }, NameDealer { dealer, identities }))
     }
 }
 
@@ -39,7 +39,7 @@ impl<A: Allocator> Names<A> {
     /// - `ZeroIdentity`: the identity is 0.
     /// - `AlreadyBegun`: a seat was dealt to this identity.
     /// - `Full`: all seats were dealt.
-    pub fn deal(&self, dealer: &mut Dealer, identity: u64) -> Result<FreshSeat, Refusal> {
+    pub fn deal(&self, dealer: &mut NameDealer, identity: u64) -> Result<FreshNameSeat, Refusal> {
         let dealt = dealer.dealer.dealt();
         if identity == 0 {
             return Err(Refusal::ZeroIdentity);
@@ -53,7 +53,7 @@ impl<A: Allocator> Names<A> {
             return Err(Refusal::Full);
         };
         dealer.identities[dealt as usize] = identity;
-        Ok(FreshSeat { identity, seat })
+        Ok(FreshNameSeat { identity, seat })
     }
 
     /// Makes the accesses of a seat of these names, one after another, until it has a name, by reads and writes (Gafni and
@@ -62,8 +62,8 @@ impl<A: Allocator> Names<A> {
     /// # Steps
     ///
     /// At most `m(m + 1)` accesses of `m` seats, whatever the other seats do.
-    pub fn rename(&self, fresh: FreshSeat) -> Renamed {
-        let FreshSeat { identity, seat } = fresh;
+    pub fn rename(&self, fresh: FreshNameSeat) -> Renamed {
+        let FreshNameSeat { identity, seat } = fresh;
         let seat = self.machine.enter(seat, identity);
         Renamed { seat }
     }

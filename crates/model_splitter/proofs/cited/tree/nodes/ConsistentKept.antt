@@ -1,7 +1,7 @@
 -- nodes and walks that agree: what keeps them so in a memory of a tree
 use Rattle.std.proofs.Common.{◌≡◌, ◌≢◌, ℕ, suc, ◌+◌, ◌*◌, ◌/◌, ◌<◌, ◌≤◌, Bool, true, false, cond, ◌⊎◌, inl, inr, Option, Some, None, refl, sym, ap, subst, ◌∙◌, arith, ◌↔◌}
-use Rattle.model_splitter.proofs.tree_lemmas.Common.{fun_ext, eqb_tells, Access, Write, MemorySteps, Spares, answer_from, set_at, set_at-other, set_at-as_is, Right, Down, Stage, went_right, went_down, x_after, y_after, stage_after, access_at, stage_by, TreeRegister, Mark, X, Y, Contents, TreeValue, Word, Walker, word_in, segment_in, mark_at, x_at, y_at, segment_at, IsWithinReach, IsTreeMemory, IsEmptyTree, left_child, right_child, walker_at, walk_of, in_words, reported, next_access, visit_on, walked_to, walker_after, NodesAgree, IsConsistent, cases_Bool}
-use Rattle.model_splitter.specs.declared.stage.Stage.TheVariants.{Outside, WroteX, SawClear, WroteY, Gone}
+use Rattle.model_splitter.proofs.tree_lemmas.Common.{fun_ext, eqb_tells, Access, Write, MemorySteps, Spares, answer_from, set_at, set_at-other, set_at-as_is, Right, Down, VisitStage, went_right, went_down, x_after, y_after, stage_after, access_at, stage_by, TreeRegister, Mark, X, Y, Contents, TreeValue, Word, Walker, word_in, segment_in, mark_at, x_at, y_at, segment_at, IsWithinReach, IsTreeMemory, IsEmptyTree, left_child, right_child, walker_at, walk_of, in_words, reported, next_access, visit_on, walked_to, walker_after, NodesAgree, IsConsistent, cases_Bool}
+use Rattle.model_splitter.specs.declared.stage.VisitStage.TheVariants.{Outside, WroteX, SawClear, WroteY, Gone}
 use Rattle.model_splitter.specs.declared.visitor.Visitor.{Visitor}
 use Rattle.model_splitter.proofs.cited.WalkLemmas.{goes_on}
 use Rattle.model_splitter.proofs.tree_lemmas.nodes.AgreeKept.{right_entered, down_entered, marked_node, stayed, moved_down, moved_right, joined, agree_new}
@@ -16,14 +16,14 @@ module _ (b : ℕ) (mark x_of y_of : ℕ → ℕ) (walker : ℕ → Option Walke
   ]
 
 module _ (b : ℕ) (few : b ≤ 64) (mark x_of y_of : ℕ → ℕ) (walker : ℕ → Option Walker) (g : NodesAgree b mark x_of y_of walker) (p : ℕ) (u : Walker) (is : walker p ≡ Some u) (visits : u.is_marking ≡ false) where
-  abbrev next_stage : Stage
+  abbrev next_stage : VisitStage
   next_stage = stage_after p u.visitor.stage (x_of u.place) (y_of u.place)
 
   abbrev AgreesWith : Walker → Type 0
   AgreesWith new = NodesAgree b mark (set_at x_of u.place (x_after p u.visitor.stage (x_of u.place))) (set_at y_of u.place (y_after u.visitor.stage (y_of u.place))) (set_at walker p (Some new))
 
-  stays : (s : Stage) → next_stage ≡ s → went_right s ≡ false → went_down s ≡ false → AgreesWith (visit_on u s)
-  stays s k r d = subst (λ (x : Stage). AgreesWith (visit_on u x)) k (stayed b mark x_of y_of walker g p u is visits (rw k r) (rw k d))
+  stays : (s : VisitStage) → next_stage ≡ s → went_right s ≡ false → went_down s ≡ false → AgreesWith (visit_on u s)
+  stays s k r d = subst (λ (x : VisitStage). AgreesWith (visit_on u x)) k (stayed b mark x_of y_of walker g p u is visits (rw k r) (rw k d))
 
   goes_right : next_stage ≡ Gone Right → AgreesWith (walker_at u.visitor.identity (right_child u.place))
   goes_right k =
@@ -40,7 +40,7 @@ module _ (b : ℕ) (few : b ≤ 64) (mark x_of y_of : ℕ → ℕ) (walker : ℕ
       subst AgreesWith next (moved_down b mark x_of y_of walker g p u is visits (rw k refl))
 
   -- the walk that an access of a visit leaves, by how far the visit has come
-  agrees_next : (s : Stage) → next_stage ≡ s → AgreesWith (walked_to u s)
+  agrees_next : (s : VisitStage) → next_stage ≡ s → AgreesWith (walked_to u s)
   agrees_next s k = elim (goes_on (visit_on u) (walker_at u.visitor.identity (right_child u.place)) (walker_at u.visitor.identity (left_child u.place)) s) [
     | inl e ↦ subst AgreesWith (sym e.2) (stays s k e.0 e.1)
     | inr o ↦ elim o [ inl e ↦ subst AgreesWith (sym e.1) (goes_right (k ∙ e.0)) | inr e ↦ subst AgreesWith (sym e.1) (goes_down (k ∙ e.0)) ]
@@ -91,33 +91,33 @@ module _ {S : Type 0} (memory : MemorySteps S TreeRegister TreeValue) (tree : Is
 
   -- an access of a visit to the splitter of node k, which is marked
   module _ (p k : ℕ) (marked : mark_at memory s k ≡ 1) where
-    abbrev visiting : Stage → Access TreeRegister TreeValue
+    abbrev visiting : VisitStage → Access TreeRegister TreeValue
     visiting stage = in_words (access_at p (X k) (Y k) stage)
 
     -- it spares all but X and Y of that node
-    visit_spares : (stage : Stage) (r : TreeRegister) → r ≢ X k → r ≢ Y k → Spares (visiting stage) r
+    visit_spares : (stage : VisitStage) (r : TreeRegister) → r ≢ X k → r ≢ Y k → Spares (visiting stage) r
     visit_spares Outside r x y = x
     visit_spares SawClear r x y = y
     visit_spares stage r x y = tt
 
-    marks_by_visit : (stage : Stage) → mark_at memory (left_by (visiting stage)) ≡ mark_at memory s
+    marks_by_visit : (stage : VisitStage) → mark_at memory (left_by (visiting stage)) ≡ mark_at memory s
     marks_by_visit stage = words_spared Mark (visiting stage) (λ j. visit_spares stage (Mark j) (λ h. absurd (cc)) (λ h. absurd (cc)))
 
-    segments_by_visit : (stage : Stage) (j : ℕ) → segment_at memory (left_by (visiting stage)) j ≡ segment_at memory s j
+    segments_by_visit : (stage : VisitStage) (j : ℕ) → segment_at memory (left_by (visiting stage)) j ≡ segment_at memory s j
     segments_by_visit stage j = segment_spared (visiting stage) j (visit_spares stage (Contents j) (λ h. absurd (cc)) (λ h. absurd (cc)))
 
-    x_by_visit : (stage : Stage) → x_at memory (left_by (visiting stage)) ≡ set_at (x_at memory s) k (x_after p stage (x_at memory s k))
+    x_by_visit : (stage : VisitStage) → x_at memory (left_by (visiting stage)) ≡ set_at (x_at memory s) k (x_after p stage (x_at memory s k))
     x_by_visit Outside = word_put X (visiting Outside) k p (tree.takes_x s k p marked) (λ j n h. n (let both : j ≡ k = cc in both))
     x_by_visit SawClear = words_still X (visiting SawClear) k (λ j h. absurd (cc))
     x_by_visit stage = words_still X (visiting stage) k (λ j. tt)
 
-    y_by_visit : (stage : Stage) → y_at memory (left_by (visiting stage)) ≡ set_at (y_at memory s) k (y_after stage (y_at memory s k))
+    y_by_visit : (stage : VisitStage) → y_at memory (left_by (visiting stage)) ≡ set_at (y_at memory s) k (y_after stage (y_at memory s k))
     y_by_visit Outside = words_still Y (visiting Outside) k (λ j h. absurd (cc))
     y_by_visit SawClear = word_put Y (visiting SawClear) k 1 (tree.takes_y s k marked) (λ j n h. n (let both : j ≡ k = cc in both))
     y_by_visit stage = words_still Y (visiting stage) k (λ j. tt)
 
     -- the words that a visit reads are those in its node's registers
-    pub visit_reaches : (v : Visitor TreeRegister) → v.identity ≡ p → v.x ≡ X k → v.y ≡ Y k → (stage : Stage) → v.stage ≡ stage →
+    pub visit_reaches : (v : Visitor TreeRegister) → v.identity ≡ p → v.x ≡ X k → v.y ≡ Y k → (stage : VisitStage) → v.stage ≡ stage →
         stage_by v (reported (answer_from (memory.register s) (visiting stage))) ≡ stage_after p stage (x_at memory s k) (y_at memory s k)
     visit_reaches v own x_of y_of WroteX e = rw (e, tree.ys s k) refl
     visit_reaches v own x_of y_of WroteY e = rw (e, tree.xs s k, own) refl
@@ -168,7 +168,7 @@ module _ {S : Type 0} (memory : MemorySteps S TreeRegister TreeValue) (most b : 
         let few : b ≤ 64 = (let f = c.few in let r = c.room in omega arith) in
         let a : Access TreeRegister TreeValue = in_words (access_at p (X u.place) (Y u.place) u.visitor.stage) in
         let stage = visit_reaches memory tree s p u.place marked u.visitor walk.identity walk.x walk.y u.visitor.stage refl in
-        let reached : Stage = stage_by u.visitor (reported (answer_from (memory.register s) a)) in
+        let reached : VisitStage = stage_by u.visitor (reported (answer_from (memory.register s) a)) in
         let next = agrees_next b few (mark_at memory s) (x_at memory s) (y_at memory s) walker c.agree p u is m reached (sym stage) in
         let after_is : walker_after u (answer_from (memory.register s) a) ≡ walked_to u reached = ap (λ (t : Bool). cond t (record u { is_marking = false }) (walked_to u reached)) m in
         record {
@@ -206,7 +206,7 @@ module _ {S : Type 0} (memory : MemorySteps S TreeRegister TreeValue) (most b : 
           (λ h. inr (sym now ∙ h), λ o. elim o [ inl at ↦ absurd (let marking : u.is_marking ≡ true = at.0 in cc) | inr h ↦ now ∙ h ])
     ]
 
-    no_marking : (stage : Stage) (k : ℕ) (v : TreeValue) → in_words (access_at p (X u.place) (Y u.place) stage) ≡ Write (Mark k) v → ⊥
+    no_marking : (stage : VisitStage) (k : ℕ) (v : TreeValue) → in_words (access_at p (X u.place) (Y u.place) stage) ≡ Write (Mark k) v → ⊥
     no_marking Outside k v h = cc
     no_marking stage k v h = cc
 

@@ -1,6 +1,6 @@
 -- nodes and walks that agree keep the law of the tree
 use Rattle.std.proofs.Common.{◌≡◌, ◌≢◌, ℕ, zero, suc, ◌+◌, ◌-◌, ◌*◌, ◌/◌, ◌<◌, ◌≤◌, Bool, true, false, cond, not, ◌==◌, inl, inr, Option, Some, None, refl, sym, ap, subst, ◌∙◌, arith, IsSome}
-use Rattle.model_splitter.proofs.tree_lemmas.Common.{cases_Bool, eqb_tells, Answer, count_to, MemorySteps, Stage, has_entered, TreeRegister, TreeValue, Walker, mark_at, x_at, y_at, left_child, right_child, reported, walker_at, visit_on, walked_to, walker_after, place_of, place_by, above, depth_of, IsNodeWithin}
+use Rattle.model_splitter.proofs.tree_lemmas.Common.{cases_Bool, eqb_tells, Answer, count_to, MemorySteps, VisitStage, has_entered, TreeRegister, TreeValue, Walker, mark_at, x_at, y_at, left_child, right_child, reported, walker_at, visit_on, walked_to, walker_after, place_of, place_by, above, depth_of, IsNodeWithin}
 use Rattle.std.proofs.lemmas.Option.{option_and_then_some}
 use Rattle.model_splitter.specs.Visitor.{stage_by, value_in}
 use Rattle.model_splitter.specs.Walk.{place_at_door, accesses_at}
@@ -90,7 +90,7 @@ five_more d e a h l = omega arith
 
 -- a walk whose visit was here has gone on, by its visit to this stage
 counted : (u : Walker) → depth_of (left_child u.place) ≡ suc (depth_of u.place) → depth_of (right_child u.place) ≡ suc (depth_of u.place) →
-    (s : Stage) → u.is_marking ≡ false → accesses_at u.visitor.stage + 1 ≤ accesses_at s → accesses_at u.visitor.stage ≤ 3 → accesses_of u + 1 ≤ accesses_of (walked_to u s)
+    (s : VisitStage) → u.is_marking ≡ false → accesses_at u.visitor.stage + 1 ≤ accesses_at s → accesses_at u.visitor.stage ≤ 3 → accesses_of u + 1 ≤ accesses_of (walked_to u s)
 counted u left right s m l k = elim (goes_on (visit_on u) (walker_at u.visitor.identity (right_child u.place)) (walker_at u.visitor.identity (left_child u.place)) s) [
   | inl e ↦ rw (e.2, m) (omega arith)
   | inr o ↦ elim o [
@@ -112,7 +112,7 @@ nearer memory most b s walker c p u is on got =
     elim (cases_Bool u.is_marking) [
       | inl m ↦ rw m (omega arith)
       | inr m ↦
-          let reached : Stage = stage_by u.visitor (reported got) in
+          let reached : VisitStage = stage_by u.visitor (reported got) in
           let after_is : walker_after u got ≡ walked_to u reached = ap (λ (t : Bool). cond t (record u { is_marking = false }) (walked_to u reached)) m in
           subst (λ (w : Walker). accesses_of u + 1 ≤ accesses_of w) (sym after_is) (counted u left right reached m more.0 more.1)
     ]

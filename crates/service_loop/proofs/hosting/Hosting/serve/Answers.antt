@@ -1,6 +1,6 @@
 -- A turn of the loop is what was done to the service, and then numbers may be taken.
 use Rattle.std.proofs.Common.{◌≡◌, ◌∙◌, ap, sym, is_ok}
-use Rattle.service_loop.specs.declared.connection.Stage.TheVariants as stage
+use Rattle.service_loop.specs.declared.connection.ConnectionStage.TheVariants as stage
 use Rattle.service_loop.specs.Rounds.{WasServed}
 use Rattle.service_loop.proofs.RoundLemmas.{always, served_called, served_then, served_turned, turned_alone}
 use Rattle.service_loop.proofs.hosting.Hosting.serve.Goals.{in-None, in-Some}

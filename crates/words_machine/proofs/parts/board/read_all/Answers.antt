@@ -1,5 +1,5 @@
 use Rattle.std.proofs.Common.{◌≡◌, ◌+◌, ◌++◌, ℕ, suc, List, ◌∷◌, reverse, length, ap, sym, subst, ◌∙◌, arith, []}
-use Rattle.words_machine.proofs.parts_lemmas.Common.{Me, Claim, BoardView}
+use Rattle.words_machine.proofs.parts_lemmas.Common.{Me, BoardClaim, BoardView}
 use Rattle.std.proofs.lemmas.List.{length-reverse, reverse-append}
 use Rattle.words_machine.specs.parts.BoardSteps.{AgreeWith}
 use Rattle.words_machine.proofs.parts_lemmas.Claims.{may_read, read_more}
@@ -29,7 +29,7 @@ loop-word-preserved g c =
     let items : c.push_reserved.new.self.items ≡ c.loop-word.words.items ++ x ∷ [] = c.push_reserved.ensures.items in
     let below = c.loop-word-test.true in
     let next : suc i ≡ i + 1 = omega arith in
-    let agrees : AgreeWith i x c.args.seat.now.me.0.claims = subst (λ (cs : List Claim). AgreeWith i x cs) l.same read.1 in
+    let agrees : AgreeWith i x c.args.seat.now.me.0.claims = subst (λ (cs : List BoardClaim). AgreeWith i x cs) l.same read.1 in
     record {
       ours = (c.load-found.ensures.0 ∙ l.ours.0, ap (λ (m : Me ℕ BoardView). m.1) read.2 ∙ l.ours.1);
       upto = omega arith;

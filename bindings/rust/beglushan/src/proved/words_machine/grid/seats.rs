@@ -1,15 +1,15 @@
-// Erased by bindings/rust/erase from crates/words_machine/src/grid/seats.rt, sha256 9db0c9f5ff7ac9d8465c3c3f5dfb6017e9d084955abe2a5d4a29455b54f7416f.
+// Erased by bindings/rust/erase from crates/words_machine/src/grid/seats.rt, sha256 eaee78d72f64911fddabbe537f813a20697ad2fa4563878e939ef86c2ccfefa9.
 //! The seats of a grid, before they are dealt and before and after their walks, and claims of their places.
 
 use crate::proved::model_splitter::grid::walker::Walker;
 use crate::proved::model_steps::place::Place;
 
 /// The seats of a grid that are not dealt yet, by rising number.
-pub struct Dealer {
+pub struct GridDealer {
     pub(crate) dealer: crate::proved::words_machine::seats::Dealer<Walker>,
 }
 
-impl Dealer {
+impl GridDealer {
     /// Returns the number of seats that were dealt.
     pub fn dealt(&self) -> u64 {
         self.dealer.dealt()
@@ -17,16 +17,16 @@ impl Dealer {
 }
 
 /// A seat that has not entered. `enter` takes it, so no seat enters twice.
-pub struct FreshSeat {
+pub struct FreshGridSeat {
     pub(crate) seat: crate::proved::words_machine::seats::FreshSeat<Walker>,
 }
 
 /// A seat that has entered, with the door at which its walk stopped.
-pub struct EnteredSeat {
+pub struct EnteredGridSeat {
     pub(crate) seat: crate::proved::words_machine::seats::EnteredSeat<Walker>,
 }
 
-impl EnteredSeat {
+impl EnteredGridSeat {
     /// Returns its place: the number of the door at which the walk stopped. Numbers go from 0, diagonal by diagonal.
     ///
     /// Where `b` walks had begun when this one ended, the place is below `b(b + 1)/2` and the walk made at most `4b`

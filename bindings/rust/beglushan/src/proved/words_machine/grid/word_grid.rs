@@ -1,11 +1,11 @@
-// Erased by bindings/rust/erase from crates/words_machine/src/grid/word_grid.rt, sha256 a4d78476c9969217f1597e40f535eb1a6e463a26165aace21886417622a8849e.
+// Erased by bindings/rust/erase from crates/words_machine/src/grid/word_grid.rt, sha256 aea8e134e90c5c9b5f49379dea000e268d6e82792f04186cde373d16bc2db6c8.
 //! The grid.
 
 use crate::kit::alloc::Allocator;
 use crate::kit::Clone;
 use crate::proved::model_splitter::grid::walker::Walker;
 use crate::proved::model_steps::refusal::Refusal;
-use crate::proved::words_machine::grid::seats::{Dealer, EnteredSeat, FreshSeat};
+use crate::proved::words_machine::grid::seats::{EnteredGridSeat, FreshGridSeat, GridDealer};
 use crate::proved::words_machine::word_machine::WordMachine;
 
 /// The most seats of a grid.
@@ -23,12 +23,12 @@ impl<A: Allocator + Clone> WordGrid<A> {
     ///
     /// - `OutOfRange`: `most` is not from 1 to 64.
     /// - `NoMemory`: an allocation failed.
-    pub fn new(alloc: A, most: u64) -> Result<(WordGrid<A>, Dealer), Refusal> {
+    pub fn new(alloc: A, most: u64) -> Result<(WordGrid<A>, GridDealer), Refusal> {
         if most < 1 || MOST_SEATS < most {
             return Err(Refusal::OutOfRange);
         }
         let (machine, dealer) = WordMachine::new(alloc, most)?;
-        Ok((WordGrid { machine }, Dealer { dealer }))
+        Ok((WordGrid { machine }, GridDealer { dealer }))
     }
 }
 
@@ -40,9 +40,9 @@ impl<A: Allocator> WordGrid<A> {
 
     /// Deals the seat of the least number that was not dealt, or returns `None` if all seats were dealt. The dealer is
     /// of this grid.
-    pub fn deal(&self, dealer: &mut Dealer) -> Option<FreshSeat> {
+    pub fn deal(&self, dealer: &mut GridDealer) -> Option<FreshGridSeat> {
         let seat = self.machine.deal(&mut dealer.dealer)?;
-        Some(FreshSeat { seat })
+        Some(FreshGridSeat { seat })
     }
 
     /// Makes the walk of a seat of this grid, by reads and writes (Moir and Anderson 1995).
@@ -53,9 +53,9 @@ impl<A: Allocator> WordGrid<A> {
     /// # Steps
     ///
     /// At most `4b` accesses, where `b` walks had begun when this one ended, whatever the other seats do.
-    pub fn enter(&self, fresh: FreshSeat) -> EnteredSeat {
+    pub fn enter(&self, fresh: FreshGridSeat) -> EnteredGridSeat {
         let own = self.machine.own_number(&fresh.seat);
         let seat = self.machine.enter(fresh.seat, own);
-        EnteredSeat { seat }
+        EnteredGridSeat { seat }
     }
 }
