@@ -1,5 +1,5 @@
 pub mod Law
-pub mod VisitStage
+pub mod Stage
 pub mod Invariant
 pub mod Visitor
 pub mod Walk
