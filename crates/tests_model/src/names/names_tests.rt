@@ -148,18 +148,42 @@ fn have_names<R: Threads + Sync>(
     Ok(are_names_of(&reported, count))
 }
 
-/// In each hundredth race 64 threads.
-#[test]
-fn threads_have_names_of_their_own(rt: HostRuntime) {
-    for round in 0..10_000u64 {
+/// Two thousand races from this one on, each hundredth of 64 threads.
+fn race<R: Threads + Sync + Abort>(rt: &R, alloc: Global, first: u64) {
+    for round in first..first.saturating_add(2_000) {
         let most = if round % 100 == 0 { 64 } else { 2 + round % 15 };
         same(
-            &rt,
+            rt,
             round as usize,
-            have_names(&rt, rt.alloc(), most, most),
+            have_names(rt, alloc, most, most),
             Ok(true),
         );
     }
+}
+
+#[test]
+fn threads_have_names_of_their_own(rt: HostRuntime) {
+    race(&rt, rt.alloc(), 0);
+}
+
+#[test]
+fn threads_have_names_of_their_own_again(rt: HostRuntime) {
+    race(&rt, rt.alloc(), 2_000);
+}
+
+#[test]
+fn threads_have_names_of_their_own_a_third_time(rt: HostRuntime) {
+    race(&rt, rt.alloc(), 4_000);
+}
+
+#[test]
+fn threads_have_names_of_their_own_a_fourth_time(rt: HostRuntime) {
+    race(&rt, rt.alloc(), 6_000);
+}
+
+#[test]
+fn threads_have_names_of_their_own_a_fifth_time(rt: HostRuntime) {
+    race(&rt, rt.alloc(), 8_000);
 }
 
 /// Of 64 seats few come: their names are below twice their number.
