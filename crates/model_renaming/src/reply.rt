@@ -76,7 +76,11 @@ impl Reply<()> {
         }
     }
 
-    /// Returns the outcome of a step, with the view that was kept beside its reply. An error is returned as it is.
+    /// Returns the outcome of a step, with the view that was kept beside its reply.
+    ///
+    /// # Errors
+    ///
+    /// The outcome's own error.
     pub fn with_in(outcome: Result<Self, Refusal>, view: &View) -> Result<Reply<View>, Refusal>
         ensures { result ≡ outcome_with outcome view.now }
     {

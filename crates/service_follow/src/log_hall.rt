@@ -183,6 +183,10 @@ impl<S: Store> LogHall<S> {
     }
 
     /// Has the log begin with this line, where nothing stands in it; tells whether it does, once what stands there was read.
+    ///
+    /// # Errors
+    ///
+    /// The store's own fault. The line may stand in the log.
     pub fn begin(&mut self, line: &[u8], entry: &mut Vec<u8>) -> Result<bool, StoreFault>
         ensures begins { result ≡ Ok true → S.stands self.new.store 0 line.now }
         ensures same { (self.new.replica ≡ self.old.replica) × (self.new.config ≡ self.old.config) × (self.new.from ≡ self.old.from) }
@@ -193,6 +197,10 @@ impl<S: Store> LogHall<S> {
 
     /// Has a batch come to stand in the log, applies all that stands before it and then it, and puts the answers on the queue of replies
     /// (`Replica::serve`).
+    ///
+    /// # Errors
+    ///
+    /// Those of `Replica::serve`. The queue of replies is empty.
     pub fn serve(&mut self, batch: &[u8], reply_queue: &mut ReplyQueue) -> Result<(), ServeFault>
         ensures due { OnOk result (IsDueFrom StayApplies (S.stands self.new.store) self.new.from (start_of self.new.config self.new.from) batch.now
             reply_queue.new self.new.stays) }
@@ -207,6 +215,10 @@ impl<S: Store> LogHall<S> {
     }
 
     /// Applies what stands in the log, up to so many entries; tells how many they were (`Replica::catch_up`).
+    ///
+    /// # Errors
+    ///
+    /// Those of `Replica::catch_up`.
     pub fn catch_up(&mut self, most: u64, reply_queue: &mut ReplyQueue) -> Result<u64, Cause>
         ensures unanswered { reply_queue.new ≡ reply_queue_of [] }
         ensures moved { HasMovedOn S.stands self.old self.new }

@@ -167,6 +167,15 @@ impl<S: Store + Drop, T: Pause + Drop> LogPersister<S, T> {
     /// Opens the hall of a log. Where nothing stands in the log it begins with a line of the config, and else it has to begin with just that
     /// line; then all that stands is applied: from the place on that is noted in the store, if a compaction that can be read whole stands
     /// there or behind it, and else from the first entry on. The token, which no other front end has, is to have no end of a line in it.
+    ///
+    /// # Errors
+    ///
+    /// The first that applies is returned:
+    ///
+    /// - `Token`: the token has the end of a line in it. Nothing was asked of the store.
+    /// - `Memory`: an allocation failed.
+    /// - another `LogFault`: the config's world gives no names, the log begins with another line, an entry is no entry of a hall, or the
+    ///   store failed.
     pub fn open(
         alloc: Global,
         store: S,

@@ -53,6 +53,10 @@ pub struct Note {
 
 impl Note {
     /// A note of a request, and of the reply to it, with the view beside it.
+    ///
+    /// # Errors
+    ///
+    /// `AllocError`: the allocation for the view failed.
     pub fn new(
         alloc: Global,
         asked: Asked,

@@ -33,7 +33,10 @@ fn write_line<W: Write>(
 
 /// Writes the accepted events of a hall as the lines of commands that ask for them, in order.
 ///
-/// `HostFailure::Output` where they were not taken, and `HostFailure::Memory` with nothing written.
+/// # Errors
+///
+/// - `Memory`: an allocation failed. Nothing is written.
+/// - `Output`: the writer failed. A part of the lines may be written.
 pub fn write_events<W: Write>(alloc: Global, hall: &Hall, output: &mut W) -> Result<(), HostFailure>
     ensures { OnOk result (Appends (W.contents output.old) (W.contents output.new) (command_lines hall.now.history)) }
 {

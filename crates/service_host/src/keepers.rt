@@ -25,6 +25,10 @@ fn identities_of(alloc: Global, competitors: &[Competitor]) -> Result<Vec<u64>, 
 }
 
 /// The stays of a hall as its server starts: those of all that compete are kept by nobody since then, where stays are to end, and else none is noted.
+///
+/// # Errors
+///
+/// `Memory`: an allocation failed.
 pub fn stays_at_start(alloc: Global, hall: &Hall, grace: Option<u64>) -> Result<Stays, HostFailure>
     ensures { IfOk result (λ stays. stays ≡ stays_at_start hall.now grace) }
 {

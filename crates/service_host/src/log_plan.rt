@@ -78,7 +78,12 @@ impl<'r, R: Clock> Pause for Patience<'r, R> {
     }
 }
 
-/// The addresses that a text names, with a comma between them; `HostFailure::NoMembers` where it names others.
+/// The addresses that a text names, with a comma between them.
+///
+/// # Errors
+///
+/// - `NoMembers`: a word between commas is no address with a port.
+/// - `Memory`: an allocation failed.
 pub fn members_of(alloc: Global, text: &str) -> Result<Vec<SocketAddr>, HostFailure> {
     let mut members = Vec::new(alloc);
     for word in text.split(',') {
@@ -96,6 +101,10 @@ pub fn members_of(alloc: Global, text: &str) -> Result<Vec<SocketAddr>, HostFail
 const DIGITS: &[u8; 16] = b"0123456789abcdef";
 
 /// 32 hex digits that nobody else has, of the system's random bytes.
+///
+/// # Errors
+///
+/// `NoToken`: `/dev/urandom` could not be opened or read.
 pub fn fresh_token<R: Files<File = File>>(rt: &R) -> Result<[u8; 32], HostFailure> {
     let mut bytes = [0u8; 16];
     let Ok(mut source) = File::open(rt, "/dev/urandom") else {

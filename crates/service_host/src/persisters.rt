@@ -151,6 +151,10 @@ pub struct Recorded<D: Disk> {
 
 impl<D: Disk> Recorded<D> {
     /// Compacts the history where it is long, as it may be at the start.
+    ///
+    /// # Errors
+    ///
+    /// Those of `Journal::compact_when_due`.
     pub fn compact_when_due(&mut self, write_ahead: &mut WriteAhead) -> Result<(), JournalFault>
         ensures compacted { OnOk result (MayCompact write_ahead.old write_ahead.new) }
         ensures stands { OnOk result (Stands D.state self.old.journal write_ahead.old → Stands D.state self.new.journal write_ahead.new) }

@@ -294,6 +294,11 @@ where
 }
 
 /// Writes the accepted events of the history that stands in a log as the lines of commands that ask for them, and serves nobody.
+///
+/// # Errors
+///
+/// - Those of the log: no member answers, or it holds another hall.
+/// - `Memory`, `Output`: those of `write_events`.
 pub fn export_hall<R: Net + Clock + Files<File = File>, W: Write>(
     rt: &R,
     alloc: Global,
@@ -335,6 +340,11 @@ fn export_followed<R: Files<File = File>, S: Store + Drop, P: Pause + Drop, W: W
 /// The first lines written are `listening ADDRESS:PORT` and `listening PATH`, of what is listened on, and `metrics ADDRESS:PORT`; the last is
 /// `served N`. At a good end the file of the socket is removed. Where the journal cannot be written, nothing is sent of that
 /// turn, and the server ends.
+///
+/// # Errors
+///
+/// - Before anything is listened on: the journal or the log could not be opened, or holds another hall; or an address could not be bound.
+/// - Later: the journal, the log, standard output, the system's poll or an allocation failed. Nothing is sent of that turn.
 pub fn host_hall<R, W: Write, E: Write>(
     rt: &R,
     alloc: Global,

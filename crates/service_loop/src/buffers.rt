@@ -65,7 +65,11 @@ fn drop_front<A: Allocator>(bytes: &mut Vec<u8, A>, count: usize)
 }
 
 impl<A: Allocator + Clone> Buffers<A> {
-    /// Nothing came, nothing was said; `NoMemory` where room for a line was refused.
+    /// Nothing came, nothing was said.
+    ///
+    /// # Errors
+    ///
+    /// `NoMemory`: an allocation failed.
     pub fn new(alloc: A, kind: WorldKind) -> Result<Buffers<A>, NoMemory>
         ensures { IfOk result (λ buffers. AreNewBuffers kind buffers) }
     {

@@ -238,7 +238,9 @@ pub(crate) fn prefetch<D, K: Persist<D>, B: Allocator>(
 /// least is called, where any is given, and of each that is called the connection rests then. Who keeps a stay is noted as in `iterate`. Of each
 /// `enter` among lines whose answers are lost it is noted that nobody keeps the stay, unless a connection does: it may have been applied.
 ///
-/// The fault of what keeps, with no byte sent.
+/// # Errors
+///
+/// The persister's own fault. No byte is sent.
 pub fn iterate_prefetched<R, D: Service<R>, K: Persist<D>, S: Stream, A: Allocator, B: Allocator>(
     rt: &R,
     service: &mut Attended<D>,

@@ -168,6 +168,13 @@ impl Drop for Hosting {
 /// that is a pipe, or else never: then replies are sent, as far as clients take them within a second, and a line `served N` is written. Those who
 /// watch are served between the turns: what they ask changes neither the service nor the persister. Where the options give a grace time, stays
 /// whose connections have ended are ended between the turns (`end_due`).
+///
+/// # Errors
+///
+/// - `Memory`: an allocation failed.
+/// - `Network`: the system's poll failed.
+/// - `Output`: `output` failed.
+/// - `Persist`: the persister failed. Nothing is sent of that turn.
 pub fn host<R, D: Service<R>, K: Persist<D>, W: Write, E: Write>(
     rt: &R,
     alloc: Global,

@@ -164,6 +164,10 @@ impl Peek {
 
     /// Looks at what waits, as far as there is room, and up to a line that the server answers by itself: the next turn takes its whole lines, and the
     /// requests of those are added to the batch. What no LF ends asks for nothing, at the end of what comes neither.
+    ///
+    /// # Errors
+    ///
+    /// `AllocError`: the batch could not grow. It has a part of the requests.
     pub fn peek_over<B: Allocator>(
         &mut self,
         bytes: &[u8],

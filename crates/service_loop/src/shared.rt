@@ -27,7 +27,11 @@ pub struct SharedBuffers<A: Allocator> {
 }
 
 impl<A: Allocator + Clone> SharedBuffers<A> {
-    /// Room for a loop; `NoMemory` where it was refused.
+    /// Room for a loop.
+    ///
+    /// # Errors
+    ///
+    /// `NoMemory`: an allocation failed.
     pub fn new(alloc: A) -> Result<SharedBuffers<A>, NoMemory>
         ensures { IfOk result AreShared }
     {

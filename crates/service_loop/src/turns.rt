@@ -116,7 +116,9 @@ pub fn send_replies<S: Stream, A: Allocator>(
 /// replies sent. Says how many of the seats were called, one at least where any is given: of each of them the connection rests then, and the
 /// others are to be called in the next turn. Who keeps a stay is noted by the numbers of the connections, in the order of all turns.
 ///
-/// The fault of what keeps, with no byte sent.
+/// # Errors
+///
+/// The persister's own fault. No byte is sent.
 pub fn iterate<R, D: Service<R>, K: Persist<D>, S: Stream, A: Allocator, B: Allocator>(
     rt: &R,
     service: &mut Attended<D>,

@@ -72,6 +72,10 @@ fn put_head(asked: Asked, ready: bool, len: usize, answer: &mut Vec<u8>) -> Resu
 }
 
 /// Appends what is answered to a request: a head with its status, and a page or a text.
+///
+/// # Errors
+///
+/// `AllocError`: an allocation failed. A part of the answer may stand there.
 pub fn put_answer(
     alloc: Global,
     asked: Asked,

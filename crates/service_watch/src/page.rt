@@ -244,6 +244,10 @@ fn put_keeping(numbers: &Numbers, page: &mut Vec<u8>) -> Result<(), AllocError> 
 }
 
 /// Appends the page of these numbers.
+///
+/// # Errors
+///
+/// `AllocError`: an allocation failed. A part of the page may stand there.
 pub fn put_page(numbers: &Numbers, page: &mut Vec<u8>) -> Result<(), AllocError> {
     put_clients(numbers, page)?;
     put_hall(numbers, page)?;

@@ -48,14 +48,22 @@ impl Text {
         Ok(())
     }
 
-    /// Appends a number in decimal. Its error is that of `put`.
+    /// Appends a number in decimal.
+    ///
+    /// # Errors
+    ///
+    /// Those of `put`.
     pub fn put_number(&mut self, number: u64) -> Result<(), AllocError>
         ensures { OnOk result (self.new ≡ self.old ++ decimal number) }
     {
         self.put(Buffer::new().format(number).as_bytes())
     }
 
-    /// Appends a word with its space, and a number in decimal. Its error is that of `put`.
+    /// Appends a word with its space, and a number in decimal.
+    ///
+    /// # Errors
+    ///
+    /// Those of `put`.
     pub fn put_word(&mut self, word: &[u8], number: u64) -> Result<(), AllocError>
         ensures { OnOk result (self.new ≡ self.old ++ (word.now ++ decimal number)) }
     {
@@ -63,7 +71,11 @@ impl Text {
         self.put_number(number)
     }
 
-    /// Appends an identity and its number, with a colon between them. Its error is that of `put`.
+    /// Appends an identity and its number, with a colon between them.
+    ///
+    /// # Errors
+    ///
+    /// Those of `put`.
     pub fn put_pair(&mut self, pair: (u64, u64)) -> Result<(), AllocError>
         ensures { OnOk result (self.new ≡ self.old ++ pair_word pair) }
     {

@@ -49,7 +49,12 @@ pub fn show_for<R: Source, W: Sink>(
     Ok(verdict)
 }
 
-/// Returns how the program ends once a record was shown. A verdict other than `Yes` is a failure.
+/// Returns how the program ends once a record was shown.
+///
+/// # Errors
+///
+/// - `No`, `BadRecord`: the verdict is no `Yes`.
+/// - `Fault`: an allocation or the writer failed.
 pub fn after_showing<'a>(shown: Result<Verdict, Fault>) -> Result<Outcome<'a>, Failure>
     ensures { result ≡ outcome_shown shown }
 {

@@ -133,6 +133,10 @@ where
 
     /// One access of the seat's participant, whatever the other seats do: the seat that has ended by it, or `Err` with the seat
     /// that goes on. The seat is of this machine.
+    ///
+    /// # Errors
+    ///
+    /// `Err` is no fault: it is the seat that goes on.
     pub fn step(&self, running: RunningSeat<P>) -> Result<EnteredSeat<P>, RunningSeat<P>>
         requires ours { running.words ≡ self.now }
         ensures ended { IfOk result (λ e. (e.words ≡ running.words) × (e.number ≡ running.number) × (e.identity ≡ running.identity) × (e.accesses ≡ running.accesses + 1)) }

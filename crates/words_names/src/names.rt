@@ -119,6 +119,10 @@ impl<A: Allocator> Names<A> {
 
     /// Makes one access of a seat of these names, whatever the other seats do. Returns the seat that was renamed by it, or
     /// `Err` with the seat that goes on.
+    ///
+    /// # Errors
+    ///
+    /// `Err` is no fault: it is the seat that goes on.
     pub fn step(&self, renaming: Renaming) -> Result<Renamed, Renaming>
         requires ours { renaming.names ≡ self.now }
         ensures renamed { IfOk result (λ e. (e.names ≡ renaming.names) × (e.number ≡ renaming.number)

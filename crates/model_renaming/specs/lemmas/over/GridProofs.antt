@@ -11,8 +11,8 @@ use Rattle.model_steps.specs.declared.access.Access.TheVariants.{Read, Write, Te
 use Rattle.model_steps.specs.Steps.{Spares, ReadsOrWrites, answer_from}
 use Rattle.model_steps.specs.Registers as registers
 use Rattle.model_steps.specs.declared.record.Record.{Record}
-use Rattle.model_splitter.specs.declared.stage.RoundStage.{RoundStage}
-use Rattle.model_splitter.specs.declared.stage.RoundStage.TheVariants.{Outside}
+use Rattle.model_splitter.specs.declared.stage.VisitStage.{VisitStage}
+use Rattle.model_splitter.specs.declared.stage.VisitStage.TheVariants.{Outside}
 use Rattle.model_splitter.specs.Visitor.{access_at}
 use Rattle.model_splitter.specs.grid.Door.{IsDoorWithin}
 use Rattle.model_splitter.specs.grid.Walk as walk
@@ -44,15 +44,15 @@ others_kept g (Clear q) r h = refl
 others_kept g Nothing r h = refl
 
 -- an access that is sent to the doors is one of the doors
-sent : (g : GridState) (id x y : ℕ) (s : RoundStage) → after_access g (door_access (access_at id x y s)) ≡ with_doors g (registers.after_access g.doors (access_at id x y s))
+sent : (g : GridState) (id x y : ℕ) (s : VisitStage) → after_access g (door_access (access_at id x y s)) ≡ with_doors g (registers.after_access g.doors (access_at id x y s))
 sent g id x y Outside = refl
 sent g id x y s = refl
 
-reported : (g : GridState) (id x y : ℕ) (s : RoundStage) → word_answer (answer_from (register_of g) (door_access (access_at id x y s))) ≡ registers.answer_of g.doors (access_at id x y s)
+reported : (g : GridState) (id x y : ℕ) (s : VisitStage) → word_answer (answer_from (register_of g) (door_access (access_at id x y s))) ≡ registers.answer_of g.doors (access_at id x y s)
 reported g id x y Outside = refl
 reported g id x y s = refl
 
-sent_plain : (id x y : ℕ) (s : RoundStage) → ReadsOrWrites (door_access (access_at id x y s))
+sent_plain : (id x y : ℕ) (s : VisitStage) → ReadsOrWrites (door_access (access_at id x y s))
 sent_plain id x y Outside = tt
 sent_plain id x y s = tt
 

@@ -14,8 +14,8 @@ use Rattle.model_splitter.specs.declared.tree.register.TreeRegister.TheVariants.
 use Rattle.model_splitter.specs.declared.tree.register.TreeValue.{TreeValue}
 use Rattle.model_splitter.specs.declared.tree.register.TreeValue.TheVariants.{Word, Contents as Held}
 use Rattle.model_splitter.specs.declared.tree.walker.Walker.{Walker}
-use Rattle.model_splitter.specs.declared.stage.RoundStage.{RoundStage}
-use Rattle.model_splitter.specs.declared.stage.RoundStage.TheVariants.{Outside}
+use Rattle.model_splitter.specs.declared.stage.VisitStage.{VisitStage}
+use Rattle.model_splitter.specs.declared.stage.VisitStage.TheVariants.{Outside}
 use Rattle.model_splitter.specs.Visitor.{access_at, access_of}
 use Rattle.model_splitter.specs.tree.TreeSteps.{NodeMap, tree_steps}
 use Rattle.model_splitter.specs.lemmas.tree.TreeProofs.{others_kept}
@@ -109,7 +109,7 @@ words_plain (TestAndSet r) h = h
 words_plain (Clear r) h = h
 words_plain a h = tt
 
-visit_plain : (id : ℕ) (x y : TreeRegister) (s : RoundStage) → ReadsOrWrites (access_at id x y s)
+visit_plain : (id : ℕ) (x y : TreeRegister) (s : VisitStage) → ReadsOrWrites (access_at id x y s)
 visit_plain id x y Outside = tt
 visit_plain id x y s = tt
 

@@ -1,4 +1,4 @@
-// Erased by bindings/rust/erase from crates/words_machine/src/word_machine.rt, sha256 f0d74290cd75d5abc2fb24513e3ce1f1c70f4766dd9b34970b74204213285d17.
+// Erased by bindings/rust/erase from crates/words_machine/src/word_machine.rt, sha256 6034aa91281ac0e499abb104becbecf7f877964967f02ccf45af9672190bfb1b.
 //! A machine over words.
 
 use crate::kit::alloc::{AllocError, Allocator};

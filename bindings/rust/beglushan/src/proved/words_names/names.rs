@@ -1,4 +1,4 @@
-// Erased by bindings/rust/erase from crates/words_names/src/names.rt, sha256 4a145c0108fb8252a0222d92f3191b512dfae3eaa2e636d4976dbb31f092c866.
+// Erased by bindings/rust/erase from crates/words_names/src/names.rt, sha256 00f1a6df5c192c807c7b9ae4f712a4d8cfb553a9ab460e9f10df38d86ffdcb3f.
 //! The names.
 
 use crate::kit::alloc::Allocator;

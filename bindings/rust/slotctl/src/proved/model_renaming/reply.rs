@@ -1,4 +1,4 @@
-// Erased by bindings/rust/erase from crates/model_renaming/src/reply.rt, sha256 c12b66f3377e9d52b1cb9f4dc598a98faed8997357e0d7dddc104fee0ae85ebe.
+// Erased by bindings/rust/erase from crates/model_renaming/src/reply.rt, sha256 c9c7b150732740159d2baf69e942143a65e3499d04bdc0ff9f3c1e5d51defc22.
 //! The reply of a step of a renaming world.
 
 use crate::proved::model_steps::place::Place;

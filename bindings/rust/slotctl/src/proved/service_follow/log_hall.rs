@@ -1,4 +1,4 @@
-// Erased by bindings/rust/erase from crates/service_follow/src/log_hall.rt, sha256 25ff7aa2f2be481b9ffb8ca2b76ff2f4a92bda8601a08c18af161f31ede9a4d3.
+// Erased by bindings/rust/erase from crates/service_follow/src/log_hall.rt, sha256 f788e3786a92f468526bf628cae6586ae57bf34e28f6964d46c645e5b6f75c82.
 //! A hall that follows a log.
 
 use crate::kit::alloc::Global;
@@ -133,6 +133,10 @@ impl<S: Store> LogHall<S> {
     }
 
     /// Has the log begin with this line, where nothing stands in it; tells whether it does, once what stands there was read.
+    ///
+    /// # Errors
+    ///
+    /// The store's own fault. The line may stand in the log.
     pub fn begin(&mut self, line: &[u8], entry: &mut Vec<u8>) -> Result<bool, StoreFault> {
         law_of_following::<StayMachine, S>();
         begins_with(&mut self.store, line, entry)
@@ -140,12 +144,20 @@ impl<S: Store> LogHall<S> {
 
     /// Has a batch come to stand in the log, applies all that stands before it and then it, and puts the answers on the queue of replies
     /// (`Replica::serve`).
+    ///
+    /// # Errors
+    ///
+    /// Those of `Replica::serve`. The queue of replies is empty.
     pub fn serve(&mut self, batch: &[u8], reply_queue: &mut ReplyQueue) -> Result<(), ServeFault> {
         law_of_following::<StayMachine, S>();
         self.replica.serve(&mut self.store, batch, reply_queue)
     }
 
     /// Applies what stands in the log, up to so many entries; tells how many they were (`Replica::catch_up`).
+    ///
+    /// # Errors
+    ///
+    /// Those of `Replica::catch_up`.
     pub fn catch_up(&mut self, most: u64, reply_queue: &mut ReplyQueue) -> Result<u64, Cause> {
         law_of_following::<StayMachine, S>();
         self.replica.catch_up(&mut self.store, most, reply_queue)

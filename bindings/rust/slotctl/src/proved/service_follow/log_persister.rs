@@ -1,4 +1,4 @@
-// Erased by bindings/rust/erase from crates/service_follow/src/log_persister.rt, sha256 817fcfc9eb55bb10955e62d0c21876cd1e0d072291f5550ea041aa14676f05df.
+// Erased by bindings/rust/erase from crates/service_follow/src/log_persister.rt, sha256 828779959814e8ebe8481d53b3cec046f9600f77951708241c0f7974f57c31da.
 //! Serves the clients of one front end over a log.
 
 use crate::kit::alloc::{AllocError, Allocator, Global};
@@ -129,6 +129,15 @@ impl<S: Store, T: Pause> LogPersister<S, T> {
     /// Opens the hall of a log. Where nothing stands in the log it begins with a line of the config, and else it has to begin with just that
     /// line; then all that stands is applied: from the place on that is noted in the store, if a compaction that can be read whole stands
     /// there or behind it, and else from the first entry on. The token, which no other front end has, is to have no end of a line in it.
+    ///
+    /// # Errors
+    ///
+    /// The first that applies is returned:
+    ///
+    /// - `Token`: the token has the end of a line in it. Nothing was asked of the store.
+    /// - `Memory`: an allocation failed.
+    /// - another `LogFault`: the config's world gives no names, the log begins with another line, an entry is no entry of a hall, or the
+    ///   store failed.
     pub fn open(
         alloc: Global,
         store: S,

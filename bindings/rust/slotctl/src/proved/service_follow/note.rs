@@ -1,4 +1,4 @@
-// Erased by bindings/rust/erase from crates/service_follow/src/note.rt, sha256 3291ce66bb74253c044db32a5be0d7ee5a683df62525b869d8a5ec349d0aefe9.
+// Erased by bindings/rust/erase from crates/service_follow/src/note.rt, sha256 1d0ac1b6f42c4e11ae2db59d80dfdc6a27240d18fdb2392b979e0b17c43521c7.
 //! A request, with what was said to it.
 
 use crate::kit::alloc::{AllocError, Global};
@@ -48,6 +48,10 @@ pub struct Note {
 
 impl Note {
     /// A note of a request, and of the reply to it, with the view beside it.
+    ///
+    /// # Errors
+    ///
+    /// `AllocError`: the allocation for the view failed.
     pub fn new(
         alloc: Global,
         asked: Asked,

@@ -1,4 +1,4 @@
-// Erased by bindings/rust/erase from crates/service_host/src/export.rt, sha256 b8b027aee130b3ff193dfb8df4bd83e731380262046d32d1648fe7969acffb70.
+// Erased by bindings/rust/erase from crates/service_host/src/export.rt, sha256 a50221cc20abb9bd150b793252259514bcc73ca00fa2bbdc163f6e0b4e42c5b5.
 //! The history of a hall as commands.
 
 use crate::kit::alloc::Global;
@@ -27,7 +27,10 @@ fn write_line<W: Write>(
 
 /// Writes the accepted events of a hall as the lines of commands that ask for them, in order.
 ///
-/// `HostFailure::Output` where they were not taken, and `HostFailure::Memory` with nothing written.
+/// # Errors
+///
+/// - `Memory`: an allocation failed. Nothing is written.
+/// - `Output`: the writer failed. A part of the lines may be written.
 pub fn write_events<W: Write>(
     alloc: Global,
     hall: &Hall,

@@ -1,4 +1,4 @@
-// Erased by bindings/rust/erase from crates/service_host/src/keepers.rt, sha256 305207cff824bbbed92cfcf5eef6f1f2e6bbc7587d8524d68407c7808486a9cc.
+// Erased by bindings/rust/erase from crates/service_host/src/keepers.rt, sha256 435b03c29b6a4a7b2848edaea2812831a6e1ad0f1cb9782120e36a6ea8a3a896.
 //! Who keeps the stays of a hall at the start of its server.
 
 use crate::kit::alloc::{AllocError, Global};
@@ -21,6 +21,10 @@ fn identities_of(alloc: Global, competitors: &[Competitor]) -> Result<Vec<u64>, 
 }
 
 /// The stays of a hall as its server starts: those of all that compete are kept by nobody since then, where stays are to end, and else none is noted.
+///
+/// # Errors
+///
+/// `Memory`: an allocation failed.
 pub fn stays_at_start(
     alloc: Global,
     hall: &Hall,

@@ -1,4 +1,4 @@
-// Erased by bindings/rust/erase from crates/service_host/src/log_plan.rt, sha256 42d5245e05a56a1174243f01c68f95a3af628766bb7cc84ab4b117a5601ab45f.
+// Erased by bindings/rust/erase from crates/service_host/src/log_plan.rt, sha256 8bf4fd7f5b34b17acad3ec1a3610cd958dcc90394a21c87bf18101aa26b00e70.
 //! A log in etcd that keeps the history of a hall.
 
 use crate::kit::alloc::Global;
@@ -79,7 +79,12 @@ impl<'r, R: Clock> Pause for Patience<'r, R> {
     }
 }
 
-/// The addresses that a text names, with a comma between them; `HostFailure::NoMembers` where it names others.
+/// The addresses that a text names, with a comma between them.
+///
+/// # Errors
+///
+/// - `NoMembers`: a word between commas is no address with a port.
+/// - `Memory`: an allocation failed.
 pub fn members_of(alloc: Global, text: &str) -> Result<Vec<SocketAddr>, HostFailure> {
     let mut members = Vec::new(alloc);
     for word in text.split(',') {
@@ -97,6 +102,10 @@ pub fn members_of(alloc: Global, text: &str) -> Result<Vec<SocketAddr>, HostFail
 const DIGITS: &[u8; 16] = b"0123456789abcdef";
 
 /// 32 hex digits that nobody else has, of the system's random bytes.
+///
+/// # Errors
+///
+/// `NoToken`: `/dev/urandom` could not be opened or read.
 pub fn fresh_token<R: Files<File = File>>(rt: &R) -> Result<[u8; 32], HostFailure> {
     let mut bytes = [0u8; 16];
     let Ok(mut source) = File::open(rt, "/dev/urandom") else {

@@ -1,4 +1,4 @@
-// Erased by bindings/rust/erase from crates/service_host/src/persisters.rt, sha256 9c52712d02c5f260a36cacd2b79c1180dc398593a35ee3d4119a285c51309fcc.
+// Erased by bindings/rust/erase from crates/service_host/src/persisters.rt, sha256 fa658db9dd5d3d136b89ee01b60550fa59fe0f47dee6ae3219ced4c70887d43c.
 //! What is kept of the turns of a loop over a hall.
 
 use crate::kit::alloc::{Allocator, Global};
@@ -135,6 +135,10 @@ pub struct Recorded<D: Disk> {
 
 impl<D: Disk> Recorded<D> {
     /// Compacts the history where it is long, as it may be at the start.
+    ///
+    /// # Errors
+    ///
+    /// Those of `Journal::compact_when_due`.
     pub fn compact_when_due(&mut self, write_ahead: &mut WriteAhead) -> Result<(), JournalFault> {
         self.journal
             .compact_when_due(self.alloc, &mut self.compactor, write_ahead)

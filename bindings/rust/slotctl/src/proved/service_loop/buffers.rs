@@ -1,4 +1,4 @@
-// Erased by bindings/rust/erase from crates/service_loop/src/buffers.rt, sha256 334cc5be165dea0b69cb14c53f35ef87a1a16f90a34bda0e90c50f8837f95382.
+// Erased by bindings/rust/erase from crates/service_loop/src/buffers.rt, sha256 30c54ddfa96fbb8a264d3bd4aff826ebd365fbe65adbdd48c7b599566f04145b.
 //! A connection without its stream.
 
 use crate::kit::alloc::Allocator;
@@ -47,7 +47,11 @@ fn drop_front<A: Allocator>(bytes: &mut Vec<u8, A>, count: usize) {
 }
 
 impl<A: Allocator + Clone> Buffers<A> {
-    /// Nothing came, nothing was said; `NoMemory` where room for a line was refused.
+    /// Nothing came, nothing was said.
+    ///
+    /// # Errors
+    ///
+    /// `NoMemory`: an allocation failed.
     pub fn new(alloc: A, kind: WorldKind) -> Result<Buffers<A>, NoMemory> {
         let Ok(for_line) = alloc.clone() else {
             return Err(NoMemory);

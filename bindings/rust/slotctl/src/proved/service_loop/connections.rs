@@ -1,4 +1,4 @@
-// Erased by bindings/rust/erase from crates/service_loop/src/connections.rt, sha256 c69a3b8e1e9d6e5730bdb557d407d6d1469e7f4d7fc5aa608cc902cdb26c4680.
+// Erased by bindings/rust/erase from crates/service_loop/src/connections.rt, sha256 9d9c4084d230ce715e6cd00390efb8776545c851e5ddae7321cec12c0fa64b64.
 //! The connections of a server, their seats, and who is to have a turn.
 
 use crate::kit::alloc::{AllocError, Global};
@@ -53,7 +53,11 @@ fn has_unsent(seat: &Option<Connection<Socket, Global>>) -> bool {
 }
 
 impl ConnectionTable {
-    /// No seats, for so many clients.
+    /// No seats, for up to `clients` clients.
+    ///
+    /// # Errors
+    ///
+    /// `AllocError`: an allocation failed.
     pub fn new(alloc: Global, clients: usize) -> Result<ConnectionTable, AllocError> {
         let few = clients.min(MOST_RESERVED);
         Ok(ConnectionTable {
@@ -121,6 +125,10 @@ impl ConnectionTable {
     }
 
     /// Gives a seat to a stream. One that cannot be waited for is closed.
+    ///
+    /// # Errors
+    ///
+    /// `AllocError`: an allocation failed. The stream is closed.
     pub fn admit(
         &mut self,
         alloc: Global,
@@ -147,6 +155,10 @@ impl ConnectionTable {
     }
 
     /// Notes what the system tells of a connection, which is due then.
+    ///
+    /// # Errors
+    ///
+    /// `AllocError`: the list of connections that are due could not grow.
     pub fn note(&mut self, event: &Event) -> Result<(), AllocError> {
         let key = event.token().0;
         let Some(connection) = self.seated(key) else {
@@ -224,6 +236,10 @@ impl ConnectionTable {
     }
 
     /// Each connection that keeps a stay is at fault and due: nothing more is sent to it.
+    ///
+    /// # Errors
+    ///
+    /// `AllocError`: the list of connections that are due could not grow.
     pub fn fail_keepers(&mut self, stays: &Stays) -> Result<(), AllocError> {
         for key in 0..self.seats.len() {
             if key < self.numbers.len() && stays.keeps_any(self.numbers[key]) {
@@ -233,7 +249,11 @@ impl ConnectionTable {
         Ok(())
     }
 
-    /// After a turn in which so many of the ready seats were called: those that have more to do are due again, behind the others.
+    /// After a turn in which the first `called` ready seats were called: those that have more to do are due again, behind the others.
+    ///
+    /// # Errors
+    ///
+    /// `AllocError`: the list of connections that are due could not grow.
     pub fn settle(&mut self, called: usize, tick: u64) -> Result<(), AllocError> {
         for at in 0..called {
             if at < self.ready.len() {
@@ -255,7 +275,11 @@ impl ConnectionTable {
         Ok(())
     }
 
-    /// Closes each connection of which nothing came or went for so many ticks, or for ten where it is at its end.
+    /// Closes each connection of which nothing came or went for `idle` ticks, or for ten if it is at its end.
+    ///
+    /// # Errors
+    ///
+    /// `AllocError`: the list of empty seats could not grow.
     pub fn sweep(&mut self, tick: u64, idle: Option<u64>) -> Result<(), AllocError> {
         for key in 0..self.seats.len() {
             self.sweep_one(key, tick, idle)?;

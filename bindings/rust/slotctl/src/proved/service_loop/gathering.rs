@@ -1,4 +1,4 @@
-// Erased by bindings/rust/erase from crates/service_loop/src/gathering.rt, sha256 c57b8cf0f7ab60587dedd45ad8451f58f360077051dbeb9acd53eac8234f8e2d.
+// Erased by bindings/rust/erase from crates/service_loop/src/gathering.rt, sha256 9184c07116573693972b0ab2020602f6331e8db36acc073ec77507c7db0677be.
 //! One turn of the loop over a service that learns its answers before.
 
 use crate::kit::alloc::Allocator;
@@ -175,7 +175,9 @@ pub(crate) fn prefetch<D, K: Persist<D>, B: Allocator>(
 /// least is called, where any is given, and of each that is called the connection rests then. Who keeps a stay is noted as in `iterate`. Of each
 /// `enter` among lines whose answers are lost it is noted that nobody keeps the stay, unless a connection does: it may have been applied.
 ///
-/// The fault of what keeps, with no byte sent.
+/// # Errors
+///
+/// The persister's own fault. No byte is sent.
 pub fn iterate_prefetched<
     R,
     D: Service<R>,

@@ -1,4 +1,4 @@
-// Erased by bindings/rust/erase from crates/service_loop/src/hosting.rt, sha256 1ee3dbc078ea52f78138557f152a350c051853f95e0d44b1228b82edbe2722b2.
+// Erased by bindings/rust/erase from crates/service_loop/src/hosting.rt, sha256 c1415c204652ca9e2b44db6ea0aeafe19942460ddefca37cdcf2ae560c232e3d.
 //! A server in one thread, by the readiness of its sockets.
 
 use crate::kit::alloc::{AllocError, Global};
@@ -133,6 +133,13 @@ struct Hosting {
 /// that is a pipe, or else never: then replies are sent, as far as clients take them within a second, and a line `served N` is written. Those who
 /// watch are served between the turns: what they ask changes neither the service nor the persister. Where the options give a grace time, stays
 /// whose connections have ended are ended between the turns (`end_due`).
+///
+/// # Errors
+///
+/// - `Memory`: an allocation failed.
+/// - `Network`: the system's poll failed.
+/// - `Output`: `output` failed.
+/// - `Persist`: the persister failed. Nothing is sent of that turn.
 pub fn host<R, D: Service<R>, K: Persist<D>, W: Write, E: Write>(
     rt: &R,
     alloc: Global,

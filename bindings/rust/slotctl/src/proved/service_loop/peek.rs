@@ -1,4 +1,4 @@
-// Erased by bindings/rust/erase from crates/service_loop/src/peek.rt, sha256 ce3bca7adeaf7a324349321098c49b4204c8a50183548c471bd9e1e3d5f5a33c.
+// Erased by bindings/rust/erase from crates/service_loop/src/peek.rt, sha256 4ff6406f6b8a47e9d1fd3b7f9ff55b671bc97e7508915dbc889aabe0c3fbf450.
 //! What is seen of a connection's lines before its turn takes them.
 
 use crate::kit::alloc::{AllocError, Allocator};
@@ -147,6 +147,10 @@ impl Peek {
 
     /// Looks at what waits, as far as there is room, and up to a line that the server answers by itself: the next turn takes its whole lines, and the
     /// requests of those are added to the batch. What no LF ends asks for nothing, at the end of what comes neither.
+    ///
+    /// # Errors
+    ///
+    /// `AllocError`: the batch could not grow. It has a part of the requests.
     pub fn peek_over<B: Allocator>(
         &mut self,
         bytes: &[u8],

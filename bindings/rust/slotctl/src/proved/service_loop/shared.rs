@@ -1,4 +1,4 @@
-// Erased by bindings/rust/erase from crates/service_loop/src/shared.rt, sha256 9c8c8ecf1ee70f2809e5de6a402730a726994965314bc71efc7cefe0867fb752.
+// Erased by bindings/rust/erase from crates/service_loop/src/shared.rt, sha256 5e13e0a7a9b18a51e0d3b1400752904565e36e094eda4dd2e6ed71b0322eba00.
 //! What the connections of a loop share.
 
 use crate::kit::alloc::Allocator;
@@ -26,7 +26,11 @@ pub struct SharedBuffers<A: Allocator> {
 }
 
 impl<A: Allocator + Clone> SharedBuffers<A> {
-    /// Room for a loop; `NoMemory` where it was refused.
+    /// Room for a loop.
+    ///
+    /// # Errors
+    ///
+    /// `NoMemory`: an allocation failed.
     pub fn new(alloc: A) -> Result<SharedBuffers<A>, NoMemory> {
         let Ok(other) = alloc.clone() else {
             return Err(NoMemory);

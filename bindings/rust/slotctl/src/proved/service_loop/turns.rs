@@ -1,4 +1,4 @@
-// Erased by bindings/rust/erase from crates/service_loop/src/turns.rt, sha256 e798907281c20c0aca3f82a475cdd9b7aba0eaaad5672bfc5794250fb20761b9.
+// Erased by bindings/rust/erase from crates/service_loop/src/turns.rt, sha256 43d0fe086df90a47982012986ffaed8a4d5fbdb6efe7f9b97e09f5d4400998bf.
 //! One turn of the loop.
 
 use crate::kit::alloc::Allocator;
@@ -83,7 +83,9 @@ pub fn send_replies<S: Stream, A: Allocator>(
 /// replies sent. Says how many of the seats were called, one at least where any is given: of each of them the connection rests then, and the
 /// others are to be called in the next turn. Who keeps a stay is noted by the numbers of the connections, in the order of all turns.
 ///
-/// The fault of what keeps, with no byte sent.
+/// # Errors
+///
+/// The persister's own fault. No byte is sent.
 pub fn iterate<R, D: Service<R>, K: Persist<D>, S: Stream, A: Allocator, B: Allocator>(
     rt: &R,
     service: &mut Attended<D>,

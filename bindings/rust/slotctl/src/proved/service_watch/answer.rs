@@ -1,4 +1,4 @@
-// Erased by bindings/rust/erase from crates/service_watch/src/answer.rt, sha256 58ff9140853101345552add06a76684a5f17222d6bce2187629fb9615fb4c48b.
+// Erased by bindings/rust/erase from crates/service_watch/src/answer.rt, sha256 10596f45b8b12ee7266f574b1063f81b57a79c062c7977736424f63897de9b8d.
 //! What a request is answered.
 
 use crate::kit::alloc::{AllocError, Global};
@@ -74,6 +74,10 @@ fn put_head(asked: Asked, ready: bool, len: usize, answer: &mut Vec<u8>) -> Resu
 }
 
 /// Appends what is answered to a request: a head with its status, and a page or a text.
+///
+/// # Errors
+///
+/// `AllocError`: an allocation failed. A part of the answer may stand there.
 pub fn put_answer(
     alloc: Global,
     asked: Asked,

@@ -1,4 +1,4 @@
-// Erased by bindings/rust/erase from crates/service_watch/src/page.rt, sha256 296e879c4e866a22fba9ba9842d0d5cc4e74f0ea2f9ad17732911a4c07db1a83.
+// Erased by bindings/rust/erase from crates/service_watch/src/page.rt, sha256 e7da3f235e82ebd3416e86c3db2b488cb0f939384e2510d7fcab085470f68d12.
 //! The page of metrics.
 
 use crate::kit::alloc::AllocError;
@@ -238,6 +238,10 @@ fn put_keeping(numbers: &Numbers, page: &mut Vec<u8>) -> Result<(), AllocError> 
 }
 
 /// Appends the page of these numbers.
+///
+/// # Errors
+///
+/// `AllocError`: an allocation failed. A part of the page may stand there.
 pub fn put_page(numbers: &Numbers, page: &mut Vec<u8>) -> Result<(), AllocError> {
     put_clients(numbers, page)?;
     put_hall(numbers, page)?;

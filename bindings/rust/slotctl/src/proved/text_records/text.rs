@@ -1,4 +1,4 @@
-// Erased by bindings/rust/erase from crates/text_records/src/text.rt, sha256 12d4c1df2fae3ea527cad5ffd7247254f585321187fcba5c71271d55cd9e7f45.
+// Erased by bindings/rust/erase from crates/text_records/src/text.rt, sha256 1ce79a25f9e7536bfd1d8949e94792786b262f522a2c538ea959eb57562e5263.
 //! A text that grows.
 
 use crate::kit::alloc::{AllocError, Global};
@@ -33,18 +33,30 @@ impl Text {
         Ok(())
     }
 
-    /// Appends a number in decimal. Its error is that of `put`.
+    /// Appends a number in decimal.
+    ///
+    /// # Errors
+    ///
+    /// Those of `put`.
     pub fn put_number(&mut self, number: u64) -> Result<(), AllocError> {
         self.put(Buffer::new().format(number).as_bytes())
     }
 
-    /// Appends a word with its space, and a number in decimal. Its error is that of `put`.
+    /// Appends a word with its space, and a number in decimal.
+    ///
+    /// # Errors
+    ///
+    /// Those of `put`.
     pub fn put_word(&mut self, word: &[u8], number: u64) -> Result<(), AllocError> {
         self.put(word)?;
         self.put_number(number)
     }
 
-    /// Appends an identity and its number, with a colon between them. Its error is that of `put`.
+    /// Appends an identity and its number, with a colon between them.
+    ///
+    /// # Errors
+    ///
+    /// Those of `put`.
     pub fn put_pair(&mut self, pair: (u64, u64)) -> Result<(), AllocError> {
         self.put_number(pair.0)?;
         self.put(b":")?;

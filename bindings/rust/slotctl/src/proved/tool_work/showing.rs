@@ -1,4 +1,4 @@
-// Erased by bindings/rust/erase from crates/tool_work/src/showing.rt, sha256 12b4c986781054a033bc63eb05d69789ec4df5f3a1dc29fb21960422df1802d1.
+// Erased by bindings/rust/erase from crates/tool_work/src/showing.rt, sha256 e48fe429f1c931bf51bd1409fc9310152081988afb21d36b3ff7f2473a2311f0.
 //! The page of a record that a reader gives.
 
 use crate::kit::alloc::Global;
@@ -44,7 +44,12 @@ pub fn show_for<R: Source, W: Sink>(
     Ok(verdict)
 }
 
-/// Returns how the program ends once a record was shown. A verdict other than `Yes` is a failure.
+/// Returns how the program ends once a record was shown.
+///
+/// # Errors
+///
+/// - `No`, `BadRecord`: the verdict is no `Yes`.
+/// - `Fault`: an allocation or the writer failed.
 pub fn after_showing<'a>(shown: Result<Verdict, Fault>) -> Result<Outcome<'a>, Failure> {
     match shown {
         Ok(Verdict::Yes) => Ok(Outcome::Ended(0)),
