@@ -148,9 +148,9 @@ fn have_names<R: Threads + Sync>(
     Ok(are_names_of(&reported, count))
 }
 
-/// Two thousand races from this one on, each hundredth of 64 threads.
+/// A thousand races from this one on, each hundredth of 64 threads. Ten tests make ten thousand, each in the minute that a test has.
 fn race<R: Threads + Sync + Abort>(rt: &R, alloc: Global, first: u64) {
-    for round in first..first.saturating_add(2_000) {
+    for round in first..first.saturating_add(1_000) {
         let most = if round % 100 == 0 { 64 } else { 2 + round % 15 };
         same(
             rt,
@@ -162,28 +162,53 @@ fn race<R: Threads + Sync + Abort>(rt: &R, alloc: Global, first: u64) {
 }
 
 #[test]
-fn threads_have_names_of_their_own(rt: HostRuntime) {
+fn threads_have_names_of_their_own_from_0(rt: HostRuntime) {
     race(&rt, rt.alloc(), 0);
 }
 
 #[test]
-fn threads_have_names_of_their_own_again(rt: HostRuntime) {
+fn threads_have_names_of_their_own_from_1000(rt: HostRuntime) {
+    race(&rt, rt.alloc(), 1_000);
+}
+
+#[test]
+fn threads_have_names_of_their_own_from_2000(rt: HostRuntime) {
     race(&rt, rt.alloc(), 2_000);
 }
 
 #[test]
-fn threads_have_names_of_their_own_a_third_time(rt: HostRuntime) {
+fn threads_have_names_of_their_own_from_3000(rt: HostRuntime) {
+    race(&rt, rt.alloc(), 3_000);
+}
+
+#[test]
+fn threads_have_names_of_their_own_from_4000(rt: HostRuntime) {
     race(&rt, rt.alloc(), 4_000);
 }
 
 #[test]
-fn threads_have_names_of_their_own_a_fourth_time(rt: HostRuntime) {
+fn threads_have_names_of_their_own_from_5000(rt: HostRuntime) {
+    race(&rt, rt.alloc(), 5_000);
+}
+
+#[test]
+fn threads_have_names_of_their_own_from_6000(rt: HostRuntime) {
     race(&rt, rt.alloc(), 6_000);
 }
 
 #[test]
-fn threads_have_names_of_their_own_a_fifth_time(rt: HostRuntime) {
+fn threads_have_names_of_their_own_from_7000(rt: HostRuntime) {
+    race(&rt, rt.alloc(), 7_000);
+}
+
+#[test]
+fn threads_have_names_of_their_own_from_8000(rt: HostRuntime) {
     race(&rt, rt.alloc(), 8_000);
+}
+
+#[test]
+fn threads_have_names_of_their_own_from_9000(rt: HostRuntime) {
+    race(&rt, rt.alloc(), 9_000);
 }
 
 /// Of 64 seats few come: their names are below twice their number.
