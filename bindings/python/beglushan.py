@@ -7,24 +7,32 @@ A number is held until `leave`, which the end of the block sends, or until its c
 A thread keeps the connection, and comes back by itself. The number may be used until `valid_until`; `on_lost` is called if that passes.
 The token rises with each holder of a number. A resource that refuses a lower token than it has seen refuses a former holder.
 
+`AsyncHall` is the same for `asyncio`. `python3 beglushan.py take --at ADDRESS -- COMMAND ..` runs a command while it holds a number.
+
 A connection that fails is closed, and nothing of it is used again. The client goes on at the next front end, and asks there what
 lost replies said. A front end may still take lines that it has not answered. So each stay has an identity of its own, unless `Hall`
 is given one. This client is tested, and not proved.
 """
 
+import argparse
+import asyncio
+import contextlib
 import math
 import os
 import random
 import re
 import secrets
 import selectors
+import signal
 import socket
+import subprocess
+import sys
 import threading
 import time
 import traceback
-from typing import Callable, Iterable, List, NamedTuple, Optional, Sequence, Tuple, TypeVar, Union
+from typing import Any, AsyncIterator, Callable, Iterable, List, NamedTuple, Optional, Sequence, Tuple, TypeVar, Union
 
-__all__ = ["BeglushanError", "Hall", "LostNumber", "NoNames", "Number", "NumbersExhausted", "Refused", "Terms", "Unreachable"]
+__all__ = ["AsyncHall", "BeglushanError", "Hall", "LostNumber", "NoNames", "Number", "NumbersExhausted", "Refused", "Terms", "Unreachable"]
 
 Result = TypeVar("Result")
 
@@ -721,3 +729,225 @@ class Hall:
             if reply == f"owner {self.identity}":
                 return name
         raise _Fault("the participant has ended, and owns no name")
+
+
+class AsyncHall:
+    """A hall for `asyncio`. A call waits in a thread of its own, so the event loop goes on.
+
+        async with AsyncHall("127.0.0.1:7070").acquire() as number:
+            await work(number.value, number.token)
+
+    `on_lost` is called in the event loop that `acquire` was called in."""
+
+    def __init__(self, addresses: Union[str, Iterable[str]], *, on_lost: Optional[Callable[[Number], None]] = None, **options: Any) -> None:
+        """Takes what `Hall` takes, and raises what that raises."""
+        self._loop: Optional[asyncio.AbstractEventLoop] = None
+        self._on_lost = on_lost
+        self._hall = Hall(addresses, on_lost=None if on_lost is None else self._call_on_lost, **options)
+
+    @contextlib.asynccontextmanager
+    async def acquire(self) -> AsyncIterator[Number]:
+        """Holds a number in an `async with` block, as `Hall.acquire` does, and raises what that raises.
+
+        A task that is cancelled while it waits for the number holds none. After an exception in the block a failure to give back is not
+        raised, so that the exception is."""
+        self._loop = asyncio.get_running_loop()
+        number = await _unless_cancelled(self._hall.acquire, _give_back)
+        try:
+            yield number
+        except BaseException:
+            await asyncio.shield(self._loop.run_in_executor(None, _give_back, number))
+            raise
+        await asyncio.shield(self._loop.run_in_executor(None, number.leave))
+
+    async def rename(self) -> int:
+        """The name of this hall's identity, as of `Hall.rename`."""
+        return await asyncio.get_running_loop().run_in_executor(None, self._hall.rename)
+
+    def _call_on_lost(self, number: Number) -> None:
+        if self._loop is not None and self._on_lost is not None:
+            try:
+                self._loop.call_soon_threadsafe(self._on_lost, number)
+            except RuntimeError:
+                pass  # the loop has ended, and nobody is there to be told
+
+
+def _give_back(number: Number) -> None:
+    """Gives a number back by one call that may fail."""
+    try:
+        number.leave()
+    except BeglushanError:
+        pass
+
+
+async def _unless_cancelled(call: Callable[[], Result], undo: Callable[[Result], None]) -> Result:
+    """What a call returns that is made in a thread. Where the task is cancelled meanwhile, what the call did is undone once it has ended."""
+    loop = asyncio.get_running_loop()
+    done = loop.run_in_executor(None, call)
+    try:
+        return await asyncio.shield(done)
+    except asyncio.CancelledError:
+        try:
+            got = await asyncio.shield(done)
+        except BaseException:
+            pass
+        else:
+            await asyncio.shield(loop.run_in_executor(None, undo, got))
+        raise
+
+
+# The status where no number could be had, and the command was not run (EX_TEMPFAIL); where its number was lost (EX_SOFTWARE); where there is none.
+_NONE_HAD, _WAS_LOST, _NOT_THERE = 75, 70, 127
+# The signals that are passed on to a command.
+_PASSED_ON = ("SIGTERM", "SIGHUP", "SIGINT", "SIGQUIT", "SIGUSR1", "SIGUSR2")
+
+_USAGE = """Runs a command while it holds a number of a pool, with SLOT_NUMBER and SLOT_TOKEN in its environment.
+
+The number is given back once the command has ended. The command gets SIGTERM when a quarter of the server's grace time is left of the time
+for which the number is sure, and SIGKILL when nothing is left or the number is known to be lost. On Linux it is killed with this program."""
+
+_STATUSES = f"""The status is that of the command, or 128 and the number of the signal that ended it; {_NONE_HAD} if no number could be had, and the command
+was not run; {_WAS_LOST} if the number was lost and the command was ended for that; {_NOT_THERE} if there is no such command."""
+
+
+def _dies_with_parent() -> Optional[Callable[[], None]]:
+    """What has the system kill a new process once this one has ended; None where there is no such call."""
+    if sys.platform != "linux":
+        return None
+    try:
+        import ctypes
+
+        prctl, parent, kill = ctypes.CDLL(None).prctl, os.getpid(), int(signal.SIGKILL)
+    except (ImportError, OSError, AttributeError):
+        return None
+
+    def begin() -> None:
+        prctl(1, kill)  # PR_SET_PDEATHSIG
+        if os.getppid() != parent:
+            os._exit(_WAS_LOST)
+
+    return begin
+
+
+def _acquired_within(hall: Hall, seconds: float) -> Number:
+    """A number, for which it asks again and again for so many seconds."""
+    end, rounds = time.monotonic() + seconds, 0
+    while True:
+        try:
+            return hall.acquire()
+        except NumbersExhausted:
+            left = end - time.monotonic()
+            if left <= 0:
+                raise
+        rounds += 1
+        time.sleep(min(_pause(rounds), left))
+
+
+class _Command:
+    """A command that runs while a number is held. Signals are passed on to it; before it runs they end this program in order."""
+
+    def __init__(self, words: Sequence[str], pause: float) -> None:
+        """A command of these words. Each so many seconds it is asked whether somebody else gave the number back; never for 0."""
+        self._words, self._pause = words, pause
+        self._child: Optional["subprocess.Popen[bytes]"] = None
+        self._early: Optional[List[int]] = None  # signals that came while it was being started
+        for name in _PASSED_ON:
+            if hasattr(signal, name):
+                signal.signal(getattr(signal, name), self._pass_on)
+
+    def run(self, number: Number) -> int:
+        """Its status. It is ended where the number is lost."""
+        environment = {**os.environ, "SLOT_NUMBER": str(number.value), "SLOT_TOKEN": str(number.token)}
+        self._early = []
+        try:
+            self._child = subprocess.Popen(self._words, env=environment, preexec_fn=_dies_with_parent())
+        except OSError as fault:
+            print(f"beglushan: {self._words[0]}: {fault.strerror}", file=sys.stderr)
+            return _NOT_THERE
+        for which in self._early:
+            self._child.send_signal(which)
+        if self._pause > 0:
+            threading.Thread(target=_confirm_again_and_again, args=(number, self._pause), daemon=True).start()
+        status = _status_of(self._child, number)
+        if status is None:
+            print(f"beglushan: number {number.value} was lost, and the command was ended", file=sys.stderr)
+            return _WAS_LOST
+        return status if status >= 0 else 128 - status
+
+    def _pass_on(self, which: int, _: object) -> None:
+        if self._child is not None:
+            self._child.send_signal(which)
+        elif self._early is not None:
+            self._early.append(which)
+        else:
+            sys.exit(128 + which)
+
+
+def _confirm_again_and_again(number: Number, pause: float) -> None:
+    """Sees that somebody else has given a number back: then it is valid no more."""
+    try:
+        while number.valid_until > -math.inf:
+            time.sleep(pause)
+            with contextlib.suppress(Unreachable, Refused):
+                number.confirm()
+    except BeglushanError:
+        pass  # it is lost, or was given back
+
+
+def _status_of(child: "subprocess.Popen[bytes]", number: Number) -> Optional[int]:
+    """The status of a command; None where it was ended for the number's sake."""
+    margin, is_warned = number.terms.grace / 4, False
+    while True:
+        left = number.valid_until - time.monotonic()
+        if left <= 0:
+            child.kill()
+            child.wait()
+            return None
+        if left <= margin and not is_warned:
+            is_warned = True
+            child.terminate()
+        try:
+            status = child.wait(max(0.02, min(left - margin, 0.25)))
+            return None if is_warned else status
+        except subprocess.TimeoutExpired:
+            pass
+
+
+def _asked(words: Optional[Sequence[str]]) -> argparse.Namespace:
+    parser = argparse.ArgumentParser(prog="beglushan.py", description=__doc__.splitlines()[0])
+    commands = parser.add_subparsers(dest="what", required=True)
+    take = commands.add_parser("take", description=_USAGE, epilog=_STATUSES, formatter_class=argparse.RawDescriptionHelpFormatter)
+    take.add_argument("--at", required=True, metavar="HOST:PORT[,..]", help="the front ends, tried in turn")
+    take.add_argument("--id", type=int, metavar="ID", help="who holds the number, from 1 to 2^64 - 1; drawn if not given")
+    take.add_argument("--wait", type=float, default=0.0, metavar="SECONDS", help="how long to ask again while all numbers are held (0)")
+    take.add_argument("--confirm", type=float, default=60.0, metavar="SECONDS", help="how often to ask whether somebody else gave the number back (60; 0: never)")
+    take.add_argument("command", nargs="+", metavar="COMMAND", help="the command and its words, behind --")
+    return parser.parse_args(words)
+
+
+def main(words: Optional[Sequence[str]] = None) -> int:
+    """Runs a command while it holds a number: `take --at ADDRESS [--id ID] [--wait SECONDS] -- COMMAND ..`. Returns its status."""
+    asked = _asked(words)
+    try:
+        hall = Hall(asked.at, identity=asked.id)
+    except ValueError as fault:
+        print(f"beglushan: {fault}", file=sys.stderr)
+        return 2
+    command = _Command(asked.command, asked.confirm)
+    try:
+        number = _acquired_within(hall, asked.wait)
+    except BeglushanError as error:
+        print(f"beglushan: {error}", file=sys.stderr)
+        return _NONE_HAD
+    try:
+        status = command.run(number)
+    except BaseException:
+        _give_back(number)
+        raise
+    if status != _WAS_LOST:
+        _give_back(number)
+    return status
+
+
+if __name__ == "__main__":
+    sys.exit(main())
