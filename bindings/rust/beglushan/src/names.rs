@@ -4,7 +4,7 @@ use crate::error::Error;
 use crate::kit::alloc::Global;
 use crate::proved::model_steps::refusal::Refusal;
 use crate::proved::words_names::names::Names as Machine;
-use crate::proved::words_names::seats::{NameDealer, FreshNameSeat};
+use crate::proved::words_names::seats::{FreshNameSeat, NameDealer};
 use core::fmt;
 use std_alloc::sync::Arc;
 

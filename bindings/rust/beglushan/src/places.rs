@@ -3,7 +3,7 @@
 use crate::error::Error;
 use crate::kit::alloc::Global;
 use crate::proved::model_steps::refusal::Refusal;
-use crate::proved::words_machine::grid::seats::{GridDealer, FreshGridSeat};
+use crate::proved::words_machine::grid::seats::{FreshGridSeat, GridDealer};
 use crate::proved::words_machine::grid::word_grid::WordGrid;
 use core::fmt;
 use std_alloc::sync::Arc;
