@@ -1,12 +1,15 @@
 //! `slotctl show` by plain code, of records of the pool: the same record in, the same page out. `plain show FRAME`, where FRAME is the page
 //! of a record of the same header and no events, which has the fixed texts.
 
-use super::{number, parse, put_number, quick, streams, Command, Desk, Grid, Stay, World};
+use crate::commands::{parse, quick, Command};
+use crate::digits::{number, put_number};
+use crate::grid::Grid;
+use crate::play::streams;
+use crate::pool::Stay;
+use crate::records::{BEFORE, BETWEEN};
+use crate::worlds::{Desk, World};
 use std::fs;
 use std::io::{Read, Write};
-
-const BEFORE: &[u8] = b"{\"command\":\"";
-const BETWEEN: &[u8] = b"\",\"reply\":\"";
 
 /// Where the text that follows these bytes begins.
 fn behind(text: &str, bytes: &str) -> usize {
@@ -16,7 +19,9 @@ fn behind(text: &str, bytes: &str) -> usize {
 /// Whose command it is, where it is one of the pool's competitors.
 fn competitor(command: Command) -> Option<u64> {
     match command {
-        Command::Enter(id) | Command::Probe(id) | Command::Leave(id) | Command::Put(id, _) | Command::Get(id) => Some(id),
+        Command::Enter(identity) | Command::Probe(identity) | Command::Leave(identity) | Command::Put(identity, _) | Command::Get(identity) => {
+            Some(identity)
+        }
         _ => None,
     }
 }
@@ -49,9 +54,8 @@ fn put_row(desk: &Desk<Grid>, text: &[u8], command: Command, reply: &[u8], page:
     page.extend_from_slice(b"\",\"");
     page.extend_from_slice(reply);
     page.extend_from_slice(b"\",\"\",\"\",\"\",\"\",\"\",\"");
-    let stays = &desk.pool.stays;
-    if let Some(at) = competitor(command).and_then(|id| stays.iter().position(|stay| stay.0 == id)) {
-        put_stay(desk, stays[at].1, page);
+    if let Some(at) = competitor(command).and_then(|identity| desk.pool.roster.find(identity)) {
+        put_stay(desk, desk.pool.stays[at], page);
     }
     page.extend_from_slice(b"\",\"");
     put_number(desk.pool.size as u64, page);
@@ -71,11 +75,11 @@ fn put_item(event: u64, text: &[u8], reply: &[u8], items: &mut Vec<u8>) {
 
 /// What the desk holds at the end.
 fn put_state(desk: &Desk<Grid>, page: &mut Vec<u8>) {
-    for &(identity, stay) in &desk.pool.stays {
+    for (identity, stay) in desk.pool.roster.identities.iter().zip(&desk.pool.stays) {
         page.extend_from_slice(b"<li>");
-        put_number(identity, page);
+        put_number(*identity, page);
         page.extend_from_slice(b":    ");
-        put_stay(desk, stay, page);
+        put_stay(desk, *stay, page);
         page.extend_from_slice(b"</li>\n");
     }
     for slot in 1..=desk.pool.size {
@@ -93,11 +97,11 @@ fn put_state(desk: &Desk<Grid>, page: &mut Vec<u8>) {
 /// A line of a record: its command's bytes, the command, and the reply that is told.
 fn read_line(line: &[u8]) -> (&[u8], Command, &[u8]) {
     let asked = line.strip_prefix(BEFORE).unwrap();
-    let (command, length) = match quick::<Desk<Grid>, b'"'>(asked) {
+    let (command, length) = match quick::<b'"'>(asked, true) {
         Some(found) => found,
         None => {
             let length = asked.iter().position(|byte| *byte == b'"').unwrap();
-            (parse::<Desk<Grid>>(&asked[..length]).unwrap_or(Command::Quit), length)
+            (parse(&asked[..length], true).unwrap_or(Command::Quit), length)
         }
     };
     let told = asked[length..].strip_prefix(BETWEEN).unwrap();
