@@ -1,10 +1,14 @@
 //! Stays in a pool and values of threads, beside what else there is.
 //!
 //!     pairs               times each work once, and prints a line for each: its name, its threads, its nanoseconds
+//!     pairs occupancy     times the same of pools of which many numbers are held
 //!     pairs works         the works of one thread, by name
 //!     pairs WORK TIMES    does one of these so many times
 
+mod bitmap;
 mod counted;
+mod free_list;
+mod occupancy;
 mod plain;
 mod timed;
 
@@ -31,9 +35,10 @@ fn main() {
     let words: Vec<String> = std::env::args().skip(1).collect();
     match words.as_slice() {
         [] => all(),
+        [held] if held == "occupancy" => occupancy::all(),
         [list] if list == "works" => println!("{}", counted::WORKS.join("\n")),
         [name, times] => counted::work(name, times.parse().expect("a count")),
-        _ => panic!("pairs, pairs works, or pairs WORK TIMES"),
+        _ => panic!("pairs, pairs occupancy, pairs works, or pairs WORK TIMES"),
     }
 }
 
