@@ -21,12 +21,11 @@ pub fn identity_at(number: u64) -> u64 {
     (u64::MAX - 64).saturating_add(number)
 }
 
-/// The name of the next seat.
-fn name_next(names: &Names<Global>, dealer: &mut NameDealer) -> Option<u64>
+/// The name of the next seat, which is dealt to this identity.
+fn name_as(names: &Names<Global>, dealer: &mut NameDealer, identity: u64) -> Option<u64>
     requires ours { dealer.old.names ≡ names.now }
     ensures ours { dealer.new.names ≡ names.now }
 {
-    let identity = identity_at(dealer.dealt());
     let fresh = names.deal(dealer, identity).ok()?;
     let mut renamed = names.rename(fresh);
     names.tally(dealer, &mut renamed);
@@ -39,7 +38,8 @@ fn last_is(alloc: Global, most: u64, count: u64, due: Option<u64>) -> Result<boo
     let mut dealer = dealer;
     let mut last = None;
     for _ in 0..count {
-        last = name_next(&names, &mut dealer);
+        let identity = identity_at(dealer.dealt());
+        last = name_as(&names, &mut dealer, identity);
     }
     Ok(last == due)
 }
@@ -68,12 +68,11 @@ fn each_that_comes_later_has_the_next_odd_name(rt: HostRuntime) {
 fn last_of(alloc: Global, identities: &[u64], due: u64) -> Result<bool, Refusal> {
     let (names, dealer) = Names::new(alloc, identities.len() as u64)?;
     let mut dealer = dealer;
-    let mut last = 0;
+    let mut last = None;
     for identity in identities {
-        let seat = names.deal(&mut dealer, *identity)?;
-        last = names.name(&names.rename(seat));
+        last = name_as(&names, &mut dealer, *identity);
     }
-    Ok(last == due)
+    Ok(last == Some(due))
 }
 
 /// Identities that come one after another, and the name of the last. The second of two has the last name of the first instance
