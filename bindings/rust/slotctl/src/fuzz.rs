@@ -17,10 +17,11 @@ use crate::proved::service_host::reading::Reading;
 use crate::proved::service_loop::answering::answer_queries;
 use crate::proved::service_loop::attended::Attended;
 use crate::proved::service_loop::buffers::Buffers;
-use crate::proved::service_loop::connection::{Connection, Stage};
+use crate::proved::service_loop::connection::{Connection, ConnectionStage};
 use crate::proved::service_loop::shared::SharedBuffers;
 use crate::proved::service_loop::stream::Stream;
 use crate::proved::service_loop::taking::serve_takings;
+use crate::proved::service_loop::terms::Terms;
 use crate::proved::service_loop::turns::iterate;
 use crate::proved::text_lines::sink::Sink;
 use crate::proved::text_player::source::Source;
@@ -141,9 +142,6 @@ const WORDS: &[&str] = &[
     "owner 0\n",
     "widen 2\n",
     "quit\n",
-    "held\n",
-    "held 5\n",
-    "take 7\n",
     "\n",
     " ",
     "\r\n",
@@ -155,11 +153,25 @@ const WORDS: &[&str] = &[
     "\u{e9}",
 ];
 
-/// Lines, some of them damaged.
+/// Lines that `host` answers, and that `play` does not know.
+const ASKED: &[&str] = &["held\n", "held 5\n", "take 7\n", "terms\n"];
+
+const TERMS: Terms = Terms {
+    grace: None,
+    idle: Some(600),
+};
+
+/// Lines, some of them damaged; in half of the cases some that `play` does not know.
 fn drawn_lines(drawn: &mut Drawn) -> Vec<u8> {
     let mut bytes = Vec::new();
+    let asks = drawn.below(2) == 0;
     for _ in 0..drawn.below(120) {
-        bytes.extend_from_slice(drawn.of(WORDS).as_bytes());
+        let words = if asks && drawn.below(8) == 0 {
+            ASKED
+        } else {
+            WORDS
+        };
+        bytes.extend_from_slice(drawn.of(words).as_bytes());
     }
     damage(drawn, &mut bytes);
     bytes
@@ -247,7 +259,8 @@ fn hosted(config: Config, bytes: &[u8], pieces: u64, most: usize) -> Vec<u8> {
         if connection.is_done() {
             return std::mem::take(&mut connection.stream.output);
         }
-        (connection.readable, connection.writable, connection.stage) = (true, true, Stage::Queued);
+        (connection.readable, connection.writable, connection.stage) =
+            (true, true, ConnectionStage::Queued);
         shared.share_among(1);
         let served = iterate(
             &HostRuntime,
@@ -271,7 +284,14 @@ fn hosted(config: Config, bytes: &[u8], pieces: u64, most: usize) -> Vec<u8> {
                 false,
             );
             assert!(taken.is_ok());
-            answer_queries(&service.service, &persister, &mut shared, &mut seats, &[0]);
+            answer_queries(
+                &service.service,
+                &persister,
+                TERMS,
+                &mut shared,
+                &mut seats,
+                &[0],
+            );
         }
     }
 }
@@ -316,9 +336,17 @@ fn run(seed: u64) {
         "seed {seed}, a damaged record in pieces"
     );
     let replies = hosted(config, &lines, pieces, most);
-    // `play` knows neither `held` nor `take`.
-    if !text(&lines).contains("held") && !text(&lines).contains("take") {
-        let wanted = played(config, &lines, 1, 1 << 20);
+    let told = text(&lines);
+    if !["held", "take", "terms"]
+        .iter()
+        .any(|word| told.contains(word))
+    {
+        // A line that was cut is acted on by nobody.
+        let whole = lines
+            .iter()
+            .rposition(|byte| *byte == b'\n')
+            .map_or(0, |at| at + 1);
+        let wanted = played(config, &lines[..whole], 1, 1 << 20);
         assert_eq!(text(&replies), text(&wanted), "seed {seed}, hosted");
     }
 }
