@@ -10,11 +10,10 @@ use Rattle.model_recursion.specs.Spot.{Spot, has_written, was_full, is_in}
 use Rattle.model_recursion.specs.Spot.Fate.{Absent, Reading, Named}
 use Rattle.model_recursion.specs.Levels.{Level, CameFrom, IsSplit, size}
 use Rattle.model_recursion.specs.Invariant.{rank, members_of, HasRead, StandsAt, Stands, Stays, IsConsistent}
-use Rattle.model_recursion.specs.Program.{namer_of, in_phase, first_survey, surveyed, read_next, cell_at}
+use Rattle.model_recursion.specs.Program.{namer_of, in_phase, first_survey, surveyed, read_next, cell_at, Phase, phase_of}
 use Rattle.model_recursion.specs.Machine.{Words, with_word}
 use Rattle.model_recursion.specs.declared.namer.Survey.{Survey}
-use Rattle.model_recursion.specs.declared.namer.Phase.{Phase}
-use Rattle.model_recursion.specs.declared.namer.Phase.TheVariants.{Entering, Collecting}
+use Rattle.model_recursion.specs.Program.Phase.{Entering, Collecting}
 use Rattle.model_recursion.specs.declared.namer.Namer.{Namer}
 use Rattle.model_recursion.proofs.Levelling.{in_tells, in_is}
 use Rattle.model_recursion.proofs.Putting.{put, put_own, put_level, put_person, put_cases}
@@ -24,7 +23,7 @@ use Rattle.model_recursion.proofs.Moved.{moved, grows}
 
 module _ (m : ℕ) (ids : ℕ → ℕ) (word : Words) (who : ℕ → Option Namer) (g : IsConsistent m ids word who) (p : ℕ) where
   -- who stays is another, or stays by the same
-  stays_after : (next : Namer) (y f : ℕ) (w : Stays m g.rows who y f) → (w.seat ≡ p → (was_full (g.rows y w.seat).fate ≡ true) ⊎ ((v : Namer) × (c : Survey) × (Some next ≡ Some v) × (v.level ≡ y) × (v.first ≡ f) × (v.phase ≡ Collecting c) × (count_to (members_of g.rows y f) c.at ≤ c.seen)))
+  stays_after : (next : Namer) (y f : ℕ) (w : Stays m g.rows who y f) → (w.seat ≡ p → (was_full (g.rows y w.seat).fate ≡ true) ⊎ ((v : Namer) × (c : Survey) × (Some next ≡ Some v) × (v.level ≡ y) × (v.first ≡ f) × (phase_of v ≡ Collecting c) × (count_to (members_of g.rows y f) c.at ≤ c.seen)))
       → Stays m g.rows (set_at who p (Some next)) y f
   stays_after next y f w own = record {
     seat = w.seat;
@@ -77,7 +76,7 @@ module _ (m : ℕ) (ids : ℕ → ℕ) (word : Words) (who : ℕ → Option Name
     abbrev st : Stands m ids g.rows p u
     st = g.stands p u is
 
-    module _ (c : Survey) (reads : u.phase ≡ Collecting c) where
+    module _ (c : Survey) (reads : phase_of u ≡ Collecting c) where
       pub reading : StandsAt m ids (members_of g.rows u.level u.first) (g.rows u.level p) u (Collecting c)
       reading = subst (λ (phase : Phase). StandsAt m ids (members_of g.rows u.level u.first) (g.rows u.level p) u phase) reads st.at
 
@@ -120,7 +119,7 @@ module _ (m : ℕ) (ids : ℕ → ℕ) (word : Words) (who : ℕ → Option Name
                 let own : u ≡ r.0 = (let h : Some u ≡ Some r.0 = sym is ∙ ap who (sym e) ∙ r.2 in cc) in
                 let level : u.level ≡ suc k = ap (λ (v : Namer). v.level) own ∙ r.3 in
                 let first : u.first ≡ f = ap (λ (v : Namer). v.first) own ∙ r.4 in
-                let one : c ≡ r.1 = (let h : Collecting c ≡ Collecting r.1 = sym reads ∙ ap (λ (v : Namer). v.phase) own ∙ r.5 in cc) in
+                let one : c ≡ r.1 = (let h : Collecting c ≡ Collecting r.1 = sym reads ∙ ap (λ (v : Namer). phase_of v) own ∙ r.5 in cc) in
                 let before : count_to (members_of g.rows u.level u.first) c.at ≤ c.seen =
                 subst (λ (y : ℕ). count_to (members_of g.rows y u.first) c.at ≤ c.seen) (sym level) (subst (λ (i : ℕ). count_to (members_of g.rows (suc k) i) c.at ≤ c.seen) (sym first) (subst (λ (d : Survey). count_to (members_of g.rows (suc k) f) d.at ≤ d.seen) (sym one) r.6)) in
                 let all = counts_all m ids (members_of g.rows u.level u.first) p u c read g.few st.few st.own st.id_is st.some_id inside there_some (word u.level u.first c.at) word_is before in
@@ -129,7 +128,7 @@ module _ (m : ℕ) (ids : ℕ → ℕ) (word : Words) (who : ℕ → Option Name
                 inr (in_phase u (Collecting (read_next after)), read_next after, refl, level, first, refl, subst (λ (y : ℕ). count_to (members_of g.rows y f) (min (c.at + 1) 255) ≤ after.seen) level (subst (λ (i : ℕ). count_to (members_of g.rows u.level i) (min (c.at + 1) 255) ≤ after.seen) first now))
           ]))
 
-    module _ (enters : u.phase ≡ Entering) where
+    module _ (enters : phase_of u ≡ Entering) where
       gone : (g.rows u.level p).fate ≡ Absent
       gone = subst (λ (phase : Phase). StandsAt m ids (members_of g.rows u.level u.first) (g.rows u.level p) u phase) enters st.at
 

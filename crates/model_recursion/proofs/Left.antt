@@ -11,10 +11,10 @@ use Rattle.model_recursion.specs.Spot.Fate.{Absent, Reading, Straight, Turned, N
 use Rattle.model_recursion.specs.Ranges.{IsWithin, IsTurn, IsLast}
 use Rattle.model_recursion.specs.Levels.{Level, CameFrom, size}
 use Rattle.model_recursion.specs.Invariant.{rank, is_up_to, members_of, HasGreater, HasRead, Stands, Stays, IsConsistent}
-use Rattle.model_recursion.specs.Program.{in_phase, came_to, turn_of, last_of, decided, surveyed, is_open}
+use Rattle.model_recursion.specs.Program.{in_phase, came_to, turn_of, last_of, decided, surveyed, is_open, phase_of}
 use Rattle.model_recursion.specs.Machine.{Words}
 use Rattle.model_recursion.specs.declared.namer.Survey.{Survey}
-use Rattle.model_recursion.specs.declared.namer.Phase.TheVariants.{Collecting, Over}
+use Rattle.model_recursion.specs.Program.Phase.{Collecting, Over}
 use Rattle.model_recursion.specs.declared.namer.Namer.{Namer}
 use Rattle.model_recursion.proofs.Counting.{count_some, count_rest}
 use Rattle.model_recursion.proofs.Levelling.{in_tells}
@@ -32,7 +32,7 @@ level_is : (x : ℕ) → 1 ≤ x → (k : ℕ) × (x ≡ suc k)
 level_is zero l = absurd (omega arith)
 level_is (suc k) l = (k, refl)
 
-module _ (m : ℕ) (ids : ℕ → ℕ) (word : Words) (who : ℕ → Option Namer) (g : IsConsistent m ids word who) (p : ℕ) (u : Namer) (is : who p ≡ Some u) (c : Survey) (reads : u.phase ≡ Collecting c) (closed : is_open u (surveyed u c (word u.level u.first c.at)) ≡ false) where
+module _ (m : ℕ) (ids : ℕ → ℕ) (word : Words) (who : ℕ → Option Namer) (g : IsConsistent m ids word who) (p : ℕ) (u : Namer) (is : who p ≡ Some u) (c : Survey) (reads : phase_of u ≡ Collecting c) (closed : is_open u (surveyed u c (word u.level u.first c.at)) ≡ false) where
   abbrev st : Stands m ids g.rows p u
   st = g.stands p u is
 
@@ -133,7 +133,7 @@ module _ (m : ℕ) (ids : ℕ → ℕ) (word : Words) (who : ℕ → Option Name
                 | inl over ↦ absurd (let a : was_full (g.rows u.level p).fate ≡ true = ap (λ (i : ℕ). was_full (g.rows u.level i).fate) (sym d.1) ∙ over in let b : was_full (g.rows u.level p).fate ≡ false = ap was_full (reading m ids word who g p u is c reads).0 in cc)
                 | inr r ↦
                     let own : u ≡ r.0 = (let h : Some u ≡ Some r.0 = sym is ∙ ap who (sym d.1) ∙ r.2 in cc) in
-                    let one : c ≡ r.1 = (let h : Collecting c ≡ Collecting r.1 = sym reads ∙ ap (λ (v : Namer). v.phase) own ∙ r.5 in cc) in
+                    let one : c ≡ r.1 = (let h : Collecting c ≡ Collecting r.1 = sym reads ∙ ap (λ (v : Namer). phase_of v) own ∙ r.5 in cc) in
                     let before : count_to there c.at ≤ c.seen = subst (λ (z : Survey). count_to there z.at ≤ z.seen) (sym one) r.6 in
                     let all = counts_all m ids there p u c first_read g.few st.few st.own st.id_is st.some_id mine (there_some m ids word who g p u is c reads) (word u.level u.first c.at) word_here before in
                     let to = first_read.to in

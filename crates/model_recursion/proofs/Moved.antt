@@ -7,14 +7,14 @@ use Rattle.model_steps.specs.SetAt.{set_at}
 use Rattle.model_steps.specs.Count.{count_to}
 use Rattle.model_steps.proofs.cited.CountLemmas.{count_to-mono}
 use Rattle.model_steps.proofs.cited.SetAtLemmas.{set_at-other, set_at-cases}
+use Rattle.model_recursion.specs.Program.{Phase, phase_of}
 use Rattle.model_recursion.specs.Spot.{Spot, has_written, was_full, has_turned, is_in}
 use Rattle.model_recursion.specs.Spot.Fate.{Absent, Reading, Named}
 use Rattle.model_recursion.specs.Ranges.{IsTurn}
 use Rattle.model_recursion.specs.Levels.{Level, CameFrom}
 use Rattle.model_recursion.specs.Invariant.{rank, is_up_to, members_of, HasGreater, HasRead, StandsAt, Stands, Stays, IsConsistent}
 use Rattle.model_recursion.specs.declared.namer.Survey.{Survey}
-use Rattle.model_recursion.specs.declared.namer.Phase.{Phase}
-use Rattle.model_recursion.specs.declared.namer.Phase.TheVariants.{Entering, Collecting, Over}
+use Rattle.model_recursion.specs.Program.Phase.{Entering, Collecting, Over}
 use Rattle.model_recursion.specs.declared.namer.Namer.{Namer}
 use Rattle.model_recursion.proofs.Levelling.{in_tells}
 use Rattle.model_recursion.proofs.Putting.{put, put_level, put_person, put_cases, put_other}
@@ -190,8 +190,8 @@ module _ (m : ℕ) (ids : ℕ → ℕ) (word : ℕ → ℕ → ℕ → ℕ) (who
             lower = λ y l. ap (λ (t : Spot). t.fate) (spot y) ∙ old.lower y l;
             came = λ l. subst (λ (t : Spot). CameFrom v.level t (record { fate = Reading; first = v.first })) (sym (spot (suc v.level))) (old.came l);
             top = old.top;
-            at = stands_more m ids (members_of g.rows v.level v.first) (members_of rows' v.level v.first) (rows' v.level q) v v.phase (grows v.level v.first)
-                (subst (λ (t : Spot). StandsAt m ids (members_of g.rows v.level v.first) t v v.phase) (sym (spot v.level)) old.at);
+            at = stands_more m ids (members_of g.rows v.level v.first) (members_of rows' v.level v.first) (rows' v.level q) v (phase_of v) (grows v.level v.first)
+                (subst (λ (t : Spot). StandsAt m ids (members_of g.rows v.level v.first) t v (phase_of v)) (sym (spot v.level)) old.at);
           })
 
       pub moved : IsConsistent m ids word' who'

@@ -1,5 +1,5 @@
 -- what one word more shows
-use Rattle.std.proofs.Common.{◌≡◌, ℕ, suc, ◌+◌, ◌*◌, ◌<◌, ◌≤◌, inl, inr, Bool, true, false, ◌&&◌, ◌||◌, ◌==◌, min, nat_lt, nat_le, refl, ap, ◌∙◌, arith, if◌then◌else◌, ne_eqb}
+use Rattle.std.proofs.Common.{◌≡◌, ℕ, suc, ◌+◌, ◌*◌, ◌<◌, ◌≤◌, inl, inr, Bool, true, false, ◌&&◌, ◌||◌, ◌==◌, min, ap, ◌∙◌, arith, if◌then◌else◌, ne_eqb}
 use Rattle.std.proofs.lemmas.Bool.{cases_Bool}
 use Rattle.std.proofs.lemmas.Bool.Decides.{eqb_tells, nat_tests}
 use Rattle.model_steps.specs.Count.{count_to}
@@ -28,19 +28,16 @@ module _ (m : ℕ) (ids : ℕ → ℕ) (there : ℕ → Bool) (p : ℕ) (u : Nam
   comes_after word = is_after u.identity u.seat word c.at
 
   -- nobody wrote there
-  blank : there c.at ≡ false → KnowsOf m ids there p (suc c.at) c.seen (c.greater || comes_after 0)
-  blank none =
-      let never : comes_after 0 ≡ false = (grind (arith, nat_tests)) in
-      let same : (c.greater || comes_after 0) ≡ c.greater = rw never (elim c.greater as (λ b. (b || false) ≡ b) [ true ↦ refl | false ↦ refl ]) in
-      rw same (record {
-        low = let low = h.low in rw none (omega arith);
-        under = λ g. let under = h.under g in rw none (omega arith);
-        over = h.over;
-        own = λ l. elim (eqb_tells p c.at) [
-          | inl e ↦ absurd (let gone : there p ≡ false = ap there e.1 ∙ none in cc)
-          | inr n ↦ h.own (let ne = n.1 in omega arith)
-        ];
-      })
+  blank : there c.at ≡ false → KnowsOf m ids there p (suc c.at) c.seen c.greater
+  blank none = record {
+    low = let low = h.low in rw none (omega arith);
+    under = λ g. let under = h.under g in rw none (omega arith);
+    over = h.over;
+    own = λ l. elim (eqb_tells p c.at) [
+      | inl e ↦ absurd (let gone : there p ≡ false = ap there e.1 ∙ none in cc)
+      | inr n ↦ h.own (let ne = n.1 in omega arith)
+    ];
+  }
 
   here : there c.at ≡ true → KnowsOf m ids there p (suc c.at) (min (c.seen + 1) 255) (c.greater || comes_after (ids c.at))
   here is =

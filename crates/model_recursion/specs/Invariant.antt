@@ -2,13 +2,13 @@
 use Rattle.std.specs.Prelude.{◌≡◌, ℕ, ◌+◌, ◌*◌, ◌<◌, ◌≤◌, ◌⊎◌, ◌&&◌, nat_le, true, false, if◌then◌else◌, Bool, Option, Some, None}
 use Rattle.std.proofs.Common.{suc}
 use Rattle.model_steps.specs.Count.{count_to}
+use Rattle.model_recursion.specs.Program.{Phase, phase_of}
 use Rattle.model_recursion.specs.Spot.{Spot, has_written, was_full, has_turned, is_in}
 use Rattle.model_recursion.specs.Spot.Fate.{Absent, Reading, Named}
 use Rattle.model_recursion.specs.Ranges.{IsLast}
 use Rattle.model_recursion.specs.Levels.{Level, CameFrom}
 use Rattle.model_recursion.specs.declared.namer.Survey.{Survey}
-use Rattle.model_recursion.specs.declared.namer.Phase.{Phase}
-use Rattle.model_recursion.specs.declared.namer.Phase.TheVariants.{Entering, Collecting, Over}
+use Rattle.model_recursion.specs.Program.Phase.{Entering, Collecting, Over}
 use Rattle.model_recursion.specs.declared.namer.Namer.{Namer}
 
 -- who has written at an instance: by level, first name and seat
@@ -61,14 +61,14 @@ pub record Stands (m : ℕ) (ids : ℕ → ℕ) (rows : ℕ → Level) (p : ℕ)
   pub lower : (x : ℕ) → x < u.level → (rows x p).fate ≡ Absent
   pub came : u.level < m → CameFrom u.level (rows (suc u.level) p) (record { fate = Reading; first = u.first })
   pub top : u.level ≡ m → u.first ≡ 1
-  pub at : StandsAt m ids (members_of rows u.level u.first) (rows u.level p) u u.phase
+  pub at : StandsAt m ids (members_of rows u.level u.first) (rows u.level p) u (phase_of u)
 
 -- one that does not go straight on from an instance: it was full, or reads, and has counted all before it
 pub record Stays (m : ℕ) (rows : ℕ → Level) (who : ℕ → Option Namer) (x f : ℕ) : Type 0 where
   pub seat : ℕ
   pub low : seat < suc m
   pub inside : members_of rows x f seat ≡ true
-  pub so : (was_full (rows x seat).fate ≡ true) ⊎ ((u : Namer) × (c : Survey) × (who seat ≡ Some u) × (u.level ≡ x) × (u.first ≡ f) × (u.phase ≡ Collecting c) × (count_to (members_of rows x f) c.at ≤ c.seen))
+  pub so : (was_full (rows x seat).fate ≡ true) ⊎ ((u : Namer) × (c : Survey) × (who seat ≡ Some u) × (u.level ≡ x) × (u.first ≡ f) × (phase_of u ≡ Collecting c) × (count_to (members_of rows x f) c.at ≤ c.seen))
 
 -- the words, the seats with their identities, and where each has been
 pub record IsConsistent (m : ℕ) (ids : ℕ → ℕ) (word : ℕ → ℕ → ℕ → ℕ) (who : ℕ → Option Namer) : Type 0 where

@@ -16,7 +16,7 @@ use Rattle.model_steps.specs.World.{done_unless}
 use Rattle.model_recursion.specs.Calls.{SeatCall, calls_of, RefusesAsDue}
 use Rattle.model_recursion.specs.Calls.SeatCall.{Begin, Step}
 use Rattle.model_recursion.specs.Law.{NamingSpec}
-use Rattle.model_recursion.specs.Program.{namer_of, next_access, namer_after, namer_note, name_at}
+use Rattle.model_recursion.specs.Program.{namer_of, next_access, namer_after, namer_note, name_at, phase_of}
 use Rattle.model_recursion.specs.declared.namer.Cell.{Cell}
 use Rattle.model_recursion.specs.declared.namer.Namer.{Namer}
 
@@ -106,4 +106,4 @@ program_in w p = option_map (λ v. v.program) (w.self p)
 
 -- the name of a seat, once it has one
 abbrev pub name_by : Option (Participant Namer) → Option ℕ
-name_by o = option_and_then (λ v. name_at v.program.phase) o
+name_by o = option_and_then (λ v. name_at (phase_of v.program)) o

@@ -34,4 +34,4 @@ pub mod laws;
 pub mod namer;
 
 pub use laws::{law_of_levels, law_of_naming};
-pub use namer::{Cell, Namer, Phase, Survey};
+pub use namer::{Cell, Doing, Namer, Survey};

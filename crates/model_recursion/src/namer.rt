@@ -43,13 +43,13 @@ impl Survey {
 
 /// What a seat does next at its instance.
 #[derive(Clone, Copy, Debug, Drop, PartialEq, Eq)]
-pub enum Phase {
+pub enum Doing {
     /// It writes its identity into its word.
-    Entering,
+    Writes,
     /// It reads the words of the seats, one after another.
-    Collecting(Survey),
-    /// It has this name.
-    Over(u16),
+    Reads,
+    /// It has its name.
+    Rests,
 }
 
 /// Returns the last name of an instance.
@@ -92,7 +92,11 @@ pub struct Namer {
     /// The first name of its instance.
     pub first: u16,
     /// What it does next there.
-    pub phase: Phase,
+    pub doing: Doing,
+    /// How far it has read there, while it reads.
+    pub survey: Survey,
+    /// Its name, once it has one.
+    pub name: u16,
 }
 
 impl Namer {
@@ -106,7 +110,9 @@ impl Namer {
             identity,
             level: most,
             first: 1,
-            phase: Phase::Entering,
+            doing: Doing::Writes,
+            survey: Survey::first(),
+            name: 0,
         }
     }
 
@@ -131,19 +137,19 @@ impl Namer {
         self.identity < word || (self.identity == word && self.seat < seat)
     }
 
-    /// Returns the survey with one word counted.
+    /// Returns its survey with one word counted.
     #[inline(always)]
-    fn surveying(&self, survey: Survey, word: u64) -> Survey
-        ensures { result ≡ surveyed self.now survey word }
+    fn surveying(&self, word: u64) -> Survey
+        ensures { result ≡ surveyed self.now self.now.survey word }
     {
+        let Survey { at, seen, greater } = self.survey;
+        if word == 0 {
+            return Survey { at, seen, greater };
+        }
         Survey {
-            at: survey.at,
-            seen: if word == 0 {
-                survey.seen
-            } else {
-                survey.seen.saturating_add(1)
-            },
-            greater: survey.greater || self.is_before(survey.at, word),
+            at,
+            seen: seen.saturating_add(1),
+            greater: greater || self.is_before(at, word),
         }
     }
 
@@ -156,63 +162,45 @@ impl Namer {
         survey.seen < self.level && u16::from(self.level) <= u16::from(survey.seen) + rest
     }
 
-    /// Returns the program at this phase.
+    /// Goes to the next level, to the instance with this first name.
     #[inline(always)]
-    fn in_phase(self, phase: Phase) -> Namer
-        ensures { result ≡ record self { phase = phase } }
+    fn descend(&mut self, first: u16)
+        ensures { self.new ≡ came_to self.old first }
     {
-        Namer {
-            most: self.most,
-            seat: self.seat,
-            identity: self.identity,
-            level: self.level,
-            first: self.first,
-            phase,
-        }
+        self.level = self.level.saturating_sub(1);
+        self.first = first;
+        self.doing = Doing::Writes;
     }
 
-    /// Returns the program at the next level, at the instance with this first name.
+    /// Goes on after it has read as many words as decide.
     #[inline(always)]
-    fn at_next_level(self, first: u16) -> Namer
-        ensures { result ≡ came_to self first }
-    {
-        Namer {
-            most: self.most,
-            seat: self.seat,
-            identity: self.identity,
-            level: self.level.saturating_sub(1),
-            first,
-            phase: Phase::Entering,
-        }
-    }
-
-    /// Returns the program after it has read as many words as decide.
-    #[inline(always)]
-    fn deciding(self, survey: Survey) -> Namer
-        ensures { result ≡ decided self survey }
+    fn decide(&mut self, survey: Survey)
+        ensures { self.new ≡ decided self.old survey }
     {
         if survey.seen < self.level {
-            self.at_next_level(self.first)
+            self.descend(self.first);
         } else if survey.greater {
-            self.at_next_level(turned_first(self.level, self.first))
+            self.descend(turned_first(self.level, self.first));
         } else {
-            self.in_phase(Phase::Over(last_name(self.level, self.first)))
+            self.name = last_name(self.level, self.first);
+            self.doing = Doing::Rests;
         }
     }
 
-    /// Returns the program after it has read one word more.
+    /// Goes on after it has read one word more.
     #[inline(always)]
-    fn reading_on(self, survey: Survey) -> Namer
-        ensures { result ≡ read_on self survey }
+    fn read_on(&mut self, survey: Survey)
+        ensures { self.new ≡ read_on self.old survey }
     {
         if self.is_open(survey) {
-            self.in_phase(Phase::Collecting(Survey {
+            self.doing = Doing::Reads;
+            self.survey = Survey {
                 at: survey.at.saturating_add(1),
                 seen: survey.seen,
                 greater: survey.greater,
-            }))
+            };
         } else {
-            self.deciding(survey)
+            self.decide(survey);
         }
     }
 }
@@ -230,10 +218,10 @@ impl StepProgram for Namer {
     fn next(&self) -> Access<Cell, u64>
         ensures { result ≡ next_access self.now }
     {
-        match self.phase {
-            Phase::Entering => Access::Write(self.cell(self.seat), self.identity),
-            Phase::Collecting(survey) => Access::Read(self.cell(survey.at)),
-            Phase::Over(_) => Access::Nothing,
+        match self.doing {
+            Doing::Writes => Access::Write(self.cell(self.seat), self.identity),
+            Doing::Reads => Access::Read(self.cell(self.survey.at)),
+            Doing::Rests => Access::Nothing,
         }
     }
 
@@ -246,13 +234,16 @@ impl StepProgram for Namer {
             Answer::Value(value) => value,
             _ => 0,
         };
-        match self.phase {
-            Phase::Entering => self.phase = Phase::Collecting(Survey::first()),
-            Phase::Collecting(survey) => *self = self.reading_on(self.surveying(survey, word)),
-            Phase::Over(_) => {}
+        match self.doing {
+            Doing::Writes => {
+                self.survey = Survey::first();
+                self.doing = Doing::Reads;
+            }
+            Doing::Reads => self.read_on(self.surveying(word)),
+            Doing::Rests => {}
         }
-        match self.phase {
-            Phase::Over(name) => Note::Ended(name),
+        match self.doing {
+            Doing::Rests => Note::Ended(self.name),
             _ => Note::Quiet,
         }
     }

@@ -1,7 +1,12 @@
 -- a program, access by access
-use Rattle.std.proofs.Common.{◌≡◌, ℕ, ◌-◌, ◌<◌, ◌≤◌, false, Some, None, [], subst, sym, refl, ap, ◌∙◌, arith, is_some}
+use Rattle.std.proofs.Common.{◌≡◌, ℕ, ◌-◌, ◌<◌, ◌≤◌, false, Option, Some, None, [], subst, sym, refl, ap, ◌∙◌, arith, is_some}
 use Rattle.words_machine.proofs.Common.{Me, outcome_in, ends, ProgramSteps, Participant, Note, Stand, SeatView, own, stand_at, lone_view, unbegun, WordLaw, IsOwnAccess, IsSound, IsStand, IsUnder, Stands, HasStepped, HasEnded, accesses_in}
 use Rattle.model_steps.specs.declared.note.Note.TheVariants.{Quiet, Said, Ended}
+
+-- what is not there is nothing
+pub none_left : {O : Type 0} (o : Option O) → is_some o ≡ false → o ≡ None
+none_left None is = refl
+none_left (Some said) is = absurd (cc)
 
 -- a note with no outcome goes on, and one with an outcome ends with it
 pub still_on : {O : Type 0} (n : Note O) → outcome_in n ≡ None → ends n ≡ false

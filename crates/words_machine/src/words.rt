@@ -1,6 +1,6 @@
 //! The words. They are reached through this type alone, of which each access of a program is counted in the view of its seat.
 
-ghost use Rattle.std.specs.Prelude.{◌≡◌, ◌<◌, ◌≤◌, ◌+◌, ◌++◌, ◌∷◌, [], List, IfOk, IsSome};
+ghost use Rattle.std.specs.Prelude.{◌≡◌, ◌<◌, ◌≤◌, ◌+◌, ◌++◌, ◌∷◌, [], List, IfOk, IfSome, IfNone, IsSome};
 ghost use Rattle.model_steps.specs.declared.access.Access.TheVariants.{Read, Write};
 ghost use Rattle.words_machine.specs.SeatViews.{own, lone_view, undealt_from, unbegun, view_of, endings_of};
 ghost use Rattle.words_machine.specs.RunSteps.{Stands, HasStepped, HasEnded, IsUnderRule, accesses_in};
@@ -215,6 +215,42 @@ impl<P: WordProgram + Drop, A: Allocator> Words<P, A>
 where
     P::Output: Drop,
 {
+    /// Makes the loads that a program makes next, one after another, until it ends or stores: with what it has ended, if it has, and
+    /// how many accesses it has made by then, of which `made` came before.
+    #[inline(always)]
+    fn run_loads(
+        &self,
+        seat: &mut Seat<u8, SeatView<P, P::Output>>,
+        number: u64,
+        identity: u64,
+        program: &mut P,
+        made: u64,
+    ) -> (Option<P::Output>, u64)
+        requires ours { seat.old.table_id ≡ self.now.table }
+        requires before { Stands P.steps P.law self.now.most number identity program.old seat.old.me }
+        requires made { made ≡ accesses_in seat.old.me }
+        requires few { made ≤ P.law.bound self.now.most }
+        ensures ours { seat.new.table_id ≡ self.now.table }
+        ensures ended { IfSome result.0 (λ outcome. HasEnded P.law self.now.most number identity program.new outcome seat.new.me) }
+        ensures goes_on { IfNone result.0 (Stands P.steps P.law self.now.most number identity program.new seat.new.me) }
+        ensures counted { result.1 ≡ accesses_in seat.new.me }
+        ensures more { made ≤ result.1 }
+        ensures few { result.1 ≤ P.law.bound self.now.most }
+    {
+        // Opens the words, so that the machine's bound is known to be small.
+        let _most = self.most;
+        let mut accesses = made;
+        while let WordAccess::Load(register) = program.access() {
+            let note = self.step_load(seat, number, identity, program, register);
+            accesses += 1;
+            let ended = note.outcome();
+            if ended.is_some() {
+                return (ended, accesses);
+            }
+        }
+        (None, accesses)
+    }
+
     /// Makes the accesses of a program that has not begun, one after another, until it ends: with what, and how many they were.
     #[inline(always)]
     pub(crate) fn run(
@@ -240,6 +276,11 @@ where
             let note = self.step(seat, number, identity, program);
             accesses += 1;
             if let Some(outcome) = note.outcome() {
+                return (outcome, accesses);
+            }
+            let (ended, made) = self.run_loads(seat, number, identity, program, accesses);
+            accesses = made;
+            if let Some(outcome) = ended {
                 return (outcome, accesses);
             }
         }

@@ -4,15 +4,15 @@ use Rattle.std.proofs.lemmas.Bool.{cases_Bool}
 use Rattle.std.proofs.lemmas.Bool.Decides.{eqb_tells, nat_tests}
 use Rattle.model_steps.specs.Count.{count_to}
 use Rattle.model_steps.proofs.cited.CountLemmas.{count_to-lt, count_to-gain}
+use Rattle.model_recursion.specs.Program.{Phase}
 use Rattle.model_recursion.specs.Spot.{Fate, Spot, has_written, was_full, went_straight, has_turned, is_in}
 use Rattle.model_recursion.specs.Spot.Fate.{Absent, Reading, Straight, Turned, Named}
-use Rattle.model_recursion.specs.Ranges.{IsWithin, IsTurn, IsLast, IsInstance}
+use Rattle.model_recursion.specs.Ranges.{IsInstance}
 use Rattle.model_recursion.specs.Levels.{CameFrom, Level, size, SomeIn, KeepsLocally, Follows, Covers, IsSplit, IsRun}
 use Rattle.model_recursion.specs.Invariant.{rank, members_of, StandsAt, Stays, IsConsistent}
-use Rattle.model_recursion.specs.declared.namer.Phase.{Phase}
-use Rattle.model_recursion.specs.declared.namer.Phase.TheVariants.{Collecting}
+use Rattle.model_recursion.specs.Program.Phase.{Collecting}
 use Rattle.model_recursion.specs.declared.namer.Namer.{Namer}
-use Rattle.model_recursion.proofs.Levelling.{in_tells, in_is, split_below, size_some}
+use Rattle.model_recursion.proofs.Levelling.{in_tells, in_is, split_below}
 use Rattle.model_recursion.proofs.Ranging.{parity}
 use Rattle.model_recursion.proofs.Descent.{split_in, within_top}
 

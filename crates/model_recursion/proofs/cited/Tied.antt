@@ -1,8 +1,8 @@
 -- seats and words are tied to the calls that led to them, and the law follows
-use Rattle.std.proofs.Common.{◌≡◌, ◌≢◌, ℕ, zero, suc, ◌+◌, ◌-◌, ◌*◌, ◌<◌, ◌≤◌, ◌⊎◌, inl, inr, Bool, true, false, cond, ◌==◌, ◌||◌, ◌&&◌, nat_lt, nat_le, is_some, IsSome, List, [], ◌∷◌, ◌++◌, Option, Some, None, Result, Ok, Err, option_map, option_and_then, refl, sym, ap, subst, ◌∙◌, arith, if◌then◌else◌, ne_eqb}
+use Rattle.std.proofs.Common.{◌≡◌, ℕ, suc, ◌+◌, ◌-◌, ◌*◌, ◌<◌, ◌≤◌, inl, inr, Bool, true, false, ◌==◌, ◌||◌, nat_lt, is_some, IsSome, List, [], ◌∷◌, ◌++◌, Option, Some, None, Result, Ok, Err, option_map, refl, sym, ap, subst, ◌∙◌, arith, if◌then◌else◌, ne_eqb}
 use Rattle.std.proofs.Math.Path.{fun_ext}
 use Rattle.std.proofs.lemmas.Bool.{cases_Bool}
-use Rattle.std.proofs.lemmas.Bool.Decides.{eqb_tells, leb_tells, Decides-eqb, nat_tests}
+use Rattle.std.proofs.lemmas.Bool.Decides.{eqb_tells, Decides-eqb, nat_tests}
 use Rattle.std.proofs.lemmas.List.{map-append}
 use Rattle.std.proofs.lemmas.Nat.{mul-le}
 use Rattle.model_steps.specs.SetAt.{set_at}
@@ -12,13 +12,13 @@ use Rattle.model_steps.specs.Due as due
 use Rattle.model_steps.specs.Due.{EndsOnce, begins, has_ended, step_due}
 use Rattle.model_steps.specs.Machine.{Reaches, IsProved}
 use Rattle.model_steps.specs.Calls.{Call, outcome_of, outcome_by, outcome_in, steps_of, steps_by, begun_in, begun_by, first_of}
-use Rattle.model_steps.specs.Calls.Call.{Began, Stepped}
+use Rattle.model_steps.specs.Calls.Call.{Stepped}
 use Rattle.model_steps.specs.Note.{ends}
 use Rattle.model_steps.specs.Participant.{beginner}
 use Rattle.model_steps.specs.World.{done_unless}
 use Rattle.model_steps.specs.declared.participant.Participant.{Participant}
 use Rattle.model_steps.specs.declared.refusal.Refusal.{Refusal}
-use Rattle.model_steps.specs.declared.refusal.Refusal.TheVariants.{ZeroIdentity, AlreadyBegun, NotBegun, Finished, OutOfRange}
+use Rattle.model_steps.specs.declared.refusal.Refusal.TheVariants.{ZeroIdentity, AlreadyBegun, Finished, OutOfRange}
 use Rattle.model_steps.proofs.cited.CountLemmas.{count_more, count_none, count_to-mono}
 use Rattle.model_steps.proofs.cited.DueLemmas.{ended_with_outcome, has_begun-push}
 use Rattle.model_steps.proofs.cited.MachineLemmas.{always_by, after_splits, machine_proved}
@@ -32,11 +32,10 @@ use Rattle.model_recursion.specs.Invariant.{Stands, StandsAt, IsConsistent, memb
 use Rattle.model_recursion.specs.Calls.{SeatCall, call_of, calls_of, begin_due, IsRefusedAsDue, RefusesAsDue}
 use Rattle.model_recursion.specs.Calls.SeatCall.{Begin, Step}
 use Rattle.model_recursion.specs.Law.{NamingSpec}
-use Rattle.model_recursion.specs.Program.{namer_of, next_access, namer_after, namer_note, note_at, name_at, accesses_at, accesses_of, after_phase, value_in, decided, surveyed, is_open}
+use Rattle.model_recursion.specs.Program.{namer_of, next_access, namer_after, namer_note, note_at, name_at, accesses_at, accesses_of, after_phase, value_in, decided, surveyed, is_open, Phase, phase_of}
 use Rattle.model_recursion.specs.Machine.{Naming, fresh, naming, next, IsReply, MayStart, Says, begin_refusal, step_refusal, moved, after_begin, after_step, got_by, words_after, program_in, name_by}
 use Rattle.model_recursion.specs.declared.namer.Survey.{Survey}
-use Rattle.model_recursion.specs.declared.namer.Phase.{Phase}
-use Rattle.model_recursion.specs.declared.namer.Phase.TheVariants.{Entering, Collecting, Over}
+use Rattle.model_recursion.specs.Program.Phase.{Entering, Collecting, Over}
 use Rattle.model_recursion.specs.declared.namer.Namer.{Namer}
 use Rattle.model_recursion.proofs.Levelling.{in_tells}
 use Rattle.model_recursion.proofs.Descent.{one_name, name_within}
@@ -74,7 +73,7 @@ pub record IsTied (most : ℕ) (w : Naming) (r : List SeatCall) : Type 0 where
   pub agrees : (ids : ℕ → ℕ) → AreIds w ids → IsConsistent most ids w.word (program_in w)
   pub begun_is : begun_in (calls_of r) ≡ count_to (has_begun w) (suc most)
   pub known : (p : ℕ) → due.has_begun p (calls_of r) ≡ has_begun w p
-  pub ended : (p : ℕ) (v : Participant Namer) → w.self p ≡ Some v → v.ended ≡ is_some (name_at v.program.phase)
+  pub ended : (p : ℕ) (v : Participant Namer) → w.self p ≡ Some v → v.ended ≡ is_some (name_at (phase_of v.program))
   pub outcomes : (p : ℕ) → outcome_of p (calls_of r) ≡ name_by (w.self p)
   pub steps : (p : ℕ) → steps_of p (calls_of r) ≤ accesses_by (w.self p)
 
@@ -178,8 +177,8 @@ tied_begun most w r p identity in_ t =
       known = λ q. known_more r call q ∙ set_at-cases w.self p (Some b) (λ o. (due.has_begun q (calls_of r) || (p == q)) ≡ is_some o) q
           (λ e. (let own : (p == q) ≡ true = (Decides-eqb p q).1 (sym e) in let was = t.known q in let out : has_begun w q ≡ false = ap (λ (i : ℕ). is_some (w.self i)) e ∙ ap is_some none in rw (was, out, own) refl))
           (λ n. (let other : (p == q) ≡ false = ne_eqb p q (λ e. n (sym e)) in rw other (or_false (due.has_begun q (calls_of r)) ∙ t.known q)));
-      ended = λ q v. set_at-cases w.self p (Some b) (λ o. o ≡ Some v → v.ended ≡ is_some (name_at v.program.phase)) q
-          (λ e h. let own : b ≡ v = cc in subst (λ (x : Participant Namer). x.ended ≡ is_some (name_at x.program.phase)) own refl)
+      ended = λ q v. set_at-cases w.self p (Some b) (λ o. o ≡ Some v → v.ended ≡ is_some (name_at (phase_of v.program))) q
+          (λ e h. let own : b ≡ v = cc in subst (λ (x : Participant Namer). x.ended ≡ is_some (name_at (phase_of x.program))) own refl)
           (λ _ h. t.ended q v h);
       outcomes = λ q. outcome_more r call q ∙ first_of-none (outcome_of q (calls_of r)) ∙ t.outcomes q ∙ set_at-cases w.self p (Some b) (λ o. name_by (w.self q) ≡ name_by o) q (λ e. ap (λ (i : ℕ). name_by (w.self i)) e ∙ ap name_by none) (λ _. refl);
       steps = λ q.
@@ -200,7 +199,7 @@ one_decided u c from to = elim (cases_Bool (nat_lt c.seen u.level)) [
   | inr e ↦ elim (cases_Bool c.greater) [ inl g ↦ rw (e, g) (next_level u.most u.level from to) | inr g ↦ rw (e, g) refl ]
 ]
 
-one_more : (u : Namer) (phase : Phase) (v : ℕ) → u.phase ≡ phase → 1 ≤ u.level → u.level ≤ u.most → u.most ≤ 64 → name_at phase ≡ None → ((c : Survey) → phase ≡ Collecting c → c.at ≤ u.most) → accesses_at u phase + 1 ≤ accesses_of (after_phase u phase v)
+one_more : (u : Namer) (phase : Phase) (v : ℕ) → phase_of u ≡ phase → 1 ≤ u.level → u.level ≤ u.most → u.most ≤ 64 → name_at phase ≡ None → ((c : Survey) → phase ≡ Collecting c → c.at ≤ u.most) → accesses_at u phase + 1 ≤ accesses_of (after_phase u phase v)
 one_more u Entering v e from to few goes within = omega arith
 one_more u (Collecting c) v e from to few goes within =
     let to_c = within c refl in
@@ -250,7 +249,7 @@ tied_step most w r p v here goes t =
     let from = st.from in
     let to = st.to in
     let few = t.may.few in
-    let on : name_at u.phase ≡ None = no_name (name_at u.phase) (sym (t.ended p v here) ∙ goes) in
+    let on : name_at (phase_of u) ≡ None = no_name (name_at (phase_of u)) (sym (t.ended p v here) ∙ goes) in
     let programs : program_in (after_step w p (Some v)) ≡ set_at (program_in w) p (Some (namer_after u got)) = fun_ext (λ q. set_at-map (option_map (λ x. x.program)) w.self p (Some new) q) in
     let begins_is : (q : ℕ) → is_some (set_at w.self p (Some new) q) ≡ has_begun w q = (λ q. set_at-cases w.self p (Some new) (λ o. is_some o ≡ is_some (w.self q)) q (λ e. sym (ap (λ (i : ℕ). is_some (w.self i)) e ∙ ap is_some here)) (λ _. refl)) in
     record {
@@ -264,14 +263,14 @@ tied_step most w r p v here goes t =
           subst (IsConsistent most ids (words_after w.word (next_access u))) (sym programs) (access_kept most ids w.word (program_in w) (t.agrees ids before) p u is on);
       begun_is = (let pushed = begun_more r call in let before = t.begun_is in let all : count_to (has_begun (after_step w p (Some v))) (suc most) ≡ count_to (has_begun w) (suc most) = ap (λ (f : ℕ → Bool). count_to f (suc most)) (fun_ext begins_is) in omega arith);
       known = λ q. known_more r call q ∙ or_false (due.has_begun q (calls_of r)) ∙ t.known q ∙ sym (begins_is q);
-      ended = λ q x. set_at-cases w.self p (Some new) (λ o. o ≡ Some x → x.ended ≡ is_some (name_at x.program.phase)) q
-          (λ e h. let own : new ≡ x = cc in subst (λ (y : Participant Namer). y.ended ≡ is_some (name_at y.program.phase)) own (ends_as_named (namer_after u got).phase))
+      ended = λ q x. set_at-cases w.self p (Some new) (λ o. o ≡ Some x → x.ended ≡ is_some (name_at (phase_of x.program))) q
+          (λ e h. let own : new ≡ x = cc in subst (λ (y : Participant Namer). y.ended ≡ is_some (name_at (phase_of y.program))) own (ends_as_named (phase_of (namer_after u got))))
           (λ _ h. t.ended q x h);
       outcomes = λ q. outcome_more r call q ∙ set_at-cases w.self p (Some new) (λ o. first_of (outcome_of q (calls_of r)) (outcome_by q (call_of call)) ≡ name_by o) q
           (λ e.
           let none : outcome_of q (calls_of r) ≡ None = t.outcomes q ∙ ap (λ (i : ℕ). name_by (w.self i)) e ∙ ap name_by here ∙ on in
           let own : outcome_by q (call_of call) ≡ outcome_in (namer_note u got) = ap (λ (i : ℕ). outcome_by i (call_of call)) e ∙ (let b = (Decides-eqb p p).1 refl in rw b refl) in
-          rw (none, own) (outcome_as_named (namer_after u got).phase))
+          rw (none, own) (outcome_as_named (phase_of (namer_after u got))))
           (λ n.
           let other : outcome_by q (call_of call) ≡ None = (let b = ne_eqb p q (λ e. n (sym e)) in rw b refl) in
           rw other (first_of-none (outcome_of q (calls_of r)) ∙ t.outcomes q));
@@ -279,7 +278,7 @@ tied_step most w r p v here goes t =
           (λ e.
           let one : steps_by q (call_of call) ≡ 1 = ap (λ (i : ℕ). steps_by i (call_of call)) e ∙ (let b = (Decides-eqb p p).1 refl in rw b refl) in
           let made : accesses_by (w.self q) ≡ accesses_of u = ap (λ (i : ℕ). accesses_by (w.self i)) e ∙ ap accesses_by here in
-          let more : accesses_of u + 1 ≤ accesses_of (namer_after u got) = one_more u u.phase (value_in got) refl from (omega arith) (omega arith) on (λ c h. (let low = collect_low most (ids_of w) (members_of g.rows u.level u.first) (g.rows u.level p) u u.phase st.at c h in omega arith)) in
+          let more : accesses_of u + 1 ≤ accesses_of (namer_after u got) = one_more u (phase_of u) (value_in got) refl from (omega arith) (omega arith) on (λ c h. (let low = collect_low most (ids_of w) (members_of g.rows u.level u.first) (g.rows u.level p) u (phase_of u) st.at c h in omega arith)) in
           omega arith)
           (λ n.
           let none : steps_by q (call_of call) ≡ 0 = (let b = ne_eqb p q (λ e. n (sym e)) in rw b refl) in
@@ -313,10 +312,10 @@ module _ (most : ℕ) (w : Naming) (r : List SeatCall) (a : Reaches naming most 
   g = t.agrees ids (own_ids w)
 
   -- a seat whose program has ended has a name
-  found : (p name : ℕ) → outcome_of p (calls_of r) ≡ Some name → (v : Participant Namer) × (w.self p ≡ Some v) × (v.program.phase ≡ Over name)
-  found p name h = elim (w.self p) as (λ o. w.self p ≡ o → name_by o ≡ Some name → (v : Participant Namer) × (w.self p ≡ Some v) × (v.program.phase ≡ Over name)) [
+  found : (p name : ℕ) → outcome_of p (calls_of r) ≡ Some name → (v : Participant Namer) × (w.self p ≡ Some v) × (phase_of v.program ≡ Over name)
+  found p name h = elim (w.self p) as (λ o. w.self p ≡ o → name_by o ≡ Some name → (v : Participant Namer) × (w.self p ≡ Some v) × (phase_of v.program ≡ Over name)) [
     | None ↦ λ _ k. absurd (cc)
-    | Some v ↦ λ e k. (v, e, over v.program.phase k)
+    | Some v ↦ λ e k. (v, e, over (phase_of v.program) k)
   ] refl (sym (t.outcomes p) ∙ h)
     where
       over : (s : Phase) → name_at s ≡ Some name → s ≡ Over name
@@ -377,10 +376,10 @@ module _ (most : ℕ) (w : Naming) (r : List SeatCall) (a : Reaches naming most 
         | Over name ↦ λ _. ((omega arith), λ k. absurd (cc))
       ] low
 
-  bounds : (p : ℕ) (v : Participant Namer) → w.self p ≡ Some v → (accesses_of v.program ≤ most * (most + 1)) × ((name_at v.program.phase ≡ None) → accesses_of v.program < most * (most + 1))
+  bounds : (p : ℕ) (v : Participant Namer) → w.self p ≡ Some v → (accesses_of v.program ≤ most * (most + 1)) × ((name_at (phase_of v.program) ≡ None) → accesses_of v.program < most * (most + 1))
   bounds p v e =
       let st = g.stands p v.program (ap (option_map (λ x. x.program)) e) in
-      bound_at v.program v.program.phase st.most st.from st.to (λ c h. collect_low most ids (members_of g.rows v.program.level v.program.first) (g.rows v.program.level p) v.program v.program.phase st.at c h)
+      bound_at v.program (phase_of v.program) st.most st.from st.to (λ c h. collect_low most ids (members_of g.rows v.program.level v.program.first) (g.rows v.program.level p) v.program (phase_of v.program) st.at c h)
 
   pub at_most : (p : ℕ) → steps_of p (calls_of r) ≤ most * (most + 1)
   at_most p =
@@ -391,7 +390,7 @@ module _ (most : ℕ) (w : Naming) (r : List SeatCall) (a : Reaches naming most 
   last_names : (p : ℕ) → 0 < steps_of p (calls_of r) → steps_of p (calls_of r) ≡ most * (most + 1) → IsSome (outcome_of p (calls_of r))
   last_names p some all = rw (t.outcomes p) (elim (w.self p) as (λ o. w.self p ≡ o → steps_of p (calls_of r) ≤ accesses_by o → IsSome (name_by o)) [
     | None ↦ λ _ made. absurd (omega arith)
-    | Some v ↦ λ e made. elim (name_at v.program.phase) as (λ o. name_at v.program.phase ≡ o → IsSome o) [
+    | Some v ↦ λ e made. elim (name_at (phase_of v.program)) as (λ o. name_at (phase_of v.program) ≡ o → IsSome o) [
       | None ↦ λ on. absurd (let less = (bounds p v e).1 on in omega arith)
       | Some n ↦ λ _. refl
     ] refl

@@ -20,13 +20,12 @@ use Rattle.model_steps.proofs.cited.SetAtLemmas.{set_at-same, set_at-other, set_
 use Rattle.model_steps.proofs.cited.WorldKeeps.{first_of-none}
 use Rattle.model_recursion.specs.Invariant.{StandsAt, members_of}
 use Rattle.model_recursion.specs.Machine.{Naming, naming, Words, word_at, with_word, words_after, answer_to, after_begin, after_step, got_by, begin_refusal, step_refusal}
-use Rattle.model_recursion.specs.Program.{namer_of, namer_steps, next_access, access_at, namer_note, name_at, cell_at}
+use Rattle.model_recursion.specs.Program.{namer_of, namer_steps, next_access, access_at, namer_note, name_at, cell_at, Phase, phase_of}
 use Rattle.words_machine.specs.WordLaw.{IsSound, IsOnce, IsOwnAccess, GoesOn, one_more, answer_in, program_at, moved}
 use Rattle.words_machine.specs.Names.{IsKnown, IsCell, names_law}
 use Rattle.model_recursion.specs.declared.namer.Cell.{Cell}
 use Rattle.model_recursion.specs.declared.namer.Survey.{Survey}
-use Rattle.model_recursion.specs.declared.namer.Phase.{Phase}
-use Rattle.model_recursion.specs.declared.namer.Phase.TheVariants.{Entering, Collecting, Over}
+use Rattle.model_recursion.specs.Program.Phase.{Entering, Collecting, Over}
 use Rattle.model_recursion.specs.declared.namer.Namer.{Namer}
 use Rattle.model_recursion.proofs.cited.Facts.{instance_of}
 use Rattle.model_recursion.specs.Ranges.{IsInstance}
@@ -186,12 +185,12 @@ own most w r h p v here goes =
     let seat = st.own in
     let some = st.some in
     let few = st.few in
-    own_at most v.program v.program.phase st.from st.to instance (omega arith) (omega arith)
+    own_at most v.program (phase_of v.program) st.from st.to instance (omega arith) (omega arith)
     (λ c e. (
-      collect_from most (ids_of w) (members_of g.rows v.program.level v.program.first) (g.rows v.program.level p) v.program v.program.phase st.at c e,
-      collect_low most (ids_of w) (members_of g.rows v.program.level v.program.first) (g.rows v.program.level p) v.program v.program.phase st.at c e,
+      collect_from most (ids_of w) (members_of g.rows v.program.level v.program.first) (g.rows v.program.level p) v.program (phase_of v.program) st.at c e,
+      collect_low most (ids_of w) (members_of g.rows v.program.level v.program.first) (g.rows v.program.level p) v.program (phase_of v.program) st.at c e,
     ))
-    (no_name (name_at v.program.phase) (sym (t.ended p v here) ∙ goes))
+    (no_name (name_at (phase_of v.program)) (sym (t.ended p v here) ∙ goes))
 
 pub names_sound : IsSound namer_steps names_law
 names_sound = record {

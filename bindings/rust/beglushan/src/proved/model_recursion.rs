@@ -1,4 +1,4 @@
-// Erased by bindings/rust/erase from crates/model_recursion/src/lib.rt, sha256 1fa24ec185473ceb41965abcadbbb218d090a05787bf6fef836a85ec522c7139.
+// Erased by bindings/rust/erase from crates/model_recursion/src/lib.rt, sha256 607e1d9a5a600d743fa130c348e9352bdba8bf1dbd4e04d537f7431b3720ce58.
 //! Names by recursion over levels (Borowsky and Gafni 1993; Gafni and Rajsbaum 2010), by reads and writes of single words.
 //!
 //! There are `m` seats, from 1 to 64. An *instance* is a level `x`, from `m` down to 1, a first name and a *direction*: from an

@@ -1,4 +1,4 @@
-// Erased by bindings/rust/erase from crates/words_machine/src/words.rt, sha256 d870626adab5a9b1b1bdfdde1a602835cfa7fd31e0fc6fa6d5a91c35e972b27d.
+// Erased by bindings/rust/erase from crates/words_machine/src/words.rt, sha256 349113f9ba7a1d4fe72df817c1564f119c6f9cf4a61e0b6cf3446f2c63ce4496.
 //! The words. They are reached through this type alone, of which each access of a program is counted in the view of its seat.
 
 use crate::kit::alloc::{AllocError, Allocator};
@@ -94,6 +94,31 @@ impl<P: WordProgram, A: Allocator> Words<P, A> {
 }
 
 impl<P: WordProgram, A: Allocator> Words<P, A> {
+    /// Makes the loads that a program makes next, one after another, until it ends or stores: with what it has ended, if it has, and
+    /// how many accesses it has made by then, of which `made` came before.
+    #[inline(always)]
+    fn run_loads(
+        &self,
+        seat: &mut Seat<u8, SeatView<P, P::Output>>,
+        number: u64,
+        identity: u64,
+        program: &mut P,
+        made: u64,
+    ) -> (Option<P::Output>, u64) {
+        // Opens the words, so that the machine's bound is known to be small.
+        let _most = self.most;
+        let mut accesses = made;
+        while let WordAccess::Load(register) = program.access() {
+            let note = self.step_load(seat, number, identity, program, register);
+            accesses += 1;
+            let ended = note.outcome();
+            if ended.is_some() {
+                return (ended, accesses);
+            }
+        }
+        (None, accesses)
+    }
+
     /// Makes the accesses of a program that has not begun, one after another, until it ends: with what, and how many they were.
     #[inline(always)]
     pub(crate) fn run(
@@ -110,6 +135,11 @@ impl<P: WordProgram, A: Allocator> Words<P, A> {
             let note = self.step(seat, number, identity, program);
             accesses += 1;
             if let Some(outcome) = note.outcome() {
+                return (outcome, accesses);
+            }
+            let (ended, made) = self.run_loads(seat, number, identity, program, accesses);
+            accesses = made;
+            if let Some(outcome) = ended {
                 return (outcome, accesses);
             }
         }

@@ -1,6 +1,6 @@
 use Rattle.std.proofs.Common.{ap, sym, subst, ◌∙◌, arith}
 use Rattle.words_machine.proofs.Common.{WordsId, accesses_in}
-use Rattle.words_machine.proofs.Running.{begins, few, goes_on, still_on}
+use Rattle.words_machine.proofs.Running.{begins, goes_on, still_on}
 use Rattle.words_machine.proofs.words.Words.run.Goals as goal
 
 pub loop-outcome-init : goal.loop-outcome-init
@@ -11,16 +11,15 @@ loop-outcome-init g c = record {
   few = omega arith;
 }
 
-pub loop-outcome-preserved : goal.loop-outcome-preserved
-loop-outcome-preserved g c =
+pub run_loads-ended-requires-clause-before : goal.run_loads-ended-requires-clause-before
+run_loads-ended-requires-clause-before g c =
     let none = sym c.outcome.ensures ∙ c.in_default.is in
-    let come = c.step-note.ensures.after in
-    let bound = few g.P.WordProgram.steps g.P.WordProgram.law g.met.P.WordProgram.sound _ _ _ _ _ _ _ come in
-    let before = c.loop-outcome.invariant.counted in
-    let one = come.one_more in
-    record {
-      ours = c.step-note.ensures.ours;
-      stands = goes_on g.P.WordProgram.steps g.P.WordProgram.law g.met.P.WordProgram.sound _ _ _ _ _ _ _ come (still_on _ none) none;
-      counted = omega arith;
-      few = omega arith;
-    }
+    goes_on g.P.WordProgram.steps g.P.WordProgram.law g.met.P.WordProgram.sound _ _ _ _ _ _ _ c.step-note.ensures.after (still_on _ none) none
+
+pub loop-outcome-preserved : goal.loop-outcome-preserved
+loop-outcome-preserved g c = record {
+  ours = c.run_loads-ended.ensures.ours;
+  stands = rw c.in_default-ended.is at c.run_loads-ended.ensures.goes_on;
+  counted = c.run_loads-ended.ensures.counted;
+  few = c.run_loads-ended.ensures.few;
+}
