@@ -1,19 +1,17 @@
 -- what the buffers of a connection take
-use Rattle.std.proofs.Common.{◌≡◌, ◌⊎◌, inl, inr, ◌≤◌, ◌<◌, ◌+◌, ℕ, length, true, false, Bool, List, [], ◌∷◌, ◌++◌, ◌||◌, take, drop, Option, Some, None, Result, Ok, Err, refl, sym, ap, subst, ◌∙◌, arith, append_assoc}
-use Rattle.service_loop.proofs.Common.{Consumes-nil, ShownReply, Request, WorldKind, Runs, Turn, BuffersState, bytes_of, Peek}
-use Rattle.std.proofs.lemmas.Grind.{flat_map-append}
+use Rattle.std.proofs.Common.{◌≡◌, ◌⊎◌, inl, inr, ◌≤◌, ◌<◌, ◌+◌, ℕ, length, true, false, Bool, List, [], ◌∷◌, ◌++◌, ◌||◌, take, drop, Option, Some, None, Result, Ok, Err, refl, sym, ap, subst, ◌∙◌, arith}
+use Rattle.service_loop.proofs.Common.{Consumes-nil, ShownReply, Request, Runs, Turn, BuffersState, bytes_of, Peek}
 use Rattle.std.proofs.lemmas.List.{append-nil, take-append-drop, take-append-le, length-append}
 use Rattle.std.specs.Io.KnownBytes.{Consumes, IsAtEnd, Keeps, ReadConsumes}
 use Rattle.std.specs.Io.{ReadsAtMost}
-use Rattle.text_player.specs.Progress.{Progress, after_bytes}
+use Rattle.text_player.specs.Progress.{after_bytes}
 use Rattle.text_player.specs.Says.{Says, Spoke}
 use Rattle.text_player.specs.Texts.{turn_reply, replies_of}
 use Rattle.text_player.specs.ResponderState.{ResponderState}
-use Rattle.text_player.proofs.cited.ProgressLemmas.{after_bytes-append}
 use Rattle.text_player.specs.declared.form.TheConstants.{TURN_ROOM}
 use Rattle.service_loop.specs.Asking.{MayAsk}
 use Rattle.service_loop.specs.declared.buffers.TheConstants.{UNSENT_ROOM}
-use Rattle.service_loop.specs.ConnectionBuffers.{goes_on_in_line, IsFull, Takes, TakesEnd, TakesFirst, TakesPeeked, TakesOf}
+use Rattle.service_loop.specs.ConnectionBuffers.{goes_on_in_line, IsFull, Takes, TakesEnd, TakesFirst, TakesNoOwn, TakesPeeked, TakesOf}
 
 -- there is no room for a reply, or what waits may ask who holds numbers
 pub full_or_asks : (s : BuffersState) → (UNSENT_ROOM < length s.outbox + TURN_ROOM) ⊎ MayAsk s.inbox → IsFull s ⊎ MayAsk s.inbox
@@ -71,11 +69,11 @@ abbrev pub takes_idle : (left left' : Option (List ℕ)) (s : BuffersState) → 
 takes_idle left left' s none = takes_none left left' s s none refl refl refl (λ h. (refl, refl, h))
 
 -- these bytes came
-pub takes_some : (turns : List Turn) (left left' : Option (List ℕ)) (came : List ℕ) (s s' : BuffersState) → length came ≤ 65536 → Consumes left left' came → Takes turns came false s s' → TakesOf turns left s left' s'
+abbrev pub takes_some : (turns : List Turn) (left left' : Option (List ℕ)) (came : List ℕ) (s s' : BuffersState) → length came ≤ 65536 → Consumes left left' came → Takes turns came false s s' → TakesOf turns left s left' s'
 takes_some turns left left' came s s' few gave t = record { came = came; ends = false; few = few; gave = gave; at_end = λ h. absurd cc; takes = t }
 
 -- the end came
-pub takes_at_end : (turns : List Turn) (left left' : Option (List ℕ)) (s s' : BuffersState) → Consumes left left' [] → IsAtEnd left' → Takes turns [] true s s' → TakesOf turns left s left' s'
+abbrev pub takes_at_end : (turns : List Turn) (left left' : Option (List ℕ)) (s s' : BuffersState) → Consumes left left' [] → IsAtEnd left' → Takes turns [] true s s' → TakesOf turns left s left' s'
 takes_at_end turns left left' s s' gave end t = record { came = []; ends = true; few = omega arith; gave = gave; at_end = λ h. end; takes = t }
 
 -- and what waited was taken before it, where anything did
@@ -115,8 +113,11 @@ module _ {T : Type 0} (may : T → Request → ShownReply → T → Type 0) (w u
 
   -- of all that waited
   pub takes_said : (came all : List ℕ) (n : ℕ) → all ≡ s.inbox ++ came → Says may turn_reply w t out u t' out' (λ p. after_bytes t.kind p (take n all)) →
-      t'.kind ≡ t.kind → s'.inbox ≡ drop n all → s'.ended ≡ s.ended → s'.in_line ≡ goes_on_in_line s.in_line (take n all) → (s'.broken ≡ false → (s'.outbox ≡ s.outbox ++ out') × (s.broken ≡ false)) → (turns : List Turn) × Runs may w turns u × Takes turns came false s s'
-  takes_said came all n all_is says kind inbox ended in_line kept = took came (take n all) (drop n all) false says kind (sym all_is ∙ sym (take-append-drop n all)) inbox (ended ∙ or_false s.ended) in_line kept
+      t'.kind ≡ t.kind → s'.inbox ≡ drop n all → s'.ended ≡ s.ended → s'.in_line ≡ goes_on_in_line s.in_line (take n all) → (s'.broken ≡ false → (s'.outbox ≡ s.outbox ++ out') × (s.broken ≡ false)) → (last : Bool) → (last ≡ false → TakesNoOwn s (take n all)) →
+      (turns : List Turn) × Runs may w turns u × (takes : Takes turns came false s s') × (last ≡ false → TakesNoOwn s takes.taken)
+  takes_said came all n all_is says kind inbox ended in_line kept last own =
+      let t = took came (take n all) (drop n all) false says kind (sym all_is ∙ sym (take-append-drop n all)) inbox (ended ∙ or_false s.ended) in_line kept in
+      (t.0, t.1, t.2, own)
 
   -- of the first of that
   pub takes_first : (count few n : ℕ) → Says may turn_reply w t out u t' out' (λ p. after_bytes t.kind p (take n s.inbox)) → n ≤ length (take few s.inbox) → take few s.inbox ≡ take count s.inbox →

@@ -1,7 +1,9 @@
 -- what is gathered of connections before their lines are taken
 use Rattle.std.proofs.Common.{◌≡◌, inl, inr, ℕ, ◌<◌, if◌then◌else◌, Bool, true, false, set, take, List, [], ◌++◌, length, get_or, Option, Some, None, refl, sym, ap, subst, ◌∙◌, append_assoc}
 use Rattle.service_loop.proofs.Common.{append-nil, get_or-set_same, get_or-set_other, length-set, cases_eq, Consumes, Peek, Turn, TurnLog, BuffersState, WorldKind, requests_seen, turns_of}
-use Rattle.service_loop.specs.Reported.{behind, bytes_of, long_of, requests, requests_in}
+use Rattle.text_lines.specs.Lines.{whole_lines}
+use Rattle.service_loop.specs.Asking.{none_own}
+use Rattle.service_loop.specs.Reported.{behind, bytes_of, lines_seen, long_of, requests, requests_in}
 use Rattle.std.proofs.KnownBytes.{Consumes-nil, Consumes-trans}
 use Rattle.service_loop.specs.Seats.{NoneSent, Seating, SeatTakes}
 use Rattle.service_loop.specs.Gathering.{GathersOf, SeatGathers, Gathered}
@@ -114,3 +116,20 @@ no_line kind false = refl
 pub none_seen : (kind : WorldKind) (s : BuffersState) (peek : Option Peek) → bytes_of peek ≡ 0 → requests_seen kind s peek ≡ []
 none_seen kind s peek bytes = elim s.responder.over as (λ over. (if over then [] else requests_in kind (long_of peek) (take (bytes_of peek) s.inbox)) ≡ [])
     [ true ↦ refl | false ↦ rw bytes (no_line kind (long_of peek)) ]
+
+-- where nothing was looked at, no line was
+pub none_own_seen : (s : BuffersState) (peek : Option Peek) → bytes_of peek ≡ 0 → none_own (lines_seen s peek) ≡ true
+none_own_seen s peek none = by s.responder.over (long_of peek)
+  where
+    by : (over long : Bool) → none_own (if over then [] else behind long (whole_lines (take (bytes_of peek) s.inbox))) ≡ true
+    by true long = refl
+    by false true = rw none refl
+    by false false = rw none refl
+
+-- and where none that was is one that the server answers by itself, or `quit` was answered
+pub own_seen : (s : BuffersState) (peek : Option Peek) → (s.responder.over ≡ false → none_own (behind (long_of peek) (whole_lines (take (bytes_of peek) s.inbox))) ≡ true) → none_own (lines_seen s peek) ≡ true
+own_seen s peek own = by s.responder.over own
+  where
+    by : (over : Bool) → (over ≡ false → none_own (behind (long_of peek) (whole_lines (take (bytes_of peek) s.inbox))) ≡ true) → none_own (if over then [] else behind (long_of peek) (whole_lines (take (bytes_of peek) s.inbox))) ≡ true
+    by true h = refl
+    by false h = h refl

@@ -1,13 +1,12 @@
 -- bytes with no LF among them ask for nothing
-use Rattle.std.proofs.Common.{◌≡◌, ℕ, ◌+◌, ◌==◌, if◌then◌else◌, Bool, true, false, not, List, [], ◌∷◌, ◌++◌, length, map, refl, sym, ap, ◌∙◌, arith, length-append}
+use Rattle.std.proofs.Common.{◌≡◌, ℕ, ◌==◌, if◌then◌else◌, Bool, true, false, not, List, [], ◌∷◌, ◌++◌, length, map, refl, sym, ap, ◌∙◌, arith, length-append}
 use Rattle.std.proofs.lemmas.Bool.{and_parts, not-true}
 use Rattle.std.proofs.lemmas.List.{length-map}
-use Rattle.service_loop.proofs.Common.{WorldKind, Turn, BuffersState}
+use Rattle.service_loop.proofs.Common.{WorldKind, Turn}
 use Rattle.text_lines.specs.Lines.{has_no_lf}
 use Rattle.text_player.specs.Progress.{Progress, after_byte, after_bytes}
-use Rattle.text_player.specs.Says.{Spoke}
 use Rattle.text_player.specs.Turns.{asked}
-use Rattle.service_loop.specs.ConnectionBuffers.{NeedsLf, Takes}
+use Rattle.service_loop.specs.ConnectionBuffers.{NeedsLf}
 
 -- one byte that is none
 byte_asks : (kind : WorldKind) (p : Progress) (b : ℕ) → (b == 10) ≡ false → (after_byte kind p b).asked ≡ p.asked

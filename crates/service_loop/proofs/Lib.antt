@@ -7,6 +7,7 @@ mod Common
 mod GatherLemmas
 mod LosingLemmas
 mod PeekLemmas
+mod OwnLemmas
 mod ReportedLemmas
 mod RoundLemmas
 mod SeatLemmas

@@ -1,8 +1,10 @@
 -- the lines of what is looked at, one after another
-use Rattle.std.proofs.Common.{◌≡◌, ℕ, ◌+◌, ◌-◌, ◌<◌, ◌==◌, cond, not, Bool, true, false, List, [], ◌∷◌, ◌++◌, length, take, drop, get_or, Some, None, refl, sym, ap, subst, ◌∙◌, arith, append_assoc}
+use Rattle.std.proofs.Common.{◌≡◌, ℕ, ◌+◌, ◌-◌, ◌<◌, ◌==◌, ◌&&◌, cond, not, Bool, true, false, List, [], ◌∷◌, ◌++◌, length, take, drop, get_or, Some, None, refl, sym, ap, subst, ◌∙◌, arith, append_assoc}
 use Rattle.service_loop.proofs.Common.{take-add, WorldKind}
 use Rattle.std.proofs.lemmas.List.{append-nil, length-drop, take_more, take_all, take-append-drop}
-use Rattle.std.proofs.lemmas.Bool.{eqb-true, and_parts, not-true}
+use Rattle.std.proofs.lemmas.Bool.{eqb-true, and_from, and_parts, not-true}
+use Rattle.std.proofs.lemmas.List.Folds.{list_all-append}
+use Rattle.service_loop.specs.Asking.{is_own, none_own}
 use Rattle.memchr.specs.Find.{IsFirstByte, is_byte}
 use Rattle.text_lines.specs.Lines.{has_no_lf, rest_from, rest_of, whole_lines, whole_lines_from, with_ends}
 use Rattle.text_lines.specs.Meaning.{meaning}
@@ -72,6 +74,7 @@ peeked_none kind long asks batch bytes = record {
   inside = omega arith;
   whole = refl;
   added = rw (behind_none long) (sym (append-nil batch));
+  own = rw (behind_none long) refl;
   asked = λ h. (h, rw (behind_none long) refl);
   next = λ line. rw (behind_none long) refl;
 }
@@ -86,10 +89,11 @@ module _ (kind : WorldKind) (long asks : Bool) (batch bytes : List ℕ) (at : �
 
   -- one line more
   pub peeked_line : (end at'' : ℕ) (kind' : WorldKind) (long'' asks'' : Bool) (batch'' : List ℕ) → kind' ≡ kind → at'' ≡ at + (end + 1) → long'' ≡ false → end < length (drop at bytes) → get_or (drop at bytes) end 0 ≡ 10 → has_no_lf (take end (drop at bytes)) ≡ true →
+      none_own (behind long' (take end (drop at bytes) ∷ [])) ≡ true →
       batch'' ≡ batch' ++ with_ends (requests kind' (behind long' (take end (drop at bytes) ∷ []))) →
       (asks'' ≡ false → (asks' ≡ false) × (requests kind' (behind long' (take end (drop at bytes) ∷ [])) ≡ [])) →
       HasPeeked kind long asks batch bytes at'' long'' asks'' batch''
-  peeked_line end at'' kind' long'' asks'' batch'' kind_is at_is long_is lt lf none =
+  peeked_line end at'' kind' long'' asks'' batch'' kind_is at_is long_is lt lf none other =
       subst (λ (k : WorldKind). batch'' ≡ batch' ++ with_ends (requests k (behind long' (take end (drop at bytes) ∷ []))) → (asks'' ≡ false → (asks' ≡ false) × (requests k (behind long' (take end (drop at bytes) ∷ [])) ≡ [])) → HasPeeked kind long asks batch bytes at'' long'' asks'' batch'') (sym kind_is) (λ added asked.
       let line = take end (drop at bytes) in
       let parts : take (at + (end + 1)) bytes ≡ take at bytes ++ (line ++ 10 ∷ []) = take-add at (end + 1) bytes ∙ ap (λ l. take at bytes ++ l) (take_more (drop at bytes) end 0 lt ∙ ap (λ (b : ℕ). line ++ b ∷ []) lf) in
@@ -106,18 +110,20 @@ module _ (kind : WorldKind) (long asks : Bool) (batch bytes : List ℕ) (at : �
         added = added ∙ ap (λ l. l ++ with_ends (requests kind (behind long' (line ∷ [])))) so.added
             ∙ append_assoc batch (with_ends (requests_in kind long (take at bytes))) (with_ends (requests kind (behind long' (line ∷ []))))
             ∙ ap (λ l. batch ++ l) (sym (ends_append (requests_in kind long (take at bytes)) (requests kind (behind long' (line ∷ []))))) ∙ ap (λ l. batch ++ with_ends l) (sym all);
+        own = subst (λ (l : List (List ℕ)). none_own l ≡ true) (sym (ap (behind long) whole ∙ so.next line))
+            (list_all-append (λ l. not (is_own l)) (behind long ls) (behind long' (line ∷ [])) ∙ and_from (none_own (behind long ls)) (none_own (behind long' (line ∷ []))) so.own other);
         asked = λ h. (let a = asked h in let b = so.asked a.0 in (b.0, all ∙ rw (b.1, a.1) refl));
         next = λ l. ap (λ (w : List (List ℕ)). behind long (w ++ l ∷ [])) whole ∙ behind_more long ls line l ∙ ap (λ (w : List (List ℕ)). behind long w ++ l ∷ []) (sym whole);
       })))
 
   -- the same, as the search for an LF finds it
-  pub peeked_next : (rest : List ℕ) (end at'' : ℕ) (kind' : WorldKind) (long'' asks'' : Bool) (batch'' : List ℕ) → rest ≡ drop at bytes → kind' ≡ kind → at'' ≡ at + (end + 1) → long'' ≡ false → IsFirstByte (is_byte 10) rest (Some end) →
+  pub peeked_next : (rest : List ℕ) (end at'' : ℕ) (kind' : WorldKind) (long'' asks'' : Bool) (batch'' : List ℕ) → rest ≡ drop at bytes → kind' ≡ kind → at'' ≡ at + (end + 1) → long'' ≡ false → IsFirstByte (is_byte 10) rest (Some end) → none_own (behind long' (take end rest ∷ [])) ≡ true →
       batch'' ≡ batch' ++ with_ends (requests kind' (behind long' (take end rest ∷ []))) → (asks'' ≡ false → (asks' ≡ false) × (requests kind' (behind long' (take end rest ∷ [])) ≡ [])) →
       HasPeeked kind long asks batch bytes at'' long'' asks'' batch''
   peeked_next rest end at'' kind' long'' asks'' batch'' same kind_is at_is long_is =
-      subst (λ (l : List ℕ). IsFirstByte (is_byte 10) l (Some end) → batch'' ≡ batch' ++ with_ends (requests kind' (behind long' (take end l ∷ []))) → (asks'' ≡ false → (asks' ≡ false) × (requests kind' (behind long' (take end l ∷ [])) ≡ [])) →
+      subst (λ (l : List ℕ). IsFirstByte (is_byte 10) l (Some end) → none_own (behind long' (take end l ∷ [])) ≡ true → batch'' ≡ batch' ++ with_ends (requests kind' (behind long' (take end l ∷ []))) → (asks'' ≡ false → (asks' ≡ false) × (requests kind' (behind long' (take end l ∷ [])) ≡ [])) →
       HasPeeked kind long asks batch bytes at'' long'' asks'' batch'') (sym same)
-      (λ first. peeked_line end at'' kind' long'' asks'' batch'' kind_is at_is long_is first.0.high (eqb-true _ _ first.1) (nowhere-lacks 10 (drop at bytes) end first.0.before))
+      (λ first other. peeked_line end at'' kind' long'' asks'' batch'' kind_is at_is long_is first.0.high (eqb-true _ _ first.1) (nowhere-lacks 10 (drop at bytes) end first.0.before) other)
 
   -- where no LF stands behind
   module _ (none : has_no_lf (drop at bytes) ≡ true) where
@@ -130,16 +136,20 @@ module _ (kind : WorldKind) (long asks : Bool) (batch bytes : List ℕ) (at : �
     pub peeked_all : requests_in kind long (take (length bytes) bytes) ≡ requests_in kind long (take at bytes)
     peeked_all = ap (λ l. requests kind (behind long l)) whole_all
 
+    pub own_all : none_own (behind long (whole_lines (take (length bytes) bytes))) ≡ true
+    own_all = subst (λ (l : List (List ℕ)). none_own (behind long l) ≡ true) (sym whole_all) so.own
+
 pub no_lf_in : (bytes rest : List ℕ) → rest ≡ bytes → IsFirstByte (is_byte 10) rest None → has_no_lf bytes ≡ true
 no_lf_in bytes rest same = subst (λ (l : List ℕ). IsFirstByte (is_byte 10) l None → has_no_lf bytes ≡ true) (sym same)
     (λ nowhere. subst (λ (l : List ℕ). has_no_lf l ≡ true) (take_all (length bytes) bytes (omega arith)) (nowhere-lacks 10 bytes (length bytes) nowhere))
 
 -- all that waits is looked at: behind the whole lines nothing is asked
 pub peeked_long : (kind : WorldKind) (long asks : Bool) (batch bytes : List ℕ) (at : ℕ) (long' asks' : Bool) (batch' : List ℕ) → HasPeeked kind long asks batch bytes at long' asks' batch' → has_no_lf (drop at bytes) ≡ true →
-    (batch' ≡ batch ++ with_ends (requests_in kind long (take (length bytes) bytes))) × (asks' ≡ false → (asks ≡ false) × (requests_in kind long (take (length bytes) bytes) ≡ []))
+    (batch' ≡ batch ++ with_ends (requests_in kind long (take (length bytes) bytes))) × (asks' ≡ false → (asks ≡ false) × (requests_in kind long (take (length bytes) bytes) ≡ [])) ×
+    (none_own (behind long (whole_lines (take (length bytes) bytes))) ≡ true)
 peeked_long kind long asks batch bytes at long' asks' batch' so none =
     let all : requests_in kind long (take (length bytes) bytes) ≡ requests_in kind long (take at bytes) = peeked_all kind long asks batch bytes at long' asks' batch' so none in
-    (so.added ∙ ap (λ l. batch ++ with_ends l) (sym all), λ h. (let b = so.asked h in (b.0, all ∙ b.1)))
+    (so.added ∙ ap (λ l. batch ++ with_ends l) (sym all), λ h. (let b = so.asked h in (b.0, all ∙ b.1)), own_all kind long asks batch bytes at long' asks' batch' so none)
 
 -- what a batch holds more than before
 pub kept_by : (old new xs : List ℕ) → new ≡ old ++ xs → (more : List ℕ) × (new ≡ old ++ more)
@@ -147,3 +157,8 @@ kept_by old new xs is = (xs, is)
 
 pub kept_more : (old mid new xs ys : List ℕ) → mid ≡ old ++ xs → new ≡ mid ++ ys → (more : List ℕ) × (new ≡ old ++ more)
 kept_more old mid new xs ys is that = (xs ++ ys, that ∙ ap (λ l. l ++ ys) is ∙ append_assoc old xs ys)
+
+-- a line that stands next is the end of another, or none that the server answers by itself
+pub own_line : (long : Bool) (line : List ℕ) → (not long && is_own line) ≡ false → none_own (behind long (line ∷ [])) ≡ true
+own_line true line is = refl
+own_line false line is = and_from (not (is_own line)) true (ap not is) refl

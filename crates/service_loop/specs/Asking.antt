@@ -1,7 +1,8 @@
 -- lines that a server answers by itself, among what waits of a connection: those that ask who holds numbers or the terms, and those that take a
 -- number
-use Rattle.std.specs.Prelude.{◌≡◌, ◌⊎◌, ◌≤◌, ◌<◌, ℕ, ◌++◌, List, length, take, drop, get_or, suc, if◌then◌else◌, true, false, Option, Some, None, codes}
-use Rattle.text_lines.specs.Lines.{has_no_lf}
+use Rattle.std.specs.Prelude.{◌≡◌, ◌⊎◌, ◌≤◌, ◌<◌, ℕ, ◌++◌, ◌||◌, not, Bool, List, [], length, take, drop, get_or, suc, if◌then◌else◌, true, false, Option, Some, None, is_some, codes}
+use Rattle.std.specs.List.{list_all}
+use Rattle.text_lines.specs.Lines.{has_no_lf, rest_of, whole_lines}
 use Rattle.text_lines.specs.Meaning.{number_in, same_bytes}
 use Rattle.text_lines.specs.declared.held.query.TheConstants.{QUERY_MAX}
 use Rattle.service_loop.specs.BuffersState.{BuffersState}
@@ -19,6 +20,19 @@ pub record IsQueryOf (bytes : List ℕ) (query : Query) (count : ℕ) : Type 0 w
 -- the identity for which a line takes a number: `take ID`
 abbrev pub taking_of : List ℕ → Option ℕ
 taking_of line = if same_bytes (take 5 line) (codes "take ") then number_in (drop 5 line) else None
+
+-- whether a line is one that the server answers by itself
+abbrev pub is_own : List ℕ → Bool
+is_own line = is_some (query_of line) || is_some (taking_of line)
+
+-- none of these lines is
+abbrev pub none_own : List (List ℕ) → Bool
+none_own lines = list_all (λ line. not (is_own line)) lines
+
+-- a line begins behind so many of these bytes, and a line began before it, unless the first of them begins one
+pub record IsLineStart (begins : Bool) (bytes : List ℕ) (at : ℕ) : Type 0 where
+  pub whole : rest_of (take at bytes) ≡ []
+  pub behind_one : (begins ≡ true) ⊎ (0 < length (whole_lines (take at bytes)))
 
 -- the first so many of these bytes are a line that takes a number for this identity, and its LF
 pub record IsTakingOf (bytes : List ℕ) (identity count : ℕ) : Type 0 where

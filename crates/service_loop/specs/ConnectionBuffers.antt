@@ -4,15 +4,15 @@ use Rattle.std.specs.Io.KnownBytes.{Appends, Consumes, IsAtEnd}
 use Rattle.model_asked.specs.declared.kind.WorldKind.{WorldKind}
 use Rattle.model_asked.specs.Replies.{ShownReply}
 use Rattle.model_asked.specs.Requests.{Request}
-use Rattle.text_lines.specs.Lines.{has_no_lf}
+use Rattle.text_lines.specs.Lines.{has_no_lf, whole_lines}
 use Rattle.text_player.specs.Progress.{Progress, after_bytes}
 use Rattle.text_player.specs.Runs.{Runs}
 use Rattle.text_player.specs.Says.{Spoke, IsSilent}
 use Rattle.text_player.specs.Texts.{replies_of}
 use Rattle.text_player.specs.Turns.{Turn}
 use Rattle.text_player.specs.declared.form.TheConstants.{TURN_ROOM}
-use Rattle.service_loop.specs.Asking.{MayAsk}
-use Rattle.service_loop.specs.Reported.{bytes_of, ends_of}
+use Rattle.service_loop.specs.Asking.{MayAsk, none_own}
+use Rattle.service_loop.specs.Reported.{behind, bytes_of, ends_of}
 use Rattle.service_loop.specs.BuffersState.{BuffersState}
 use Rattle.service_loop.specs.declared.peek.Peek.{Peek}
 use Rattle.service_loop.specs.declared.buffers.TheConstants.{UNSENT_ROOM, MOST_LINES}
@@ -42,6 +42,10 @@ pub record Takes (turns : List Turn) (came : List ℕ) (ends : Bool) (s s' : Buf
   pub ended_is : s'.ended ≡ (s.ended || ends)
   pub in_line_is : s'.in_line ≡ goes_on_in_line s.in_line taken
   pub kept : s'.broken ≡ false → (s'.inbox ≡ rest) × (s'.outbox ≡ s.outbox ++ replies_of turns) × (s.broken ≡ false)
+
+-- No line of these bytes is one that the server answers by itself, as long as `quit` was not answered. The end of a line that was begun before is no line
+abbrev pub TakesNoOwn : BuffersState → List ℕ → Type 0
+TakesNoOwn s taken = s.responder.over ≡ false → none_own (behind s.in_line (whole_lines taken)) ≡ true
 
 -- with no LF among the bytes that are taken there is no turn, whatever this side has said before: a line is answered once its LF is taken
 abbrev pub NeedsLf : Type 0
@@ -77,9 +81,9 @@ CanTake s = (s.broken ≡ false) × (s.ended ≡ false) × (IsFull s → ⊥)
 abbrev pub HasTakenAll : BuffersState → Type 0
 HasTakenAll s = s.broken ≡ false → s.ended ≡ false → 0 < length s.inbox → IsFull s ⊎ MayAsk s.inbox
 
--- by some turns, which lead the service from w to u
+-- by some turns, which lead the service from w to u; and no line is taken that the server answers by itself
 abbrev pub SomeTaken : {T : Type 0} → (T → Request → ShownReply → T → Type 0) → T → T → Option (List ℕ) → BuffersState → Option (List ℕ) → BuffersState → Type 0
-SomeTaken may w u left s left' s' = (turns : List Turn) × Runs may w turns u × TakesOf turns left s left' s'
+SomeTaken may w u left s left' s' = (turns : List Turn) × Runs may w turns u × (of : TakesOf turns left s left' s') × TakesNoOwn s of.takes.taken
 
 -- of the first so many bytes that waited a prefix is taken
 pub record TakesFirst (turns : List Turn) (count : ℕ) (s s' : BuffersState) : Type 0 where

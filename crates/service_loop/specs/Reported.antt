@@ -7,6 +7,7 @@ use Rattle.model_asked.specs.declared.kind.WorldKind.{WorldKind}
 use Rattle.text_lines.specs.Lines.{rest_of, whole_lines, with_ends}
 use Rattle.text_lines.specs.Meaning.{meaning}
 use Rattle.text_player.specs.Shared.{numbered, unnumbered}
+use Rattle.service_loop.specs.Asking.{none_own}
 use Rattle.service_loop.specs.BuffersState.{BuffersState}
 use Rattle.service_loop.specs.declared.peek.Peek.{Peek}
 
@@ -33,11 +34,12 @@ abbrev pub requests_in : WorldKind → Bool → List ℕ → List (List ℕ)
 requests_in kind long bytes = requests kind (behind long (whole_lines bytes))
 
 -- So many of the bytes were looked at, up to where a line ends: the requests among their lines stand behind what stood in the batch, and are
--- noted; and whether the next line is the end of a longer one
+-- noted; none of the lines is one that the server answers by itself; and whether the next line is the end of a longer one
 pub record HasPeeked (kind : WorldKind) (long asks : Bool) (batch bytes : List ℕ) (at : ℕ) (long' asks' : Bool) (batch' : List ℕ) : Type 0 where
   pub inside : at ≤ length bytes
   pub whole : rest_of (take at bytes) ≡ []
   pub added : batch' ≡ batch ++ with_ends (requests_in kind long (take at bytes))
+  pub own : none_own (behind long (whole_lines (take at bytes))) ≡ true
   pub asked : asks' ≡ false → (asks ≡ false) × (requests_in kind long (take at bytes) ≡ [])
   pub next : (line : List ℕ) → behind long (whole_lines (take at bytes) ++ line ∷ []) ≡ behind long (whole_lines (take at bytes)) ++ behind long' (line ∷ [])
 
@@ -73,13 +75,22 @@ more_of (Some peek) = peek.more
 abbrev pub takes_any : Peek → Bool
 takes_any peek = peek.more || peek.ends || nat_lt 0 peek.bytes
 
--- no more and no less was looked at
+-- whether the end of what comes was read, behind all that waits
+abbrev pub at_end_of : Option Peek → Bool
+at_end_of None = false
+at_end_of (Some peek) = peek.at_end
+
+-- no more and no less was looked at, and an end that was read stays
 abbrev pub IsSameGrant : Option Peek → Option Peek → Type 0
-IsSameGrant a b = (bytes_of b ≡ bytes_of a) × (ends_of b ≡ ends_of a) × (long_of b ≡ long_of a) × (asks_of b ≡ asks_of a)
+IsSameGrant a b = (bytes_of b ≡ bytes_of a) × (ends_of b ≡ ends_of a) × (long_of b ≡ long_of a) × (asks_of b ≡ asks_of a) × (at_end_of a ≡ true → at_end_of b ≡ true)
 
 -- the requests among what was looked at; there is none once `quit` was answered
 abbrev pub requests_seen : WorldKind → BuffersState → Option Peek → List (List ℕ)
 requests_seen kind s peek = if s.responder.over then [] else requests_in kind (long_of peek) (take (bytes_of peek) s.inbox)
+
+-- the lines that were looked at; there is none once `quit` was answered
+abbrev pub lines_seen : BuffersState → Option Peek → List (List ℕ)
+lines_seen s peek = if s.responder.over then [] else behind (long_of peek) (whole_lines (take (bytes_of peek) s.inbox))
 
 -- lines, each with the seat whose it is: those of one seat, and all
 abbrev pub SeatLines : Type 0

@@ -1,9 +1,12 @@
 //! Lines that the server answers by itself, among bytes: those that ask who holds numbers or the terms, and those that take a number.
 
-ghost use Rattle.std.specs.Prelude.{◌≡◌, ◌⊎◌, ◌≤◌, ◌<◌, ℕ, true, length, drop, get_or, IfSome};
-ghost use Rattle.text_lines.specs.Lines.{has_no_lf};
+ghost use Rattle.std.specs.Prelude.{◌≡◌, ◌⊎◌, ◌+◌, ◌≤◌, ◌<◌, ℕ, not, true, false, None, Some, length, drop, take, get_or, IfSome};
+ghost use Rattle.memchr.specs.Find.{IsFirstByte, is_byte};
+ghost use Rattle.text_lines.specs.Lines.{has_no_lf, whole_lines};
+ghost use Rattle.text_lines.specs.lemmas.PieceProofs.{lacks};
 ghost use Rattle.text_lines.specs.declared.held.query.TheConstants.{QUERY_MAX};
-ghost use Rattle.service_loop.specs.Asking.{IsPrefixOf, IsQueryOf, IsTakingOf, MayAsk, taking_of};
+ghost use Rattle.service_loop.specs.Asking.{is_own, none_own, IsLineStart, IsPrefixOf, IsQueryOf, IsTakingOf, MayAsk, taking_of};
+ghost use Rattle.service_loop.specs.Reported.{behind};
 ghost use Rattle.service_loop.specs.Waiting.{begins, first_query, first_taking, is_prefix_of};
 
 use crate::terms::{Query, query_of};
@@ -58,7 +61,9 @@ pub(crate) fn first_taking(bytes: &[u8]) -> Option<(u64, usize)>
 }
 
 /// Whether a line, without its LF, is one that the server answers by itself.
-pub(crate) fn is_own(line: &[u8]) -> bool {
+pub(crate) fn is_own(line: &[u8]) -> bool
+    ensures { result ≡ is_own line.now }
+{
     query_of(line).is_some() || taking_of(line).is_some()
 }
 
@@ -73,14 +78,21 @@ fn begins(bytes: &[u8]) -> bool
     }
 }
 
+// Whether a byte is none of these.
+fn lacks(byte: u8, bytes: &[u8]) -> bool
+    ensures { result ≡ lacks byte bytes.now }
+{
+    match memchr(byte, bytes) {
+        Some(_) => false,
+        None => true,
+    }
+}
+
 // Whether no line ends in these bytes.
 fn lacks_end(bytes: &[u8]) -> bool
     ensures { result ≡ has_no_lf bytes.now }
 {
-    match memchr(LF, bytes) {
-        Some(_) => false,
-        None => true,
-    }
+    lacks(LF, bytes)
 }
 
 /// Whether these bytes are the beginning of a line that may ask so, or take a number, with no LF.
@@ -93,7 +105,8 @@ pub(crate) fn is_prefix_of(bytes: &[u8]) -> bool
 
 // Whether these bytes begin with a line that asks who holds numbers, or the terms.
 fn asks_first(bytes: &[u8]) -> bool
-    ensures { result ≡ true → (query : Query) × (count : ℕ) × IsQueryOf bytes.now query count }
+    ensures asks { result ≡ true → (query : Query) × (count : ℕ) × IsQueryOf bytes.now query count }
+    ensures none { result ≡ false → first_query bytes.now ≡ None }
 {
     match first_query(bytes) {
         Some(_) => true,
@@ -103,7 +116,8 @@ fn asks_first(bytes: &[u8]) -> bool
 
 // Whether these bytes begin with a line that takes a number.
 fn takes_first(bytes: &[u8]) -> bool
-    ensures { result ≡ true → (identity : ℕ) × (count : ℕ) × IsTakingOf bytes.now identity count }
+    ensures asks { result ≡ true → (identity : ℕ) × (count : ℕ) × IsTakingOf bytes.now identity count }
+    ensures none { result ≡ false → first_taking bytes.now ≡ None }
 {
     match first_taking(bytes) {
         Some(_) => true,
@@ -113,15 +127,21 @@ fn takes_first(bytes: &[u8]) -> bool
 
 // Whether these bytes begin with a line that the server answers by itself, or that may come to be one.
 fn may_ask(bytes: &[u8]) -> bool
-    ensures { result ≡ true → MayAsk bytes.now }
+    ensures asks { result ≡ true → MayAsk bytes.now }
+    ensures own { result ≡ false → (end : ℕ) → IsFirstByte (is_byte 10) bytes.now (Some end) → is_own (take end bytes.now) ≡ false }
 {
-    begins(bytes) && (asks_first(bytes) || takes_first(bytes) || is_prefix_of(bytes))
+    if !begins(bytes) {
+        return false;
+    }
+    asks_first(bytes) || takes_first(bytes) || is_prefix_of(bytes)
 }
 
 // Where the line behind the first of these bytes begins, or else their end.
 fn next_line(bytes: &[u8], from: usize) -> usize
     requires { from < length bytes.now }
-    ensures { (from < result) × (result ≤ length bytes.now) }
+    ensures inside { (from < result) × (result ≤ length bytes.now) }
+    ensures next { ((end : ℕ) × IsFirstByte (is_byte 10) (drop from bytes.now) (Some end) × (result ≡ from + (end + 1))) ⊎
+        (IsFirstByte (is_byte 10) (drop from bytes.now) None × (result ≡ length bytes.now)) }
 {
     match memchr(LF, &bytes[from..]) {
         Some(end) => from + end + 1,
@@ -131,18 +151,20 @@ fn next_line(bytes: &[u8], from: usize) -> usize
 
 // Where the first line of these bytes begins, or else their end. The first of them begins a line, where it says so.
 fn first_line(begins: bool, bytes: &[u8]) -> usize
-    ensures { result ≤ length bytes.now }
+    ensures inside { result ≤ length bytes.now }
+    ensures starts { result < length bytes.now → IsLineStart begins bytes.now result }
+    ensures own { none_own (behind (not begins) (whole_lines (take result bytes.now))) ≡ true }
 {
     if begins || bytes.is_empty() {
-        0
-    } else {
-        next_line(bytes, 0)
+        return 0;
     }
+    next_line(bytes, 0)
 }
 
 // Where the last line of these bytes begins, or else their end. The first of them begins a line, where it says so.
 fn last_line(begins: bool, bytes: &[u8]) -> usize
-    ensures { result ≤ length bytes.now }
+    ensures inside { result ≤ length bytes.now }
+    ensures starts { result < length bytes.now → IsLineStart begins bytes.now result }
 {
     match memrchr(LF, bytes) {
         Some(end) => end + 1,
@@ -152,23 +174,33 @@ fn last_line(begins: bool, bytes: &[u8]) -> usize
 
 // Whether none of these bytes is a letter that lines have which the server answers by itself, and no command has. Every byte of clients comes by
 // here. Two looks for one letter each take less than half the time of one look for either (`memchr2`).
-fn lacks_letters(bytes: &[u8]) -> bool {
-    memchr(ASKS, bytes).is_none()
-        && memchr(INSIDE, bytes).is_none()
-        && memchr(AMID, bytes).is_none()
+fn lacks_letters(bytes: &[u8]) -> bool
+    ensures { result ≡ true → (lacks 104 bytes.now ≡ true) × (lacks 107 bytes.now ≡ true) × (lacks 109 bytes.now ≡ true) }
+{
+    lacks(ASKS, bytes) && lacks(INSIDE, bytes) && lacks(AMID, bytes)
+}
+
+// Where a line begins before which the server answers none by itself, or else the end of these bytes. The first of them begins a line, where it
+// says so.
+fn first_look(begins: bool, bytes: &[u8]) -> usize
+    ensures inside { result ≤ length bytes.now }
+    ensures starts { result < length bytes.now → IsLineStart begins bytes.now result }
+    ensures own { none_own (behind (not begins) (whole_lines (take result bytes.now))) ≡ true }
+{
+    if lacks_letters(bytes) {
+        return last_line(begins, bytes);
+    }
+    first_line(begins, bytes)
 }
 
 /// How many of these bytes stand before the first line that the server answers by itself, or that may come to be such a line. The first of them
-/// begins a line, where it says so.
+/// begins a line, where it says so. No line of those that begin before it is one that the server answers by itself.
 pub(crate) fn before_query(begins: bool, bytes: &[u8]) -> usize
     ensures inside { result ≤ length bytes.now }
     ensures asks { result < length bytes.now → MayAsk (drop result bytes.now) }
+    ensures own { none_own (behind (not begins) (whole_lines (take result bytes.now))) ≡ true }
 {
-    let mut at = if lacks_letters(bytes) {
-        last_line(begins, bytes)
-    } else {
-        first_line(begins, bytes)
-    };
+    let mut at = first_look(begins, bytes);
     while at < bytes.len() && !may_ask(&bytes[at..]) {
         at = next_line(bytes, at);
     }

@@ -5,9 +5,10 @@ ghost use Rattle.text_player.specs.Knows.{Knows};
 ghost use Rattle.text_player.specs.Runs.{Runs};
 ghost use Rattle.text_player.specs.Turns.{Turn};
 ghost use Rattle.text_player.specs.declared.form.TheConstants.{TURN_ROOM};
+ghost use Rattle.text_lines.specs.Lines.{has_no_lf};
 ghost use Rattle.text_lines.specs.declared.held.query.TheConstants.{QUERY_MAX};
 ghost use Rattle.service_loop.specs.Asking.{IsPrefixOf, IsQueryOf, IsTakingOf, MayAsk};
-ghost use Rattle.service_loop.specs.ConnectionBuffers.{goes_on_in_line, IsFull, AreNewBuffers, Takes, TakesFirst};
+ghost use Rattle.service_loop.specs.ConnectionBuffers.{goes_on_in_line, IsFull, AreNewBuffers, Takes, TakesFirst, TakesNoOwn};
 ghost use Rattle.service_loop.specs.Waiting.{has_room, is_at_line, is_prefix_of, waiting_query, waiting_taking, waits_for_more};
 
 use crate::asking::{before_query, first_query, first_taking, is_prefix_of};
@@ -159,6 +160,7 @@ impl<A: Allocator> Buffers<A> {
         ensures exact { result ≡ waits_for_more self.now }
         ensures none { result ≡ true → 0 < length self.now.inbox → MayAsk self.now.inbox }
         ensures few { result ≡ true → length self.now.inbox ≤ QUERY_MAX }
+        ensures line { result ≡ true → has_no_lf self.now.inbox ≡ true }
         ensures most { length self.now.inbox ≤ UNSENT_ROOM }
     {
         self.inbox.is_empty() || self.is_begun()
@@ -219,6 +221,7 @@ impl<A: Allocator> Buffers<A> {
     fn free(&self, last: bool) -> usize
         ensures inside { result ≤ length self.now.inbox }
         ensures asks { result < length self.now.inbox → MayAsk (drop result self.now.inbox) }
+        ensures own { last ≡ false → TakesNoOwn self.now (take result self.now.inbox) }
     {
         if last || self.is_over() {
             return self.inbox.len();
@@ -238,7 +241,8 @@ impl<A: Allocator> Buffers<A> {
     }
 
     /// Takes lines of what waits and of these bytes, which came behind it, as long as there is room for one reply more, up to a line that
-    /// asks who holds numbers or takes one; where they are the last that come, past that too. The rest waits. Where memory is refused it is at fault.
+    /// asks who holds numbers or takes one; where they are the last that come, past that too. The rest waits. Where memory is refused it is at fault. No
+    /// line that the server answers by itself is taken, unless they are the last, or `quit` was answered.
     pub fn take<R, D: Service<R>, B: Allocator>(
         &mut self,
         rt: &R,
@@ -253,7 +257,8 @@ impl<A: Allocator> Buffers<A> {
         requires few { length self.old.inbox + length bytes.now ≤ 65536 }
         requires count { self.old.responder.summary.lines ≤ MOST_LINES }
         requires empty { replies.old ≡ [] }
-        ensures takes { (turns : List Turn) × Runs D.may service.old turns service.new × Takes turns bytes.now false self.old self.new }
+        ensures takes { (turns : List Turn) × Runs D.may service.old turns service.new ×
+            (takes : Takes turns bytes.now false self.old self.new) × (last ≡ false → TakesNoOwn self.old takes.taken) }
         ensures full { self.new.broken ≡ false → 0 < length self.new.inbox →
             (UNSENT_ROOM < length self.new.outbox + TURN_ROOM) ⊎ MayAsk self.new.inbox }
         ensures empty { replies.new ≡ [] }

@@ -1,17 +1,20 @@
 //! A connection: its stream, and what is held of it.
 
-ghost use Rattle.std.specs.Prelude.{◌≡◌, ◌⊎◌, ◌+◌, ◌++◌, ◌≤◌, ◌<◌, true, false, List, [], length, take, drop, IfOk, IsTrue, ◌↔◌};
+ghost use Rattle.std.specs.Prelude.{◌≡◌, ◌⊎◌, ◌+◌, ◌++◌, ◌≤◌, ◌<◌, true, false, List, [], length, take, drop, is_some, Some, IfOk, IsTrue, ◌↔◌};
+ghost use Rattle.std.specs.IoError.{error_kind};
+ghost use Rattle.std.specs.declared.io.ErrorKind.TheVariants.{WouldBlock, Interrupted};
 ghost use Rattle.std.specs.Io.{ReadsAtMost};
 ghost use Rattle.std.specs.Io.KnownBytes.{Appends, ReadConsumes};
 ghost use Rattle.model_asked.specs.Requests.{Request};
-ghost use Rattle.text_lines.specs.Lines.{with_ends};
+ghost use Rattle.text_lines.specs.Lines.{has_no_lf, with_ends};
 ghost use Rattle.text_player.specs.Runs.{Runs};
 ghost use Rattle.text_player.specs.Turns.{Turn};
 ghost use Rattle.text_player.specs.declared.form.TheConstants.{TURN_ROOM};
 ghost use Rattle.service_loop.specs.SharedBuffers.{AreShared};
-ghost use Rattle.service_loop.specs.Reported.{asks_of, holds_of, more_of, requests_seen, IsSameGrant};
+ghost use Rattle.service_loop.specs.declared.peek.Peek.{Peek};
+ghost use Rattle.service_loop.specs.Reported.{asks_of, at_end_of, bytes_of, holds_of, lines_seen, more_of, requests_seen, IsSameGrant};
 ghost use Rattle.text_lines.specs.declared.held.query.TheConstants.{QUERY_MAX};
-ghost use Rattle.service_loop.specs.Asking.{MayAnswer, MayAsk};
+ghost use Rattle.service_loop.specs.Asking.{none_own, MayAnswer, MayAsk};
 ghost use Rattle.service_loop.specs.Queries.{query_text};
 ghost use Rattle.service_loop.specs.ConnectionBuffers.{is_done, CanSend, CanTake, HasTakenAll, SomeTaken, Takes, TakesEnd, TakesPeeked, SendsTo};
 ghost use Rattle.service_loop.specs.Gathering.{GathersOf};
@@ -99,6 +102,9 @@ fn read_into<S: Stream, B: Allocator>(
 fn note_fault<A: Allocator>(fault: &io::Error, able: &mut bool, buffers: &mut Buffers<A>)
     ensures buffers { buffers.new ≡ record buffers.old { broken = buffers.new.broken } }
     ensures whole { buffers.new.broken ≡ false → buffers.old.broken ≡ false }
+    ensures kept { (error_kind fault.now ≡ WouldBlock) ⊎ (error_kind fault.now ≡ Interrupted) → buffers.new ≡ buffers.old }
+    ensures rests { error_kind fault.now ≡ WouldBlock → able.new ≡ false }
+    ensures able { (error_kind fault.now ≡ WouldBlock → ⊥) → able.new ≡ able.old }
 {
     match fault.kind() {
         ErrorKind::WouldBlock => *able = false,
@@ -252,7 +258,8 @@ impl<S: Stream, A: Allocator> Connection<S, A> {
     }
 
     /// Reads once what came, if there is room, and looks at its lines before they are taken: its requests are added to the batch, as far
-    /// as there is room there. Where memory is refused it is at fault, and none of its lines is in the batch.
+    /// as there is room there. Where memory is refused it is at fault, and none of its lines is in the batch. None of the lines that are looked at is one
+    /// that the server answers by itself. Where it may take lines and no more is to be looked at, no whole line is left.
     pub fn gather<B: Allocator>(
         &mut self,
         kind: WorldKind,
@@ -266,6 +273,10 @@ impl<S: Stream, A: Allocator> Connection<S, A> {
         ensures stage { self.new.stage ≡ self.old.stage }
         ensures reported { batch.new.items ≡ batch.old.items ++ with_ends (requests_seen kind self.new.buffers self.new.peek) }
         ensures asks { asks_of self.new.peek ≡ false → (asks_of self.old.peek ≡ false) × (requests_seen kind self.new.buffers self.new.peek ≡ []) }
+        ensures own { none_own (lines_seen self.new.buffers self.new.peek) ≡ true }
+        ensures rest { (peek : Peek) → may_take self.old.buffers ≡ true → self.new.buffers.broken ≡ false → self.new.peek ≡ Some peek → peek.more ≡ false →
+            has_no_lf (drop peek.bytes self.new.buffers.inbox) ≡ true }
+        ensures end { at_end_of self.old.peek ≡ true → at_end_of self.new.peek ≡ true }
         ensures room { AreShared shared.new }
     {
         let peek = match self.peek {
@@ -296,6 +307,7 @@ impl<S: Stream, A: Allocator> Connection<S, A> {
     fn note_end(&mut self)
         ensures same { self.new ≡ record self.old { readable = false; peek = self.new.peek } }
         ensures peek { IsSameGrant self.old.peek self.new.peek }
+        ensures end { at_end_of self.new.peek ≡ is_some self.old.peek }
     {
         self.readable = false;
         if let Some(peek) = &mut self.peek {
@@ -307,6 +319,10 @@ impl<S: Stream, A: Allocator> Connection<S, A> {
     fn peek_over<B: Allocator>(&mut self, kind: WorldKind, most: usize, batch: &mut Vec<u8, B>)
         ensures reported { batch.new.items ≡ batch.old.items ++ with_ends (requests_seen kind self.new.buffers self.new.peek) }
         ensures asks { asks_of self.new.peek ≡ false → (asks_of self.old.peek ≡ false) × (requests_seen kind self.new.buffers self.new.peek ≡ []) }
+        ensures own { none_own (lines_seen self.new.buffers self.new.peek) ≡ true }
+        ensures rest { (peek : Peek) → self.new.buffers.broken ≡ false → self.new.peek ≡ Some peek → peek.more ≡ false →
+            has_no_lf (drop peek.bytes self.new.buffers.inbox) ≡ true }
+        ensures end { at_end_of self.new.peek ≡ at_end_of self.old.peek }
         ensures buffers { self.new.buffers ≡ record self.old.buffers { broken = self.new.buffers.broken } }
         ensures whole { self.new.buffers.broken ≡ false → self.old.buffers.broken ≡ false }
         ensures stream { self.new.stream ≡ self.old.stream }
@@ -386,6 +402,7 @@ impl<S: Stream, A: Allocator> Connection<S, A> {
         requires whole { self.old.buffers.broken ≡ false }
         requires none { 0 < length self.old.buffers.inbox → MayAsk self.old.buffers.inbox }
         requires few { length self.old.buffers.inbox ≤ QUERY_MAX }
+        requires line { has_no_lf self.old.buffers.inbox ≡ true }
         requires reply { length self.old.buffers.outbox + TURN_ROOM ≤ UNSENT_ROOM }
         requires count { self.old.buffers.responder.summary.lines ≤ MOST_LINES }
         requires room { AreShared shared.old }

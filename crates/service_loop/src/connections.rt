@@ -1,6 +1,6 @@
 //! The connections of a server, their seats, and who is to have a turn.
 
-ghost use Rattle.std.specs.Prelude.{◌≤◌, length};
+ghost use Rattle.std.specs.Prelude.{◌≡◌, ◌≤◌, ◌+◌, ◌++◌, [], length, drop, IfOk};
 
 use crate::attended::Ending;
 use crate::buffers::Buffers;
@@ -77,7 +77,9 @@ impl ConnectionTable {
     }
 
     // An empty seat.
-    fn empty_seat(&mut self) -> Result<usize, AllocError> {
+    fn empty_seat(&mut self) -> Result<usize, AllocError>
+        ensures { self.new.open ≡ self.old.open }
+    {
         if let Some(key) = self.empty.pop() {
             return Ok(key);
         }
@@ -90,7 +92,9 @@ impl ConnectionTable {
     }
 
     // The connection that is given this seat has the next number.
-    fn number_seat(&mut self, key: usize) {
+    fn number_seat(&mut self, key: usize)
+        ensures { self.new.open ≡ self.old.open }
+    {
         if let Some(number) = self.numbers.get_mut(key) {
             *number = self.next;
             self.next = self.next.saturating_add(1);
@@ -107,7 +111,9 @@ impl ConnectionTable {
     }
 
     // Whoever sat there leaves, and this connection has the seat, or none. Says whether there is such a seat.
-    fn fill(&mut self, key: usize, connection: Option<Connection<Socket, Global>>) -> bool {
+    fn fill(&mut self, key: usize, connection: Option<Connection<Socket, Global>>) -> bool
+        ensures { self.new.open ≡ self.old.open }
+    {
         match self.seats.get_mut(key) {
             Some(seat) => {
                 drop(mem::replace(seat, connection));
@@ -137,7 +143,9 @@ impl ConnectionTable {
         kind: WorldKind,
         mut stream: Socket,
         tick: u64,
-    ) -> Result<(), AllocError> {
+    ) -> Result<(), AllocError>
+        ensures one { self.new.open ≤ self.old.open + 1 }
+    {
         stream.hurry();
         let key = self.empty_seat()?;
         if stream.register(poll, Token(key)).is_err() {
@@ -269,10 +277,11 @@ impl ConnectionTable {
     // The ready seats from there on, and then those that are due again.
     fn queue_again(&mut self, from: usize) -> Result<(), AllocError>
         requires { from ≤ length self.old.ready.items }
+        ensures ready { IfOk result (λ done. self.new.ready.items ≡ drop from self.old.ready.items ++ self.old.later.items) }
+        ensures later { IfOk result (λ done. self.new.later.items ≡ []) }
+        ensures same { (self.new.seats ≡ self.old.seats) × (self.new.numbers ≡ self.old.numbers) × (self.new.open ≡ self.old.open) }
     {
-        let left = self.ready.len() - from;
-        self.ready.copy_within(from.., 0);
-        self.ready.truncate(left);
+        self.ready.drain(..from);
         self.ready.extend_from_slice(&self.later)?;
         self.later.clear();
         Ok(())

@@ -1,7 +1,8 @@
 //! What is seen of a connection's lines before its turn takes them.
 
-ghost use Rattle.std.specs.Prelude.{◌≡◌, ◌++◌, ◌≤◌, ◌-◌, ◌↔◌, List, ℕ, true, false, [], ◌∷◌, length, take, drop, IfOk, IsTrue};
-ghost use Rattle.text_lines.specs.Lines.{has_no_lf, with_ends};
+ghost use Rattle.std.specs.Prelude.{◌≡◌, ◌++◌, ◌≤◌, ◌-◌, ◌↔◌, ◌&&◌, not, List, ℕ, true, false, [], ◌∷◌, length, take, drop, IfOk, IsTrue};
+ghost use Rattle.text_lines.specs.Lines.{has_no_lf, whole_lines, with_ends};
+ghost use Rattle.service_loop.specs.Asking.{is_own, none_own};
 ghost use Rattle.service_loop.specs.declared.peek.TheConstants.{REQUEST_ROOM};
 ghost use Rattle.service_loop.specs.Reported.{requests, behind, requests_in, takes_any, HasPeeked};
 
@@ -112,7 +113,7 @@ impl Limits {
 impl Peek {
     /// Nothing was read or looked at.
     pub fn new() -> Peek
-        ensures { (result.bytes ≡ 0) × (result.ends ≡ false) × (result.asks ≡ false) }
+        ensures { (result.bytes ≡ 0) × (result.ends ≡ false) × (result.asks ≡ false) × (result.at_end ≡ false) }
     {
         Peek {
             bytes: 0,
@@ -163,7 +164,8 @@ impl Peek {
     }
 
     /// Looks at what waits, as far as there is room, and up to a line that the server answers by itself: the next turn takes its whole lines, and the
-    /// requests of those are added to the batch. What no LF ends asks for nothing, at the end of what comes neither.
+    /// requests of those are added to the batch. What no LF ends asks for nothing, at the end of what comes neither. None of the lines is one that the
+    /// server answers by itself. Where `more` is not set, no whole line is left.
     ///
     /// # Errors
     ///
@@ -178,6 +180,9 @@ impl Peek {
             batch.new.items ≡ batch.old.items ++ with_ends (requests_in limits.old.kind self.old.long (take self.new.bytes bytes.now))) }
         ensures asks { IfOk result (λ done. self.new.asks ≡ false →
             (self.old.asks ≡ false) × (requests_in limits.old.kind self.old.long (take self.new.bytes bytes.now) ≡ [])) }
+        ensures own { IfOk result (λ done. none_own (behind self.old.long (whole_lines (take self.new.bytes bytes.now))) ≡ true) }
+        ensures rest { IfOk result (λ done. self.new.more ≡ false → has_no_lf (drop self.new.bytes bytes.now) ≡ true) }
+        ensures end { self.new.at_end ≡ self.old.at_end }
         ensures long { self.new.long ≡ self.old.long }
         ensures kept { (more : List ℕ) × (batch.new.items ≡ batch.old.items ++ more) }
     {
@@ -198,7 +203,7 @@ impl Peek {
 
     /// Whatever waits is taken in the next turn, and asks for nothing, as it does once `quit` was answered.
     pub fn take_all(&mut self, bytes: &[u8])
-        ensures same { (self.new.asks ≡ self.old.asks) × (self.new.long ≡ self.old.long) }
+        ensures same { (self.new.asks ≡ self.old.asks) × (self.new.long ≡ self.old.long) × (self.new.at_end ≡ self.old.at_end) }
         ensures taken { (self.new.bytes ≡ length bytes.now) × (self.new.ends ≡ self.old.at_end) × (self.new.more ≡ false) }
     {
         self.bytes = bytes.len();
@@ -226,7 +231,7 @@ impl Peek {
             let Some(end) = memchr(LF, rest) else {
                 return Ok(true);
             };
-            if !self.goes_on && is_own(&rest[..end]) {
+            if self.stops_at(&rest[..end]) {
                 self.holds = self.bytes == 0 && held_query(&rest[..end]).is_some();
                 return Ok(false);
             }
@@ -236,6 +241,13 @@ impl Peek {
             }
         }
         Ok(false)
+    }
+
+    // Whether a line that stands next is one that the server answers by itself, and not the end of a longer one.
+    fn stops_at(&self, line: &[u8]) -> bool
+        ensures { result ≡ (not self.now.goes_on && is_own line.now) }
+    {
+        !self.goes_on && is_own(line)
     }
 
     // One line more is taken: a request is added to the batch. Says whether to look on.

@@ -1,6 +1,6 @@
 use borrow.Author.Rules.{scaled_Fits}
 use Rattle.std.proofs.lemmas.List.{set-get_or}
-use Rattle.std.proofs.Common.{◌≡◌, ◌∙◌, inr, Some, None, sym, inl, refl, subst, set, ap}
+use Rattle.std.proofs.Common.{◌≡◌, ◌∙◌, inr, None, sym, inl, refl, subst, set, ap}
 use Rattle.service_loop.proofs.Common.{get_or_default, seats_of}
 use Rattle.service_loop.specs.declared.connection.ConnectionStage.TheVariants as stage
 use Rattle.service_loop.specs.Queries.{query_text}

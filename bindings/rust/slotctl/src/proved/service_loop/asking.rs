@@ -1,4 +1,4 @@
-// Erased by bindings/rust/erase from crates/service_loop/src/asking.rt, sha256 5da47999a19ffa4b98232ad97c4ca47c78bc1701e634596c7742cbdfe1c40543.
+// Erased by bindings/rust/erase from crates/service_loop/src/asking.rt, sha256 3ab54ac54c5aeaa4d1792e36f55b874ffcfb98e882d23adabc127bd163b7132f.
 //! Lines that the server answers by itself, among bytes: those that ask who holds numbers or the terms, and those that take a number.
 
 use crate::kit::memchr::{memchr, memrchr};
@@ -57,12 +57,17 @@ fn begins(bytes: &[u8]) -> bool {
     }
 }
 
-// Whether no line ends in these bytes.
-fn lacks_end(bytes: &[u8]) -> bool {
-    match memchr(LF, bytes) {
+// Whether a byte is none of these.
+fn lacks(byte: u8, bytes: &[u8]) -> bool {
+    match memchr(byte, bytes) {
         Some(_) => false,
         None => true,
     }
+}
+
+// Whether no line ends in these bytes.
+fn lacks_end(bytes: &[u8]) -> bool {
+    lacks(LF, bytes)
 }
 
 /// Whether these bytes are the beginning of a line that may ask so, or take a number, with no LF.
@@ -88,7 +93,10 @@ fn takes_first(bytes: &[u8]) -> bool {
 
 // Whether these bytes begin with a line that the server answers by itself, or that may come to be one.
 fn may_ask(bytes: &[u8]) -> bool {
-    begins(bytes) && (asks_first(bytes) || takes_first(bytes) || is_prefix_of(bytes))
+    if !begins(bytes) {
+        return false;
+    }
+    asks_first(bytes) || takes_first(bytes) || is_prefix_of(bytes)
 }
 
 // Where the line behind the first of these bytes begins, or else their end.
@@ -102,10 +110,9 @@ fn next_line(bytes: &[u8], from: usize) -> usize {
 // Where the first line of these bytes begins, or else their end. The first of them begins a line, where it says so.
 fn first_line(begins: bool, bytes: &[u8]) -> usize {
     if begins || bytes.is_empty() {
-        0
-    } else {
-        next_line(bytes, 0)
+        return 0;
     }
+    next_line(bytes, 0)
 }
 
 // Where the last line of these bytes begins, or else their end. The first of them begins a line, where it says so.
@@ -119,19 +126,22 @@ fn last_line(begins: bool, bytes: &[u8]) -> usize {
 // Whether none of these bytes is a letter that lines have which the server answers by itself, and no command has. Every byte of clients comes by
 // here. Two looks for one letter each take less than half the time of one look for either (`memchr2`).
 fn lacks_letters(bytes: &[u8]) -> bool {
-    memchr(ASKS, bytes).is_none()
-        && memchr(INSIDE, bytes).is_none()
-        && memchr(AMID, bytes).is_none()
+    lacks(ASKS, bytes) && lacks(INSIDE, bytes) && lacks(AMID, bytes)
+}
+
+// Where a line begins before which the server answers none by itself, or else the end of these bytes. The first of them begins a line, where it
+// says so.
+fn first_look(begins: bool, bytes: &[u8]) -> usize {
+    if lacks_letters(bytes) {
+        return last_line(begins, bytes);
+    }
+    first_line(begins, bytes)
 }
 
 /// How many of these bytes stand before the first line that the server answers by itself, or that may come to be such a line. The first of them
-/// begins a line, where it says so.
+/// begins a line, where it says so. No line of those that begin before it is one that the server answers by itself.
 pub(crate) fn before_query(begins: bool, bytes: &[u8]) -> usize {
-    let mut at = if lacks_letters(bytes) {
-        last_line(begins, bytes)
-    } else {
-        first_line(begins, bytes)
-    };
+    let mut at = first_look(begins, bytes);
     while at < bytes.len() && !may_ask(&bytes[at..]) {
         at = next_line(bytes, at);
     }

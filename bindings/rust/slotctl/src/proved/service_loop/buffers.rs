@@ -1,4 +1,4 @@
-// Erased by bindings/rust/erase from crates/service_loop/src/buffers.rt, sha256 30c54ddfa96fbb8a264d3bd4aff826ebd365fbe65adbdd48c7b599566f04145b.
+// Erased by bindings/rust/erase from crates/service_loop/src/buffers.rt, sha256 8cf34af4da51df7e5cf0d23f87fb5d21406504b58ca0051e3aacbee5ee092455.
 //! A connection without its stream.
 
 use crate::kit::alloc::Allocator;
@@ -167,7 +167,8 @@ impl<A: Allocator> Buffers<A> {
     }
 
     /// Takes lines of what waits and of these bytes, which came behind it, as long as there is room for one reply more, up to a line that
-    /// asks who holds numbers or takes one; where they are the last that come, past that too. The rest waits. Where memory is refused it is at fault.
+    /// asks who holds numbers or takes one; where they are the last that come, past that too. The rest waits. Where memory is refused it is at fault. No
+    /// line that the server answers by itself is taken, unless they are the last, or `quit` was answered.
     pub fn take<R, D: Service<R>, B: Allocator>(
         &mut self,
         rt: &R,

@@ -1,4 +1,4 @@
-// Erased by bindings/rust/erase from crates/service_loop/src/connection.rt, sha256 a6d55a915ca7240b27aae72b50b02d2cc75b7a475cef77172f1adebbca4d82fb.
+// Erased by bindings/rust/erase from crates/service_loop/src/connection.rt, sha256 7cd1b5739c0961910dcb44d4d88f0ddba4fba04f6e1c11e8bd0a4a11f391a4a6.
 //! A connection: its stream, and what is held of it.
 
 use crate::kit::alloc::Allocator;
@@ -174,7 +174,8 @@ impl<S: Stream, A: Allocator> Connection<S, A> {
     }
 
     /// Reads once what came, if there is room, and looks at its lines before they are taken: its requests are added to the batch, as far
-    /// as there is room there. Where memory is refused it is at fault, and none of its lines is in the batch.
+    /// as there is room there. Where memory is refused it is at fault, and none of its lines is in the batch. None of the lines that are looked at is one
+    /// that the server answers by itself. Where it may take lines and no more is to be looked at, no whole line is left.
     pub fn gather<B: Allocator>(
         &mut self,
         kind: WorldKind,

@@ -1,4 +1,4 @@
-// Erased by bindings/rust/erase from crates/service_loop/src/connections.rt, sha256 9d9c4084d230ce715e6cd00390efb8776545c851e5ddae7321cec12c0fa64b64.
+// Erased by bindings/rust/erase from crates/service_loop/src/connections.rt, sha256 dc3b54ec6ff10333b067ad9d6ae46cde7c3d07c3065fc8822ff189a5af979552.
 //! The connections of a server, their seats, and who is to have a turn.
 
 use crate::kit::alloc::{AllocError, Global};
@@ -267,9 +267,7 @@ impl ConnectionTable {
 
     // The ready seats from there on, and then those that are due again.
     fn queue_again(&mut self, from: usize) -> Result<(), AllocError> {
-        let left = self.ready.len() - from;
-        self.ready.copy_within(from.., 0);
-        self.ready.truncate(left);
+        self.ready.drain(..from);
         self.ready.extend_from_slice(&self.later)?;
         self.later.clear();
         Ok(())

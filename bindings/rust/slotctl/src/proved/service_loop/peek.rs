@@ -1,4 +1,4 @@
-// Erased by bindings/rust/erase from crates/service_loop/src/peek.rt, sha256 4ff6406f6b8a47e9d1fd3b7f9ff55b671bc97e7508915dbc889aabe0c3fbf450.
+// Erased by bindings/rust/erase from crates/service_loop/src/peek.rt, sha256 1a7dc3ddfe1759260c63a4618a4ad49f095a61c36e47430fe08d01daf499165b.
 //! What is seen of a connection's lines before its turn takes them.
 
 use crate::kit::alloc::{AllocError, Allocator};
@@ -146,7 +146,8 @@ impl Peek {
     }
 
     /// Looks at what waits, as far as there is room, and up to a line that the server answers by itself: the next turn takes its whole lines, and the
-    /// requests of those are added to the batch. What no LF ends asks for nothing, at the end of what comes neither.
+    /// requests of those are added to the batch. What no LF ends asks for nothing, at the end of what comes neither. None of the lines is one that the
+    /// server answers by itself. Where `more` is not set, no whole line is left.
     ///
     /// # Errors
     ///
@@ -191,7 +192,7 @@ impl Peek {
             let Some(end) = memchr(LF, rest) else {
                 return Ok(true);
             };
-            if !self.goes_on && is_own(&rest[..end]) {
+            if self.stops_at(&rest[..end]) {
                 self.holds = self.bytes == 0 && held_query(&rest[..end]).is_some();
                 return Ok(false);
             }
@@ -201,6 +202,11 @@ impl Peek {
             }
         }
         Ok(false)
+    }
+
+    // Whether a line that stands next is one that the server answers by itself, and not the end of a longer one.
+    fn stops_at(&self, line: &[u8]) -> bool {
+        !self.goes_on && is_own(line)
     }
 
     // One line more is taken: a request is added to the batch. Says whether to look on.

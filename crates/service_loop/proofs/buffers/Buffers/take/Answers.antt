@@ -7,13 +7,17 @@ use Rattle.text_player.specs.Texts.{turn_reply}
 use Rattle.text_player.specs.declared.form.TheConstants.{TURN_ROOM}
 use Rattle.service_loop.specs.Asking.{MayAsk}
 use Rattle.service_loop.specs.BuffersState.{BuffersState}
-use Rattle.service_loop.specs.ConnectionBuffers.{goes_on_in_line}
+use Rattle.text_lines.specs.Lines.{whole_lines}
+use Rattle.service_loop.specs.Asking.{none_own}
+use Rattle.service_loop.specs.Reported.{behind}
+use Rattle.service_loop.specs.ConnectionBuffers.{goes_on_in_line, TakesNoOwn}
+use Rattle.service_loop.proofs.OwnLemmas.{none_of_none, none_take}
 use Rattle.service_loop.specs.declared.buffers.TheConstants.{UNSENT_ROOM}
 use Rattle.service_loop.proofs.BuffersLemmas.{cut_first, takes_refused, takes_said}
 use Rattle.service_loop.proofs.buffers.Buffers.take.Goals as goal
 
 pub returns-then-not-add-clause-takes : goal.returns-then-not-add-clause-takes
-returns-then-not-add-clause-takes g c = ([], refl, takes_refused c.args.bytes.now c.args.self.now c.add.new.self (c.add.ensures.refused c.if-not-add.true))
+returns-then-not-add-clause-takes g c = ([], refl, takes_refused c.args.bytes.now c.args.self.now c.add.new.self (c.add.ensures.refused c.if-not-add.true), λ last on. none_of_none c.args.self.now.in_line)
 
 pub returns-clause-takes : goal.returns-clause-takes
 returns-clause-takes g c =
@@ -36,6 +40,11 @@ returns-clause-takes g c =
     (λ h.
     let held = c.hold.ensures.held (sym (ap (λ (q : BuffersState). q.broken) is) ∙ h) in
     (ap (λ (q : BuffersState). q.outbox) is ∙ held.0 ∙ ap (λ l. l ++ c.take_some-taken.new.out) (ap (λ (q : BuffersState). q.outbox) was), sym (ap (λ (q : BuffersState). q.broken) was) ∙ held.1))
+    c.args.last
+    (λ more on. subst (λ (l : List ℕ). none_own (behind s.in_line (whole_lines l)) ≡ true) cut
+    (none_take s.in_line n (take free all) (subst (λ (q : BuffersState). q.responder.over ≡ false → none_own (behind q.in_line (whole_lines (take free all))) ≡ true) was
+    (subst (λ (l : List ℕ). c.self.inside.responder.over ≡ false → none_own (behind c.self.inside.in_line (whole_lines (take free l))) ≡ true) (sym c.deref.ensures.value)
+    (subst (λ (q : BuffersState). TakesNoOwn q (take free q.inbox)) (sym c.self.view_is) (c.free-free.ensures.own more))) on)))
 
 pub returns-clause-full : goal.returns-clause-full
 returns-clause-full g c = λ whole some.

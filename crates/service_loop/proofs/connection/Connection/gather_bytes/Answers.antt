@@ -14,7 +14,7 @@ returns-in-Err-clause-gathers g c =
     gathers_kept left left' c.args.self.now.buffers c.note_fault.new.buffers (consumes_kept left left' c.in-Err.ensures.bytes) c.note_fault.ensures.buffers c.note_fault.ensures.whole
 
 pub returns-in-Err-clause-peek : goal.returns-in-Err-clause-peek
-returns-in-Err-clause-peek g c = (refl, refl, refl, refl)
+returns-in-Err-clause-peek g c = (refl, refl, refl, refl, λ h. h)
 
 pub returns-in-Err-clause-unsent : goal.returns-in-Err-clause-unsent
 returns-in-Err-clause-unsent g c = c.read_some.ensures.same
@@ -23,7 +23,7 @@ pub returns-in-Ok-eq0-clause-peek : goal.returns-in-Ok-eq0-clause-peek
 returns-in-Ok-eq0-clause-peek g c = c.note_end.ensures.peek
 
 pub returns-after-self-clause-peek : goal.returns-after-self-clause-peek
-returns-after-self-clause-peek g c = (refl, refl, refl, refl)
+returns-after-self-clause-peek g c = (refl, refl, refl, refl, λ h. h)
 
 pub returns-after-self-clause-unsent : goal.returns-after-self-clause-unsent
 returns-after-self-clause-unsent g c = c.read_some.ensures.same
@@ -36,7 +36,7 @@ returns-then-not-self g c =
       gathers = gathers_none left left buffers (Consumes-nil left);
       unsent = refl;
       stage = refl;
-      peek = (refl, refl, refl, refl);
+      peek = (refl, refl, refl, refl, λ h. h);
     }
 
 pub returns-in-Ok-eq0-clause-gathers : goal.returns-in-Ok-eq0-clause-gathers

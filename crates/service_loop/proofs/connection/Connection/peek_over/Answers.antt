@@ -8,6 +8,9 @@ returns-in_default g c =
     rw (c.in_default.is, none_seen c.args.kind c.args.self.now.buffers None refl) (record {
       reported = sym (append-nil c.args.batch.now.items);
       asks = λ _. (refl, refl);
+      own = refl;
+      rest = λ peek whole is no. absurd (let e = is in cc);
+      end = refl;
       buffers = refl;
       whole = λ h. h;
       stream = refl;

@@ -1,8 +1,10 @@
-use Rattle.std.proofs.Common.{◌≡◌, rules, ◌≤◌, ◌<◌, ℕ, List, [], inr, length, take, refl, ap, sym, subst, ◌∙◌}
+use Rattle.std.proofs.Common.{◌≡◌, rules, ◌≤◌, ◌<◌, ℕ, List, Option, [], inr, length, take, refl, ap, sym, subst, ◌∙◌}
 use Rattle.std.specs.Io.KnownBytes.{Consumes, IsAtEnd}
 use Rattle.service_loop.specs.Asking.{MayAsk}
 use Rattle.service_loop.specs.BuffersState.{BuffersState}
-use Rattle.service_loop.proofs.BuffersLemmas.{full_or_asks, takes_last, takes_none, takes_some, consumes_kept}
+use Rattle.service_loop.specs.ConnectionBuffers.{TakesNoOwn, TakesOf}
+use Rattle.service_loop.proofs.BuffersLemmas.{full_or_asks, takes_none, takes_some, consumes_kept}
+use Rattle.service_loop.proofs.OwnLemmas.{last_own, none_of_none}
 use Rattle.service_loop.proofs.connection.Connection.read.Goals as goal
 
 pub returns-in-Err-clause-all : goal.returns-in-Err-clause-all
@@ -25,6 +27,7 @@ returns-in-Err-clause-takes g c =
       refl,
       takes_none left left' c.args.self.now.buffers c.note_fault.new.buffers (consumes_kept left left' c.in-Err.ensures.bytes) (ap (λ (q : BuffersState). q.responder) is) (ap (λ (q : BuffersState). q.ended) is) (ap (λ (q : BuffersState). q.in_line) is)
           (λ h. (ap (λ (q : BuffersState). q.inbox) is, ap (λ (q : BuffersState). q.outbox) is, c.note_fault.ensures.whole h)),
+      λ on. none_of_none c.args.self.now.buffers.in_line,
     )
 
 pub returns-after-self-clause-takes : goal.returns-after-self-clause-takes
@@ -35,7 +38,7 @@ returns-after-self-clause-takes g c =
     let few : length came ≤ 65536 = search rules in
     let gave : Consumes left left' came = rw c.deref.ensures.value c.in-Ok.ensures.bytes.0 in
     let t = c.take.ensures.takes in
-    (t.0, t.1, takes_some t.0 left left' came c.args.self.now.buffers c.take.new.self few gave t.2)
+    (t.0, t.1, takes_some t.0 left left' came c.args.self.now.buffers c.take.new.self few gave t.2, t.3 refl)
 
 pub returns-in-Ok-eq0-clause-takes : goal.returns-in-Ok-eq0-clause-takes
 returns-in-Ok-eq0-clause-takes g c =
@@ -47,7 +50,8 @@ returns-in-Ok-eq0-clause-takes g c =
     let s = c.args.self.now.buffers in
     let s' = c.take_last.new.self.buffers in
     let stream : g.S.Stream.left c.take_last.new.self.stream ≡ left' = ap (λ x. g.S.Stream.left x) c.take_last.ensures.stream in
-    (t.0, t.1, rw stream (takes_last t.0 left left' s s' gave end t.2))
+    let of = subst (λ (l : Option (List ℕ)). (of : TakesOf t.0 left s l s') × TakesNoOwn s of.takes.taken) (sym stream) (last_own t.0 left left' s s' gave end t.2 c.requires.line) in
+    (t.0, t.1, of.0, of.1)
 
 pub returns-after-self-clause-room : goal.returns-after-self-clause-room
 returns-after-self-clause-room g c = (c.read_into.ensures.room.0, c.take.ensures.empty)

@@ -1,8 +1,8 @@
 -- One line more is looked at, up to its LF.
-use Rattle.std.proofs.Common.{rules, ◌-◌, ◌∙◌, length, take, drop, ap, refl}
+use Rattle.std.proofs.Common.{rules, ◌-◌, ◌∙◌, length, take, drop, ap, refl, sym}
 use Rattle.service_loop.proofs.Common.{Peek, Limits}
 use Rattle.std.proofs.lemmas.List.{take_rest}
-use Rattle.service_loop.proofs.PeekLemmas.{kept_by, kept_more, peeked_next, peeked_none, no_lf_in}
+use Rattle.service_loop.proofs.PeekLemmas.{kept_by, kept_more, own_line, peeked_next, peeked_none, no_lf_in}
 use Rattle.service_loop.proofs.peek.Peek.peek_lines.Goals as goal
 
 pub returns-in_default-clause-none : goal.returns-in_default-clause-none
@@ -18,7 +18,7 @@ returns-then-not-branch-clause-peeked g c =
     let line = c.in_ok-take_line.ensures in
     peeked_next c.args.limits.now.kind c.args.self.now.long c.args.self.now.asks c.args.batch.now.items c.args.bytes.now c.loop-rest.self.bytes c.loop-rest.self.goes_on c.loop-rest.self.asks c.loop-rest.batch.items i.peeked
     rest c.in-Some.end c.take_line.new.self.bytes c.loop-rest.limits.kind c.take_line.new.self.goes_on c.take_line.new.self.asks c.take_line.new.batch.items
-    (take_rest c.args.bytes.now c.loop-rest.self.bytes) (ap (λ (q : Limits). q.kind) i.limits) (ap (λ (q : Peek). q.bytes) is) (ap (λ (q : Peek). q.goes_on) is) c.in-Some.ensures line.reported line.asks
+    (take_rest c.args.bytes.now c.loop-rest.self.bytes) (ap (λ (q : Limits). q.kind) i.limits) (ap (λ (q : Peek). q.bytes) is) (ap (λ (q : Peek). q.goes_on) is) c.in-Some.ensures (own_line c.loop-rest.self.goes_on (take c.in-Some.end rest) (sym c.if-stops_at.ensures)) line.reported line.asks
 
 pub loop-rest-init : goal.loop-rest-init
 loop-rest-init g c = record {
@@ -36,7 +36,7 @@ loop-rest-preserved g c =
     record {
       peeked = peeked_next c.args.limits.now.kind c.args.self.now.long c.args.self.now.asks c.args.batch.now.items c.args.bytes.now c.loop-rest.self.bytes c.loop-rest.self.goes_on c.loop-rest.self.asks c.loop-rest.batch.items i.peeked
           rest c.in-Some.end c.take_line.new.self.bytes c.loop-rest.limits.kind c.take_line.new.self.goes_on c.take_line.new.self.asks c.take_line.new.batch.items
-          (take_rest c.args.bytes.now c.loop-rest.self.bytes) (ap (λ (q : Limits). q.kind) i.limits) (ap (λ (q : Peek). q.bytes) is) (ap (λ (q : Peek). q.goes_on) is) c.in-Some.ensures line.reported line.asks;
+          (take_rest c.args.bytes.now c.loop-rest.self.bytes) (ap (λ (q : Limits). q.kind) i.limits) (ap (λ (q : Peek). q.bytes) is) (ap (λ (q : Peek). q.goes_on) is) c.in-Some.ensures (own_line c.loop-rest.self.goes_on (take c.in-Some.end rest) (sym c.if-stops_at.ensures)) line.reported line.asks;
       rest = search rules;
       limits = c.take_line.ensures.limits ∙ ap (λ (q : Limits). let r : Limits = record q { said = c.take_line.new.limits.said } in r) i.limits;
     }

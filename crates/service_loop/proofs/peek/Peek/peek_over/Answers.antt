@@ -1,6 +1,7 @@
 -- What stands behind the whole lines: the prefix of a line, which is looked at at the end or where it is long, or nothing that is looked at.
-use Rattle.std.proofs.Common.{◌≡◌, ◌∙◌, false, Ok, ap, subst}
-use Rattle.service_loop.proofs.Common.{HasPeeked, Peek, Limits}
+use Rattle.std.proofs.Common.{◌∙◌, Ok, ap, arith, length, refl, subst}
+use Rattle.std.proofs.lemmas.List.{drop_all}
+use Rattle.service_loop.proofs.Common.{HasPeeked, Peek}
 use Rattle.service_loop.proofs.PeekLemmas.{peeked_long}
 use Rattle.service_loop.proofs.peek.Peek.peek_over.Goals as goal
 
@@ -10,7 +11,7 @@ returns-then-ends g c =
     let lines = c.in_ok-peek_lines.ensures in
     let so = subst (λ (q : Peek). HasPeeked c.args.limits.now.kind q.long q.asks c.args.batch.now.items c.args.bytes.now l.self.bytes l.self.goes_on l.self.asks l.batch.items) c.nothing.ensures lines.peeked in
     let both = peeked_long c.args.limits.now.kind c.args.self.now.long c.args.self.now.asks c.args.batch.now.items c.args.bytes.now l.self.bytes l.self.goes_on l.self.asks l.batch.items so (lines.none (ap Ok c.if-not-branch.false)) in
-    record { reported = both.0; asks = both.1; long = ap (λ (q : Peek). q.long) lines.rest ∙ ap (λ (q : Peek). q.long) c.nothing.ensures; kept = c.peek_lines.ensures.kept }
+    record { reported = both.0; asks = both.1; own = both.2; rest = λ no. rw (drop_all (length c.args.bytes.now) c.args.bytes.now (omega arith)) refl; end = ap (λ (q : Peek). q.at_end) lines.rest ∙ ap (λ (q : Peek). q.at_end) c.nothing.ensures; long = ap (λ (q : Peek). q.long) lines.rest ∙ ap (λ (q : Peek). q.long) c.nothing.ensures; kept = c.peek_lines.ensures.kept }
 
 pub returns-then-not-branch : goal.returns-then-not-branch
 returns-then-not-branch g c =
@@ -20,6 +21,9 @@ returns-then-not-branch g c =
     record {
       reported = so.added;
       asks = so.asked;
+      own = so.own;
+      rest = λ no. absurd cc;
+      end = ap (λ (q : Peek). q.at_end) lines.rest ∙ ap (λ (q : Peek). q.at_end) c.nothing.ensures;
       long = ap (λ (q : Peek). q.long) lines.rest ∙ ap (λ (q : Peek). q.long) c.nothing.ensures;
       kept = c.peek_lines.ensures.kept;
     }
@@ -32,6 +36,9 @@ returns-else-self-eq0 g c =
     record {
       reported = so.added;
       asks = so.asked;
+      own = so.own;
+      rest = λ no. lines.none (ap Ok c.if-not-branch.false);
+      end = ap (λ (q : Peek). q.at_end) lines.rest ∙ ap (λ (q : Peek). q.at_end) c.nothing.ensures;
       long = ap (λ (q : Peek). q.long) lines.rest ∙ ap (λ (q : Peek). q.long) c.nothing.ensures;
       kept = c.peek_lines.ensures.kept;
     }
@@ -41,3 +48,6 @@ returns-in_err-peek_lines-clause-long g c = ap (λ (q : Peek). q.long) c.peek_li
 
 pub returns-in_err-peek_lines-clause-kept : goal.returns-in_err-peek_lines-clause-kept
 returns-in_err-peek_lines-clause-kept g c = c.peek_lines.ensures.kept
+
+pub returns-in_err-peek_lines-clause-end : goal.returns-in_err-peek_lines-clause-end
+returns-in_err-peek_lines-clause-end g c = ap (λ (q : Peek). q.at_end) c.peek_lines.ensures.rest ∙ ap (λ (q : Peek). q.at_end) c.nothing.ensures
