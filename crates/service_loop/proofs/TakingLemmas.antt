@@ -1,7 +1,10 @@
 -- numbers that are taken, one connection after another
-use Rattle.std.proofs.Common.{◌≡◌, ◌⊎◌, ◌≤◌, ◌<◌, ◌+◌, ◌-◌, ◌∙◌, inl, inr, arith, ℕ, Bool, true, false, set, List, [], ◌∷◌, ◌++◌, length, length-append, map, get_or, Option, Some, None, Result, Ok, Err, OnOk, refl, sym, ap, subst}
+use Rattle.std.proofs.Common.{◌≡◌, ◌⊎◌, ◌≤◌, ◌<◌, ◌+◌, ◌-◌, ◌∙◌, inl, inr, arith, ℕ, Bool, true, false, set, List, [], ◌∷◌, ◌++◌, length, length-append, map, replicate, take, append_assoc, get_or, Option, Some, None, Result, Ok, Err, IfOk, OnOk, is_err, refl, sym, ap, subst}
 use Rattle.model_pool.specs.declared.pool.TheConstants.{MOST_NUMBERS}
+use Rattle.std.proofs.lemmas.List.{replicate_more, take_more}
+use Rattle.model_asked.specs.declared.event.Event.{Event}
 use Rattle.model_asked.specs.declared.event.Event.TheVariants as event
+use Rattle.text_lines.specs.Events.{event_lines, event_words}
 use Rattle.model_asked.specs.declared.reply.Reply.{Reply}
 use Rattle.model_asked.specs.Replies.{with_view}
 use Rattle.model_asked.specs.Requests.Request.{Take}
@@ -14,7 +17,7 @@ use Rattle.service_loop.specs.declared.gathering.Called.TheVariants as called
 use Rattle.service_loop.specs.Seats.{Seating}
 use Rattle.service_loop.proofs.AttendedLemmas.{Tells, shown}
 use Rattle.service_loop.proofs.RoundLemmas.{served_waits}
-use Rattle.service_loop.specs.Taking.{IsTaking, LeadTo, MayTakeNumber, NumbersTaken, SaysTaking, SeatTakesNumber, SeatTook, TakingsKept, TakingsPrefetched, entered, probed, wants_probe}
+use Rattle.service_loop.specs.Taking.{IsTaking, LeadTo, MayTakeNumber, NumbersTaken, SaysTaking, SeatTakesNumber, SeatTook, TakingsKept, TakingsPrefetched, entered, events_for, events_of, probed, seat_taken_for, wants_probe}
 
 -- whether `probe` is said behind a reply is the same whatever view it shows
 pub wants_shown : {V W : Type 0} (r : Reply V) (v : W) → wants_probe (with_view r v) ≡ wants_probe r
@@ -175,3 +178,37 @@ module _ {C : Type 0} (on : Seating C) (ahead : Bool) where
   served_prefetch may prefetches persists waits (Ok (called.Served n)) k l w u lines seats seats' served lost = served_ahead may prefetches persists waits k l w u lines seats seats' (served n refl)
   served_prefetch may prefetches persists waits (Ok (called.Unserved n)) k l w u lines seats seats' served lost = served_waits may prefetches persists waits k l w u (lost n refl)
   served_prefetch may prefetches persists waits (Err e) k l w u lines seats seats' served lost = tt
+
+-- lines of events, one after another
+pub lines_append : (xs ys : List Event) → event_lines (xs ++ ys) ≡ event_lines xs ++ event_lines ys
+lines_append [] ys = refl
+lines_append (x ∷ xs) ys = ap (λ l. (event_words x ++ 10 ∷ []) ++ l) (lines_append xs ys) ∙ sym (append_assoc (event_words x ++ 10 ∷ []) (event_lines xs) (event_lines ys))
+
+-- `probe` once more
+pub lines_probed : (lines : List ℕ) (id n : ℕ) → lines ++ event_lines (event.Enter id ∷ replicate (n + 1) (event.Probe id)) ≡ (lines ++ event_lines (event.Enter id ∷ replicate n (event.Probe id))) ++ (event_words (event.Probe id) ++ 10 ∷ [])
+lines_probed lines id n =
+    let more : event.Enter id ∷ replicate (n + 1) (event.Probe id) ≡ (event.Enter id ∷ replicate n (event.Probe id)) ++ event.Probe id ∷ [] = ap (λ l. event.Enter id ∷ l) (sym (replicate_more n (event.Probe id))) in
+    let last : event_lines (event.Probe id ∷ []) ≡ event_words (event.Probe id) ++ 10 ∷ [] = append-nil (event_words (event.Probe id) ++ 10 ∷ []) in
+    ap (λ l. lines ++ event_lines l) more ∙ ap (λ l. lines ++ l) (lines_append (event.Enter id ∷ replicate n (event.Probe id)) (event.Probe id ∷ []) ∙ ap (λ l. event_lines (event.Enter id ∷ replicate n (event.Probe id)) ++ l) last)
+    ∙ sym (append_assoc lines (event_lines (event.Enter id ∷ replicate n (event.Probe id))) (event_words (event.Probe id) ++ 10 ∷ []))
+
+pub lines_entered : (lines : List ℕ) (id : ℕ) → lines ++ (event_words (event.Enter id) ++ 10 ∷ []) ≡ lines ++ event_lines (event.Enter id ∷ replicate 0 (event.Probe id))
+lines_entered lines id = ap (λ l. lines ++ l) (sym (append-nil (event_words (event.Enter id) ++ 10 ∷ [])))
+
+module _ {C : Type 0} (on : Seating C) (seats : List (Option C)) where
+  events_append : (xs ys : List ℕ) → events_of on seats (xs ++ ys) ≡ events_of on seats xs ++ events_of on seats ys
+  events_append [] ys = refl
+  events_append (x ∷ xs) ys = ap (λ l. events_for (seat_taken_for on (get_or seats x None)) ++ l) (events_append xs ys) ∙ sym (append_assoc (events_for (seat_taken_for on (get_or seats x None))) (events_of on seats xs) (events_of on seats ys))
+
+  -- one seat more
+  pub events_more : (keys : List ℕ) (n key : ℕ) → n < length keys → key ≡ get_or keys n 0 → event_lines (events_of on seats (take (n + 1) keys)) ≡ event_lines (events_of on seats (take n keys)) ++ event_lines (events_for (seat_taken_for on (get_or seats key None)))
+  events_more keys n key below is =
+      ap (λ l. event_lines (events_of on seats l)) (take_more keys n 0 below) ∙ ap event_lines (events_append (take n keys) (get_or keys n 0 ∷ []))
+      ∙ lines_append (events_of on seats (take n keys)) (events_for (seat_taken_for on (get_or seats (get_or keys n 0) None)) ++ [])
+      ∙ ap (λ l. event_lines (events_of on seats (take n keys)) ++ event_lines l) (append-nil (events_for (seat_taken_for on (get_or seats (get_or keys n 0) None))))
+      ∙ ap (λ (k : ℕ). event_lines (events_of on seats (take n keys)) ++ event_lines (events_for (seat_taken_for on (get_or seats k None)))) (sym is)
+
+-- what holds where all went well
+pub ok_of : {A E : Type 0} (r : Result A E) (P : Type 0) → is_err r ≡ false → IfOk r (λ done. P) → P
+ok_of (Ok done) P fine h = h
+ok_of (Err why) P fine h = absurd cc

@@ -53,14 +53,6 @@ module _ {C : Type 0} (on : Seating C) where
     pub each : (i : ℕ) → SeatGathers (get_or seats i None) (get_or seats' i None)
     pub many : length seats' ≡ length seats
 
-  -- A turn before which the answers were not prefetched: what came was gathered, and nothing taken or sent; whoever has one of these lines is at
-  -- fault
-  pub record NotPrefetched (seats : List (Option C)) (lines : List ℕ) (seats' : List (Option C)) : Type 0 where
-    pub gathered : Gathered seats seats'
-    pub reported : SeatLines
-    pub reported_is : lines ≡ with_ends (all_lines reported)
-    pub broken : (i : ℕ) → (lines_of i reported ≡ []) ⊎ SeatBroken on (get_or seats' i None)
-
   -- what was looked at of each connection; and which of them are due
   module _ (peek : C → Option Peek) (Due : C → Type 0) where
     -- one connection that is due is looked at: these are the requests among what was seen
@@ -79,6 +71,17 @@ module _ {C : Type 0} (on : Seating C) where
     pub record Reported (kind : WorldKind) (keys : List ℕ) (reported : SeatLines) (seats : List (Option C)) : Type 0 where
       pub each : (i : ℕ) (c : C) → IsAmong i keys → get_or seats i None ≡ Some c → Due c → EndsWith (lines_of i reported) (requests_seen kind (on.buffers c) (peek c))
       pub known : (i : ℕ) → (lines_of i reported ≡ []) ⊎ (IsAmong i keys × SeatAsks peek (get_or seats i None))
+
+    -- A turn before which the answers were not prefetched: what came was gathered, and nothing taken or sent. The lines are the requests among what
+    -- was looked at of these seats, and whoever has one of them is at fault
+    pub record NotPrefetched (kind : WorldKind) (keys : List ℕ) (seats : List (Option C)) (lines : List ℕ) (seats' : List (Option C)) : Type 0 where
+      pub looked : List (Option C)
+      pub gathered : Gathered seats looked
+      pub given_up : Gathered looked seats'
+      pub reported : SeatLines
+      pub reported_is : lines ≡ with_ends (all_lines reported)
+      pub reports : Reported kind keys reported looked
+      pub broken : (i : ℕ) → (lines_of i reported ≡ []) ⊎ SeatBroken on (get_or seats' i None)
 
     -- a connection that is due takes of what was looked at, by these turns
     abbrev pub SeatTakesPeeked : List Turn → Option C → Option C → Type 0

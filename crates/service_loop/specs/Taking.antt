@@ -1,6 +1,7 @@
 -- numbers that a server takes for its connections: `take ID` is `enter ID`, and `probe ID` as often as it takes
-use Rattle.std.specs.Prelude.{◌≡◌, ◌⊎◌, ◌+◌, ℕ, Bool, true, false, List, [], ◌∷◌, ◌++◌, length, map, drop, get_or, Option, Some, None}
+use Rattle.std.specs.Prelude.{◌≡◌, ◌⊎◌, ◌+◌, ℕ, replicate, Bool, true, false, List, [], ◌∷◌, ◌++◌, length, map, drop, get_or, Option, Some, None}
 use Rattle.model_pool.specs.declared.pool.TheConstants.{MOST_NUMBERS}
+use Rattle.model_asked.specs.declared.event.Event.{Event}
 use Rattle.model_asked.specs.declared.event.Event.TheVariants as event
 use Rattle.model_asked.specs.declared.reply.Reply.{Reply}
 use Rattle.model_asked.specs.declared.reply.Reply.TheVariants as reply
@@ -15,7 +16,7 @@ use Rattle.service_loop.specs.Asking.{IsTakingOf}
 use Rattle.service_loop.specs.BuffersState.{BuffersState}
 use Rattle.service_loop.specs.Reported.{IsAmong}
 use Rattle.service_loop.specs.Seats.{RepliesSent, Seating}
-use Rattle.service_loop.specs.Waiting.{given_up}
+use Rattle.service_loop.specs.Waiting.{given_up, taken_for}
 
 -- behind this reply `probe` is said: `enter` was accepted, or a `probe` missed
 abbrev pub wants_probe : {V : Type 0} → Reply V → Bool
@@ -55,6 +56,11 @@ abbrev pub SaysTaking : Bool → ℕ → List Turn → ShownReply → Type 0
 SaysTaking false id turns answer = IsTaking id turns answer
 SaysTaking true id turns answer = IsTakingAhead id turns answer
 
+-- the events of that, where the answers are prefetched: `probe` as often as there are numbers; none, where no number is taken
+abbrev pub events_for : Option ℕ → List Event
+events_for None = []
+events_for (Some id) = event.Enter id ∷ replicate MOST_NUMBERS (event.Probe id)
+
 -- The line that waits first takes a number: it is taken, and the answer waits behind what waited to be sent. The transcript, and whatever else waits, is
 -- as it was, but where it is at fault
 pub record TakesNumber (ahead : Bool) (turns : List Turn) (s s' : BuffersState) : Type 0 where
@@ -74,6 +80,16 @@ abbrev pub MayTakeNumber : Bool → List Turn → BuffersState → BuffersState 
 MayTakeNumber ahead turns s s' = ((turns ≡ []) × (s' ≡ s)) ⊎ TakesNumber ahead turns s s'
 
 module _ {C : Type 0} (on : Seating C) where
+  -- for which identity the connection at a seat takes a number
+  abbrev pub seat_taken_for : Option C → Option ℕ
+  seat_taken_for None = None
+  seat_taken_for (Some c) = taken_for (on.buffers c)
+
+  -- the events by which the connections at these seats take numbers, one after another
+  abbrev pub events_of : List (Option C) → List ℕ → List Event
+  events_of seats [] = []
+  events_of seats (key ∷ keys) = events_for (seat_taken_for (get_or seats key None)) ++ events_of seats keys
+
   -- a connection that takes a number is at fault, and nothing else changes; an empty seat stays empty
   abbrev pub SeatGivenUp : Option C → Option C → Type 0
   SeatGivenUp None None = Unit {0}

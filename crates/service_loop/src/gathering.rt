@@ -258,7 +258,8 @@ pub fn iterate_prefetched<R, D: Service<R>, K: Persist<D>, S: Stream, A: Allocat
         persister.old service.old.service seats.old batch.new.lines.items persister.new service.new.service seats.new) ×
         Hears (acts_in (number_at numbers.now) turned.turn.log) service.old service.new }
     ensures unserved { (called : ℕ) → result ≡ Ok (Called.Unserved called) →
-        NotPrefetched (seats_of S.left S.gone) seats.old batch.new.lines.items seats.new }
+        NotPrefetched (seats_of S.left S.gone) (λ c. c.peek) (λ c. c.stage ≡ ConnectionStage.Queued) batch.old.kind (take called ready.now)
+        seats.old batch.new.lines.items seats.new }
     ensures lost { (called : ℕ) → result ≡ Ok (Called.Unserved called) → K.waits persister.old service.old.service persister.new service.new.service ×
         Hears (lost_acts batch.old.kind service.old.stays (whole_lines batch.new.lines.items)) service.old service.new }
     ensures unsent { OnErr result (NoneSent (seats_of S.left S.gone) seats.old seats.new) }

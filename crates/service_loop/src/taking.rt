@@ -1,9 +1,10 @@
 //! Lines that take a number, after a turn of the loop: `take ID` is `enter ID`, and `probe ID` as often as it takes.
 
-ghost use Rattle.std.specs.Prelude.{◌≡◌, ◌⊎◌, ◌≤◌, ℕ, List, [], None, get_or, map, length, take, true, false, IfOk, OnOk, OnErr};
+ghost use Rattle.std.specs.Prelude.{◌≡◌, ◌⊎◌, ◌≤◌, ℕ, List, [], ◌∷◌, ◌++◌, if◌then◌else◌, Some, None, get_or, map, length, take, true, false, IfOk, OnOk, OnErr};
 ghost use Rattle.model_pool.specs.declared.pool.TheConstants.{MOST_NUMBERS};
 ghost use Rattle.model_asked.specs.Replies.{ShownReply, with_view};
 ghost use Rattle.model_asked.specs.Requests.{Request};
+ghost use Rattle.text_lines.specs.Events.{event_lines, event_words};
 ghost use Rattle.text_lines.specs.Lines.{whole_lines};
 ghost use Rattle.text_player.specs.Runs.{Runs};
 ghost use Rattle.text_player.specs.Shared.{TurnLog};
@@ -13,7 +14,7 @@ ghost use Rattle.service_loop.specs.Gathering.{Gathered, count_of};
 ghost use Rattle.service_loop.specs.Losing.{lost_acts};
 ghost use Rattle.service_loop.specs.Seats.{seats_of, NoneSent};
 ghost use Rattle.service_loop.specs.SharedBuffers.{AreShared};
-ghost use Rattle.service_loop.specs.Taking.{IsTaking, NumbersTaken, SaysTaking, SeatGivenUp, SeatTook, TakingsGivenUp, TakingsKept, TakingsPrefetched, probed, wants_probe};
+ghost use Rattle.service_loop.specs.Taking.{IsTaking, NumbersTaken, SaysTaking, SeatGivenUp, SeatTook, TakingsGivenUp, TakingsKept, TakingsPrefetched, events_for, events_of, probed, seat_taken_for, wants_probe};
 
 use crate::attended::Attended;
 use crate::connection::{Connection, ConnectionStage};
@@ -204,7 +205,9 @@ fn add_event<B: Allocator>(
     lines: &mut Vec<u8, B>,
 ) -> Result<(), AllocError>
     requires { words.old ≡ [] }
-    ensures { words.new ≡ [] }
+    ensures empty { words.new ≡ [] }
+    ensures added { IfOk result (λ done. lines.new.items ≡ lines.old.items ++ (event_words event ++ 10 ∷ [])) }
+    ensures kept { (more : List ℕ) × (lines.new.items ≡ lines.old.items ++ more) }
 {
     print_event(event, words);
     let added = lines.extend_from_slice(words.as_slice());
@@ -215,26 +218,30 @@ fn add_event<B: Allocator>(
 }
 
 // The lines that take a number for an identity are added to others.
+#[tactic(auto, using(crate::proofs::TakingLemmas::lines_probed, crate::proofs::TakingLemmas::lines_entered))]
 fn add_taking<B: Allocator>(
     identity: u64,
     words: &mut Replies<B>,
     lines: &mut Vec<u8, B>,
 ) -> Result<(), AllocError>
     requires { words.old ≡ [] }
-    ensures { words.new ≡ [] }
+    ensures empty { words.new ≡ [] }
+    ensures added { IfOk result (λ done. lines.new.items ≡ lines.old.items ++ event_lines (events_for (Some identity))) }
+    ensures kept { (more : List ℕ) × (lines.new.items ≡ lines.old.items ++ more) }
 {
     add_event(Event::Enter(identity), words, lines)?;
-    for _ in 0..MOST_NUMBERS {
+    let mut said = 0;
+    while said < MOST_NUMBERS {
         add_event(Event::Probe(identity), words, lines)?;
+        said += 1;
     }
     Ok(())
 }
 
 // For which identity the connection of a seat takes a number, where there is one that does.
-fn taking_at<S: Stream, A: Allocator>(
-    seats: &[Option<Connection<S, A>>],
-    key: usize,
-) -> Option<u64> {
+fn taking_at<S: Stream, A: Allocator>(seats: &[Option<Connection<S, A>>], key: usize) -> Option<u64>
+    ensures { result ≡ seat_taken_for (seats_of S.left S.gone) (get_or seats.now key None) }
+{
     if key < seats.len() {
         if let Some(connection) = &seats[key] {
             return connection.taking();
@@ -256,7 +263,9 @@ fn add_taking_at<S: Stream, A: Allocator, B: Allocator>(
     key: usize,
 ) -> bool
     requires { words.old ≡ [] }
-    ensures { words.new ≡ [] }
+    ensures empty { words.new ≡ [] }
+    ensures lines { batch.new.lines.items ≡ batch.old.lines.items ++
+        (if result then event_lines (events_for (seat_taken_for (seats_of S.left S.gone) (get_or seats.now key None))) else []) }
 {
     let Some(identity) = taking_at(seats, key) else {
         return true;
@@ -281,6 +290,7 @@ fn gather_takings<S: Stream, A: Allocator, B: Allocator>(
 ) -> usize
     requires { words.old ≡ [] }
     ensures few { result ≤ length called.now }
+    ensures lines { batch.new.lines.items ≡ event_lines (events_of (seats_of S.left S.gone) seats.now (take result called.now)) }
     ensures empty { words.new ≡ [] }
 {
     batch.lines.clear();
@@ -321,7 +331,7 @@ fn give_up_takings<S: Stream, A: Allocator>(
 /// Takes numbers as `serve_takings` does, over a service that prefetches its answers: the lines go to the persister first, for as many of the seats as there
 /// is room, one at least. `probe` is said as often as there are numbers, whatever is said to it: an identity that holds a number is refused more of them.
 /// Where the answers are not prefetched in time, those whose lines went are at fault, and nothing is sent: of each `enter` it is noted that nobody keeps
-/// the stay, unless a connection does.
+/// the stay, unless a connection does. The lines that went are those of the seats that are counted, in their order, and no others.
 ///
 /// # Errors
 ///
@@ -346,6 +356,8 @@ pub fn prefetch_takings<R, D: Service<R>, K: Persist<D>, S: Stream, A: Allocator
         TakingsGivenUp (seats_of S.left S.gone) (take count called.now) seats.old seats.new }
     ensures lost { (count : ℕ) → result ≡ Ok (Called.Unserved count) → K.waits persister.old service.old.service persister.new service.new.service ×
         Hears (lost_acts batch.new.kind service.old.stays (whole_lines batch.new.lines.items)) service.old service.new }
+    ensures lines { IfOk result (λ called_of. batch.new.lines.items ≡
+        event_lines (events_of (seats_of S.left S.gone) seats.old (take (count_of called_of) called.now))) }
     ensures unsent { OnErr result (NoneSent (seats_of S.left S.gone) seats.old seats.new) }
     ensures few { IfOk result (λ called_of. count_of called_of ≤ length called.now) }
     ensures room { AreShared shared.new }

@@ -1,10 +1,11 @@
 use Rattle.std.proofs.lemmas.List.{length-take-le}
-use Rattle.std.proofs.Common.{◌≡◌, [], None, Ok, ap, get_or, subst, sym, take}
+use Rattle.std.proofs.Common.{◌≡◌, ℕ, [], None, Ok, ap, get_or, subst, sym, take}
 use Rattle.service_loop.specs.declared.connection.ConnectionStage.TheVariants as stage
+use Rattle.service_loop.specs.Gathering.{NotPrefetched}
 use Rattle.service_loop.specs.Seats.{NoneSent, seats_of}
 use Rattle.service_loop.proofs.RoundLemmas.{always_wrong, gave_none, owes_none}
 use Rattle.service_loop.proofs.SeatLemmas.{seat_rests}
-use Rattle.service_loop.proofs.GatherLemmas.{gathered_more, none_sent_peeked}
+use Rattle.service_loop.proofs.GatherLemmas.{none_sent_peeked}
 use Rattle.service_loop.proofs.ReportedLemmas.{reported_broken, taken_reported}
 use Rattle.service_loop.proofs.AttendedLemmas.{hears_about}
 use Rattle.service_loop.proofs.LosingLemmas.{lost_whole}
@@ -34,12 +35,17 @@ pub returns-in-Lost-clause-unserved : goal.returns-in-Lost-clause-unserved
 returns-in-Lost-clause-unserved g c =
     let on = seats_of g.S.Stream.left g.S.Stream.gone in
     let t = c.gather-peeked.ensures.reported in
-    λ called same. record {
-      gathered = gathered_more on c.args.seats.now c.gather-peeked.new.seats c.give_up.new.seats c.gather-peeked.ensures.gathered c.give_up.ensures.gathered;
+    λ called same.
+    let n : c.gather-peeked.result ≡ called = cc in
+    subst (λ (k : ℕ). NotPrefetched on (λ x. x.peek) (λ x. x.stage ≡ stage.Queued) c.args.batch.now.kind (take k c.args.ready.now) c.args.seats.now c.gather-peeked.new.batch.lines.items c.give_up.new.seats) n (record {
+      looked = c.gather-peeked.new.seats;
+      gathered = c.gather-peeked.ensures.gathered;
+      given_up = c.give_up.ensures.gathered;
       reported = t.0;
       reported_is = t.1;
+      reports = t.2;
       broken = reported_broken on (λ x. x.peek) (λ x. x.stage ≡ stage.Queued) c.args.batch.now.kind (take c.gather-peeked.result c.args.ready.now) t.0 c.gather-peeked.new.seats c.give_up.new.seats t.2 c.give_up.ensures.reported;
-    }
+    })
 
 pub slice_bounds-called-end : goal.slice_bounds-called-end
 slice_bounds-called-end g c = sym (length-take-le c.gather-peeked.result c.args.ready.now c.gather-peeked.ensures.peeked.0)

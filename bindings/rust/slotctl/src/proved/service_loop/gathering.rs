@@ -1,4 +1,4 @@
-// Erased by bindings/rust/erase from crates/service_loop/src/gathering.rt, sha256 9184c07116573693972b0ab2020602f6331e8db36acc073ec77507c7db0677be.
+// Erased by bindings/rust/erase from crates/service_loop/src/gathering.rt, sha256 9793c4d70755ae7582eb628dca4882f4fb14602d9595b7c8a8d9ac0a7c2bf005.
 //! One turn of the loop over a service that learns its answers before.
 
 use crate::kit::alloc::Allocator;

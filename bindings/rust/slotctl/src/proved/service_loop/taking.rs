@@ -1,4 +1,4 @@
-// Erased by bindings/rust/erase from crates/service_loop/src/taking.rt, sha256 1b566b552b0a9ea578e4e302b90a4aa2b4ec4bdc562b9dffac0b082dedc15b3b.
+// Erased by bindings/rust/erase from crates/service_loop/src/taking.rt, sha256 37c09c7354c7b9d3021eee89020494ab898ac2f3be2b73648e932f38fe1a4cce.
 //! Lines that take a number, after a turn of the loop: `take ID` is `enter ID`, and `probe ID` as often as it takes.
 
 use crate::kit::alloc::{AllocError, Allocator};
@@ -174,8 +174,10 @@ fn add_taking<B: Allocator>(
     lines: &mut Vec<u8, B>,
 ) -> Result<(), AllocError> {
     add_event(Event::Enter(identity), words, lines)?;
-    for _ in 0..MOST_NUMBERS {
+    let mut said = 0;
+    while said < MOST_NUMBERS {
         add_event(Event::Probe(identity), words, lines)?;
+        said += 1;
     }
     Ok(())
 }
@@ -257,7 +259,7 @@ fn give_up_takings<S: Stream, A: Allocator>(
 /// Takes numbers as `serve_takings` does, over a service that prefetches its answers: the lines go to the persister first, for as many of the seats as there
 /// is room, one at least. `probe` is said as often as there are numbers, whatever is said to it: an identity that holds a number is refused more of them.
 /// Where the answers are not prefetched in time, those whose lines went are at fault, and nothing is sent: of each `enter` it is noted that nobody keeps
-/// the stay, unless a connection does.
+/// the stay, unless a connection does. The lines that went are those of the seats that are counted, in their order, and no others.
 ///
 /// # Errors
 ///
