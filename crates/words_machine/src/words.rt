@@ -144,23 +144,27 @@ impl<P: WordProgram, A: Allocator> Words<P, A> {
         (left, both)
     }
 
-    /// Loads a register, and gives the program the word.
+    /// Loads a register, and gives the program the word. There are `most` seats.
     #[inline(always)]
     fn step_load(
         &self,
+        most: u64,
         seat: &mut Seat<u8, SeatView<P, P::Output>>,
         number: u64,
         identity: u64,
         program: &mut P,
         register: P::Reg,
     ) -> Note<P::Output>
+        requires most { most ≡ self.now.most }
         requires ours { seat.old.table_id ≡ self.now.table }
         requires before { Stands P.steps P.law self.now.most number identity program.old seat.old.me }
         requires reads { P.steps.next program.old ≡ Read register }
         ensures ours { seat.new.table_id ≡ self.now.table }
         ensures after { HasStepped P.law self.now.most number identity program.new result seat.old.me seat.new.me }
     {
-        let at = P::place(self.most, register);
+        // Opens the words, so that the range of `most` is known.
+        let _most = self.most;
+        let at = P::place(most, register);
         let word = self.table.shared.load::<GetWord<P>>(seat, at);
         program.take_word(word)
     }
@@ -202,7 +206,7 @@ impl<P: WordProgram, A: Allocator> Words<P, A> {
         ensures after { HasStepped P.law self.now.most number identity program.new result seat.old.me seat.new.me }
     {
         match program.access() {
-            WordAccess::Load(r) => self.step_load(seat, number, identity, program, r),
+            WordAccess::Load(r) => self.step_load(self.most, seat, number, identity, program, r),
             WordAccess::Store(r, word) => {
                 self.step_store(seat, number, identity, program, r, word)
             }
@@ -237,11 +241,11 @@ where
         ensures more { made ≤ result.1 }
         ensures few { result.1 ≤ P.law.bound self.now.most }
     {
-        // Opens the words, so that the machine's bound is known to be small.
-        let _most = self.most;
+        // Read once: a compiler keeps no memory over a load that orders others.
+        let most = self.most;
         let mut accesses = made;
         while let WordAccess::Load(register) = program.access() {
-            let note = self.step_load(seat, number, identity, program, register);
+            let note = self.step_load(most, seat, number, identity, program, register);
             accesses += 1;
             let ended = note.outcome();
             if ended.is_some() {

@@ -1,4 +1,4 @@
-// Erased by bindings/rust/erase from crates/words_machine/src/words.rt, sha256 349113f9ba7a1d4fe72df817c1564f119c6f9cf4a61e0b6cf3446f2c63ce4496.
+// Erased by bindings/rust/erase from crates/words_machine/src/words.rt, sha256 c0ecdeaba6c76cb6ef21097da5955553359fecb796a8048d9b129bf14e74c52a.
 //! The words. They are reached through this type alone, of which each access of a program is counted in the view of its seat.
 
 use crate::kit::alloc::{AllocError, Allocator};
@@ -45,17 +45,20 @@ impl<P: WordProgram, A: Allocator> Words<P, A> {
         self.table.shared.split_seat::<DealRun>(rest)
     }
 
-    /// Loads a register, and gives the program the word.
+    /// Loads a register, and gives the program the word. There are `most` seats.
     #[inline(always)]
     fn step_load(
         &self,
+        most: u64,
         seat: &mut Seat<u8, SeatView<P, P::Output>>,
         _number: u64,
         _identity: u64,
         program: &mut P,
         register: P::Reg,
     ) -> Note<P::Output> {
-        let at = P::place(self.most, register);
+        // Opens the words, so that the range of `most` is known.
+        let _most = self.most;
+        let at = P::place(most, register);
         let word = self.table.shared.load::<GetWord<P>>(seat, at);
         program.take_word(word)
     }
@@ -86,7 +89,7 @@ impl<P: WordProgram, A: Allocator> Words<P, A> {
         program: &mut P,
     ) -> Note<P::Output> {
         match program.access() {
-            WordAccess::Load(r) => self.step_load(seat, number, identity, program, r),
+            WordAccess::Load(r) => self.step_load(self.most, seat, number, identity, program, r),
             WordAccess::Store(r, word) => self.step_store(seat, number, identity, program, r, word),
             WordAccess::Nothing => Note::Quiet,
         }
@@ -105,11 +108,11 @@ impl<P: WordProgram, A: Allocator> Words<P, A> {
         program: &mut P,
         made: u64,
     ) -> (Option<P::Output>, u64) {
-        // Opens the words, so that the machine's bound is known to be small.
-        let _most = self.most;
+        // Read once: a compiler keeps no memory over a load that orders others.
+        let most = self.most;
         let mut accesses = made;
         while let WordAccess::Load(register) = program.access() {
-            let note = self.step_load(seat, number, identity, program, register);
+            let note = self.step_load(most, seat, number, identity, program, register);
             accesses += 1;
             let ended = note.outcome();
             if ended.is_some() {

@@ -3,13 +3,21 @@ use Rattle.words_machine.proofs.Common.{WordsId, Value}
 use Rattle.words_machine.proofs.Reaching.{may_read, has_read, has_stepped, read_within}
 use Rattle.words_machine.proofs.words.Words.step_load.Goals as goal
 
+pub place-at-requires-clause-may : goal.place-at-requires-clause-may
+place-at-requires-clause-may g c = subst (λ (n : ℕ). g.P.WordProgram.law.MayStart n) (ap (λ (w : WordsId). w.most) c.self.view_is ∙ sym c.requires.most) c.self.invariant.1
+
+pub place-at-requires-clause-there : goal.place-at-requires-clause-there
+place-at-requires-clause-there g c =
+    let law = g.P.WordProgram.law in
+    subst (λ (n : ℕ). law.IsRegister n c.args.register) (sym c.requires.most) (read_within g.P.WordProgram.steps law _ c.args.register _ c.requires.before.within c.requires.reads)
+
 pub load-word-requires : goal.load-word-requires
 load-word-requires g c =
     let law = g.P.WordProgram.law in
     let most : c.self.inside.most ≡ c.args.self.now.most = ap (λ (w : WordsId). w.most) c.self.view_is in
     let there = read_within g.P.WordProgram.steps law _ c.args.register _ c.requires.before.within c.requires.reads in
     let low = g.met.P.WordProgram.sound.within c.self.inside.most c.args.register (subst (λ (n : ℕ). law.IsRegister n c.args.register) (sym most) there) in
-    let at = c.place-at.ensures in
+    let at = c.place-at.ensures ∙ ap (λ (k : ℕ). law.place k c.args.register) (c.requires.most ∙ sym most) in
     let all = c.self.invariant.3 in (
       c.requires.ours ∙ ap (λ (w : WordsId). w.table) (sym c.self.view_is),
       omega arith,
