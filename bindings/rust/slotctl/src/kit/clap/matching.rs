@@ -280,7 +280,9 @@ impl<'c, 'a> Reading<'c, 'a> {
     /// A flag has a value.
     fn unneeded(&mut self, arg: &Arg<'a>, value: &str) -> Result<Error, AllocError> {
         let mut used = self.used()?;
-        used.push(arg.name)?;
+        if !used.contains(&arg.name) {
+            used.push(arg.name)?;
+        }
         self.settle_anyhow()?;
         let shown = Shown(arg);
         let why =
