@@ -1,4 +1,4 @@
--- What a handle owns: what a box of a member of a pool, of a grid, of a line or of names owns, or nothing.
+-- What a handle owns: what a box of a part owns, or nothing.
 use denote.RattleType.{RattleType}
 use base.Fml.{Fml, ftrue}
 use base.Stored.{Coded}
@@ -8,22 +8,10 @@ use Rattle.std.specs.Box.Ownership.{box_owns}
 use Rattle.std.specs.Coded.{coded_option}
 use Rattle.std.specs.Global.{Global}
 use Rattle.std_heap.specs.contracts.GlobalAllocator.TheImpl.{ghosts}
-use Rattle.words_c.specs.contracts.member.Member as pool
-use Rattle.words_c.specs.contracts.grid_member.GridMember as grid
-use Rattle.words_c.specs.contracts.line_member.LineMember as line
-use Rattle.words_c.specs.contracts.names_member.NamesMember as names
+use Rattle.words_c.specs.contracts.part.Part as part
 
-abbrev pub pool_row : RattleType
-pool_row = pool.the_row
-
-abbrev pub grid_row : RattleType
-grid_row = grid.the_row
-
-abbrev pub line_row : RattleType
-line_row = line.the_row
-
-abbrev pub names_row : RattleType
-names_row = names.the_row
+abbrev pub part_row : RattleType
+part_row = part.the_row
 
 abbrev pub held_owns : (row : RattleType) → Global → Ptr → Option row.Denot → Fml
 held_owns row alloc at None = ftrue

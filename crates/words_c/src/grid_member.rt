@@ -45,6 +45,7 @@ impl GridMember {
         ensures place { result ≢ 0 → IsSomeAnd self.new.entered (IsReportedAs result (arc_value self.new.grid)) }
         ensures some { result ≢ 0 → IsSomeAnd self.old.seat (λ s. IsSomeAnd self.new.entered (λ e. e.number ≡ s.number)) }
         ensures none { result ≡ 0 → (self.old.seat ≡ None) × (self.new.entered ≡ self.old.entered) }
+        ensures dealer { self.new.dealer ≡ self.old.dealer }
     {
         let Some(seat) = self.seat.take() else {
             return 0;

@@ -22,54 +22,49 @@
 ghost use Rattle.std.specs.Prelude.{◌≡◌, ◌≢◌, ◌≤◌, ◌⊎◌, IfSome, IsSome, IsSomeAnd, None, Some, true, false};
 ghost use Rattle.std.specs.Arc.{arc_value};
 ghost use Rattle.words_c.specs.Reported.{HasReceiptOf, HoldsNumber, WasRefused};
+ghost use Rattle.words_c.specs.Parts.{IsPoolAnd};
 ghost use Rattle.words_c.specs.declared.member.Member.{Member};
+ghost use Rattle.words_c.specs.declared.part.Part.TheVariants.{Pool};
 
 pub mod grid;
-pub mod grid_handle;
 pub mod grid_member;
 pub mod handle;
 pub mod line;
-pub mod line_handle;
 pub mod line_member;
 pub mod member;
 pub mod names;
-pub mod names_handle;
 pub mod names_member;
+pub mod part;
 pub mod parts;
 
-pub use grid_handle::GridHandle;
 pub use handle::Handle;
-pub use line_handle::LineHandle;
 use member::Member;
-pub use names_handle::NamesHandle;
+use part::Part;
 use std::alloc::Global;
 use std::mem;
 use std::sync::Arc;
 use words_pool::WordPool;
 
-fn open_pool(alloc: Global, size: u64) -> Option<Box<Member, Global>>
+fn open_pool(alloc: Global, size: u64) -> Option<Member>
     ensures size { IsSome result → (1 ≤ size) × (size ≤ 4096) }
-    ensures pool { IfSome result (λ b. ((arc_value b.value.pool).numbers ≡ size) × (b.value.held ≡ None)) }
+    ensures pool { IfSome result (λ m. ((arc_value m.pool).numbers ≡ size) × (m.held ≡ None)) }
 {
     let pool = WordPool::new(alloc, size).ok()?;
     let pool = Arc::new(alloc, pool).ok()?;
-    Box::new(alloc, Member::of(pool)).ok()
+    Some(Member::of(pool))
 }
 
 /// Makes a pool of the numbers from 1 to `size`, which is from 1 to 4096, at a handle that holds none. False, with nothing
 /// made, where the size is outside that range or memory was refused.
 #[unsafe(no_mangle)]
 pub extern "C" fn word_pool_new(alloc: Global, handle: &mut Handle, size: u64) -> bool
-    requires empty { handle.old.pool ≡ None }
-    ensures made { result ≡ true → IsSomeAnd handle.new.pool (λ m. ((arc_value m.pool).numbers ≡ size) × (m.held ≡ None)) }
+    requires empty { handle.old.part ≡ None }
+    ensures made { result ≡ true → IsSomeAnd handle.new.part (IsPoolAnd (λ m. ((arc_value m.pool).numbers ≡ size) × (m.held ≡ None))) }
     ensures range { result ≡ true → (1 ≤ size) × (size ≤ 4096) }
-    ensures none { result ≡ false → handle.new.pool ≡ None }
+    ensures none { result ≡ false → handle.new.part ≡ None }
 {
     match open_pool(alloc, size) {
-        Some(whole) => {
-            *handle = Handle::of(whole);
-            true
-        }
+        Some(member) => handle.fill(alloc, Part::Pool(member)),
         None => false,
     }
 }
@@ -78,24 +73,21 @@ pub extern "C" fn word_pool_new(alloc: Global, handle: &mut Handle, size: u64) -
 #[unsafe(no_mangle)]
 pub extern "C" fn word_pool_join(alloc: Global, handle: &mut Handle, other: &mut Handle) -> bool
     ghost pool: { Member }
-    requires held { handle.old.pool ≡ Some pool }
-    requires empty { other.old.pool ≡ None }
-    ensures held { handle.new.pool ≡ Some pool }
-    ensures joined { result ≡ true → IsSomeAnd other.new.pool (λ m. (arc_value m.pool ≡ arc_value pool.pool) × (m.held ≡ None)) }
-    ensures none { result ≡ false → other.new.pool ≡ None }
+    requires held { handle.old.part ≡ Some (Pool pool) }
+    requires empty { other.old.part ≡ None }
+    ensures held { handle.new.part ≡ Some (Pool pool) }
+    ensures joined { result ≡ true → IsSomeAnd other.new.part (IsPoolAnd (λ m. (arc_value m.pool ≡ arc_value pool.pool) × (m.held ≡ None))) }
+    ensures none { result ≡ false → other.new.part ≡ None }
 {
     let whole = mem::replace(handle, Handle::blank(alloc)).into_box();
-    let theirs = Arc::try_clone(&whole.pool);
-    *handle = Handle::of(whole);
-    let Ok(pool) = theirs else {
-        return false;
+    let theirs = match &*whole {
+        Part::Pool(member) => Arc::try_clone(&member.pool).ok(),
+        _ => None,
     };
-    match Box::new(alloc, Member::of(pool)) {
-        Ok(whole) => {
-            *other = Handle::of(whole);
-            true
-        }
-        Err(_) => false,
+    *handle = Handle::of(whole);
+    match theirs {
+        Some(pool) => other.fill(alloc, Part::Pool(Member::of(pool))),
+        None => false,
     }
 }
 
@@ -104,15 +96,18 @@ pub extern "C" fn word_pool_join(alloc: Global, handle: &mut Handle, other: &mut
 #[unsafe(no_mangle)]
 pub extern "C" fn word_pool_acquire(alloc: Global, handle: &mut Handle) -> u64
     ghost pool: { Member }
-    requires held { handle.old.pool ≡ Some pool }
-    ensures pool { IsSomeAnd handle.new.pool (λ m. arc_value m.pool ≡ arc_value pool.pool) }
+    requires held { handle.old.part ≡ Some (Pool pool) }
+    ensures pool { IsSomeAnd handle.new.part (IsPoolAnd (λ m. arc_value m.pool ≡ arc_value pool.pool)) }
     ensures one { IsSome pool.held → result ≡ 0 }
-    ensures number { result ≢ 0 → IsSomeAnd handle.new.pool (HoldsNumber 1 result) }
-    ensures kept { result ≡ 0 → IsSomeAnd handle.new.pool (λ m. m.held ≡ pool.held) }
-    ensures none { result ≡ 0 → IsSome pool.held ⊎ IsSomeAnd handle.new.pool (WasRefused 1) }
+    ensures number { result ≢ 0 → IsSomeAnd handle.new.part (IsPoolAnd (HoldsNumber 1 result)) }
+    ensures kept { result ≡ 0 → IsSomeAnd handle.new.part (IsPoolAnd (λ m. m.held ≡ pool.held)) }
+    ensures none { result ≡ 0 → IsSome pool.held ⊎ IsSomeAnd handle.new.part (IsPoolAnd (WasRefused 1)) }
 {
     let mut whole = mem::replace(handle, Handle::blank(alloc)).into_box();
-    let number = whole.acquire(1);
+    let number = match &mut *whole {
+        Part::Pool(member) => member.acquire(1),
+        _ => 0,
+    };
     *handle = Handle::of(whole);
     number
 }
@@ -122,15 +117,18 @@ pub extern "C" fn word_pool_acquire(alloc: Global, handle: &mut Handle) -> u64
 #[unsafe(no_mangle)]
 pub extern "C" fn word_pool_acquire_near(alloc: Global, handle: &mut Handle, hint: u64) -> u64
     ghost pool: { Member }
-    requires held { handle.old.pool ≡ Some pool }
-    ensures pool { IsSomeAnd handle.new.pool (λ m. arc_value m.pool ≡ arc_value pool.pool) }
+    requires held { handle.old.part ≡ Some (Pool pool) }
+    ensures pool { IsSomeAnd handle.new.part (IsPoolAnd (λ m. arc_value m.pool ≡ arc_value pool.pool)) }
     ensures one { IsSome pool.held → result ≡ 0 }
-    ensures number { result ≢ 0 → IsSomeAnd handle.new.pool (HoldsNumber hint result) }
-    ensures kept { result ≡ 0 → IsSomeAnd handle.new.pool (λ m. m.held ≡ pool.held) }
-    ensures none { result ≡ 0 → IsSome pool.held ⊎ IsSomeAnd handle.new.pool (WasRefused hint) }
+    ensures number { result ≢ 0 → IsSomeAnd handle.new.part (IsPoolAnd (HoldsNumber hint result)) }
+    ensures kept { result ≡ 0 → IsSomeAnd handle.new.part (IsPoolAnd (λ m. m.held ≡ pool.held)) }
+    ensures none { result ≡ 0 → IsSome pool.held ⊎ IsSomeAnd handle.new.part (IsPoolAnd (WasRefused hint)) }
 {
     let mut whole = mem::replace(handle, Handle::blank(alloc)).into_box();
-    let number = whole.acquire(hint);
+    let number = match &mut *whole {
+        Part::Pool(member) => member.acquire(hint),
+        _ => 0,
+    };
     *handle = Handle::of(whole);
     number
 }
@@ -139,14 +137,17 @@ pub extern "C" fn word_pool_acquire_near(alloc: Global, handle: &mut Handle, hin
 #[unsafe(no_mangle)]
 pub extern "C" fn word_pool_release(alloc: Global, handle: &mut Handle) -> u64
     ghost pool: { Member }
-    requires held { handle.old.pool ≡ Some pool }
-    ensures none { IsSomeAnd handle.new.pool (λ m. (arc_value m.pool ≡ arc_value pool.pool) × (m.held ≡ None)) }
+    requires held { handle.old.part ≡ Some (Pool pool) }
+    ensures none { IsSomeAnd handle.new.part (IsPoolAnd (λ m. (arc_value m.pool ≡ arc_value pool.pool) × (m.held ≡ None))) }
     ensures number { result ≢ 0 → IsSomeAnd pool.held (λ h. h.number ≡ result) }
     ensures zero { result ≡ 0 → pool.held ≡ None }
-    ensures receipt { IfSome pool.held (λ h. IsSomeAnd handle.new.pool (HasReceiptOf h)) }
+    ensures receipt { IfSome pool.held (λ h. IsSomeAnd handle.new.part (IsPoolAnd (HasReceiptOf h))) }
 {
     let mut whole = mem::replace(handle, Handle::blank(alloc)).into_box();
-    let number = whole.release();
+    let number = match &mut *whole {
+        Part::Pool(member) => member.release(),
+        _ => 0,
+    };
     *handle = Handle::of(whole);
     number
 }
@@ -155,10 +156,12 @@ pub extern "C" fn word_pool_release(alloc: Global, handle: &mut Handle) -> u64
 #[unsafe(no_mangle)]
 pub extern "C" fn word_pool_free(alloc: Global, handle: &mut Handle)
     ghost pool: { Member }
-    requires held { handle.old.pool ≡ Some pool }
-    ensures none { handle.new.pool ≡ None }
+    requires held { handle.old.part ≡ Some (Pool pool) }
+    ensures none { handle.new.part ≡ None }
 {
     let mut whole = mem::replace(handle, Handle::blank(alloc)).into_box();
-    whole.release();
+    if let Part::Pool(member) = &mut *whole {
+        member.release();
+    }
     drop(whole);
 }

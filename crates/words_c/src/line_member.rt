@@ -65,6 +65,7 @@ impl LineMember {
         ensures some { result ≢ 0 → (self.old.held ≡ None) × IsSome self.old.ticket }
         ensures kept { result ≡ 0 → (self.new.held ≡ self.old.held) × (self.new.ticket ≡ self.old.ticket) }
         ensures none { result ≡ 0 → IsSome self.old.held ⊎ (self.old.ticket ≡ None) }
+        ensures tickets { self.new.tickets ≡ self.old.tickets }
     {
         if self.held.is_some() {
             return 0;
@@ -87,6 +88,7 @@ impl LineMember {
         ensures number { result ≢ 0 → IsSomeAnd self.old.held (λ h. h.number ≡ result) }
         ensures ready { IfSome self.old.held (λ h. IsSomeAnd self.new.ticket (IsTicketOf h)) }
         ensures zero { result ≡ 0 → (self.old.held ≡ None) × (self.new.ticket ≡ self.old.ticket) }
+        ensures tickets { self.new.tickets ≡ self.old.tickets }
     {
         match self.held.take() {
             Some(held) => {

@@ -50,6 +50,7 @@ impl NamesMember {
         ensures same { self.old.seat ≡ None → self.new.renamed ≡ self.old.renamed }
         ensures own { IfSome self.old.seat (λ s. IsSomeAnd self.new.renamed (λ e. (e.number ≡ s.number) × (e.identity ≡ s.identity))) }
         ensures none { result ≡ 0 → (self.old.seat ≡ None) × (self.old.renamed ≡ None) }
+        ensures dealer { self.new.dealer ≡ self.old.dealer }
     {
         if let Some(seat) = self.seat.take() {
             self.renamed = Some(self.names.rename(seat));

@@ -1,4 +1,5 @@
+use Rattle.words_c.specs.declared.part.Part.TheVariants.{Names}
 use Rattle.words_c.proofs.names.word_names_free.Given as goal
 
 abbrev pub ghost-into_box : goal.ghost-into_box
-ghost-into_box g a = g.names
+ghost-into_box g a = Names g.names

@@ -29,7 +29,7 @@ use Rattle.std.proofs.Common.{lit<, refl, sym, subst, None}
 use Rattle.std.proofs.alloc.Calls.{handle_tells, α}
 use Rattle.std_alloc.proofs.ResultValues.{and_tt}
 use Rattle.std_heap.specs.contracts.Global as Heap
-use Rattle.words_c.proofs.AsBox.{PoolBox as E}
+use Rattle.words_c.proofs.AsBox.{PartBox as E}
 use Rattle.words_c.specs.contracts.handle.Handle as Handle
 use Rattle.words_c.specs.contracts.handle.Handle.blank as F
 use Rattle.words_c.specs.contracts.handle.Handle.blank.Key.{name as #self}
@@ -51,7 +51,7 @@ module _ {M : Type 1} {𝓤 : Ura M} (𝓛 : Logic 𝓤) (at_mem : Memory → SP
       let Post = (walk_of 𝓛 F.ended stayed (F.clauses 𝓛 at_mem run)).post z in
       let a = z.0.3.0 in
       let To = type_at (F.signature).result tt in
-      let made : To.Denot = record { at = null_ptr; alloc = a; pool = None } in
+      let made : To.Denot = record { at = null_ptr; alloc = a; part = None } in
       qed 𝓛 ((‵ ftrue ⊛ ‵ (fsep (Heap.the_row.own_val a z.0.4.0) ftrue)) ∷ raw (emp 𝓤) ∷ []) ∵ split ! $ drop ! $ fsplit ! $
       handle_tells E.al ! a z.0.4.0 (λ hv ea fa. keep ! (0 ∷ []) $
       let w = vstruct (vcons (ptr_val null_ptr) (vcons hv vnil)) in

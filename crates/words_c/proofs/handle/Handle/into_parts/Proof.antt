@@ -1,7 +1,7 @@
 -- `into_parts` moves two fields, and what they own goes with them.
 use contract.Monad.{fact}
 use Rattle.std.proofs.Common.{◌≡◌, Option, Some, refl, sym, subst}
-use Rattle.words_c.specs.Held.{pool_row}
+use Rattle.words_c.specs.Held.{part_row}
 use Rattle.words_c.specs.contracts.handle.Handle as Handle
 use mathlib.Core.List.{List, [], ◌∷◌, ◌++◌}
 use seplogic.Ra.Ura.{Ura}
@@ -27,7 +27,7 @@ use denote.Triple.Table.{entered}
 use denote.Triple.Walked.{says, Stays, stay_dropped, walk_of, ends_at, Goes-dropped, walk_Meets}
 use Rattle.std_alloc.proofs.BoxSteps.Form.{D, B, word, box_typed}
 use Rattle.std_alloc.proofs.BoxSteps.Steps.{box_out, box_in}
-use Rattle.words_c.proofs.AsBox.{PoolBox as E, FromHandle as From}
+use Rattle.words_c.proofs.AsBox.{PartBox as E, FromHandle as From}
 use Rattle.words_c.specs.contracts.handle.Handle.into_parts as F
 use Rattle.words_c.specs.contracts.handle.Handle.into_parts.Key.{name as #self}
 use Rattle.words_c.proofs.handle.Handle.into_parts.Statement as stated
@@ -46,8 +46,8 @@ module _ {M : Type 1} {𝓤 : Ura M} (𝓛 : Logic 𝓤) (at_mem : Memory → SP
       let v : D E = record { ptr = z.0.3.0.at; alloc = z.0.3.0.alloc; value = z.1 } in
       let To = type_at (F.signature).result tt in
       let made : To.Denot = record { ptr = v.ptr; alloc = v.alloc; value = v.value } in
-      qed 𝓛 ((‵ ftrue ⊛ ‵ (fsep (Handle.the_row.own_val z.0.3.0 z.0.4.0) ftrue)) ∷ raw (fact 𝓤 (z.0.3.0.pool ≡ Some z.1)) ∷ []) ∵ move ! (1 ∷ []) $ heard ! (z.0.3.0.pool ≡ Some z.1) (λ asked. split ! $ drop ! $ fsplit ! $
-      rewrite ! 0 (λ (m : Option pool_row.Denot). ‵ (Handle.the_row.own_val (record z.0.3.0 { pool = m }) z.0.4.0)) asked refl $ use1 𝓛 (‵ ((B E).own_val v z.0.4.0)) (id⊢ 𝓤 _) $
+      qed 𝓛 ((‵ ftrue ⊛ ‵ (fsep (Handle.the_row.own_val z.0.3.0 z.0.4.0) ftrue)) ∷ raw (fact 𝓤 (z.0.3.0.part ≡ Some z.1)) ∷ []) ∵ move ! (1 ∷ []) $ heard ! (z.0.3.0.part ≡ Some z.1) (λ asked. split ! $ drop ! $ fsplit ! $
+      rewrite ! 0 (λ (m : Option part_row.Denot). ‵ (Handle.the_row.own_val (record z.0.3.0 { part = m }) z.0.4.0)) asked refl $ use1 𝓛 (‵ ((B E).own_val v z.0.4.0)) (id⊢ 𝓤 _) $
       box_out E ! v z.0.4.0 (λ b o hv e ws fa. box_in E ! v b o v.value e refl $ use1 𝓛 (‵ (To.own_val made (word E hv b o ∷ []))) (id⊢ 𝓤 _) $ move ! (1 ∷ 2 ∷ []) $ drop ! $ drop ! $
       let w = word E hv b o in
       let Γ : List (Item 𝓤) = ‵ (To.own_val made (w ∷ [])) ∷ [] in
