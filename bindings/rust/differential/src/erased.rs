@@ -1,10 +1,10 @@
 //! The erased code in the form of the C library: a handle for each thread, which holds one number at most.
 
 use crate::kit::alloc::Global;
-use crate::proved::words_machine::grid::seats::{Dealer as GridDealer, FreshSeat as GridSeat};
+use crate::proved::words_machine::grid::seats::{FreshGridSeat, GridDealer};
 use crate::proved::words_machine::grid::word_grid::WordGrid;
 use crate::proved::words_names::names::Names;
-use crate::proved::words_names::seats::{Dealer, FreshSeat};
+use crate::proved::words_names::seats::{FreshNameSeat, NameDealer};
 use crate::proved::words_pool::held::Held;
 use crate::proved::words_pool::line_pool::LinePool;
 use crate::proved::words_pool::ticket::{Ticket, Tickets};
@@ -112,7 +112,7 @@ impl Drop for LineMember {
 pub(crate) struct GridMember {
     grid: Arc<WordGrid<Global>>,
     dealer: Option<GridDealer>,
-    seat: Option<GridSeat>,
+    seat: Option<FreshGridSeat>,
 }
 
 impl GridMember {
@@ -144,7 +144,7 @@ impl GridMember {
 /// The dealer of the seats of names.
 pub(crate) struct NamesDealer {
     names: Arc<Names<Global>>,
-    dealer: Dealer,
+    dealer: NameDealer,
 }
 
 impl NamesDealer {
@@ -167,7 +167,7 @@ impl NamesDealer {
 /// A seat of names, and the name that it got.
 pub(crate) struct NamesMember {
     names: Arc<Names<Global>>,
-    seat: Option<FreshSeat>,
+    seat: Option<FreshNameSeat>,
     name: usize,
 }
 
