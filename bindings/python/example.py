@@ -1,5 +1,5 @@
 import sys
-from beglushan import Hall, NumbersExhausted
+from beglushan import Hall, NumbersExhausted, Refused
 
 hall = Hall(sys.argv[1:])
 try:
@@ -8,4 +8,7 @@ try:
         number.check()
 except NumbersExhausted:
     print("all numbers are held")
-print(f"name {hall.rename()}")
+try:
+    print(f"name {hall.rename()}")
+except Refused as refusal:
+    print(f"no name: {refusal.text}")

@@ -10,7 +10,7 @@ fn main() -> Result<(), beglushan::Error> {
             let (workers, buffers) = (&workers, &buffers);
             threads.spawn(move || {
                 let mut worker = workers.attach().expect("eight for eight threads");
-                buffers.get(&mut worker.stay()).push(job); // `&mut Vec`, this thread's alone
+                buffers.get(&mut worker.stay()).push(job); // `&mut Vec`, nobody else's during this stay
             });
         }
     });
