@@ -1,5 +1,5 @@
 -- a round after each reply of the snapshot object
-use Rattle.std.specs.Prelude.{ℕ, ◌+◌, Bool, false, ◌==◌, nat_le, nat_lt, if◌then◌else◌, List, Option, Some, None}
+use Rattle.std.specs.Prelude.{ℕ, ◌+◌, Bool, true, false, ◌==◌, nat_le, nat_lt, if◌then◌else◌, List, Option, Some, None}
 use Rattle.model_steps.specs.declared.refusal.Refusal.{Refusal}
 use Rattle.model_steps.specs.declared.refusal.Refusal.TheVariants.{Finished, Spent as IsSpent}
 use Rattle.model_snapshot.specs.declared.client.SnapReply.{SnapReply}
@@ -18,6 +18,11 @@ abbrev pub stage_refusal : RoundStage → Option Refusal
 stage_refusal Settled = Some Finished
 stage_refusal Over = Some IsSpent
 stage_refusal s = None
+
+-- who walks to its place
+abbrev pub is_placing : RoundStage → Bool
+is_placing Placing = true
+is_placing s = false
 
 -- the number that is proposed next
 abbrev pub number_of : RoundStage → ℕ

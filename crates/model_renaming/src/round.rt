@@ -1,7 +1,7 @@
 //! Rounds of proposals.
 
 ghost use Rattle.std.specs.Prelude.{◌≡◌};
-ghost use Rattle.model_renaming.specs.Round.{name_at, has_name, number_of, standing_by, at_stage, written_round, followed, decided, stage_refusal, first_round, first_wish};
+ghost use Rattle.model_renaming.specs.Round.{name_at, has_name, number_of, standing_by, at_stage, written_round, followed, decided, stage_refusal, first_round, first_wish, is_placing};
 
 use crate::proposal::{is_taken, next_proposal};
 use crate::reply::Reply;
@@ -98,6 +98,20 @@ impl Wish {
 }
 
 impl Round {
+    /// Returns true if and only if the participant walks to its place.
+    #[inline(always)]
+    pub fn is_placing(&self) -> bool
+        ensures { result ≡ is_placing self.now.stage }
+    {
+        match self.stage {
+            RoundStage::Placing => true,
+            RoundStage::Proposing(_) => false,
+            RoundStage::Looking => false,
+            RoundStage::Settled => false,
+            RoundStage::Over => false,
+        }
+    }
+
     /// Returns the round of a participant that begins. It proposes 1 if it has its place, and otherwise walks to it.
     pub fn first(placed: bool) -> Self
         ensures { result ≡ first_round placed }

@@ -110,7 +110,8 @@ where
     }
 }
 
-/// Makes a step of a participant whose round may go on, and takes its reply.
+/// Makes a step of a participant whose round may go on, and takes its reply. One that walks to its place reads in no
+/// scan, so it is not asked for a read.
 #[inline(always)]
 pub(crate) fn take<W: RenamePlaces<A> + Drop, A: Allocator>(
     snap: &mut SnapWorld<W, A>,
@@ -124,6 +125,9 @@ where
     W::Value: Drop,
     ensures { IsTaken ⟦<W as Known>⟧.places snap.old snap.new participant.old participant.new limit result view.new }
 {
+    if participant.program.is_placing() {
+        return take_slow(snap, participant, limit, view);
+    }
     if !snap.read_on(participant.identity) {
         return take_slow(snap, participant, limit, view);
     }

@@ -9,7 +9,7 @@ known g = places_by g.W.Walker.StepProgram.steps g.W.Walker.PlaceWalker.place_of
 pub returns-then-not-read_on : goal.returns-then-not-read_on
 returns-then-not-read_on g c =
     let kept = c.read_on.ensures.kept c.if-not-read_on.true in
-    rw kept at c.take_slow.ensures
+    rw kept at c.take_slow-then-not-read_on.ensures
 
 pub returns : goal.returns
 returns g c =

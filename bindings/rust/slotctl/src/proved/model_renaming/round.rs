@@ -1,4 +1,4 @@
-// Erased by bindings/rust/erase from crates/model_renaming/src/round.rt, sha256 1e766105911fa67431208c67b91841e1944233bb5a9655a6a32508a9634e3cd0.
+// Erased by bindings/rust/erase from crates/model_renaming/src/round.rt, sha256 563f282dddabbf060b6dc9d4dbb821eaad5a8e933ce0e25bd7ad4148596b133c.
 //! Rounds of proposals.
 
 use crate::proved::model_renaming::proposal::{is_taken, next_proposal};
@@ -91,6 +91,18 @@ impl Wish {
 }
 
 impl Round {
+    /// Returns true if and only if the participant walks to its place.
+    #[inline(always)]
+    pub fn is_placing(&self) -> bool {
+        match self.stage {
+            RoundStage::Placing => true,
+            RoundStage::Proposing(_) => false,
+            RoundStage::Looking => false,
+            RoundStage::Settled => false,
+            RoundStage::Over => false,
+        }
+    }
+
     /// Returns the round of a participant that begins. It proposes 1 if it has its place, and otherwise walks to it.
     pub fn first(placed: bool) -> Self {
         Round {

@@ -1,4 +1,4 @@
-// Erased by bindings/rust/erase from crates/model_renaming/src/step.rt, sha256 547a2e7278d76dad3d2b6aa3ecb64adf3597b20aae592a81bef4af2bf14d4479.
+// Erased by bindings/rust/erase from crates/model_renaming/src/step.rt, sha256 793318d9d3037270170174b326395e615e5c99c1b8097c4bef75c9887ee8d654.
 //! A step of a participant whose round may go on: what it does to the snapshot object and to the round.
 
 use crate::kit::alloc::Allocator;
@@ -98,7 +98,8 @@ where
     }
 }
 
-/// Makes a step of a participant whose round may go on, and takes its reply.
+/// Makes a step of a participant whose round may go on, and takes its reply. One that walks to its place reads in no
+/// scan, so it is not asked for a read.
 #[inline(always)]
 pub(crate) fn take<W: RenamePlaces<A>, A: Allocator>(
     snap: &mut SnapWorld<W, A>,
@@ -110,6 +111,9 @@ where
     W::Walker: Copy,
     W::Walk: Copy,
 {
+    if participant.program.is_placing() {
+        return take_slow(snap, participant, limit, view);
+    }
     if !snap.read_on(participant.identity) {
         return take_slow(snap, participant, limit, view);
     }
