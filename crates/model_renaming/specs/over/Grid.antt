@@ -1,5 +1,5 @@
 -- a grid of doors, with a segment at each
-use Rattle.std.specs.Prelude.{◌≡◌, ℕ, ◌+◌, ◌*◌, ◌/◌, nat_lt, nat_le, if◌then◌else◌, Bool, false, replicate, map, List, length, Option, Some, None, slice_index_or, slice_set}
+use Rattle.std.specs.Prelude.{◌≡◌, ℕ, ◌+◌, ◌-◌, ◌*◌, ◌/◌, ◌≤◌, ◌++◌, nat_lt, nat_le, if◌then◌else◌, Bool, false, replicate, map, List, length, Option, Some, None, slice_index_or, slice_set}
 use Rattle.model_steps.specs.declared.access.Access.{Access}
 use Rattle.model_steps.specs.declared.access.Access.TheVariants.{Read, Write, TestAndSet, Clear, Nothing}
 use Rattle.model_steps.specs.declared.access.Answer.{Answer}
@@ -84,6 +84,17 @@ contents_of (Contents segment) = segment
 -- each of these values is what stands in a segment
 abbrev pub AreContents : List GridValue → Type 0
 AreContents values = map (λ v. Contents (contents_of v)) values ≡ values
+
+-- so many segments, of which those behind the ones that are made are empty
+abbrev pub made_of : ℕ → List (Option Record) → List (Option Record)
+made_of places made = made ++ replicate (places - length made) None
+
+-- the segments that are made, what stands for each that is not, how many places there are, and for how many there is room
+pub record AreMade (made : List GridValue) (empty : GridValue) (places capacity : ℕ) : Type 0 where
+  pub contents : AreContents made
+  pub empty_is : empty ≡ Contents None
+  pub few : length made ≤ places
+  pub room : places ≤ capacity
 
 -- by rising place
 abbrev pub grid_walks : WalkSteps GridWalk GridRegister GridValue

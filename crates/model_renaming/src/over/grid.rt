@@ -1,9 +1,10 @@
 //! A grid of doors, with a segment at each.
 
-ghost use Rattle.std.specs.Prelude.{◌≡◌, ◌<◌, ◌≤◌, OnOk, IfOk, IfErr, IfSome, Err, IsOk, None, slice_index_or, slice_set};
+ghost use Rattle.std.specs.Prelude.{◌≡◌, ◌<◌, ◌≤◌, ◌+◌, ◌++◌, OnOk, IfOk, IfErr, IfSome, Err, IsOk, None, length, replicate, slice_index_or, slice_set, vec_capacity};
 ghost use Rattle.model_steps.specs.declared.access.Access.TheVariants.{Read};
 ghost use Rattle.model_steps.specs.Steps.{answer_from};
 ghost use Rattle.model_renaming.specs.over.Grid.{fresh_grid, with_segments, register_of, after_access, grid_steps, grid_walker, most_in, grid_walk};
+ghost use Rattle.model_renaming.specs.declared.over.grid_register.GridValue.TheVariants.{Contents};
 ghost use Rattle.model_renaming.specs.over.GridTies.{IsEmptyGrid, grid_ties};
 ghost use Rattle.model_renaming.specs.lemmas.over.GridProofs.{others_kept, grid_laws};
 
@@ -20,24 +21,39 @@ use std::marker::Model;
 
 /// The doors of a grid, with a segment at each. A segment is stored as the value of its register, so that it can be
 /// lent.
+///
+/// There is room for all segments, and those up to the last that was written are made. Each behind them is `empty`.
 #[derive(Drop)]
 pub struct Grid<A: Allocator> {
     doors: Memory<u64, A>,
     segments: Vec<GridValue, A>,
+    empty: GridValue,
+    places: usize,
     most: usize,
 }
 
 impl<A: Allocator> Model for Grid<A> {
-    ghost use Rattle.std.specs.Prelude.{map};
+    ghost use Rattle.std.specs.Prelude.{map, vec_capacity};
     ghost use Rattle.model_renaming.specs.over.GridState.{GridState};
 
     ghost Value = { GridState };
 
-    ghost use Rattle.model_renaming.specs.over.Grid.{contents_of, AreContents};
+    ghost use Rattle.model_renaming.specs.over.Grid.{contents_of, made_of, AreMade};
 
-    ghost view = { λ g. record { doors = g.doors; segments = map contents_of g.segments.items; most = g.most } };
+    ghost view = { λ g. record { doors = g.doors; segments = made_of g.places (map contents_of g.segments.items); most = g.most } };
 
-    ghost invariant = { λ g. AreContents g.segments.items };
+    ghost invariant = { λ g. AreMade g.segments.items g.empty g.places (vec_capacity g.segments) };
+}
+
+/// Adds so many empty segments, for which there is room.
+fn add_empty<A: Allocator>(segments: &mut Vec<GridValue, A>, count: usize)
+    requires { length segments.old.items + count ≤ vec_capacity segments.old }
+    ensures items { segments.new.items ≡ segments.old.items ++ replicate count (Contents None) }
+    ensures capacity { vec_capacity segments.new ≡ vec_capacity segments.old }
+{
+    for _i in 0..count {
+        segments.push_reserved(GridValue::Contents(None));
+    }
 }
 
 impl<A: Allocator + Clone> Grid<A> {
@@ -68,10 +84,13 @@ impl<A: Allocator + Clone> Grid<A> {
     {
         let registers = most * (most + 1);
         let doors = Memory::new(alloc.clone()?, 0, registers, 0)?;
-        let segments = Vec::from_elem(alloc, GridValue::Contents(None), registers / 2)?;
+        let places = registers / 2;
+        let segments = Vec::with_capacity(alloc, places)?;
         Ok(Grid {
             doors,
             segments,
+            empty: GridValue::Contents(None),
+            places,
             most,
         })
     }
@@ -104,8 +123,10 @@ impl<A: Allocator> Grid<A> {
     fn put(&mut self, place: Place, segment: Segment)
         ensures { self.new ≡ with_segments self.old (slice_set self.old.segments place segment) }
     {
-        if place < self.segments.len() as u128 {
+        if place < self.places as u128 {
             let at = place as usize;
+            let lacking = (at + 1).saturating_sub(self.segments.len());
+            add_empty(&mut self.segments, lacking);
             self.segments[at] = GridValue::Contents(segment);
         }
     }
@@ -151,7 +172,7 @@ impl<A: Allocator> StepMemory for Grid<A> {
         if place < self.segments.len() as u128 {
             Some(&self.segments[place as usize])
         } else {
-            None
+            Some(&self.empty)
         }
     }
 
@@ -184,7 +205,7 @@ impl<A: Allocator> Places for Grid<A> {
     fn walk(&self) -> GridWalk {
         GridWalk {
             at: 0,
-            most: self.segments.len() as u128,
+            most: self.places,
         }
     }
 

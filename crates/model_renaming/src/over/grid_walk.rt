@@ -10,9 +10,9 @@ use model_steps::{Place, Record, Segment};
 #[derive(Clone, Copy, Debug, Drop, PartialEq, Eq)]
 pub struct GridWalk {
     /// The place whose segment it reads next.
-    pub at: Place,
+    pub at: usize,
     /// The number of segments.
-    pub most: Place,
+    pub most: usize,
 }
 
 impl SegmentWalk for GridWalk {
@@ -23,11 +23,11 @@ impl SegmentWalk for GridWalk {
     ghost walks = { grid_walks };
 
     fn next(&self) -> GridRegister {
-        GridRegister::Segment(self.at)
+        GridRegister::Segment(self.at as Place)
     }
 
     fn place(&self) -> Option<Place> {
-        Some(self.at)
+        Some(self.at as Place)
     }
 
     fn resume(&mut self, _got: &GridValue) -> bool {

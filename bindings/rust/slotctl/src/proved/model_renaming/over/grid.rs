@@ -1,4 +1,4 @@
-// Erased by bindings/rust/erase from crates/model_renaming/src/over/grid.rt, sha256 9faae75ffe77761859328049a17c32b4b4dcf1471da865dad65deb7006508209.
+// Erased by bindings/rust/erase from crates/model_renaming/src/over/grid.rt, sha256 ee54325f6ec3772bc54112c114ebd14b7a96e4b527f5c298c96a0ea018ba7120.
 //! A grid of doors, with a segment at each.
 
 use crate::kit::alloc::Allocator;
@@ -20,10 +20,21 @@ use crate::proved::model_steps::refusal::{NoMemory, Refusal};
 
 /// The doors of a grid, with a segment at each. A segment is stored as the value of its register, so that it can be
 /// lent.
+///
+/// There is room for all segments, and those up to the last that was written are made. Each behind them is `empty`.
 pub struct Grid<A: Allocator> {
     doors: Memory<u64, A>,
     segments: Vec<GridValue, A>,
+    empty: GridValue,
+    places: usize,
     most: usize,
+}
+
+/// Adds so many empty segments, for which there is room.
+fn add_empty<A: Allocator>(segments: &mut Vec<GridValue, A>, count: usize) {
+    for _i in 0..count {
+        segments.push_reserved(GridValue::Contents(None));
+    }
 }
 
 impl<A: Allocator + Clone> Grid<A> {
@@ -44,10 +55,13 @@ impl<A: Allocator + Clone> Grid<A> {
     fn with_room(alloc: A, most: usize) -> Result<Self, Refusal> {
         let registers = most * (most + 1);
         let doors = Memory::new(alloc.clone()?, 0, registers, 0)?;
-        let segments = Vec::from_elem(alloc, GridValue::Contents(None), registers / 2)?;
+        let places = registers / 2;
+        let segments = Vec::with_capacity(alloc, places)?;
         Ok(Grid {
             doors,
             segments,
+            empty: GridValue::Contents(None),
+            places,
             most,
         })
     }
@@ -74,8 +88,10 @@ impl<A: Allocator> Grid<A> {
 
     /// Writes the segment at a place, if there is such a place.
     fn put(&mut self, place: Place, segment: Segment) {
-        if place < self.segments.len() as u128 {
+        if place < self.places as u128 {
             let at = place as usize;
+            let lacking = (at + 1).saturating_sub(self.segments.len());
+            add_empty(&mut self.segments, lacking);
             self.segments[at] = GridValue::Contents(segment);
         }
     }
@@ -115,7 +131,7 @@ impl<A: Allocator> StepMemory for Grid<A> {
         if place < self.segments.len() as u128 {
             Some(&self.segments[place as usize])
         } else {
-            None
+            Some(&self.empty)
         }
     }
 }
@@ -138,7 +154,7 @@ impl<A: Allocator> Places for Grid<A> {
     fn walk(&self) -> GridWalk {
         GridWalk {
             at: 0,
-            most: self.segments.len() as u128,
+            most: self.places,
         }
     }
 

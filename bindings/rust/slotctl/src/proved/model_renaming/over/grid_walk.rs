@@ -1,4 +1,4 @@
-// Erased by bindings/rust/erase from crates/model_renaming/src/over/grid_walk.rt, sha256 b2946a94e5b44d70dc36140c15c7d836716c4e4a83231d26ea082bce8f90057c.
+// Erased by bindings/rust/erase from crates/model_renaming/src/over/grid_walk.rt, sha256 541c3eecb9711215bd70b7c9754cf3ece997ecbbf74a903a24cd1687a947ae7d.
 //! A walk over the segments of a grid.
 
 use crate::proved::model_renaming::over::grid_register::{GridRegister, GridValue};
@@ -10,9 +10,9 @@ use crate::proved::model_steps::record::{Record, Segment};
 #[derive(Clone, Copy, Debug, PartialEq, Eq)]
 pub struct GridWalk {
     /// The place whose segment it reads next.
-    pub at: Place,
+    pub at: usize,
     /// The number of segments.
-    pub most: Place,
+    pub most: usize,
 }
 
 impl SegmentWalk for GridWalk {
@@ -21,11 +21,11 @@ impl SegmentWalk for GridWalk {
     type Value = GridValue;
 
     fn next(&self) -> GridRegister {
-        GridRegister::Segment(self.at)
+        GridRegister::Segment(self.at as Place)
     }
 
     fn place(&self) -> Option<Place> {
-        Some(self.at)
+        Some(self.at as Place)
     }
 
     fn resume(&mut self, _got: &GridValue) -> bool {
