@@ -53,6 +53,7 @@ impl StepProgram for Walker {
         self.visitor.next()
     }
 
+    #[inline(always)]
     fn resume(&mut self, got: Answer<u64>) -> Note<Place>
         ensures after { self.new ≡ walker_after self.old got }
         ensures note { result ≡ walker_note self.old got }
