@@ -328,7 +328,8 @@ impl<'a> Hosting<'a> {
         verbose: bool,
     ) -> Option<Hosting<'a>>
         ensures sizes { IfSome result (λ h. (h.config ≡ config) × (h.clients ≡ clients) × (h.idle ≡ idle)) }
-        ensures others { IfSome result (λ h. (h.endpoints ≡ endpoints.entry) × (h.keeping ≡ keeping.entry) × (h.verbose ≡ verbose) × (h.holding ≡ holding) × (h.stores_reads ≡ stores_reads)) }
+        ensures others { IfSome result (λ h. (h.endpoints ≡ endpoints.entry) × (h.keeping ≡ keeping.entry) × (h.verbose ≡ verbose)
+            × (h.holding ≡ holding) × (h.stores_reads ≡ stores_reads)) }
         ensures range { IsSome result ↔ IsHostingRange config.world clients idle }
     {
         if clients < 1 || 1_000_000 < clients || 31_536_000 < idle {

@@ -44,7 +44,8 @@ pub fn program<'a, T: Threads + Sync, S: AsStr, R: Source, W: Sink, E: Write>(
     requires reads { R.calls input.old < 2 ^ 64 }
     requires writes { W.calls output.old < 2 ^ 64 }
     ensures { (asked : Result Ask Misuse) × IsRead (map S.text words.now) asked × (ended : Result Outcome Failure) × (at : W)
-        × IsDone (reading R.remaining R.calls R.failed input.old input.new) (writing W.contents W.failed output.old at) asked ended × IsAnswered ended at output.new result }
+        × IsDone (reading R.remaining R.calls R.failed input.old input.new) (writing W.contents W.failed output.old at) asked ended
+        × IsAnswered ended at output.new result }
 {
     match done(rt, alloc, words, input, output) {
         Ok(outcome) => outcome,

@@ -110,7 +110,8 @@ pub extern "C" fn word_names_name(alloc: Global, handle: &mut Handle) -> u64
     requires held { handle.old.part ≡ Some (part.Names names) }
     ensures names { IsSomeAnd handle.new.part (IsNamesAnd (λ m. arc_value m.names ≡ arc_value names.names)) }
     ensures name { result ≢ 0 → IsSomeAnd handle.new.part (IsNamesAnd (λ m. IsSomeAnd m.renamed (IsReportedName result (arc_value names.names)))) }
-    ensures own { IfSome names.seat (λ s. IsSomeAnd handle.new.part (IsNamesAnd (λ m. IsSomeAnd m.renamed (λ e. (e.number ≡ s.number) × (e.identity ≡ s.identity))))) }
+    ensures own { IfSome names.seat (λ s.
+        IsSomeAnd handle.new.part (IsNamesAnd (λ m. IsSomeAnd m.renamed (λ e. (e.number ≡ s.number) × (e.identity ≡ s.identity))))) }
     ensures same { names.seat ≡ None → IsSomeAnd handle.new.part (IsNamesAnd (λ m. m.renamed ≡ names.renamed)) }
     ensures none { result ≡ 0 → (names.seat ≡ None) × (names.renamed ≡ None) }
     ensures dealer { IsSomeAnd handle.new.part (IsNamesAnd (λ m. m.dealer ≡ names.dealer)) }

@@ -139,11 +139,13 @@ where
     /// `Err` is no fault: it is the seat that goes on.
     pub fn step(&self, running: RunningSeat<P>) -> Result<EnteredSeat<P>, RunningSeat<P>>
         requires ours { running.words ≡ self.now }
-        ensures ended { IfOk result (λ e. (e.words ≡ running.words) × (e.number ≡ running.number) × (e.identity ≡ running.identity) × (e.accesses ≡ running.accesses + 1)) }
+        ensures ended { IfOk result (λ e. (e.words ≡ running.words) × (e.number ≡ running.number) × (e.identity ≡ running.identity)
+            × (e.accesses ≡ running.accesses + 1)) }
 
         // There is a list of calls after which it has ended so, by as many steps as it made accesses.
         ensures law { IfOk result (HasRun P.law) }
-        ensures goes_on { IfErr result (λ s. (s.words ≡ running.words) × (s.number ≡ running.number) × (s.identity ≡ running.identity) × (s.accesses ≡ running.accesses + 1)) }
+        ensures goes_on { IfErr result (λ s. (s.words ≡ running.words) × (s.number ≡ running.number) × (s.identity ≡ running.identity)
+            × (s.accesses ≡ running.accesses + 1)) }
         ensures few { IfErr result (λ s. s.accesses ≤ P.law.bound self.now.most) }
     {
         let RunningSeat {
