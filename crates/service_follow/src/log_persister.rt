@@ -518,6 +518,10 @@ impl<S: Store, T: Pause> Persist<ReplyQueue> for LogPersister<S, T> {
 
     ghost shares = { λ k. true };
 
+    ghost use Rattle.service_follow.specs.Silence.{MayAnswer};
+
+    ghost may_answer = { λ k. MayAnswer T.tells k.pause k.sessions.sent };
+
     fn put_held<B: Allocator>(
         &self,
         _reply_queue: &ReplyQueue,

@@ -67,6 +67,7 @@ impl<'r, R: Clock> Pause for Patience<'r, R> {
         true
     }
 
+    // Trusted, since no contract speaks of time: that the clock goes on, and that what it counts is a second.
     fn seconds(&self) -> u64 {
         let Some(made) = self.made else {
             return u64::MAX;

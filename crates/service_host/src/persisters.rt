@@ -63,6 +63,9 @@ impl Persist<Reading<Hall>> for Unrecorded {
 
     ghost shares = { λ k. false };
 
+    // No other server ends its stays.
+    ghost may_answer = { λ k. Unit {0} };
+
     fn put_held<B: Allocator>(
         &self,
         reading: &Reading<Hall>,
@@ -200,6 +203,9 @@ impl<D: Disk> Persist<Reading<WriteAhead>> for Recorded<D> {
     ghost holds = { λ k c. slots_of (desk_of c.service.hall) };
 
     ghost shares = { λ k. false };
+
+    // No other server ends its stays.
+    ghost may_answer = { λ k. Unit {0} };
 
     fn put_held<B: Allocator>(
         &self,

@@ -1,6 +1,6 @@
 -- what is heard of stays, turn after turn
-use Rattle.std.proofs.Common.{◌≡◌, ◌∙◌, ℕ, Bool, true, false, if◌then◌else◌, List, [], ◌∷◌, ◌++◌, refl, sym, ap, subst}
-use Rattle.std.proofs.lemmas.List.{append_assoc}
+use Rattle.std.proofs.Common.{◌≡◌, ◌∙◌, ℕ, Bool, true, false, if◌then◌else◌, List, [], ◌∷◌, ◌++◌, map, refl, sym, ap, subst}
+use Rattle.std.proofs.lemmas.List.{append_assoc, map-append}
 use Rattle.model_asked.specs.declared.event.Event.{Event}
 use Rattle.model_asked.specs.declared.event.Event.TheVariants as event
 use Rattle.model_asked.specs.declared.reply.Reply.{Reply}
@@ -11,7 +11,8 @@ use Rattle.text_player.specs.Turns.Turn.{Answered, Reported, Ended, Misread}
 use Rattle.model_pool.specs.declared.stays.kept_stay.KeptStay.{KeptStay}
 use Rattle.model_pool.specs.stays.Stays.{Act, after_act, after_acts}
 use Rattle.service_loop.specs.declared.attended.Attended.{Attended}
-use Rattle.service_loop.specs.Attending.{AttendedMay, Hears, acts_in, acts_of, acts_of_turn, gives_back, heard, keeps_by}
+use Rattle.service_loop.specs.declared.attended.Ending.{Ending}
+use Rattle.service_loop.specs.Attending.{AttendedMay, Hears, act_of_ending, after_ending, acts_in, acts_of, acts_of_turn, gives_back, heard, keeps_by}
 use Rattle.service_loop.specs.Releasing.{is_freed, is_missed, lacks_number}
 use Rattle.service_loop.specs.Taking.{wants_probe}
 
@@ -90,6 +91,19 @@ module _ {D : Type 0} where
         let a = one.stays_are b.0 in
         (a.0, b.1 ∙ (rw (one.keeps_is, a.1) refl) ∙ joined w.keeps w.stays xs ys);
   }
+
+  -- a connection ended
+  pub hears_end : (tick : ℕ) (e : Ending) (w u : Attended D) → u ≡ record w { stays = after_ending w.keeps tick e w.stays } → Hears (act_of_ending tick e ∷ []) w u
+  hears_end tick e w u is = record {
+    keeps_is = ap (λ (x : Attended D). x.keeps) is;
+    stays_are = λ no. (sym (ap (λ (x : Attended D). x.lacks) is) ∙ no, ap (λ (x : Attended D). x.stays) is);
+  }
+
+  -- and one more of many
+  pub hears_ends : (tick : ℕ) (ends : List Ending) (e : Ending) (w v u : Attended D) → Hears (map (act_of_ending tick) ends) w v → u ≡ record v { stays = after_ending v.keeps tick e v.stays } →
+      Hears (map (act_of_ending tick) (ends ++ e ∷ [])) w u
+  hears_ends tick ends e w v u one is = subst (λ (acts : List Act). Hears acts w u) (sym (map-append (act_of_ending tick) ends (e ∷ [])))
+      (hears_then (map (act_of_ending tick) ends) (act_of_ending tick e ∷ []) w v u one (hears_end tick e v u is))
 
   -- whatever becomes of the service itself
   pub hears_inside : {acts : List Act} (w u : Attended D) (d : D) → Hears acts w u → Hears acts w (record u { service = d })

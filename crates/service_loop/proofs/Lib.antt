@@ -11,6 +11,7 @@ mod OwnLemmas
 mod ReportedLemmas
 mod RoundLemmas
 mod SeatLemmas
+mod SendingLemmas
 mod TakingLemmas
 mod WaitingLemmas
 pub mod cited

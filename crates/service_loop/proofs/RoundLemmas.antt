@@ -19,6 +19,11 @@ pub ok_then : {T E : Type 0} (result : Result T E) (P Q : Type 0) → (P → Q) 
 ok_then (Ok done) P Q f is = f is
 ok_then (Err fault) P Q f is = tt
 
+-- what is so where a call went well is so, since it did
+pub ok_holds : {T E : Type 0} (result : Result T E) (done : T) (P : Type 0) → result ≡ Ok done → OnOk result P → P
+ok_holds (Ok other) done P is so = so
+ok_holds (Err fault) done P is so = absurd (cc)
+
 -- and where it went wrong
 pub always_wrong : {T E : Type 0} (result : Result T E) (P : Type 0) → P → OnErr result P
 always_wrong (Ok done) P is = tt

@@ -81,7 +81,7 @@ module _ {C : Type 0} (on : Seating C) where
 
   pub seat_keeps : (x : Option C) → SeatSends on x x
   seat_keeps None = tt
-  seat_keeps (Some c) = (record { sent = []; gained = Appends-nil (on.gone c); parts = refl; responder_is = refl; inbox_is = refl; ended_is = refl; in_line_is = refl; whole = λ h. h }, refl)
+  seat_keeps (Some c) = (record { sent = []; gained = Appends-nil (on.gone c); parts = refl; responder_is = refl; inbox_is = refl; ended_is = refl; in_line_is = refl; whole = λ h. h; quiet = λ is. refl }, refl)
 
   module _ (Due : C → Type 0) (seats : List (Option C)) where
     -- so far, where whoever has still to send has sent nothing

@@ -1,5 +1,5 @@
 -- what is heard of stays in the turns of connections
-use Rattle.std.specs.Prelude.{◌≡◌, ◌⊎◌, if◌then◌else◌, ℕ, Bool, true, false, List, [], ◌∷◌, ◌++◌, get_or}
+use Rattle.std.specs.Prelude.{◌≡◌, ◌⊎◌, if◌then◌else◌, ℕ, Bool, true, false, List, [], ◌∷◌, ◌++◌, get_or, map}
 use Rattle.model_steps.specs.declared.refusal.Refusal.{Refusal}
 use Rattle.model_steps.specs.declared.refusal.Refusal.TheVariants as refusal
 use Rattle.model_asked.specs.declared.event.Event.{Event}
@@ -17,6 +17,7 @@ use Rattle.model_pool.specs.stays.Stays.{Act, after_act, after_acts}
 use Rattle.model_pool.specs.stays.Stays.Act.{Entered, Left, Ended as KeeperEnded, Quit}
 use Rattle.service_loop.specs.declared.attended.Attended.{Attended}
 use Rattle.service_loop.specs.declared.attended.Ending.{Ending}
+use Rattle.service_loop.specs.declared.attended.TheConstants.{NOBODY}
 
 -- the identity competes already
 abbrev pub is_competing : Refusal → Bool
@@ -79,3 +80,11 @@ act_of_ending tick e = if e.by_quit then Quit e.number else KeeperEnded e.number
 
 abbrev pub after_ending : Bool → ℕ → Ending → List KeptStay → List KeptStay
 after_ending keeps tick e stays = if keeps then after_act stays (act_of_ending tick e) else stays
+
+-- where an answer was lost, whoever would have kept a stay by it ended
+abbrev pub acts_of_lost : ℕ → Bool → List Act
+acts_of_lost tick lost = if lost then KeeperEnded NOBODY tick ∷ [] else []
+
+-- these connections ended at a tick, one after another, and then that
+abbrev pub acts_of_endings : ℕ → Bool → List Ending → List Act
+acts_of_endings tick lost endings = map (act_of_ending tick) endings ++ acts_of_lost tick lost

@@ -103,7 +103,7 @@ pub record TakesPeeked (turns : List Turn) (peek : Option Peek) (left : Option (
   pub within : takes.takes.taken ++ rest ≡ take (bytes_of peek) s.inbox
   pub at_end : takes.ends ≡ true → (ends_of peek ≡ true) × (takes.takes.taken ≡ s.inbox)
 
--- a prefix of what waited was sent, and nothing else
+-- a prefix of what waited was sent, and nothing else; nothing, where it was at fault before
 pub record SendsTo (gone : Option (List ℕ)) (s : BuffersState) (gone' : Option (List ℕ)) (s' : BuffersState) : Type 0 where
   pub sent : List ℕ
   pub gained : Appends gone gone' sent
@@ -113,3 +113,4 @@ pub record SendsTo (gone : Option (List ℕ)) (s : BuffersState) (gone' : Option
   pub ended_is : s'.ended ≡ s.ended
   pub in_line_is : s'.in_line ≡ s.in_line
   pub whole : s'.broken ≡ false → s.broken ≡ false
+  pub quiet : s.broken ≡ true → sent ≡ []

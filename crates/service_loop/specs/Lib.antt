@@ -14,3 +14,5 @@ pub mod Releasing
 pub mod Losing
 pub mod Taking
 pub mod Waiting
+pub mod Keepers
+pub mod Sendings

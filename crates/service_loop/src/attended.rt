@@ -1,10 +1,10 @@
 //! A service, and who keeps the stays in its pool.
 
-ghost use Rattle.std.specs.Prelude.{◌≡◌, ◌∷◌, [], true, false, Some};
+ghost use Rattle.std.specs.Prelude.{◌≡◌, ◌∷◌, [], true, false, Some, map};
 ghost use Rattle.model_pool.specs.stays.Stays.Act.{Entered, Left};
 ghost use Rattle.model_asked.specs.Replies.{with_view};
 ghost use Rattle.model_asked.specs.Requests.Request.{Take};
-ghost use Rattle.service_loop.specs.Attending.{AttendedMay, Hears, heard, keeps_by, gives_back, after_ending};
+ghost use Rattle.service_loop.specs.Attending.{AttendedMay, Hears, act_of_ending, acts_of_lost, heard, keeps_by, gives_back, after_ending};
 ghost use Rattle.service_loop.specs.Losing.{lost_act};
 ghost use Rattle.service_loop.specs.AttendingProofs.{attended_answers};
 
@@ -86,6 +86,33 @@ impl<D> Attended<D> {
             self.stays.quit(ending.number);
         } else {
             self.stays.ended(ending.number, tick);
+        }
+    }
+
+    /// These connections ended at this tick, in this order.
+    pub fn end_all(&mut self, endings: &[Ending], tick: u64)
+        ensures hears { Hears (map (act_of_ending tick) endings.now) self.old self.new }
+        ensures same { self.new.service ≡ self.old.service }
+    {
+        for ending in endings {
+            self.end(*ending, tick);
+        }
+    }
+
+    /// Where an answer was lost, nobody keeps the stays from this tick on that may have begun by it.
+    pub fn end_lost(&mut self, lost: bool, tick: u64)
+        ensures hears { Hears (acts_of_lost tick lost) self.old self.new }
+        ensures same { self.new.service ≡ self.old.service }
+    {
+        if lost {
+            let number = NOBODY;
+            self.end(
+                Ending {
+                    number,
+                    by_quit: false,
+                },
+                tick,
+            );
         }
     }
 

@@ -351,6 +351,19 @@ impl<S: Stream, A: Allocator> Connection<S, A> {
         self.peek = Some(peek);
     }
 
+    /// It is at fault, and due: nothing more is sent to it. Returns true if it was idle, and is to be queued.
+    pub fn fail(&mut self) -> bool
+        ensures buffers { self.new.buffers ≡ record self.old.buffers { broken = true } }
+        ensures stream { self.new.stream ≡ self.old.stream }
+    {
+        self.buffers.fail();
+        let is_idle = self.stage == ConnectionStage::Idle;
+        if is_idle {
+            self.stage = ConnectionStage::Queued;
+        }
+        is_idle
+    }
+
     /// Its lines went to the persister, if any were, and what they are answered is not known: then it is at fault. It waits for its next turn.
     pub fn give_up(&mut self)
         ensures buffers { self.new.buffers ≡ record self.old.buffers { broken = self.new.buffers.broken } }

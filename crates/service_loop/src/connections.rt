@@ -1,10 +1,15 @@
 //! The connections of a server, their seats, and who is to have a turn.
 
-ghost use Rattle.std.specs.Prelude.{◌≡◌, ◌≤◌, ◌+◌, ◌++◌, [], length, drop, IfOk};
+ghost use Rattle.std.specs.Prelude.{◌≡◌, ◌≤◌, ◌+◌, ◌++◌, [], length, drop, IfOk, OnOk};
+ghost use Rattle.service_loop.specs.Attending.{Hears, acts_of_endings};
+ghost use Rattle.service_loop.specs.Keepers.{MayServe};
+ghost use Rattle.service_loop.specs.Sendings.{Unsent, sockets};
 
-use crate::attended::Ending;
+use crate::attended::{Attended, Ending};
 use crate::buffers::Buffers;
 use crate::connection::{Connection, ConnectionStage};
+use crate::failing::fail_keepers;
+use crate::persist::Persist;
 use crate::socket::Socket;
 use mio::event::Event;
 use mio::{Poll, Token};
@@ -231,31 +236,35 @@ impl ConnectionTable {
         Ok(())
     }
 
-    // The connection of a seat is at fault and due.
-    fn fail_one(&mut self, key: usize) -> Result<(), AllocError> {
-        let Some(connection) = self.seated(key) else {
-            return Ok(());
-        };
-        connection.buffers.fail();
-        if connection.stage == ConnectionStage::Idle {
-            connection.stage = ConnectionStage::Queued;
-            self.ready.push(key)?;
-        }
-        Ok(())
+    /// The connections that have ended keep no stay from this tick on. Where an answer was lost, nobody keeps a stay that may have begun by it.
+    pub fn note_ended<D>(&mut self, service: &mut Attended<D>, lost: bool, tick: u64)
+        ensures hears { Hears (acts_of_endings tick lost self.old.ended.items) service.old service.new }
+        ensures same { service.new.service ≡ service.old.service }
+        ensures table { (self.new.numbers ≡ self.old.numbers) × (self.new.seats ≡ self.old.seats) }
+    {
+        service.end_all(&self.ended, tick);
+        self.ended.clear();
+        service.end_lost(lost, tick);
     }
 
-    /// Each connection that keeps a stay is at fault and due: nothing more is sent to it.
+    /// Where the persister may not answer those who keep stays, each connection that keeps one is at fault and due.
     ///
     /// # Errors
     ///
     /// `AllocError`: the list of connections that are due could not grow.
-    pub fn fail_keepers(&mut self, stays: &Stays) -> Result<(), AllocError> {
-        for key in 0..self.seats.len() {
-            if key < self.numbers.len() && stays.keeps_any(self.numbers[key]) {
-                self.fail_one(key)?;
-            }
+    pub fn check_keepers<D, K: Persist<D>>(
+        &mut self,
+        persister: &K,
+        stays: &Stays,
+    ) -> Result<(), AllocError>
+        ensures serves { OnOk result (MayServe (K.may_answer persister.now) stays.now self.old.numbers.items self.new.seats.items) }
+        ensures unsent { OnOk result (Unsent sockets self.old.seats.items self.new.seats.items) }
+        ensures same { self.new.numbers ≡ self.old.numbers }
+    {
+        if persister.may_answer_stays() {
+            return Ok(());
         }
-        Ok(())
+        fail_keepers(&mut self.seats, &self.numbers, stays, &mut self.ready)
     }
 
     /// After a turn in which the first `called` ready seats were called: those that have more to do are due again, behind the others.

@@ -1,12 +1,16 @@
 //! A server in one thread, by the readiness of its sockets.
 
-ghost use Rattle.std.specs.Prelude.{◌≡◌, ◌⊎◌, true, OnOk};
+ghost use Rattle.std.specs.Prelude.{◌≡◌, ◌⊎◌, List, Option, true, OnOk};
 ghost use Rattle.model_asked.specs.Requests.{Request};
+ghost use Rattle.service_loop.specs.Attending.{Hears, acts_of_endings};
+ghost use Rattle.service_loop.specs.Keepers.{EndsAtTick, HearsAndEnds};
+ghost use Rattle.service_loop.specs.Releasing.{EndsDue};
 ghost use Rattle.service_loop.specs.SharedBuffers.{AreShared};
 ghost use Rattle.service_loop.specs.Rounds.{WasServed};
+ghost use Rattle.service_loop.specs.Sendings.{HasSent, SendsToKeepers, Unsent, sockets};
 
 use crate::answering::answer_queries;
-use crate::attended::{Attended, Ending, NOBODY};
+use crate::attended::Attended;
 use crate::connection::Connection;
 use crate::connections::ConnectionTable;
 use crate::doors::{Accepted, Doors};
@@ -317,8 +321,7 @@ impl Hosting {
         self.accept_all()?;
         self.tell_full(errors);
         self.tell_tick(&mut service.service, persister)?;
-        self.end_stays(rt, service, persister, shared)?;
-        self.serve(rt, service, persister, shared)?;
+        self.serve_all(rt, service, persister, shared)?;
         self.tell_trouble(persister.trouble(), errors);
         self.tell_room(persister.lasting_tenths(), errors);
         self.tell_lost(errors);
@@ -447,6 +450,27 @@ impl Hosting {
         Ok(())
     }
 
+    // Hears which connections have ended, ends the stays that are due, and gives each connection that is due its turn. Whoever keeps a stay and may
+    // not be answered is sent nothing.
+    fn serve_all<R, D: Service<R>, K: Persist<D>>(
+        &mut self,
+        rt: &R,
+        service: &mut Attended<D>,
+        persister: &mut K,
+        shared: &mut SharedBuffers<Global>,
+    ) -> Result<(), HostFault<K::Fault>>
+        requires knows { (q : Request) → D.knows q ≡ true }
+        requires room { AreShared shared.old }
+        ensures room { AreShared shared.new }
+        ensures served { OnOk result (WasServed D.may K.prefetches K.persists K.waits persister.old service.old.service persister.new service.new.service) }
+        ensures keepers { OnOk result ((heard : Attended D) × (seats : List (Option (Connection Socket Global))) ×
+            Hears (acts_of_endings self.old.tick self.old.lost self.old.connections.ended.items) service.old heard ×
+            SendsToKeepers sockets (K.may_answer persister.old) heard.stays self.old.connections.numbers.items self.old.connections.seats.items seats) }
+    {
+        self.end_stays(rt, service, persister, shared)?;
+        self.serve(rt, service, persister, shared)
+    }
+
     // Gives each connection that is due its turn.
     fn serve<R, D: Service<R>, K: Persist<D>>(
         &mut self,
@@ -459,6 +483,32 @@ impl Hosting {
         requires room { AreShared shared.old }
         ensures room { AreShared shared.new }
         ensures served { OnOk result (WasServed D.may K.prefetches K.persists K.waits persister.old service.old.service persister.new service.new.service) }
+        ensures sent { OnOk result ((seats : List (Option (Connection Socket Global))) × HasSent sockets self.old.connections.seats.items seats) }
+    {
+        match self.iterate_all(rt, service, persister, shared) {
+            Ok(called) => {
+                self.note_lost(called);
+                self.take_numbers(rt, service, persister, shared, called)?;
+                self.answer(&service.service, persister, shared, called);
+                self.settle(called.count())
+            }
+            Err(fault) => Err(HostFault::Persist(fault)),
+        }
+    }
+
+    // Makes one iteration over the connections that are due.
+    fn iterate_all<R, D: Service<R>, K: Persist<D>>(
+        &mut self,
+        rt: &R,
+        service: &mut Attended<D>,
+        persister: &mut K,
+        shared: &mut SharedBuffers<Global>,
+    ) -> Result<Called, K::Fault>
+        requires knows { (q : Request) → D.knows q ≡ true }
+        requires room { AreShared shared.old }
+        ensures room { AreShared shared.new }
+        ensures served { OnOk result (WasServed D.may K.prefetches K.persists K.waits persister.old service.old.service persister.new service.new.service) }
+        ensures sent { OnOk result (HasSent sockets self.old.connections.seats.items self.new.connections.seats.items) }
     {
         let ConnectionTable {
             seats,
@@ -467,22 +517,14 @@ impl Hosting {
             ..
         } = &mut self.connections;
         shared.share_among(ready.len());
-        let called = match &mut self.batch {
-            None => iterate(rt, service, persister, shared, seats, numbers, ready).map(
-                Called::Served,
-            ),
+        match &mut self.batch {
+            None => {
+                let called = iterate(rt, service, persister, shared, seats, numbers, ready)?;
+                Ok(Called::Served(called))
+            }
             Some(batch) => {
                 iterate_prefetched(rt, service, persister, batch, shared, seats, numbers, ready)
             }
-        };
-        match called {
-            Ok(called) => {
-                self.note_lost(called);
-                self.take_numbers(rt, service, persister, shared, called)?;
-                self.answer(&service.service, persister, shared, called);
-                self.settle(called.count())
-            }
-            Err(fault) => Err(HostFault::Persist(fault)),
         }
     }
 
@@ -499,6 +541,7 @@ impl Hosting {
         requires room { AreShared shared.old }
         ensures room { AreShared shared.new }
         ensures served { OnOk result (WasServed D.may K.prefetches K.persists K.waits persister.old service.old.service persister.new service.new.service) }
+        ensures sent { OnOk result (HasSent sockets self.old.connections.seats.items self.new.connections.seats.items) }
     {
         let Called::Served(count) = called else {
             return Ok(());
@@ -528,6 +571,7 @@ impl Hosting {
         requires room { AreShared shared.old }
         ensures room { AreShared shared.new }
         ensures served { OnOk result (WasServed D.may K.prefetches K.persists K.waits persister.old service.old.service persister.new service.new.service) }
+        ensures sent { OnOk result (HasSent sockets self.old.connections.seats.items self.new.connections.seats.items) }
     {
         let ConnectionTable {
             seats,
@@ -559,7 +603,8 @@ impl Hosting {
         called: Called,
     )
         requires { AreShared shared.old }
-        ensures { AreShared shared.new }
+        ensures room { AreShared shared.new }
+        ensures sent { HasSent sockets self.old.connections.seats.items self.new.connections.seats.items }
     {
         if !shared.waits {
             return;
@@ -580,26 +625,7 @@ impl Hosting {
         Ok(())
     }
 
-    // The connections that have ended keep no stay from now on, and nobody keeps one of which it was lost whether it began.
-    fn note_ended<D>(&mut self, service: &mut Attended<D>)
-        ensures { service.new.service ≡ service.old.service }
-    {
-        for ending in &self.connections.ended {
-            service.end(*ending, self.tick);
-        }
-        self.connections.ended.clear();
-        if self.lost {
-            service.end(
-                Ending {
-                    number: NOBODY,
-                    by_quit: false,
-                },
-                self.tick,
-            );
-        }
-    }
-
-    // Ends the stays that are due, where a second has passed or connections have ended, and any are to end.
+    // Hears which connections have ended, and ends the stays that are due. Whoever keeps a stay and may not be answered is at fault.
     fn end_stays<R, D: Service<R>, K: Persist<D>>(
         &mut self,
         rt: &R,
@@ -611,19 +637,41 @@ impl Hosting {
         requires room { AreShared shared.old }
         ensures room { AreShared shared.new }
         ensures served { OnOk result (WasServed D.may K.prefetches K.persists K.waits persister.old service.old.service persister.new service.new.service) }
+        ensures ends { OnOk result (HearsAndEnds K.may_answer (EndsDue D.may K.persists K.waits K.shares K.holds) self.old.options.grace self.old.looks self.old.tick
+            (acts_of_endings self.old.tick self.old.lost self.old.connections.ended.items) self.old.connections.numbers.items self.new.connections.seats.items
+            persister.old service.old persister.new service.new) }
+        ensures unsent { OnOk result (Unsent sockets self.old.connections.seats.items self.new.connections.seats.items) }
     {
-        let looks = self.looks || self.has_ended();
-        self.note_ended(service);
+        let ended = self.has_ended();
+        self.connections.note_ended(service, self.lost, self.tick);
+        self.connections.check_keepers(persister, &service.stays)?;
+        self.end_if_due(rt, service, persister, shared, ended)
+    }
+
+    // Ends the stays that are due, where a second has passed or connections have ended, and any are to end.
+    fn end_if_due<R, D: Service<R>, K: Persist<D>>(
+        &mut self,
+        rt: &R,
+        service: &mut Attended<D>,
+        persister: &mut K,
+        shared: &mut SharedBuffers<Global>,
+        ended: bool,
+    ) -> Result<(), HostFault<K::Fault>>
+        requires knows { (q : Request) → D.knows q ≡ true }
+        requires room { AreShared shared.old }
+        ensures room { AreShared shared.new }
+        ensures served { OnOk result (WasServed D.may K.prefetches K.persists K.waits persister.old service.old.service persister.new service.new.service) }
+        ensures ends { OnOk result (EndsAtTick (EndsDue D.may K.persists K.waits K.shares K.holds) self.old.options.grace self.old.looks self.old.tick
+            persister.old service.old persister.new service.new) }
+        ensures table { self.new.connections ≡ self.old.connections }
+    {
         let Some(grace) = self.options.grace else {
             return Ok(());
         };
         if service.lacks {
             return Err(HostFault::Memory);
         }
-        if !persister.may_answer_stays() {
-            self.connections.fail_keepers(&service.stays)?;
-        }
-        if !looks || (persister.shares_stays() && !self.looks) {
+        if !self.looks && (!ended || persister.shares_stays()) {
             return Ok(());
         }
         self.looks = false;
@@ -682,7 +730,9 @@ impl Hosting {
     }
 
     // Notes whether the answers that were wanted in a turn were prefetched, where any were.
-    fn note_lost(&mut self, called: Called) {
+    fn note_lost(&mut self, called: Called)
+        ensures { self.new.connections ≡ self.old.connections }
+    {
         if let Some(batch) = &self.batch {
             if batch.holds || !batch.lines.is_empty() {
                 self.lost = matches!(called, Called::Unserved(_));

@@ -1,6 +1,6 @@
 //! What is kept of a turn before its replies go out.
 
-ghost use Rattle.std.specs.Prelude.{◌≡◌, ◌≤◌, ◌+◌, ◌++◌, ℕ, Bool, List, None, is_some, length, OnOk};
+ghost use Rattle.std.specs.Prelude.{◌≡◌, ◌≤◌, ◌+◌, ◌++◌, ℕ, Bool, true, List, None, is_some, length, OnOk};
 ghost use Rattle.model_pool.specs.Competitors.{stay_of};
 ghost use Rattle.text_lines.specs.declared.replies.TheConstants.{HELD_REPLIES};
 ghost use Rattle.model_pool.specs.slots.SlotsState.{SlotsState};
@@ -97,6 +97,9 @@ pub trait Persist<D> {
     /// Whether other servers share the service's stays.
     ghost shares: { Self → Bool };
 
+    /// Who keeps a stay may be answered: nobody else has ended it, by the clock that the persister trusts.
+    ghost may_answer: { Self → Type 0 };
+
     /// Appends who holds numbers, as it is asked.
     fn put_held<B: Allocator>(&self, service: &D, query: HeldQuery, out: &mut Replies<B>)
         requires room { length out.old + HELD_ROOM ≤ HELD_REPLIES }
@@ -138,7 +141,8 @@ pub trait Persist<D> {
         ensures { result ≡ is_some (stay_of identity (holds self.now service.now).pool.competitors) };
 
     /// Whether this server may still answer those who keep stays. Where it may not they are closed, and nothing is sent to them.
-    fn may_answer_stays(&self) -> bool;
+    fn may_answer_stays(&self) -> bool
+        ensures { result ≡ true → may_answer self.now };
 
     /// What is amiss and does not end the server, for people; `None` where nothing is.
     fn trouble(&self) -> Option<&'static str>;

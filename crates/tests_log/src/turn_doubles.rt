@@ -143,6 +143,8 @@ impl Persist<Reported> for Teller {
 
     ghost shares = { λ k. true };
 
+    ghost may_answer = { λ k. ⊤ };
+
     ghost holds = { λ k w. record { pool = record { size = 0; bits = record { first = tt; values = []; bits = [] }; competitors = [] }; values = [] } };
 
     fn put_held<B: Allocator>(&self, _service: &Reported, query: HeldQuery, out: &mut Replies<B>) {

@@ -1,4 +1,4 @@
-use Rattle.std.proofs.Common.{◌≡◌, ◌∙◌, ◌+◌, ◌≤◌, List, ℕ, sym, ap, subst, take, drop, length}
+use Rattle.std.proofs.Common.{◌≡◌, ◌∙◌, ◌+◌, ◌≤◌, List, ℕ, true, false, sym, ap, subst, take, drop, length}
 use Rattle.service_loop.proofs.Common.{take-add, Appends, BuffersState}
 use Rattle.text_lines.specs.lemmas.WrittenProofs.{appends_more}
 use Rattle.service_loop.proofs.connection.Connection.send.Goals as goal
@@ -19,6 +19,7 @@ loop-self-preserved g c =
       buffers = e.buffers ∙ ap (λ (q : BuffersState). let r : BuffersState = record q { broken = c.write-count.new.self.buffers.broken } in r) i.buffers;
       whole = λ h. i.whole (e.whole h);
       stage = e.stage ∙ i.stage;
+      quiet = λ is. absurd (let bad : true ≡ false = sym is ∙ i.whole (sym c.if-not-is_broken.ensures) in cc);
     }
 
 pub returns-clause-stage : goal.returns-clause-stage

@@ -1,4 +1,4 @@
-use Rattle.std.proofs.Common.{◌≡◌, ◌≤◌, ◌-◌, false, length, take}
+use Rattle.std.proofs.Common.{◌≡◌, ◌≤◌, ◌-◌, true, false, length, take}
 use Rattle.std.specs.Io.KnownBytes.{Appends}
 use Rattle.service_loop.specs.declared.connection.ConnectionStage.TheVariants as stage
 use Rattle.service_loop.proofs.connection.Connection.send.Given as goal
@@ -11,6 +11,7 @@ invariant-loop-self g l = record {
   buffers : l.self.buffers ≡ record l.fn.self.buffers { broken = l.self.buffers.broken };
   whole : l.self.buffers.broken ≡ false → l.fn.self.buffers.broken ≡ false;
   stage : l.self.stage ≡ stage.Idle;
+  quiet : l.fn.self.buffers.broken ≡ true → l.at ≡ 0;
 }
 
 abbrev pub decreases-loop-self : goal.decreases-loop-self

@@ -1,8 +1,9 @@
 -- To end stays is what a server does to its service and its persister.
-use Rattle.std.proofs.Common.{OnOk, subst}
+use Rattle.std.proofs.Common.{OnOk, ap, subst, sym}
+use Rattle.service_loop.specs.Keepers.{MayServe}
 use Rattle.service_loop.specs.Rounds.{WasServed}
-use Rattle.service_loop.proofs.cited.ReleaseLemmas.{served_due}
-use Rattle.service_loop.proofs.RoundLemmas.{ok_then}
+use Rattle.service_loop.specs.Sendings.{Unsent, sockets}
+use Rattle.service_loop.proofs.RoundLemmas.{always, ok_then}
 use Rattle.service_loop.proofs.hosting.Hosting.end_stays.Goals as goal
 
 pub returns-clause-served : goal.returns-clause-served
@@ -11,5 +12,26 @@ returns-clause-served g c =
     let prefetches = g.K.Persist.prefetches in
     let persists = g.K.Persist.persists in
     let waits = g.K.Persist.waits in
-    subst (λ d. OnOk c.end_due.result (WasServed may prefetches persists waits c.args.persister.now d c.end_due.new.persister c.end_due.new.service.service)) c.note_ended.ensures
-    (ok_then c.end_due.result _ _ (served_due may prefetches persists waits g.K.Persist.shares g.K.Persist.holds _ _ _ _ _) c.end_due.ensures)
+    subst (λ d. OnOk c.end_if_due.result (WasServed may prefetches persists waits c.args.persister.now d c.end_if_due.new.persister c.end_if_due.new.service.service)) c.note_ended.ensures.same
+    c.end_if_due.ensures.served
+
+pub returns-clause-ends : goal.returns-clause-ends
+returns-clause-ends g c =
+    let heard = c.note_ended.new.service in
+    let may = g.K.Persist.may_answer c.args.persister.now in
+    let checked = c.check_keepers.new.self.seats.items in
+    let numbers = c.args.self.now.connections.numbers.items in
+    ok_then c.end_if_due.result _ _ (λ ended. record {
+      heard = heard;
+      hears = c.note_ended.ensures.hears;
+      same = c.note_ended.ensures.same;
+      keepers = subst (λ l. MayServe may heard.stays numbers l) (sym (ap (λ x. x.seats.items) c.end_if_due.ensures.table))
+          (subst (λ l. MayServe may heard.stays l checked) (ap (λ x. x.items) c.note_ended.ensures.table.0) c.in_ok-check_keepers.ensures.serves);
+      ended = ended;
+    }) c.end_if_due.ensures.ends
+
+pub returns-clause-unsent : goal.returns-clause-unsent
+returns-clause-unsent g c =
+    let checked = c.check_keepers.new.self.seats.items in
+    always c.end_if_due.result _ (subst (λ l. Unsent sockets c.args.self.now.connections.seats.items l) (sym (ap (λ x. x.seats.items) c.end_if_due.ensures.table))
+    (subst (λ l. Unsent sockets l checked) (ap (λ x. x.items) c.note_ended.ensures.table.1) c.in_ok-check_keepers.ensures.unsent))

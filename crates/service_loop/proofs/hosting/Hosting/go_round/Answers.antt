@@ -8,5 +8,4 @@ returns-clause-served g c =
     let prefetches = g.K.Persist.prefetches in
     let persists = g.K.Persist.persists in
     let waits = g.K.Persist.waits in
-    served_then may prefetches persists waits _ _ _ _ _ _ (served_maybe may prefetches persists waits _ _ _ _ c.in_ok-tell_tick.ensures)
-    (served_then may prefetches persists waits _ _ _ _ _ _ c.in_ok-end_stays.ensures.served c.in_ok-serve.ensures.served)
+    served_then may prefetches persists waits _ _ _ _ _ _ (served_maybe may prefetches persists waits _ _ _ _ c.in_ok-tell_tick.ensures) c.in_ok-serve_all.ensures.served

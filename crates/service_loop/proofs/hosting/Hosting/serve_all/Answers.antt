@@ -1,0 +1,25 @@
+-- Stays are ended, and then a turn is taken, in which whoever keeps a stay may be answered or is sent nothing.
+use Rattle.service_loop.specs.Sendings.{sockets}
+use Rattle.service_loop.proofs.RoundLemmas.{ok_then, served_then}
+use Rattle.service_loop.proofs.SendingLemmas.{sends_keepers, sends_keepers_of}
+use Rattle.service_loop.proofs.hosting.Hosting.serve_all.Goals as goal
+
+pub returns-clause-served : goal.returns-clause-served
+returns-clause-served g c =
+    ok_then c.serve.result _ _ (λ served. served_then g.D.Service.may g.K.Persist.prefetches g.K.Persist.persists g.K.Persist.waits _ _ _ _ _ _ c.in_ok-end_stays.ensures.served served)
+    c.serve.ensures.served
+
+pub returns-clause-keepers : goal.returns-clause-keepers
+returns-clause-keepers g c =
+    let may = g.K.Persist.may_answer c.args.persister.now in
+    let e = c.in_ok-end_stays.ensures.ends in
+    let numbers = c.args.self.now.connections.numbers.items in
+    let before = c.args.self.now.connections.seats.items in
+    let checked = c.end_stays.new.self.connections.seats.items in
+    ok_then c.serve.result _ _ (λ sent. (
+      e.heard,
+      sent.0,
+      e.hears,
+      sends_keepers_of sockets may e.heard.stays numbers before checked sent.0 c.in_ok-end_stays.ensures.unsent
+          (sends_keepers sockets may e.heard.stays numbers checked sent.0 e.keepers sent.1),
+    )) c.serve.ensures.sent
