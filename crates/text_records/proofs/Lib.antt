@@ -1,10 +1,12 @@
 mod Common
+mod ChecksumLemmas
 mod Cut
 mod JsonLemmas
 mod PairLemmas
 mod Pieces
 mod QuickReplies
 mod ReportedWords
+mod SealLemmas
 mod Values
 mod WordLemmas
 pub mod cited

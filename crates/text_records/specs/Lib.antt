@@ -8,3 +8,4 @@ pub mod Lines
 pub mod Records
 pub mod Narrow
 pub mod Pairs
+pub mod Seals

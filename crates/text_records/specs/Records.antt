@@ -6,6 +6,7 @@ use Rattle.text_records.specs.declared.header.Header.{Header}
 use Rattle.text_records.specs.declared.header.Version.{Version}
 use Rattle.text_records.specs.declared.line.Line.{Line}
 use Rattle.text_records.specs.RecordLine.{IsEventLine, IsHeaderLine}
+use Rattle.text_records.specs.Seals.{opened_line}
 use Rattle.model_asked.specs.declared.config.Config.{Config}
 use Rattle.model_asked.specs.declared.exchange.Exchange.{Exchange}
 use Rattle.text_records.specs.declared.header.Version.TheVariants.{Two}
@@ -20,9 +21,9 @@ abbrev pub lines_of : List (List ℕ) → List (List ℕ)
 lines_of [] = []
 lines_of (piece ∷ more) = lines_from piece more
 
--- the lines of a record, without their LFs
+-- the lines of a record, without their LFs: of a sealed line the line that it holds
 abbrev pub record_lines : List ℕ → List (List ℕ)
-record_lines bytes = lines_of (pieces_from 10 [] bytes)
+record_lines bytes = map opened_line (lines_of (pieces_from 10 [] bytes))
 
 -- the lines that are left, none where nothing follows an LF
 abbrev pub lines_left : Option (List ℕ) → List (List ℕ)

@@ -1,6 +1,10 @@
 //! Laws of the lines of records, which run nothing. A checker of records uses them.
 
-ghost use Rattle.std.specs.Prelude.{◌≡◌, ℕ, true, List};
+ghost use Rattle.std.specs.Prelude.{◌≡◌, ◌++◌, [], ℕ, true, List};
+ghost use mathlib.Core.List.{IsPrefix};
+ghost use Rattle.text_lines.specs.Lines.{rest_of};
+ghost use Rattle.text_records.specs.Seals.{lines_in, opened_line, sealed_line};
+ghost use Rattle.text_records.specs.declared.seals.LineForm.TheVariants.{Plain, Sealed};
 ghost use Rattle.model_asked.specs.declared.config.Config.{Config};
 ghost use Rattle.model_asked.specs.declared.kind.WorldKind.{WorldKind};
 ghost use Rattle.model_asked.specs.Config.{gives_names};
@@ -36,3 +40,15 @@ pub fn law_of_written_records()
     ensures { (c : Config) → gives_names c.world ≡ true → (ts : List Turn) → AreNarrowExchanges (exchanges ts) →
         IsRecordOf c (exchanges ts) (record_of c ts) }
 {}
+
+/// A law of sealed lines. A line that was sealed is opened as it was. The lines of a text, sealed and opened, are the text, if nothing follows
+/// its last LF. What is opened of the beginning of a text is a beginning of what is opened of all of it.
+pub fn law_of_seals()
+    ensures line { (line : List ℕ) → opened_line (sealed_line line) ≡ line }
+    ensures whole { (text : List ℕ) → rest_of (lines_in Sealed text) ≡ [] }
+    ensures text { (text : List ℕ) → rest_of text ≡ [] → lines_in Plain (lines_in Sealed text) ≡ text }
+    ensures behind { (front more : List ℕ) → rest_of front ≡ [] → lines_in Plain (front ++ more) ≡ lines_in Plain front ++ lines_in Plain more }
+    ensures part { (front text : List ℕ) → IsPrefix front text → IsPrefix (lines_in Plain front) (lines_in Plain text) }
+{
+    text_lines::law_of_lines();
+}

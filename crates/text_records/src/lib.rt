@@ -39,15 +39,17 @@ pub mod record_line;
 pub mod reply_text;
 pub mod reported;
 pub mod rows;
+pub mod seals;
 pub mod text;
 
 pub use compact::{put_event, put_header, put_line, put_owner, put_reported, put_view};
 pub use header::{Header, Version};
-pub use laws::{law_of_lines, law_of_written_records};
+pub use laws::{law_of_lines, law_of_seals, law_of_written_records};
 pub use line::Line;
 pub use pairs::Pairs;
 pub use record_line::{read_header, read_line};
 pub use reply_text::read_reply;
 pub use reported::Reported;
 pub use rows::next_line;
+pub use seals::{LineForm, crc32c, opened_line, put_lines};
 pub use text::Text;

@@ -36,6 +36,14 @@ impl Text {
         &self.bytes
     }
 
+    /// Returns the bytes, and ends the buffer.
+    pub fn into_bytes(self) -> Vec<u8>
+        ensures { result.items ≡ self }
+    {
+        let Text { bytes } = self;
+        bytes
+    }
+
     /// Appends bytes.
     ///
     /// # Errors

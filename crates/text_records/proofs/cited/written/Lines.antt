@@ -13,6 +13,8 @@ use Rattle.text_player.specs.Turns.Turn.{Answered, Reported, Ended, Misread}
 use Rattle.text_records.specs.declared.reported.Reported.{Reported as Words}
 use Rattle.text_records.specs.Lines.{line_of}
 use Rattle.text_records.specs.Records.{IsRecordOf, record_lines, AreRead}
+use Rattle.text_records.specs.Seals.{opened_line}
+use Rattle.text_records.proofs.SealLemmas.{left_other}
 use Rattle.text_records.proofs.Pieces.{lines_cut}
 use Rattle.text_records.proofs.written.Texts.{shown_text, line_data, line_text, header_data, header_text, read_line_text, read_header_text, plain_utf8}
 use Rattle.text_records.specs.Narrow.{AreNarrowExchanges, IsNarrowEvent, IsNarrowReply}
@@ -154,12 +156,18 @@ rows_ended (Reported n r ∷ ts) = rows_ended ts
 rows_ended (Ended ∷ ts) = rows_ended ts
 rows_ended (Misread bad ∷ ts) = rows_ended ts
 
+-- none of them is a sealed line
+rows_plain : (r : List Exchange) → map opened_line (map row_of r) ≡ map row_of r
+rows_plain [] = refl
+rows_plain (x ∷ xs) = cc (left_other (row_of x) refl, rows_plain xs)
+
 module _ (c : Config) (named : gives_names c.world ≡ true) (ts : List Turn) (narrow : AreNarrowExchanges (exchanges ts)) where
   record_cut : record_lines (record_of c ts) ≡ head_of c ∷ map row_of (exchanges ts)
   record_cut =
       let start = codes "{\"format\":\"slot-record\",\"k\":" ++ decimal c.k ++ codes ",\"limit\":" ++ decimal c.limit ++ codes ",\"m\":" ++ decimal c.m ++ codes ",\"version\":2,\"world\":\"" ++ world_name c.world in
       let whole : record_of c ts ≡ with_ends (head_of c ∷ map row_of (exchanges ts)) = ap (λ (l : List ℕ). header_line c ++ l) (rows_ended ts) ∙ ended start (codes "\"}") (with_ends (map row_of (exchanges ts))) in
       ap record_lines whole ∙ lines_cut (head_of c ∷ map row_of (exchanges ts)) (rw (head_no_lf c named) (rows_no_lf (exchanges ts) narrow))
+      ∙ cc (left_other (head_of c) refl, rows_plain (exchanges ts))
 
   pub record_is : IsRecordOf c (exchanges ts) (record_of c ts)
   record_is = record {
