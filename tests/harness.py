@@ -8,6 +8,7 @@ import contextlib
 import json
 import os
 import pathlib
+import re
 import signal
 import socket
 import subprocess
@@ -250,7 +251,12 @@ def verdict_of(path):
         return subprocess.run([PROGRAM, "check"], stdin=record, capture_output=True, timeout=LIMIT).stdout
 
 
+def opened(text):
+    """The lines of a journal, each without its checksum, as the record of version 2 has them."""
+    return re.sub(rb'(?m)^\{"crc32c":"[0-9a-f]{8}","line":(.*)\}$', rb"\1", text)
+
+
 def rows_of(path):
     """The whole lines of a journal behind its header, each as what was asked and what was answered."""
-    lines = path.read_bytes().rsplit(b"\n", 1)[0].split(b"\n")[1:]
+    lines = opened(path.read_bytes()).rsplit(b"\n", 1)[0].split(b"\n")[1:]
     return [(row["command"], row["reply"]) for row in map(json.loads, lines)]

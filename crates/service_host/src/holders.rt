@@ -1,6 +1,9 @@
 //! Who holds numbers by the record of a hall.
 
-ghost use Rattle.std.specs.Prelude.{IfOk, IfSome, OnOk, ◌≡◌};
+ghost use Rattle.std.specs.Prelude.{IfOk, IfSome, OnOk, ◌≡◌, ◌++◌};
+ghost use Rattle.text_lines.specs.Lines.{rest_of};
+ghost use Rattle.text_records.specs.Seals.{lines_in};
+ghost use Rattle.text_records.specs.declared.seals.LineForm.TheVariants.{Plain};
 ghost use Rattle.std.specs.Io.KnownBytes.{Appends};
 ghost use Rattle.text_lines.specs.held.Held.{held_text};
 ghost use Rattle.text_lines.specs.declared.held.query.HeldQuery.TheVariants.{All};
@@ -16,7 +19,7 @@ use std::alloc::Global;
 use std::io::{Read, Write};
 use text_lines::held::{HeldQuery, put_held};
 use text_player::{Replies, print_header};
-use text_records::read_header;
+use text_records::{LineForm, Text, put_lines, read_header};
 
 /// What ends a line.
 const LF: u8 = 10;
@@ -42,10 +45,22 @@ fn config_of(alloc: Global, bytes: &[u8]) -> Result<Config, HostFailure> {
     }
 }
 
+// The lines of a record, each without its checksum, and what follows the last of them.
+fn plain_text(alloc: Global, bytes: &[u8]) -> Result<Text, HostFailure>
+    ensures { IfOk result (λ text. text ≡ lines_in Plain bytes.now ++ rest_of bytes.now) }
+{
+    let mut text = Text::new(alloc);
+    let rest = put_lines(LineForm::Plain, bytes, &mut text)?;
+    text.put(rest)?;
+    Ok(text)
+}
+
 // The hall whose record these bytes are, once a torn last line is cut.
 fn recorded_hall(alloc: Global, bytes: &[u8]) -> Result<Hall, HostFailure>
     ensures { IfOk result (λ h. IsOfHall h bytes.now) }
 {
+    let text = plain_text(alloc, bytes)?;
+    let bytes = text.as_slice();
     let config = config_of(alloc, bytes)?;
     let mut header = Replies::new(alloc)?;
     print_header(config, &mut header);

@@ -10,7 +10,7 @@ use model_asked::Config;
 use model_pool::stays::Stays;
 use service_follow::{LogPersister, Pause, ReplyQueue};
 use service_hall::{Compactor, Hall, Reads};
-use service_journal::{Disk, FileDisk, Journal, Opened};
+use service_journal::{Disk, FileDisk, Journal, Opened, SealedDisk};
 use service_log::Store;
 use service_log::etcd::{EtcdStore, TcpDial};
 use service_loop::{Attended, HostOptions, Hosted, host};
@@ -97,13 +97,14 @@ fn open_journal<R: Clock + Files<File = File> + AllocGlobal + Copy + Drop>(
     config: Config,
     path: &str,
     new: bool,
-) -> Result<Opened<FileDisk<R>>, HostFailure> {
+) -> Result<Opened<SealedDisk<FileDisk<R>>>, HostFailure> {
     let disk = if new {
         FileDisk::create(rt, path)?
     } else {
         FileDisk::open(rt, path)?
     };
-    Ok(Journal::open(alloc, disk, config)?)
+    let lines = SealedDisk::open(alloc, disk)?;
+    Ok(Journal::open(alloc, lines, config)?)
 }
 
 // Serves a hall whose history is in the journal of a path.

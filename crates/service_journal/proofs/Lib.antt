@@ -11,3 +11,4 @@ pub mod Restarts
 pub mod Compacts
 pub mod MemoryLemmas
 mod FaultLemmas
+mod SealedLemmas

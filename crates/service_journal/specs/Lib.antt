@@ -6,5 +6,6 @@ pub mod WriteAheads
 pub mod Journals
 pub mod Compactings
 pub mod Openings
+pub mod SealedDisks
 pub mod OpenFaults
 pub mod lemmas

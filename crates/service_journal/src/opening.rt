@@ -66,7 +66,7 @@ impl From<DiskFault> for OpenFault {
 }
 
 /// How many bytes stand up to the last LF, with it.
-fn whole_length(bytes: &[u8]) -> usize
+pub(crate) fn whole_length(bytes: &[u8]) -> usize
     ensures within { result ≤ length bytes.now }
     ensures torn { has_no_lf (drop result bytes.now) ≡ true }
     ensures whole { take result bytes.now ≡ without_torn bytes.now }

@@ -1,12 +1,13 @@
 //! A disk whose lines stand beside their checksums.
 
-ghost use Rattle.std.specs.Prelude.{◌≡◌, ◌×◌, [], IfOk, IfErr, OnOk};
+ghost use Rattle.std.specs.Prelude.{◌≡◌, [], IfOk, IfErr, OnOk};
 ghost use Rattle.service_journal.specs.DiskState.{DiskState};
-ghost use Rattle.service_journal.specs.Disks.{Changes, Reads};
-ghost use Rattle.service_journal.specs.SealedDisks.{HasOpened, HasWholeLines, KeepsOpened, seen};
+ghost use Rattle.service_journal.specs.Disks.{Changes};
+ghost use Rattle.service_journal.specs.Journals.{KeepsLines};
+ghost use Rattle.service_journal.specs.SealedDisks.{HasKeptLines, HasOpened, seen};
 ghost use Rattle.text_lines.specs.Lines.{rest_of};
 ghost use Rattle.text_records.specs.Seals.{lines_in};
-ghost use Rattle.text_records.specs.declared.seals.LineForm.TheVariants.{Plain, Sealed};
+ghost use Rattle.text_records.specs.declared.seals.LineForm.TheVariants.{Sealed};
 
 use crate::disk::{Disk, DiskFault};
 use crate::journal::NotOpened;
@@ -15,7 +16,8 @@ use service_watch::durations::DurationHistogram;
 use std::alloc::Global;
 use std::io::ErrorKind;
 use std::marker::Model;
-use text_lines::law_of_lines;
+use text_checker::Verdict;
+use text_player::law_of_lines;
 use text_records::{LineForm, Text, law_of_seals, opened_line, put_lines};
 
 /// A disk over another, on which each line stands beside its checksum (`text_records::seals`).
@@ -64,15 +66,18 @@ fn may_be_torn(tail: &[u8]) -> bool {
     begins && !tail.contains(&0) && opened_line(line).len() == line.len()
 }
 
-/// The number of the line behind these whole ones.
-fn number_behind(whole: &[u8]) -> u64 {
+/// What is wrong where what stands behind these whole lines is no part of a line.
+fn fault_behind(whole: &[u8]) -> OpenFault {
+    if whole.is_empty() {
+        return OpenFault::Judged(Verdict::BadRecord(1));
+    }
     let mut number = 1u64;
     for byte in whole {
         if *byte == b'\n' {
             number = number.saturating_add(1);
         }
     }
-    number
+    OpenFault::OtherLine(number)
 }
 
 /// Cuts a torn line off a disk, and waits until what is left is durable.
@@ -84,7 +89,7 @@ fn cut_torn<D: Disk>(alloc: Global, disk: &mut D) -> Result<(), OpenFault>
     let bytes = disk.read(alloc)?;
     let whole = whole_length(&bytes);
     if !may_be_torn(&bytes[whole..]) {
-        return Err(OpenFault::OtherLine(number_behind(&bytes[..whole])));
+        return Err(fault_behind(&bytes[..whole]));
     }
     if whole < bytes.len() {
         disk.cut(whole)?;
@@ -113,11 +118,13 @@ impl<D: Disk> SealedDisk<D> {
     /// The disk is handed back, with all whole lines on it.
     ///
     /// - `Disk`: a call of the disk failed.
-    /// - `OtherLine`: what stands behind the last LF is no part of a line of a journal.
+    /// - `Judged`: there is no LF, and the bytes are no part of a first line.
+    /// - `OtherLine`: what stands behind the last LF is no part of a line.
     pub fn open(alloc: Global, disk: D) -> Result<SealedDisk<D>, NotOpened<D>>
         ensures opened { IfOk result (Changes HasOpened (D.state disk)) }
         ensures spared { IfErr result (λ n. Changes KeepsLines (D.state disk) (D.state n.disk)) }
     {
+        law_of_lines();
         let mut disk = disk;
         match cut_torn(alloc, &mut disk) {
             Ok(()) => Ok(SealedDisk {
@@ -151,14 +158,19 @@ impl<D: Disk> Disk for SealedDisk<D> {
 
     /// Appends these whole lines, each beside its checksum. Fails where a call has failed before, or where a line has no LF.
     fn append(&mut self, bytes: &[u8]) -> Result<(), DiskFault> {
+        law_of_seals();
         if self.torn {
             return Err(DiskFault::Failed(ErrorKind::Other));
         }
         let text = sealed(self.alloc, bytes)?;
         self.torn = true;
-        self.disk.append(text.as_slice())?;
-        self.torn = false;
-        Ok(())
+        match self.disk.append(text.as_slice()) {
+            Ok(()) => {
+                self.torn = false;
+                Ok(())
+            }
+            Err(fault) => Err(fault),
+        }
     }
 
     fn sync(&mut self) -> Result<(), DiskFault> {
@@ -178,6 +190,7 @@ impl<D: Disk> Disk for SealedDisk<D> {
     }
 
     fn replace(&mut self, alloc: Global, bytes: &[u8]) -> Result<(), DiskFault> {
+        law_of_seals();
         let text = sealed(alloc, bytes)?;
         self.disk.replace(alloc, text.as_slice())
     }

@@ -65,7 +65,7 @@ pub(crate) fn opened(alloc: Global, disk: MemoryDisk) -> Result<Opened<MemoryDis
 }
 
 /// What a write-ahead hall answers an event.
-fn reply_to(write_ahead: &mut WriteAhead, event: Event) -> Reply<()> {
+pub(crate) fn reply_to(write_ahead: &mut WriteAhead, event: Event) -> Reply<()> {
     let mut view = View::new();
     write_ahead.apply(&(), event, &mut view)
 }

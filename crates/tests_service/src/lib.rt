@@ -27,6 +27,8 @@ mod names_tests;
 #[cfg(test)]
 mod opening;
 #[cfg(test)]
+mod sealed_tests;
+#[cfg(test)]
 mod server_tests;
 #[cfg(test)]
 mod serving_tests;

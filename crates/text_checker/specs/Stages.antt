@@ -1,7 +1,8 @@
 -- how far a record is judged whose bytes come one after the other
-use Rattle.std.specs.Prelude.{◌≡◌, ℕ, List, [], ◌∷◌, ◌++◌, Option, Some, None}
+use Rattle.std.specs.Prelude.{◌≡◌, ℕ, List, [], ◌∷◌, ◌++◌, Option, Some, None, map}
 use Rattle.text_lines.specs.Lines.{pieces_from}
 use Rattle.text_records.specs.RecordLine.{IsHeaderLine}
+use Rattle.text_records.specs.Seals.{opened_line}
 use Rattle.text_checker.specs.declared.row_judge.RowJudge.{RowJudge}
 use Rattle.text_checker.specs.declared.judge.Judge.{Judge}
 use Rattle.text_checker.specs.declared.judge.JudgeStage.{JudgeStage}
@@ -34,11 +35,11 @@ StandsAfter lines (Judging j) = HasOpened j lines
 StandsAfter lines (Over v) = (more : List (List ℕ)) → IsSaid (lines ++ more) v
 
 -- of these bytes all but the last ones, which are left, were taken: whatever follows, they are these whole lines, after which it stands
--- so, and what is held of the next
+-- so, with what sealed ones hold, and what is held of the next
 pub record HasTakenBut (left seen : List ℕ) (j : Judge) : Type 0 where
   pub whole : List (List ℕ)
   pub cut : (more : List ℕ) → pieces_from 10 [] (seen ++ more) ≡ whole ++ pieces_from 10 j.held.items (left ++ more)
-  pub stands : StandsAfter whole j.stage
+  pub stands : StandsAfter (map opened_line whole) j.stage
 
 -- all of these bytes were taken
 abbrev pub HasTakenAll : List ℕ → Judge → Type 0

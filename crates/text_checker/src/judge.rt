@@ -1,6 +1,7 @@
 //! Judges a record whose bytes are given part by part.
 
-ghost use Rattle.std.specs.Prelude.{◌≡◌, ℕ, List, [], ◌∷◌, ◌++◌, IfOk, OnOk};
+ghost use Rattle.std.specs.Prelude.{◌≡◌, ℕ, List, [], ◌∷◌, ◌++◌, IfOk, OnOk, map};
+ghost use Rattle.text_records.specs.Seals.{opened_line};
 ghost use Rattle.text_checker.specs.Stages.{HasTakenAll, StandsAfter};
 ghost use Rattle.text_records.specs.Records.{record_lines};
 ghost use Rattle.text_lines.specs.Lines.{unless_empty};
@@ -10,7 +11,7 @@ use crate::row_judge::RowJudge;
 use crate::verdict::Verdict;
 use std::alloc::{AllocError, Global};
 use text_lines::words::cut;
-use text_records::read_header;
+use text_records::{opened_line, read_header};
 
 /// How far the lines of a record are judged.
 #[derive(Drop)]
@@ -76,6 +77,14 @@ fn judge_line(alloc: Global, stage: &mut JudgeStage, line: &[u8]) -> Result<(), 
     }
 }
 
+// The same of a line as it stands in the record, which may be sealed.
+#[inline(always)]
+fn judge_row(alloc: Global, stage: &mut JudgeStage, line: &[u8]) -> Result<(), AllocError>
+    ensures { OnOk result ((lines : List (List ℕ)) → StandsAfter lines stage.old → StandsAfter (lines ++ opened_line line.now ∷ []) stage.new) }
+{
+    judge_line(alloc, stage, opened_line(line))
+}
+
 // The verdict if no line follows.
 fn verdict_of(stage: &JudgeStage) -> Verdict
     ensures { (lines : List (List ℕ)) → StandsAfter lines stage.now → IsSaid lines result }
@@ -103,13 +112,13 @@ impl Judge {
     fn end_line(&mut self, line: &[u8]) -> Result<(), AllocError>
         ensures held { OnOk result (self.new.held.items ≡ []) }
         ensures stands { OnOk result ((lines : List (List ℕ)) → StandsAfter lines self.old.stage →
-            StandsAfter (lines ++ (self.old.held.items ++ line.now) ∷ []) self.new.stage) }
+            StandsAfter (lines ++ opened_line (self.old.held.items ++ line.now) ∷ []) self.new.stage) }
     {
         if self.held.is_empty() {
-            return judge_line(self.alloc, &mut self.stage, line);
+            return judge_row(self.alloc, &mut self.stage, line);
         }
         self.held.extend_from_slice(line)?;
-        let judged = judge_line(self.alloc, &mut self.stage, &self.held);
+        let judged = judge_row(self.alloc, &mut self.stage, &self.held);
         self.held.clear();
         judged
     }
@@ -137,12 +146,12 @@ impl Judge {
     // Judges the end of the record: the bytes before it with no LF are a line too, if there are any.
     fn end_last(&mut self) -> Result<(), AllocError>
         ensures { OnOk result ((lines : List (List ℕ)) → StandsAfter lines self.old.stage →
-            StandsAfter (lines ++ unless_empty self.old.held.items) self.new.stage) }
+            StandsAfter (lines ++ map opened_line (unless_empty self.old.held.items)) self.new.stage) }
     {
         if self.held.is_empty() {
             return Ok(());
         }
-        judge_line(self.alloc, &mut self.stage, &self.held)
+        judge_row(self.alloc, &mut self.stage, &self.held)
     }
 
     /// Returns the verdict on all bytes that were taken.

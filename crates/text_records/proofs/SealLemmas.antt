@@ -1,6 +1,6 @@
 -- sealed lines, and what they hold
 use Rattle.std.proofs.Common.{◌≡◌, ◌==◌, ◌⊎◌, inl, inr, ℕ, zero, suc, ◌+◌, ◌-◌, ◌/◌, ◌%◌, ◌≤◌, ◌<◌, Bool, true, false, not, List, [], ◌∷◌, ◌++◌, length, take, drop, map, Option, Some, None, codes, refl, ap, sym, subst, ◌∙◌, arith, append_assoc, get_or, length-append, if◌then◌else◌, slice_index}
-use Rattle.std.proofs.lemmas.List.{append-nil, append_cancel_left}
+use Rattle.std.proofs.lemmas.List.{append-nil, append_cancel_left, map-append}
 use Rattle.std.proofs.Math.Seq.{drop-append_seam, take-append_seam}
 use Rattle.std.proofs.lemmas.Slice.Eq.{bytes_eq-Decides}
 use Rattle.std.specs.Str.{bytes_eq}
@@ -131,19 +131,25 @@ whole_append l (x ∷ xs) ys = elim (eqb_tells x 10) [
   | inr e ↦ rw e.0 (whole_append (l ++ x ∷ []) xs ys)
 ]
 
+rest_append : (l xs ys : List ℕ) → rest_from l (xs ++ ys) ≡ rest_from (rest_from l xs) ys
+rest_append l [] ys = refl
+rest_append l (x ∷ xs) ys = elim (eqb_tells x 10) [
+  | inl e ↦ rw e.0 (rest_append [] xs ys)
+  | inr e ↦ rw e.0 (rest_append (l ++ x ∷ []) xs ys)
+]
+
+pub rest_behind : (a d : List ℕ) → rest_of a ≡ [] → rest_of (a ++ d) ≡ rest_of d
+rest_behind a d none = rest_append [] a d ∙ ap (λ l. rest_from l d) none
+
 ends_append : (ls ks : List (List ℕ)) → with_ends (ls ++ ks) ≡ with_ends ls ++ with_ends ks
 ends_append [] ks = refl
 ends_append (l ∷ ls) ks = ap (λ k. l ++ 10 ∷ k) (ends_append ls ks) ∙ sym (append_assoc l (10 ∷ with_ends ls) (with_ends ks))
-
-map_append : (f : List ℕ → List ℕ) (ls ks : List (List ℕ)) → map f (ls ++ ks) ≡ map f ls ++ map f ks
-map_append f [] ks = refl
-map_append f (l ∷ ls) ks = ap (λ k. f l ∷ k) (map_append f ls ks)
 
 -- the lines of a text that goes on
 lines_on : (form : LineForm) (a d : List ℕ) → lines_in form (a ++ d) ≡ lines_in form a ++ with_ends (map (in_form form) (whole_lines_from (rest_of a) d))
 lines_on form a d =
     ap (λ ls. with_ends (map (in_form form) ls)) (whole_append [] a d)
-    ∙ ap with_ends (map_append (in_form form) (whole_lines a) (whole_lines_from (rest_of a) d))
+    ∙ ap with_ends (map-append (in_form form) (whole_lines a) (whole_lines_from (rest_of a) d))
     ∙ ends_append (map (in_form form) (whole_lines a)) (map (in_form form) (whole_lines_from (rest_of a) d))
 
 pub lines_part : (form : LineForm) (a b : List ℕ) → IsPrefix a b → IsPrefix (lines_in form a) (lines_in form b)

@@ -48,6 +48,7 @@ pub fn law_of_seals()
     ensures whole { (text : List ℕ) → rest_of (lines_in Sealed text) ≡ [] }
     ensures text { (text : List ℕ) → rest_of text ≡ [] → lines_in Plain (lines_in Sealed text) ≡ text }
     ensures behind { (front more : List ℕ) → rest_of front ≡ [] → lines_in Plain (front ++ more) ≡ lines_in Plain front ++ lines_in Plain more }
+    ensures rest { (front more : List ℕ) → rest_of front ≡ [] → rest_of (front ++ more) ≡ rest_of more }
     ensures part { (front text : List ℕ) → IsPrefix front text → IsPrefix (lines_in Plain front) (lines_in Plain text) }
 {
     text_lines::law_of_lines();

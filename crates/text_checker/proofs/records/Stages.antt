@@ -1,8 +1,10 @@
 -- records that are judged as their bytes come
-use Rattle.std.proofs.Common.{◌≡◌, ◌==◌, ℕ, ◌+◌, true, false, cond, List, [], ◌∷◌, ◌++◌, length, Some, None, inl, refl, sym, ap, ◌∙◌, subst, append_assoc, arith}
+use Rattle.std.proofs.Common.{◌≡◌, ◌==◌, ℕ, map, ◌+◌, true, false, cond, List, [], ◌∷◌, ◌++◌, length, Some, None, inl, refl, sym, ap, ◌∙◌, subst, append_assoc, arith}
 use Rattle.text_checker.proofs.Common.{append-nil, Header, Line, Judge, Verdict, Yes, RowsSoFar, TakesRow, IsSaid}
 use Rattle.text_lines.specs.Lines.{pieces_from, unless_empty}
+use Rattle.std.proofs.lemmas.List.{map-append}
 use Rattle.text_records.specs.RecordLine.{IsHeaderLine}
+use Rattle.text_records.specs.Seals.{opened_line}
 use Rattle.text_records.specs.Records.{lines_from, lines_of, record_lines}
 use Rattle.text_checker.specs.declared.judge.JudgeStage.{JudgeStage}
 use Rattle.text_checker.specs.declared.judge.JudgeStage.TheVariants.{Over}
@@ -50,7 +52,7 @@ lines_last (l ∷ ls) held = from l ls
 
 -- a line ended in them
 pub line_ended : (seen bytes line rest : List ℕ) (old new : Judge) → HasTakenBut bytes seen old → pieces_from 10 [] bytes ≡ line ∷ pieces_from 10 [] rest → new.held.items ≡ [] →
-    ((lines : List (List ℕ)) → StandsAfter lines old.stage → StandsAfter (lines ++ (old.held.items ++ line) ∷ []) new.stage) → HasTakenBut rest seen new
+    ((lines : List (List ℕ)) → StandsAfter lines old.stage → StandsAfter (lines ++ opened_line (old.held.items ++ line) ∷ []) new.stage) → HasTakenBut rest seen new
 line_ended seen bytes line rest old new h e none stands = record {
   whole = h.whole ++ (old.held.items ++ line) ∷ [];
   cut = λ more.
@@ -59,7 +61,7 @@ line_ended seen bytes line rest old new h e none stands = record {
       let parts = cut_so old.held.items bytes more (line ∷ pieces_from 10 [] rest) e ∙ joined_next whole [] rest more ∙ next in
       h.cut more ∙ ap (λ (l : List (List ℕ)). h.whole ++ l) parts ∙ sym (append_assoc h.whole ((old.held.items ++ line) ∷ []) (pieces_from 10 [] (rest ++ more)))
       ∙ ap (λ (l : List ℕ). (h.whole ++ (old.held.items ++ line) ∷ []) ++ pieces_from 10 l (rest ++ more)) (sym none));
-  stands = stands h.whole h.stands;
+  stands = subst (λ (ls : List (List ℕ)). StandsAfter ls new.stage) (sym (map-append opened_line h.whole ((old.held.items ++ line) ∷ []))) (stands (map opened_line h.whole) h.stands);
 }
 
 -- no line ended in them
@@ -67,12 +69,14 @@ pub line_held : (seen bytes line : List ℕ) (old new : Judge) → HasTakenBut b
 line_held seen bytes line old new h e longer same = record {
   whole = h.whole;
   cut = λ more. h.cut more ∙ ap (λ (l : List (List ℕ)). h.whole ++ l) (cut_so old.held.items bytes more (line ∷ []) e ∙ ap (λ l. pieces_from 10 l more) (sym longer));
-  stands = subst (StandsAfter h.whole) (sym same) h.stands;
+  stands = subst (StandsAfter (map opened_line h.whole)) (sym same) h.stands;
 }
 
 -- the lines of all that was taken
-pub lines_taken : (seen : List ℕ) (j : Judge) → (h : HasTakenAll seen j) → record_lines seen ≡ h.whole ++ unless_empty j.held.items
-lines_taken seen j h = ap record_lines (sym (append-nil seen)) ∙ ap lines_of (h.cut []) ∙ lines_last h.whole j.held.items
+pub lines_taken : (seen : List ℕ) (j : Judge) → (h : HasTakenAll seen j) → record_lines seen ≡ map opened_line h.whole ++ map opened_line (unless_empty j.held.items)
+lines_taken seen j h =
+    ap record_lines (sym (append-nil seen)) ∙ ap (λ (pieces : List (List ℕ)). map opened_line (lines_of pieces)) (h.cut []) ∙ ap (map opened_line) (lines_last h.whole j.held.items)
+    ∙ map-append opened_line h.whole (unless_empty j.held.items)
 
 -- ---- how it stands after a line
 
@@ -127,7 +131,7 @@ one_more_row old new row t same at rows so_far = λ left.
     (subst (λ (k : List (List ℕ)). RowsSoFar old.header k left new.checker (old.number + 1)) (sym (append_assoc rows (row ∷ []) left)) next)))
 
 -- what stands before the end with no LF is the last line
-pub a_last_line : (lines : List (List ℕ)) (held : List ℕ) (s : JudgeStage) → (held ≡ [] → ⊥) → StandsAfter (lines ++ held ∷ []) s → StandsAfter (lines ++ unless_empty held) s
+pub a_last_line : (lines : List (List ℕ)) (held : List ℕ) (s : JudgeStage) → (held ≡ [] → ⊥) → StandsAfter (lines ++ opened_line held ∷ []) s → StandsAfter (lines ++ map opened_line (unless_empty held)) s
 a_last_line lines [] s some h = absurd (some refl)
 a_last_line lines (b ∷ bs) s some h = h
 

@@ -33,6 +33,7 @@ pub mod time;
 mod trials;
 pub mod vec;
 
+pub use ::hex;
 pub use ::itoa;
 pub use ::memchr;
 pub use ::rand_pcg;

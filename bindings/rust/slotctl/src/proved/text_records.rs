@@ -1,4 +1,4 @@
-// Erased by bindings/rust/erase from crates/text_records/src/lib.rt, sha256 697e71650fa5d00479ad81dc4e2ecf26345d56e94091a4c15125b599d32f16bb.
+// Erased by bindings/rust/erase from crates/text_records/src/lib.rt, sha256 58e84f1aa4b4ceadf76b1b98e0200128719d498c834f35426557e1b2a18c6f76.
 //! The lines of a record, read and written.
 //!
 //! A record is lines of JSON: a header, which has the configuration of the run, and then an event with its reply as
@@ -29,6 +29,7 @@
 
 pub mod compact;
 pub mod header;
+pub mod laws;
 pub mod line;
 pub mod object;
 pub mod pairs;
@@ -38,4 +39,5 @@ pub mod record_line;
 pub mod reply_text;
 pub mod reported;
 pub mod rows;
+pub mod seals;
 pub mod text;

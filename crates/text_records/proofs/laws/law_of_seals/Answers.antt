@@ -1,4 +1,4 @@
-use Rattle.text_records.proofs.SealLemmas.{held_lines, lines_behind, lines_part, opened_sealed, sealed_whole}
+use Rattle.text_records.proofs.SealLemmas.{held_lines, lines_behind, lines_part, opened_sealed, rest_behind, sealed_whole}
 use Rattle.text_records.specs.declared.seals.LineForm.TheVariants.{Plain}
 use Rattle.text_records.proofs.laws.law_of_seals.Goals as goal
 
@@ -16,3 +16,6 @@ returns-clause-behind c = lines_behind Plain
 
 pub returns-clause-part : goal.returns-clause-part
 returns-clause-part c = lines_part Plain
+
+pub returns-clause-rest : goal.returns-clause-rest
+returns-clause-rest c = rest_behind

@@ -1,4 +1,4 @@
-// Erased by bindings/rust/erase from crates/service_host/src/holders.rt, sha256 c0a5aff0a51521109735d215631a030db7a400082c10080b3a04a4055ad8cb97.
+// Erased by bindings/rust/erase from crates/service_host/src/holders.rt, sha256 63745e35cb6f66a54904d8b2c1667fc17f594595ec674d8361665317394218bb.
 //! Who holds numbers by the record of a hall.
 
 use crate::kit::alloc::Global;
@@ -13,6 +13,8 @@ use crate::proved::text_lines::held::telling::put_held;
 use crate::proved::text_lines::replies::Replies;
 use crate::proved::text_player::as_record::print_header;
 use crate::proved::text_records::record_line::read_header;
+use crate::proved::text_records::seals::{put_lines, LineForm};
+use crate::proved::text_records::text::Text;
 
 /// What ends a line.
 const LF: u8 = 10;
@@ -36,8 +38,18 @@ fn config_of(alloc: Global, bytes: &[u8]) -> Result<Config, HostFailure> {
     }
 }
 
+// The lines of a record, each without its checksum, and what follows the last of them.
+fn plain_text(alloc: Global, bytes: &[u8]) -> Result<Text, HostFailure> {
+    let mut text = Text::new(alloc);
+    let rest = put_lines(LineForm::Plain, bytes, &mut text)?;
+    text.put(rest)?;
+    Ok(text)
+}
+
 // The hall whose record these bytes are, once a torn last line is cut.
 fn recorded_hall(alloc: Global, bytes: &[u8]) -> Result<Hall, HostFailure> {
+    let text = plain_text(alloc, bytes)?;
+    let bytes = text.as_slice();
     let config = config_of(alloc, bytes)?;
     let mut header = Replies::new(alloc)?;
     print_header(config, &mut header);

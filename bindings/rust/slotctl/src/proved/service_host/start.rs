@@ -1,4 +1,4 @@
-// Erased by bindings/rust/erase from crates/service_host/src/start.rt, sha256 aa985d14b4817c92ba0e2934c4ab1c97c1063ee3b0722f0c81acac551d2f33ef.
+// Erased by bindings/rust/erase from crates/service_host/src/start.rt, sha256 3e6e4149b26d309c5b0d6693fc6e7d90548f3fc55e3cdfe8e3bb855284c24e7e.
 //! A whole server of a hall, by its plan.
 
 use crate::kit::alloc::{AllocGlobal, Global};
@@ -28,6 +28,7 @@ use crate::proved::service_host::reading::Reading;
 use crate::proved::service_journal::disk::Disk;
 use crate::proved::service_journal::file_disk::FileDisk;
 use crate::proved::service_journal::journal::{Journal, Opened};
+use crate::proved::service_journal::sealed_disk::SealedDisk;
 use crate::proved::service_log::etcd::dial::TcpDial;
 use crate::proved::service_log::etcd::etcd_store::EtcdStore;
 use crate::proved::service_log::store::Store;
@@ -110,13 +111,14 @@ fn open_journal<R: Clock + Files<File = File> + AllocGlobal + Copy>(
     config: Config,
     path: &str,
     new: bool,
-) -> Result<Opened<FileDisk<R>>, HostFailure> {
+) -> Result<Opened<SealedDisk<FileDisk<R>>>, HostFailure> {
     let disk = if new {
         FileDisk::create(rt, path)?
     } else {
         FileDisk::open(rt, path)?
     };
-    Ok(Journal::open(alloc, disk, config)?)
+    let lines = SealedDisk::open(alloc, disk)?;
+    Ok(Journal::open(alloc, lines, config)?)
 }
 
 // Serves a hall whose history is in the journal of a path.

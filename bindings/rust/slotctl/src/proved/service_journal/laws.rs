@@ -1,4 +1,4 @@
-// Erased by bindings/rust/erase from crates/service_journal/src/laws.rt, sha256 63e90eb29fa1cd0d601ce6ad4c9d53cd431b9173767f3ce339c015669fbf2333.
+// Erased by bindings/rust/erase from crates/service_journal/src/laws.rt, sha256 00ccbc9658cb78b6d6d6d0cad7725e68b33033b49fab42046b7e6b9d3ef8c637.
 //! What a crash leaves of a journal, and what is opened of that.
 
 use crate::proved::text_lines::laws::law_of_lines;

@@ -1,4 +1,4 @@
-// Erased by bindings/rust/erase from crates/service_journal/src/opening.rt, sha256 44673f1fbc3c56e3a56d6bcf177db080a4f0f04078b7b712e4fc5d02aaee9676.
+// Erased by bindings/rust/erase from crates/service_journal/src/opening.rt, sha256 b6a41bacaf04e3eb105fa05802c445b71691e037e29b22bfd4fd022a7779932f.
 //! From the bytes of a journal to the hall whose record they are.
 
 use crate::kit::alloc::{AllocError, Global};
@@ -59,7 +59,7 @@ impl From<DiskFault> for OpenFault {
 }
 
 /// How many bytes stand up to the last LF, with it.
-fn whole_length(bytes: &[u8]) -> usize {
+pub(crate) fn whole_length(bytes: &[u8]) -> usize {
     law_of_lines();
     let mut end = bytes.len();
     while 0 < end && bytes[end - 1] != b'\n' {

@@ -1,4 +1,4 @@
-// Erased by bindings/rust/erase from crates/text_checker/src/judge.rt, sha256 d07bfef288fa781461d47ed189bbd4bd802a73354f6d959c596e741b3ce424f6.
+// Erased by bindings/rust/erase from crates/text_checker/src/judge.rt, sha256 f2ec984269a0fa4cc815879a308bc85dae548520cde4d7e3b2237c031da7cb8c.
 //! Judges a record whose bytes are given part by part.
 
 use crate::kit::alloc::{AllocError, Global};
@@ -7,6 +7,7 @@ use crate::proved::text_checker::row_judge::RowJudge;
 use crate::proved::text_checker::verdict::Verdict;
 use crate::proved::text_lines::words::cut;
 use crate::proved::text_records::record_line::read_header;
+use crate::proved::text_records::seals::opened_line;
 
 /// How far the lines of a record are judged.
 pub enum JudgeStage {
@@ -62,6 +63,12 @@ fn judge_line(alloc: Global, stage: &mut JudgeStage, line: &[u8]) -> Result<(), 
     }
 }
 
+// The same of a line as it stands in the record, which may be sealed.
+#[inline(always)]
+fn judge_row(alloc: Global, stage: &mut JudgeStage, line: &[u8]) -> Result<(), AllocError> {
+    judge_line(alloc, stage, opened_line(line))
+}
+
 // The verdict if no line follows.
 fn verdict_of(stage: &JudgeStage) -> Verdict {
     match stage {
@@ -84,10 +91,10 @@ impl Judge {
     // Judges a line at its end.
     fn end_line(&mut self, line: &[u8]) -> Result<(), AllocError> {
         if self.held.is_empty() {
-            return judge_line(self.alloc, &mut self.stage, line);
+            return judge_row(self.alloc, &mut self.stage, line);
         }
         self.held.extend_from_slice(line)?;
-        let judged = judge_line(self.alloc, &mut self.stage, &self.held);
+        let judged = judge_row(self.alloc, &mut self.stage, &self.held);
         self.held.clear();
         judged
     }
@@ -115,7 +122,7 @@ impl Judge {
         if self.held.is_empty() {
             return Ok(());
         }
-        judge_line(self.alloc, &mut self.stage, &self.held)
+        judge_row(self.alloc, &mut self.stage, &self.held)
     }
 
     /// Returns the verdict on all bytes that were taken.

@@ -1,4 +1,4 @@
-// Erased by bindings/rust/erase from crates/text_records/src/text.rt, sha256 1ce79a25f9e7536bfd1d8949e94792786b262f522a2c538ea959eb57562e5263.
+// Erased by bindings/rust/erase from crates/text_records/src/text.rt, sha256 c1b5f00d0c02694aa7cd68e491a2da8308cd45d992ce841e71daf3954b000d63.
 //! A text that grows.
 
 use crate::kit::alloc::{AllocError, Global};
@@ -21,6 +21,12 @@ impl Text {
     /// Returns the bytes.
     pub fn as_slice(&self) -> &[u8] {
         &self.bytes
+    }
+
+    /// Returns the bytes, and ends the buffer.
+    pub fn into_bytes(self) -> Vec<u8> {
+        let Text { bytes } = self;
+        bytes
     }
 
     /// Appends bytes.

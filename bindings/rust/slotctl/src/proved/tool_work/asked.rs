@@ -1,4 +1,4 @@
-// Erased by bindings/rust/erase from crates/tool_work/src/asked.rt, sha256 1fb954ccc3c77b87a9a8c83a5acc56a3dca11b1028972b6567e45f1ed5d71e75.
+// Erased by bindings/rust/erase from crates/tool_work/src/asked.rt, sha256 7be0b1e46bb1cf803da2b5c164fee8309594fbbb33e8977aae95af4b74f42290.
 //! What the program can be asked for.
 
 use crate::kit::net::IpAddr;

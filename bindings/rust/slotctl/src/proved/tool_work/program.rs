@@ -1,4 +1,4 @@
-// Erased by bindings/rust/erase from crates/tool_work/src/program.rt, sha256 c0ff9f4cf716618b65cb21a0e9cb52afd72473ad9dd931ab947b00bbbba9d906.
+// Erased by bindings/rust/erase from crates/tool_work/src/program.rt, sha256 b451bec1b86c199ed81f22da52a69631983eefd1830b68dc8f2fe3e1d3afa61a.
 //! The program, over any streams.
 
 use crate::kit::alloc::Global;
