@@ -25,7 +25,7 @@ use Rattle.text_checker.specs.declared.verdict.Verdict.{Verdict}
 use Rattle.text_checker.specs.declared.verdict.Verdict.TheVariants.{Yes}
 use Rattle.text_checker.specs.Config.{terms_of}
 use Rattle.text_checker.specs.judges.Firsts.{IsFirstSole, view_at, HoldsFirsts}
-use Rattle.text_records.specs.Lines.{IsLineOf}
+use Rattle.text_records.specs.Lines.{IsLineOf, IsShown}
 use Rattle.text_checker.specs.ObjectRun.{DeskObject, fresh_desk_object, AllowsCall, after_call}
 use Rattle.text_records.specs.RecordLine.{IsHeaderLine}
 use Rattle.text_checker.specs.Recorded.{IsYes}
@@ -116,6 +116,10 @@ abbrev pub shown_in : Firsts → Event → Reported → List (ℕ × ℕ)
 shown_in f e (reported.Named n (Some view)) = view
 shown_in f e (reported.Named n None) = first_of f e
 shown_in f e t = []
+
+-- a text has the line of each exchange that the line is of, with the view by which it tells that a name was given
+abbrev pub PutsLine : Firsts → Line → List ℕ → List ℕ → Type 0
+PutsLine f l before now = (x : Exchange) → IsLineOf x l → IsShown x.reply (shown_in f l.event l.reported) → now ≡ before ++ exchange_line x
 
 -- what a line changes in what is kept of first moments
 abbrev pub GoesOn : Option (ℕ × ℕ) → Firsts → Firsts → Type 0

@@ -1,7 +1,9 @@
 -- what was read and taken of the lines of a record so far
-use Rattle.std.specs.Prelude.{◌≡◌, ◌≢◌, ℕ, ◌+◌, ◌<◌, ◌≤◌, List, ◌∷◌, ◌++◌, length, None}
+use Rattle.std.specs.Prelude.{◌≡◌, ◌≢◌, ℕ, ◌+◌, ◌<◌, ◌≤◌, true, List, ◌∷◌, ◌++◌, length, None}
 use Rattle.text_records.specs.declared.header.Header.{Header}
 use Rattle.text_records.specs.declared.line.Line.{Line}
+use Rattle.text_records.specs.declared.line.Row.{Row}
+use Rattle.text_records.specs.Lines.{IsCanonical}
 use Rattle.text_records.specs.RecordLine.{IsEventLine}
 use Rattle.text_records.specs.Records.{AreRead}
 use Rattle.text_checker.specs.declared.checker.Checker.{Checker}
@@ -27,6 +29,11 @@ pub record TakesRow (h : Header) (number : ℕ) (row : List ℕ) (old new : Chec
   pub early : number < 1000002
   pub says : IsEventLine h.config.world h.version row l
   pub taken : TakesMore l old None new
+
+-- the same of a row with what is told of its bytes
+pub record TakesBytes (h : Header) (number : ℕ) (bytes : List ℕ) (old new : Checker) (r : Row) : Type 0 where
+  pub takes : TakesRow h number bytes old new r.line
+  pub canonical : r.is_canonical ≡ true → IsCanonical bytes r.line
 
 -- this, and not Yes, is said of any rows of which this one is the next
 pub record EndsAtRow (h : Header) (number : ℕ) (row : List ℕ) (old : Checker) (v : Verdict) : Type 0 where

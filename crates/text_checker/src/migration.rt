@@ -1,13 +1,14 @@
 //! From the lines of a record to those of its version 2.
 
-ghost use Rattle.std.specs.Prelude.{◌≡◌, [], IfOk, OnOk};
-ghost use Rattle.text_checker.specs.Migrated.{first_of, proposal_of, shown_in, GoesOn, HasMigrated};
+ghost use Rattle.std.specs.Prelude.{◌≡◌, true, [], IfOk, OnOk};
+ghost use Rattle.text_records.specs.Lines.{IsCanonical};
+ghost use Rattle.text_checker.specs.Migrated.{first_of, proposal_of, shown_in, GoesOn, HasMigrated, PutsLine};
 
 use crate::gather::Gather;
 use crate::judges::Firsts;
 use model_asked::{Config, Event};
 use std::alloc::{AllocError, Global};
-use text_records::{Line, Reported, Text, put_header, put_line};
+use text_records::{Line, Reported, Row, Text, put_header, put_line};
 
 /// The lines of a record in version 2, with the first moments by which names may have been given.
 #[derive(Drop)]
@@ -89,12 +90,23 @@ impl Migration {
     }
 }
 
+/// Appends a line. If its bytes are what would be written, they are copied.
+fn put_row(firsts: &Firsts, row: &Row, bytes: &[u8], text: &mut Text) -> Result<(), AllocError>
+    requires { row.now.is_canonical ≡ true → IsCanonical bytes.now row.now.line }
+    ensures { OnOk result (PutsLine firsts.now row.now.line text.old text.new) }
+{
+    if row.is_canonical {
+        return text.put_row(bytes);
+    }
+    put_line(&row.line, shown(firsts, &row.line), text)
+}
+
 impl Gather for Migration {
     ghost is_of = { HasMigrated };
 
-    fn take(&mut self, line: &Line) -> Result<(), AllocError> {
-        put_line(line, shown(&self.firsts, line), &mut self.text)?;
-        follow(&mut self.firsts, line)?;
+    fn take(&mut self, row: &Row, bytes: &[u8]) -> Result<(), AllocError> {
+        put_row(&self.firsts, row, bytes, &mut self.text)?;
+        follow(&mut self.firsts, &row.line)?;
         Ok(())
     }
 }

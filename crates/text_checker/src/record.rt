@@ -5,14 +5,14 @@ ghost use Rattle.std.specs.Option.{option_copied};
 ghost use Rattle.text_records.specs.Records.{lines_left, record_lines};
 ghost use Rattle.text_checker.specs.declared.verdict.Verdict.TheVariants.{Yes};
 ghost use Rattle.text_checker.specs.Gathered.{AreGathered};
-ghost use Rattle.text_checker.specs.SoFar.{EndsAtRow, TakesRow};
+ghost use Rattle.text_checker.specs.SoFar.{EndsAtRow, TakesBytes};
 ghost use Rattle.text_checker.specs.Verdict.{HasHeader, IsSaid, IsSaidOfRows, IsVerdict, LacksHeader};
 
 use crate::Checker;
 use crate::gather::{Gather, Nothing};
 use crate::verdict::Verdict;
 use std::alloc::{AllocError, Global};
-use text_records::{Header, Line, next_line, read_header, read_line};
+use text_records::{Header, Row, next_line, read_header, read_row};
 
 /// The number of the first line that is one too many: a header and a million lines precede it.
 pub const LINES_END: u64 = 1_000_002;
@@ -71,21 +71,21 @@ pub(crate) fn taken(
     alloc: Global,
     header: Header,
     number: u64,
-    row: &[u8],
+    bytes: &[u8],
     checker: &mut Checker,
-) -> Result<Result<Line, Verdict>, AllocError>
-    ensures { IfOk result (λ r. MatchResult r (TakesRow header number row.now checker.old checker.new) (EndsAtRow header number row.now checker.old)) }
+) -> Result<Result<Row, Verdict>, AllocError>
+    ensures { IfOk result (λ r. MatchResult r (TakesBytes header number bytes.now checker.old checker.new) (EndsAtRow header number bytes.now checker.old)) }
 {
     if LINES_END <= number {
         return Ok(Err(Verdict::BadRecord(number)));
     }
-    let Some(line) = read_line(alloc, header.config.world, header.version, row)? else {
+    let Some(row) = read_row(alloc, header.config.world, header.version, bytes)? else {
         return Ok(Err(Verdict::BadRecord(number)));
     };
-    if let Some(reason) = checker.judge(&line)? {
+    if let Some(reason) = checker.judge(&row.line)? {
         return Ok(Err(Verdict::No(number, reason)));
     }
-    Ok(Ok(line))
+    Ok(Ok(row))
 }
 
 /// Returns the verdict on the event lines of a record with this header.
@@ -109,14 +109,14 @@ pub fn judge_rows<G: Gather>(
     let mut number: u64 = 2;
     let mut left = rows;
     while let Some(bytes) = left {
-        let Some((row, rest)) = next_line(bytes) else {
+        let Some((line, rest)) = next_line(bytes) else {
             break;
         };
-        let line = match taken(alloc, header, number, row, &mut checker)? {
-            Ok(line) => line,
+        let row = match taken(alloc, header, number, line, &mut checker)? {
+            Ok(row) => row,
             Err(verdict) => return Ok(verdict),
         };
-        gathered.take(&line)?;
+        gathered.take(&row, line)?;
         number += 1;
         left = rest;
     }

@@ -4,7 +4,7 @@ use Rattle.text_records.proofs.Common.{ShownReply, reply_words, Reported, report
 use Rattle.model_asked.specs.declared.reply.Reply.TheVariants as reply
 use Rattle.text_records.specs.ReportedWords.{reported_words}
 
-same_words : (shows : Bool) (r : ShownReply) → reply_words r ≡ reported_words (reported_of shows r)
+pub same_words : (shows : Bool) (r : ShownReply) → reply_words r ≡ reported_words (reported_of shows r)
 same_words shows reply.Ok = refl
 same_words shows r = refl
 

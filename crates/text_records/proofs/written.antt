@@ -3,4 +3,5 @@ pub mod Texts
 pub mod PlainLines
 pub mod Numbers
 pub mod Words
+pub mod Canonical
 pub mod Replies

@@ -1,10 +1,11 @@
 -- what lines a record has of exchanges
-use Rattle.std.specs.Prelude.{◌≡◌, ℕ, Bool, true, false, List, [], ◌∷◌, Option, Some, None}
+use Rattle.std.specs.Prelude.{◌≡◌, ℕ, Bool, true, false, List, [], ◌∷◌, ◌++◌, Option, Some, None}
 use Rattle.model_steps.specs.Refusal.{refusal_number}
 use Rattle.model_asked.specs.declared.event.Event.{Event}
 use Rattle.model_asked.specs.declared.exchange.Exchange.{Exchange}
 use Rattle.model_asked.specs.Replies.{ShownReply}
 use Rattle.model_asked.specs.declared.reply.Reply.TheVariants as reply
+use Rattle.text_player.specs.Records.{exchange_line}
 use Rattle.text_records.specs.declared.line.Line.{Line}
 use Rattle.text_records.specs.declared.reported.Reported.{Reported}
 use Rattle.text_records.specs.declared.reported.Reported.TheVariants as reported
@@ -51,6 +52,10 @@ AreLinesOf [] [] = Unit {0}
 AreLinesOf [] (l ∷ lines) = ⊥
 AreLinesOf (x ∷ exchanges) [] = ⊥
 AreLinesOf (x ∷ exchanges) (l ∷ lines) = IsLineOf x l × AreLinesOf exchanges lines
+
+-- the bytes are the line, without its LF, of each exchange that has this line
+abbrev pub IsCanonical : List ℕ → Line → Type 0
+IsCanonical bytes l = (x : Exchange) → IsLineOf x l → exchange_line x ≡ bytes ++ 10 ∷ []
 
 -- of a name, this is the view by which it was given
 abbrev pub IsShown : ShownReply → List (ℕ × ℕ) → Type 0

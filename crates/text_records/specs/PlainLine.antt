@@ -1,6 +1,6 @@
 -- lines that are spelled as records are written: with no space between their parts, their keys in order, and texts in which each byte
 -- stands for itself
-use Rattle.std.specs.Prelude.{◌≡◌, ℕ, true, List, ◌++◌, Option, Some, None, Ok, codes}
+use Rattle.std.specs.Prelude.{◌≡◌, ℕ, true, false, List, ◌++◌, Option, Some, None, Ok, codes}
 use Rattle.std.specs.List.{list_all}
 use Rattle.serde_json.specs.Data.{Data}
 use Rattle.model_asked.specs.declared.kind.WorldKind.{WorldKind}
@@ -9,8 +9,12 @@ use Rattle.model_asked.specs.declared.command.Command.TheVariants as command
 use Rattle.text_lines.specs.Meaning.{is_digit, meaning, number_in}
 use Rattle.text_records.specs.declared.header.Version.{Version}
 use Rattle.text_records.specs.declared.line.Line.{Line}
+use Rattle.text_records.specs.declared.line.Row.{Row}
 use Rattle.text_records.specs.declared.reported.Reported.{Reported}
 use Rattle.text_records.specs.Json.{is_plain}
+use Rattle.text_records.specs.Lines.{IsCanonical}
+use Rattle.text_records.specs.Reported.{is_name}
+use Rattle.text_records.specs.ReportedWords.{reported_words}
 use Rattle.text_records.specs.RecordLine.{IsJson, SaysLine}
 use Rattle.text_records.specs.ReplyText.{reported_by}
 
@@ -19,6 +23,11 @@ pub record SpellsLine (kind : WorldKind) (version : Version) (bytes : List ℕ) 
   pub value : Data
   pub json : IsJson bytes value
   pub says : SaysLine kind version value l
+
+-- and where the bytes are told to be canonical, they are
+pub record SpellsRow (kind : WorldKind) (version : Version) (bytes : List ℕ) (r : Row) : Type 0 where
+  pub spells : SpellsLine kind version bytes r.line
+  pub canonical : r.is_canonical ≡ true → IsCanonical bytes r.line
 
 -- a line begins so, with words that mean this event, and the rest stands from its reply on
 pub record SpellsEvent (kind : WorldKind) (bytes : List ℕ) (e : Event) (rest : List ℕ) : Type 0 where
@@ -49,9 +58,11 @@ pub record SpellsReported (version : Version) (text : List ℕ) (t : Reported) :
   pub end : SpellsEnd text replied shown
   pub tells : reported_by version replied shown ≡ Some t
 
--- with no view beside it, it tells this in each version
+-- with no view beside it, it tells this in each version, in the words of what is reported, which is no name
 pub record SpellsReply (text : List ℕ) (t : Reported) : Type 0 where
   pub replied : List ℕ
+  pub words : replied ≡ reported_words t
+  pub unnamed : is_name t ≡ false
   pub end : SpellsEnd text replied None
   pub tells : (version : Version) → reported_by version replied None ≡ Some t
 

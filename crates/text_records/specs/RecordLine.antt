@@ -1,5 +1,5 @@
 -- what a line of a record says
-use Rattle.std.specs.Prelude.{◌≡◌, ℕ, ◌≤◌, List, length, Option, Some, Ok, MatchOption, IsUtf8}
+use Rattle.std.specs.Prelude.{◌≡◌, ℕ, ◌≤◌, true, List, length, Option, Some, Ok, MatchOption, IsUtf8}
 use Rattle.serde_json.specs.Data.{Data}
 use Rattle.serde_json.specs.Read.{read}
 use Rattle.model_asked.specs.declared.kind.WorldKind.{WorldKind}
@@ -9,7 +9,9 @@ use Rattle.text_lines.specs.Meaning.{meaning}
 use Rattle.text_records.specs.declared.header.Header.{Header}
 use Rattle.text_records.specs.declared.header.Version.{Version}
 use Rattle.text_records.specs.declared.line.Line.{Line}
+use Rattle.text_records.specs.declared.line.Row.{Row}
 use Rattle.text_records.specs.Json.{AreTexts, IsHeader}
+use Rattle.text_records.specs.Lines.{IsCanonical}
 use Rattle.text_records.specs.ReplyText.{reported_by}
 
 -- the bytes are a text that is read as this value
@@ -45,6 +47,15 @@ pub record IsEventLine (kind : WorldKind) (version : Version) (bytes : List ℕ)
   pub value : Data
   pub json : IsJson bytes value
   pub says : SaysLine kind version value l
+
+-- a line, with what is told of its bytes
+pub record IsRowOf (kind : WorldKind) (version : Version) (bytes : List ℕ) (r : Row) : Type 0 where
+  pub says : IsEventLine kind version bytes r.line
+  pub canonical : r.is_canonical ≡ true → IsCanonical bytes r.line
+
+-- the line that is found; where none is found, there is none
+abbrev pub FindsRow : WorldKind → Version → List ℕ → Option Row → Type 0
+FindsRow kind version bytes found = MatchOption found ((l : Line) → IsEventLine kind version bytes l → ⊥) (IsRowOf kind version bytes)
 
 -- the first line of a record
 pub record IsHeaderLine (bytes : List ℕ) (h : Header) : Type 0 where

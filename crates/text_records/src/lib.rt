@@ -5,8 +5,9 @@
 //! `view` of that line alone. In version 1 it is not written, and there are at most 16 participants.
 //!
 //! `next_line` cuts the bytes of a record into lines. `read_header` and `read_line` read one line each, and
-//! `read_reply` the text of a reply, as the definitions of `specs/` say. `put_header` and `put_line` write lines of
-//! version 2 in the compact spelling, into a `Text`. A `Line` does not depend on the version that it was read in.
+//! `read_reply` the text of a reply, as the definitions of `specs/` say. `read_row` also tells whether the bytes may be
+//! copied. `put_header` and `put_line` write lines of version 2 in the compact spelling, into a `Text`. A `Line` does not
+//! depend on the version that it was read in.
 //!
 //! Which lines may follow one another is not asked here: `text_checker` judges that.
 //!
@@ -21,7 +22,7 @@
 //!     None => Ok(None),
 //! }
 //! ..
-//! let Some(line) = read_line(alloc, header.config.world, header.version, row)? else {
+//! let Some(row) = read_row(alloc, header.config.world, header.version, bytes)? else {
 //!     return Ok(Err(Verdict::BadRecord(number)));
 //! };
 //! ```
@@ -45,9 +46,9 @@ pub mod text;
 pub use compact::{put_event, put_header, put_line, put_owner, put_reported, put_view};
 pub use header::{Header, Version};
 pub use laws::{law_of_lines, law_of_seals, law_of_written_records};
-pub use line::Line;
+pub use line::{Line, Row};
 pub use pairs::Pairs;
-pub use record_line::{read_header, read_line};
+pub use record_line::{read_header, read_line, read_row};
 pub use reply_text::read_reply;
 pub use reported::Reported;
 pub use rows::next_line;

@@ -12,6 +12,16 @@ pub struct Line {
     pub reported: Reported,
 }
 
+/// A line as it was read, and what is known of the bytes that were read.
+#[derive(Debug, Drop)]
+pub struct Row {
+    /// The line.
+    pub line: Line,
+    /// Whether the bytes are those that `put_line` writes of the line, so that they may be copied. If not, nothing is
+    /// known.
+    pub is_canonical: bool,
+}
+
 // By hand, so that the code that drops a line is here alone, and not at each place where one goes out of scope.
 impl Drop for Line {
     fn drop(self) {

@@ -4,10 +4,10 @@ ghost use Rattle.std.specs.Prelude.{◌≡◌, ◌≤◌, ◌++◌, IfOk, IfSome
 ghost use Rattle.std.specs.List.{list_all};
 ghost use Rattle.std.specs.Option.{option_copied};
 ghost use Rattle.text_records.specs.Json.{is_plain};
-ghost use Rattle.text_records.specs.PlainLine.{SpellsEvent, SpellsEnd, SpellsLine, SpellsReported};
+ghost use Rattle.text_records.specs.PlainLine.{SpellsEvent, SpellsEnd, SpellsReported, SpellsRow};
 
 use crate::header::Version;
-use crate::line::Line;
+use crate::line::{Line, Row};
 use crate::quick_reply::quick_reported;
 use crate::reply_text::reported_of;
 use crate::reported::Reported;
@@ -92,7 +92,7 @@ fn plain_reported(
 /// Reads an event's line that is spelled as records are written.
 ///
 /// Such a line has no space between its parts and its keys in order, and each byte of its texts stands for itself.
-/// `None` means nothing: `read_line` then decides.
+/// `None` means nothing: `read_row` then decides.
 ///
 /// # Errors
 ///
@@ -103,17 +103,23 @@ pub fn plain_line(
     kind: WorldKind,
     version: Version,
     bytes: &[u8],
-) -> Result<Option<Line>, AllocError>
-    ensures { IfOk result (λ r. IfSome r (SpellsLine kind version bytes.now)) }
+) -> Result<Option<Row>, AllocError>
+    ensures { IfOk result (λ r. IfSome r (SpellsRow kind version bytes.now)) }
 {
     let Some((event, text)) = plain_event(kind, bytes) else {
         return Ok(None);
     };
     if let Some(reported) = quick_reported(text) {
-        return Ok(Some(Line { event, reported }));
+        return Ok(Some(Row {
+            line: Line { event, reported },
+            is_canonical: true,
+        }));
     }
     match plain_reported(alloc, version, text)? {
-        Some(reported) => Ok(Some(Line { event, reported })),
+        Some(reported) => Ok(Some(Row {
+            line: Line { event, reported },
+            is_canonical: false,
+        })),
         None => Ok(None),
     }
 }

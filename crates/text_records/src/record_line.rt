@@ -6,10 +6,10 @@ ghost use Rattle.model_asked.specs.declared.command.Command.TheVariants as comma
 ghost use Rattle.serde_json.specs.Data.{Data};
 ghost use Rattle.serde_json.specs.View.{view};
 ghost use Rattle.text_records.specs.declared.header.Header.{Header};
-ghost use Rattle.text_records.specs.RecordLine.{IsJson, IsEventOf, FindsLine, SaysLine, IsEventLine, IsHeaderLine};
+ghost use Rattle.text_records.specs.RecordLine.{IsJson, IsEventOf, FindsLine, FindsRow, SaysLine, IsEventLine, IsHeaderLine};
 
 use crate::header::{Header, Version};
-use crate::line::Line;
+use crate::line::{Line, Row};
 use crate::object::{header, texts};
 use crate::plain_line::plain_line;
 use crate::reply_text::reported_of;
@@ -81,6 +81,34 @@ fn read_json_line(
     line_of(alloc, kind, version, &value)
 }
 
+/// Reads a line as `read_line` does, and tells whether its bytes are those that `put_line` writes of it.
+///
+/// # Errors
+///
+/// `AllocError`: the allocation failed.
+pub fn read_row(
+    alloc: Global,
+    kind: WorldKind,
+    version: Version,
+    bytes: &[u8],
+) -> Result<Option<Row>, AllocError>
+    ensures { IfOk result (FindsRow kind version bytes.now) }
+{
+    if LINE_MOST < bytes.len() {
+        return Ok(None);
+    }
+    if let Some(row) = plain_line(alloc, kind, version, bytes)? {
+        return Ok(Some(row));
+    }
+    match read_json_line(alloc, kind, version, bytes)? {
+        Some(line) => Ok(Some(Row {
+            line,
+            is_canonical: false,
+        })),
+        None => Ok(None),
+    }
+}
+
 /// Reads an event's line, without its LF, of a record of this world and version. Returns `None` if it is no event's
 /// line.
 ///
@@ -97,13 +125,16 @@ pub fn read_line(
 ) -> Result<Option<Line>, AllocError>
     ensures { IfOk result (FindsLine (IsEventLine kind version bytes.now)) }
 {
-    if LINE_MOST < bytes.len() {
-        return Ok(None);
+    match read_row(alloc, kind, version, bytes)? {
+        Some(row) => {
+            let Row {
+                line,
+                is_canonical: _,
+            } = row;
+            Ok(Some(line))
+        }
+        None => Ok(None),
     }
-    if let Some(line) = plain_line(alloc, kind, version, bytes)? {
-        return Ok(Some(line));
-    }
-    read_json_line(alloc, kind, version, bytes)
 }
 
 /// Reads the first line of a record, without its LF. Returns `None` if it is no header.

@@ -1,6 +1,6 @@
 //! A text that grows.
 
-ghost use Rattle.std.specs.Prelude.{◌≡◌, List, ℕ, [], ◌++◌, OnOk, decimal};
+ghost use Rattle.std.specs.Prelude.{◌≡◌, List, ℕ, [], ◌∷◌, ◌++◌, OnOk, decimal};
 ghost use Rattle.text_lines.specs.Replies.{pair_word};
 
 use itoa::Buffer;
@@ -54,6 +54,18 @@ impl Text {
     {
         self.bytes.extend_from_slice(bytes)?;
         Ok(())
+    }
+
+    /// Appends a line, with its LF.
+    ///
+    /// # Errors
+    ///
+    /// Those of `put`.
+    pub fn put_row(&mut self, line: &[u8]) -> Result<(), AllocError>
+        ensures { OnOk result (self.new ≡ self.old ++ (line.now ++ 10 ∷ [])) }
+    {
+        self.put(line)?;
+        self.put(b"\n")
     }
 
     /// Appends a number in decimal.

@@ -7,7 +7,7 @@ use Rattle.std.proofs.lemmas.Grind.{flat_map-append}
 use Rattle.model_renaming.specs.declared.reply.Reply.TheVariants as step
 use Rattle.model_pool.specs.declared.probe.Probe.TheVariants as probe
 use Rattle.text_checker.specs.judges.Firsts.{IsFirstSole, NeverSole, view_at, HasFirst, HoldsFirsts}
-use Rattle.text_checker.specs.Migrated.{Telling, ShowsFirst, IsTelling, after_telling, exchanges_in, record_text, proposal_of, shown_in, GoesOn, HasMigrated}
+use Rattle.text_checker.specs.Migrated.{Telling, ShowsFirst, IsTelling, after_telling, exchanges_in, record_text, proposal_of, shown_in, GoesOn, HasMigrated, PutsLine}
 use Rattle.text_checker.proofs.Runs.{after_is}
 
 -- ---- the call that a line is taken for
@@ -124,7 +124,7 @@ text_more c ts t text is =
     ∙ ap (λ (l : List ℕ). header_line c ++ l) (sym (flat_map-append exchange_line xs (exchange_of t.call ∷ [])))
     ∙ ap (record_text c) (sym more)
 
-pub gathers_more : (l : Line) (m m' : Migration) → ((x : Exchange) → IsLineOf x l → IsShown x.reply (shown_in m.firsts l.event l.reported) → m'.text ≡ m.text ++ exchange_line x) → GoesOn (proposal_of l.event l.reported) m.firsts m'.firsts →
+pub gathers_more : (l : Line) (m m' : Migration) → PutsLine m.firsts l m.text m'.text → GoesOn (proposal_of l.event l.reported) m.firsts m'.firsts →
     Gathers HasMigrated l m m'
 gathers_more l m m' text goes c lines o h follows =
     let s = h.so_far in

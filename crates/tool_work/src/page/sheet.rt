@@ -19,7 +19,7 @@ use model_steps::Place;
 use std::alloc::{AllocError, Global};
 use std::mem;
 use text_checker::gather::Gather;
-use text_records::{Line, Text, put_header};
+use text_records::{Row, Text, put_header};
 use text_worlds::desk::Desk;
 
 /// A page so far: up to its rows, the state before them, and the items that come after. Beside it a desk on which the lines so far
@@ -167,7 +167,8 @@ impl Sheet {
 impl Gather for Sheet {
     ghost is_of = { HasPut };
 
-    fn take(&mut self, line: &Line) -> Result<(), AllocError> {
+    fn take(&mut self, row: &Row, _bytes: &[u8]) -> Result<(), AllocError> {
+        let line = &row.line;
         let Some(seen) = self.seen.checked_add(1) else {
             return Err(AllocError);
         };

@@ -1,4 +1,4 @@
-// Erased by bindings/rust/erase from crates/text_records/src/lib.rt, sha256 58e84f1aa4b4ceadf76b1b98e0200128719d498c834f35426557e1b2a18c6f76.
+// Erased by bindings/rust/erase from crates/text_records/src/lib.rt, sha256 a1389226ac9ffdea50f38f58451c6675b29d1c3765e81165922fec53fd97087a.
 //! The lines of a record, read and written.
 //!
 //! A record is lines of JSON: a header, which has the configuration of the run, and then an event with its reply as
@@ -6,8 +6,9 @@
 //! `view` of that line alone. In version 1 it is not written, and there are at most 16 participants.
 //!
 //! `next_line` cuts the bytes of a record into lines. `read_header` and `read_line` read one line each, and
-//! `read_reply` the text of a reply, as the definitions of `specs/` say. `put_header` and `put_line` write lines of
-//! version 2 in the compact spelling, into a `Text`. A `Line` does not depend on the version that it was read in.
+//! `read_reply` the text of a reply, as the definitions of `specs/` say. `read_row` also tells whether the bytes may be
+//! copied. `put_header` and `put_line` write lines of version 2 in the compact spelling, into a `Text`. A `Line` does not
+//! depend on the version that it was read in.
 //!
 //! Which lines may follow one another is not asked here: `text_checker` judges that.
 //!
@@ -22,14 +23,13 @@
 //!     None => Ok(None),
 //! }
 //! ..
-//! let Some(line) = read_line(alloc, header.config.world, header.version, row)? else {
+//! let Some(row) = read_row(alloc, header.config.world, header.version, bytes)? else {
 //!     return Ok(Err(Verdict::BadRecord(number)));
 //! };
 //! ```
 
 pub mod compact;
 pub mod header;
-pub mod laws;
 pub mod line;
 pub mod object;
 pub mod pairs;
@@ -39,5 +39,4 @@ pub mod record_line;
 pub mod reply_text;
 pub mod reported;
 pub mod rows;
-pub mod seals;
 pub mod text;

@@ -12,18 +12,21 @@ loop-left-init g c = record { so_far = no_row c.args.header _ c.in_ok-checker.ch
 pub returns-in-Err-clause-said : goal.returns-in-Err-clause-said
 returns-in-Err-clause-said g c =
     let s = row_here (option_copied c.loop-left.left) c.loop-left.invariant (ap (λ o. option_copied o) c.in-Some.is) c.in-Some-next_line.ensures.lines in
-    let ends = MatchResult-at_err _ _ _ c.in-Err.is c.in_ok-line.ensures in
+    let ends = MatchResult-at_err _ _ _ c.in-Err.is c.in_ok-row.ensures in
     ends.said _ _ s.so_far
 
 pub returns-in-Err-clause-gathered : goal.returns-in-Err-clause-gathered
 returns-in-Err-clause-gathered g c = λ yes.
-    (let ends = MatchResult-at_err _ _ _ c.in-Err.is c.in_ok-line.ensures in
+    (let ends = MatchResult-at_err _ _ _ c.in-Err.is c.in_ok-row.ensures in
     absurd (ends.other yes))
+
+pub take-requires : goal.take-requires
+take-requires g c = (MatchResult-at_ok _ _ _ c.in-Ok.is c.in_ok-row.ensures).canonical
 
 pub loop-left-preserved : goal.loop-left-preserved
 loop-left-preserved g c =
     let s = row_here (option_copied c.loop-left.left) c.loop-left.invariant (ap (λ o. option_copied o) c.in-Some.is) c.in-Some-next_line.ensures.lines in
-    row_gathered s (MatchResult-at_ok _ _ _ c.in-Ok.is c.in_ok-line.ensures) c.in_ok-take.ensures
+    row_gathered s (MatchResult-at_ok _ _ _ c.in-Ok.is c.in_ok-row.ensures).takes c.in_ok-take.ensures
 
 pub returns : goal.returns
 returns g c =

@@ -1,4 +1,4 @@
-// Erased by bindings/rust/erase from crates/text_checker/src/migration.rt, sha256 242c0453e103f753ec8ac13c3748207769ab712138d783ee7f5357d023b02e6b.
+// Erased by bindings/rust/erase from crates/text_checker/src/migration.rt, sha256 bc2015b64a132a5fe8c1e3a611522089fcbcb41944c1bcf1a5b59eb47b7c8ea5.
 //! From the lines of a record to those of its version 2.
 
 use crate::kit::alloc::{AllocError, Global};
@@ -7,7 +7,7 @@ use crate::proved::model_asked::event::Event;
 use crate::proved::text_checker::gather::Gather;
 use crate::proved::text_checker::judges::firsts::Firsts;
 use crate::proved::text_records::compact::{put_header, put_line};
-use crate::proved::text_records::line::Line;
+use crate::proved::text_records::line::{Line, Row};
 use crate::proved::text_records::reported::Reported;
 use crate::proved::text_records::text::Text;
 
@@ -78,10 +78,18 @@ impl Migration {
     }
 }
 
+/// Appends a line. If its bytes are what would be written, they are copied.
+fn put_row(firsts: &Firsts, row: &Row, bytes: &[u8], text: &mut Text) -> Result<(), AllocError> {
+    if row.is_canonical {
+        return text.put_row(bytes);
+    }
+    put_line(&row.line, shown(firsts, &row.line), text)
+}
+
 impl Gather for Migration {
-    fn take(&mut self, line: &Line) -> Result<(), AllocError> {
-        put_line(line, shown(&self.firsts, line), &mut self.text)?;
-        follow(&mut self.firsts, line)?;
+    fn take(&mut self, row: &Row, bytes: &[u8]) -> Result<(), AllocError> {
+        put_row(&self.firsts, row, bytes, &mut self.text)?;
+        follow(&mut self.firsts, &row.line)?;
         Ok(())
     }
 }

@@ -1,4 +1,4 @@
-// Erased by bindings/rust/erase from crates/text_checker/src/record.rt, sha256 b9fe0b292482cb7161c275d6df7ac881f8edc10a8352b9f122e70e5e86f5057f.
+// Erased by bindings/rust/erase from crates/text_checker/src/record.rt, sha256 ca2a9de8007bea3888626ad79ee8beecde335ee486ec48234c7a4027d22f7f69.
 //! The verdict on a record.
 
 use crate::kit::alloc::{AllocError, Global};
@@ -6,8 +6,8 @@ use crate::proved::text_checker::checker::Checker;
 use crate::proved::text_checker::gather::{Gather, Nothing};
 use crate::proved::text_checker::verdict::Verdict;
 use crate::proved::text_records::header::Header;
-use crate::proved::text_records::line::Line;
-use crate::proved::text_records::record_line::{read_header, read_line};
+use crate::proved::text_records::line::Row;
+use crate::proved::text_records::record_line::{read_header, read_row};
 use crate::proved::text_records::rows::next_line;
 
 /// The number of the first line that is one too many: a header and a million lines precede it.
@@ -64,19 +64,19 @@ pub(crate) fn taken(
     alloc: Global,
     header: Header,
     number: u64,
-    row: &[u8],
+    bytes: &[u8],
     checker: &mut Checker,
-) -> Result<Result<Line, Verdict>, AllocError> {
+) -> Result<Result<Row, Verdict>, AllocError> {
     if LINES_END <= number {
         return Ok(Err(Verdict::BadRecord(number)));
     }
-    let Some(line) = read_line(alloc, header.config.world, header.version, row)? else {
+    let Some(row) = read_row(alloc, header.config.world, header.version, bytes)? else {
         return Ok(Err(Verdict::BadRecord(number)));
     };
-    if let Some(reason) = checker.judge(&line)? {
+    if let Some(reason) = checker.judge(&row.line)? {
         return Ok(Err(Verdict::No(number, reason)));
     }
-    Ok(Ok(line))
+    Ok(Ok(row))
 }
 
 /// Returns the verdict on the event lines of a record with this header.
@@ -96,14 +96,14 @@ pub fn judge_rows<G: Gather>(
     let mut number: u64 = 2;
     let mut left = rows;
     while let Some(bytes) = left {
-        let Some((row, rest)) = next_line(bytes) else {
+        let Some((line, rest)) = next_line(bytes) else {
             break;
         };
-        let line = match taken(alloc, header, number, row, &mut checker)? {
-            Ok(line) => line,
+        let row = match taken(alloc, header, number, line, &mut checker)? {
+            Ok(row) => row,
             Err(verdict) => return Ok(verdict),
         };
-        gathered.take(&line)?;
+        gathered.take(&row, line)?;
         number += 1;
         left = rest;
     }

@@ -1,4 +1,4 @@
-// Erased by bindings/rust/erase from crates/text_records/src/plain_line.rt, sha256 f3bc1ba492ae918f7fdb27069c0619299f22e5370ecbd65fbe81f4cc6a1e916c.
+// Erased by bindings/rust/erase from crates/text_records/src/plain_line.rt, sha256 fde161ca624e8bff45880be4defd607b5379ab7a1237dccebc6a6c170ab5a280.
 //! Lines in the spelling in which records are written, read without a reader of JSON.
 
 use crate::kit::alloc::{AllocError, Global};
@@ -9,7 +9,7 @@ use crate::proved::text_lines::front::after_front;
 use crate::proved::text_lines::quick::quick_command;
 use crate::proved::text_lines::words::is_word;
 use crate::proved::text_records::header::Version;
-use crate::proved::text_records::line::Line;
+use crate::proved::text_records::line::{Line, Row};
 use crate::proved::text_records::quick_reply::quick_reported;
 use crate::proved::text_records::reply_text::reported_of;
 use crate::proved::text_records::reported::Reported;
@@ -76,7 +76,7 @@ fn plain_reported(
 /// Reads an event's line that is spelled as records are written.
 ///
 /// Such a line has no space between its parts and its keys in order, and each byte of its texts stands for itself.
-/// `None` means nothing: `read_line` then decides.
+/// `None` means nothing: `read_row` then decides.
 ///
 /// # Errors
 ///
@@ -87,15 +87,21 @@ pub fn plain_line(
     kind: WorldKind,
     version: Version,
     bytes: &[u8],
-) -> Result<Option<Line>, AllocError> {
+) -> Result<Option<Row>, AllocError> {
     let Some((event, text)) = plain_event(kind, bytes) else {
         return Ok(None);
     };
     if let Some(reported) = quick_reported(text) {
-        return Ok(Some(Line { event, reported }));
+        return Ok(Some(Row {
+            line: Line { event, reported },
+            is_canonical: true,
+        }));
     }
     match plain_reported(alloc, version, text)? {
-        Some(reported) => Ok(Some(Line { event, reported })),
+        Some(reported) => Ok(Some(Row {
+            line: Line { event, reported },
+            is_canonical: false,
+        })),
         None => Ok(None),
     }
 }

@@ -1,4 +1,4 @@
-// Erased by bindings/rust/erase from crates/text_records/src/record_line.rt, sha256 65336f5b8902cda5f618e5e7c037fca6c1e2aa36d2461854c5674cdc768e19d3.
+// Erased by bindings/rust/erase from crates/text_records/src/record_line.rt, sha256 d7072555efd353694af93e38a0dc0e2d4e2c6fd2a2b4779aa8c4bf344a01438f.
 //! From the bytes of a record's line to its contents.
 
 use crate::kit::alloc::{AllocError, Global};
@@ -8,7 +8,7 @@ use crate::proved::model_asked::event::Event;
 use crate::proved::model_asked::kind::WorldKind;
 use crate::proved::text_lines::parse::parse_line;
 use crate::proved::text_records::header::{Header, Version};
-use crate::proved::text_records::line::Line;
+use crate::proved::text_records::line::{Line, Row};
 use crate::proved::text_records::object::{header, texts};
 use crate::proved::text_records::plain_line::plain_line;
 use crate::proved::text_records::reply_text::reported_of;
@@ -67,6 +67,32 @@ fn read_json_line(
     line_of(alloc, kind, version, &value)
 }
 
+/// Reads a line as `read_line` does, and tells whether its bytes are those that `put_line` writes of it.
+///
+/// # Errors
+///
+/// `AllocError`: the allocation failed.
+pub fn read_row(
+    alloc: Global,
+    kind: WorldKind,
+    version: Version,
+    bytes: &[u8],
+) -> Result<Option<Row>, AllocError> {
+    if LINE_MOST < bytes.len() {
+        return Ok(None);
+    }
+    if let Some(row) = plain_line(alloc, kind, version, bytes)? {
+        return Ok(Some(row));
+    }
+    match read_json_line(alloc, kind, version, bytes)? {
+        Some(line) => Ok(Some(Row {
+            line,
+            is_canonical: false,
+        })),
+        None => Ok(None),
+    }
+}
+
 /// Reads an event's line, without its LF, of a record of this world and version. Returns `None` if it is no event's
 /// line.
 ///
@@ -81,13 +107,16 @@ pub fn read_line(
     version: Version,
     bytes: &[u8],
 ) -> Result<Option<Line>, AllocError> {
-    if LINE_MOST < bytes.len() {
-        return Ok(None);
+    match read_row(alloc, kind, version, bytes)? {
+        Some(row) => {
+            let Row {
+                line,
+                is_canonical: _,
+            } = row;
+            Ok(Some(line))
+        }
+        None => Ok(None),
     }
-    if let Some(line) = plain_line(alloc, kind, version, bytes)? {
-        return Ok(Some(line));
-    }
-    read_json_line(alloc, kind, version, bytes)
 }
 
 /// Reads the first line of a record, without its LF. Returns `None` if it is no header.

@@ -1,4 +1,4 @@
-// Erased by bindings/rust/erase from crates/text_records/src/text.rt, sha256 c1b5f00d0c02694aa7cd68e491a2da8308cd45d992ce841e71daf3954b000d63.
+// Erased by bindings/rust/erase from crates/text_records/src/text.rt, sha256 12329bd4a0dd3cf4ac30162cedddc5004b89761e7440ddd2efb47531ecb8cad9.
 //! A text that grows.
 
 use crate::kit::alloc::{AllocError, Global};
@@ -23,12 +23,6 @@ impl Text {
         &self.bytes
     }
 
-    /// Returns the bytes, and ends the buffer.
-    pub fn into_bytes(self) -> Vec<u8> {
-        let Text { bytes } = self;
-        bytes
-    }
-
     /// Appends bytes.
     ///
     /// # Errors
@@ -37,6 +31,16 @@ impl Text {
     pub fn put(&mut self, bytes: &[u8]) -> Result<(), AllocError> {
         self.bytes.extend_from_slice(bytes)?;
         Ok(())
+    }
+
+    /// Appends a line, with its LF.
+    ///
+    /// # Errors
+    ///
+    /// Those of `put`.
+    pub fn put_row(&mut self, line: &[u8]) -> Result<(), AllocError> {
+        self.put(line)?;
+        self.put(b"\n")
     }
 
     /// Appends a number in decimal.

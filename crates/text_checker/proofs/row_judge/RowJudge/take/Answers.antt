@@ -8,7 +8,7 @@ returns c = (
   refl,
   one_more_row c.args.self.now
       (record { header = c.args.self.now.header; checker = c.taken.new.checker; number = c.args.self.now.number + 1 })
-      c.args.row.now (MatchResult-at_ok _ _ _ c.in-Ok.is c.in_ok-verdict.ensures) refl refl,
+      c.args.row.now (MatchResult-at_ok _ _ _ c.in-Ok.is c.in_ok-verdict.ensures).takes refl refl,
 )
 
 pub returns-in-Err : goal.returns-in-Err

@@ -1,4 +1,4 @@
-// Erased by bindings/rust/erase from crates/tool_work/src/page/sheet.rt, sha256 7253cf25e21424495021b0c2138f80bdd4d2cd6052d7297d6c0fc415806ec0e0.
+// Erased by bindings/rust/erase from crates/tool_work/src/page/sheet.rt, sha256 d968a95a75c619d3808482d022cf24a6aad4d9572aa97eb0cf5fe5f69dc10f49.
 //! From the lines of a record to a page.
 
 use crate::kit::alloc::{AllocError, Global};
@@ -7,7 +7,7 @@ use crate::proved::model_asked::config::Config;
 use crate::proved::model_steps::place::Place;
 use crate::proved::text_checker::gather::Gather;
 use crate::proved::text_records::compact::put_header;
-use crate::proved::text_records::line::Line;
+use crate::proved::text_records::line::Row;
 use crate::proved::text_records::text::Text;
 use crate::proved::text_worlds::desk::desk::Desk;
 use crate::proved::tool_work::page::access::keep_reached;
@@ -138,7 +138,8 @@ impl Sheet {
 }
 
 impl Gather for Sheet {
-    fn take(&mut self, line: &Line) -> Result<(), AllocError> {
+    fn take(&mut self, row: &Row, _bytes: &[u8]) -> Result<(), AllocError> {
+        let line = &row.line;
         let Some(seen) = self.seen.checked_add(1) else {
             return Err(AllocError);
         };

@@ -5,7 +5,7 @@ use Rattle.tool_work.proofs.page.sheet.SheetGather.take.Goals as goal
 
 pub returns : goal.returns
 returns c =
-    let line = c.args.line.now in
+    let line = c.args.row.now.line in
     let first = c.args.self.now in
     let shown = c.has-is_shown.result in
     let begins = c.begins_after-is_first.result in
