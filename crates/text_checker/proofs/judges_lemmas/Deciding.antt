@@ -38,18 +38,18 @@ view_says (v ∷ vs) reported q none = elim (eqb_tells v.identity q) [
 ]
 
 -- each moment of the object has its view
-has_view : (terms : RenameTerms) (s : Names) (o : RenameObject) (i : ℕ) → HoldsNames terms s o → i ≤ o.last → IsMoment (view_of s.participants.items (o.moment i)) (o.moment i)
+has_view : (terms : RenameTerms) (s : Names) (o : RenameObject) (i : ℕ) → HoldsNames terms s o → i ≤ o.last → IsMoment (view_of s.participants (o.moment i)) (o.moment i)
 has_view terms s o i h l = record {
-  rising = view_rises s.participants.items (o.moment i);
-  values = λ q. view_says s.participants.items (o.moment i) q (λ none. h.turns.shown i l q ∙ ap (λ x. reported_in (h.turns.rows i) (turn_of (option_map (λ v. v.program) x))) none);
+  rising = view_rises s.participants (o.moment i);
+  values = λ q. view_says s.participants (o.moment i) q (λ none. h.turns.shown i l q ∙ ap (λ x. reported_in (h.turns.rows i) (turn_of (option_map (λ v. v.program) x))) none);
 }
 
 -- of one who has begun and proposed
-module _ (terms : RenameTerms) (s : Names) (o : RenameObject) (p : ℕ) (st : Standing) (h : HoldsNames terms s o) (is : program_of p s.participants.items ≡ Some st) where
+module _ (terms : RenameTerms) (s : Names) (o : RenameObject) (p : ℕ) (st : Standing) (h : HoldsNames terms s o) (is : program_of p s.participants ≡ Some st) where
   abbrev t : Turn
   t = st.turn
 
-  turn_is : turns_in s.participants.items p ≡ Some t
+  turn_is : turns_in s.participants p ≡ Some t
   turn_is = ap turn_of is
 
   pub count_is : o.count p ≡ t.count
@@ -58,7 +58,7 @@ module _ (terms : RenameTerms) (s : Names) (o : RenameObject) (p : ℕ) (st : St
   since_is : o.since p ≡ t.since
   since_is = h.turns.since p ∙ ap since_of turn_is
 
-  fits : length s.participants.items ≤ 64
+  fits : length s.participants ≤ 64
   fits = let r = h.room in let f = h.fits in omega arith
 
   module _ (some : 1 ≤ o.count p) where
@@ -72,13 +72,13 @@ module _ (terms : RenameTerms) (s : Names) (o : RenameObject) (p : ℕ) (st : St
     since_of_recent i r = let e = since_is in let f = r.no_earlier in omega arith
 
     pub conflicts : (i : ℕ) → t.since ≤ i → i ≤ o.last → (crowded t.number (h.turns.rows i) ≡ true) ↔ IsConflict (o.moment i) p
-    conflicts i from l = conflicting (turns_in s.participants.items) (length s.participants.items) terms.limit s.moments o.last o.moment o.count o.since h.turns i p t.number t l fits turn_is (stand.in_each i from l) stand.positive
+    conflicts i from l = conflicting (turns_in s.participants) (length s.participants) terms.limit s.moments o.last o.moment o.count o.since h.turns i p t.number t l fits turn_is (stand.in_each i from l) stand.positive
 
     pub stands_alone : (i : ℕ) → t.since ≤ i → i ≤ o.last → (crowded t.number (h.turns.rows i) ≡ false) ↔ IsSole (o.moment i) p t.number
-    stands_alone i from l = standing_alone (turns_in s.participants.items) (length s.participants.items) terms.limit s.moments o.last o.moment o.count o.since h.turns i p t.number t l fits turn_is (stand.in_each i from l) stand.positive
+    stands_alone i from l = standing_alone (turns_in s.participants) (length s.participants) terms.limit s.moments o.last o.moment o.count o.since h.turns i p t.number t l fits turn_is (stand.in_each i from l) stand.positive
 
     pub own_is : (i : ℕ) → t.since ≤ i → i ≤ o.last → o.moment i p ≡ Some t.number
-    own_is i from l = own (turns_in s.participants.items) (length s.participants.items) terms.limit s.moments o.last o.moment o.count o.since h.turns i p t.number t l fits turn_is (stand.in_each i from l) stand.positive
+    own_is i from l = own (turns_in s.participants) (length s.participants) terms.limit s.moments o.last o.moment o.count o.since h.turns i p t.number t l fits turn_is (stand.in_each i from l) stand.positive
 
     -- another has proposed the same
     pub conflict_reported : (r : Bool) → IsTrue r ↔ SomeSince (λ i. crowded t.number (h.turns.rows i) ≡ true) t.since o.last → IsTrue r ↔ HasConflict o p
@@ -94,7 +94,7 @@ module _ (terms : RenameTerms) (s : Names) (o : RenameObject) (p : ℕ) (st : St
       (λ y.
           let k = w.0 y in
           record {
-            view = view_of s.participants.items (o.moment k.index);
+            view = view_of s.participants (o.moment k.index);
             written = tt;
             some = some;
             shows = record { index = k.index; recent = recent k.index k.no_earlier k.no_later; is = has_view terms s o k.index h k.no_later; sole = (stands_alone k.index k.no_earlier k.no_later).0 k.passes };

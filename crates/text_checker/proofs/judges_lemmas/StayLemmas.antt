@@ -23,7 +23,7 @@ competes_is (v ∷ vs) q = elim (eqb_tells v.identity q) [
 
 -- ---- one who leaves
 
-abbrev pub without : ℕ → List (Participant Stay) → List (Participant Stay)
+abbrev pub without : {P : Type 0} → ℕ → List (Participant P) → List (Participant P)
 without p cs = filter (λ v. not (v.identity == p)) cs
 
 identities-without : (cs : List (Participant Stay)) (p : ℕ) → identities (without p cs) ≡ filter (λ q. not (q == p)) (identities cs)
@@ -33,7 +33,7 @@ identities-without (v ∷ vs) p = elim (eqb_tells v.identity p) [
   | inr y ↦ rw y.0 (ap (λ xs. v.identity ∷ xs) (identities-without vs p))
 ]
 
-found_without : (cs : List (Participant Stay)) (p q : ℕ) → q ≢ p → participant_of q (without p cs) ≡ participant_of q cs
+found_without : {P : Type 0} (cs : List (Participant P)) (p q : ℕ) → q ≢ p → participant_of q (without p cs) ≡ participant_of q cs
 found_without [] p q d = refl
 found_without (v ∷ vs) p q d = elim (eqb_tells v.identity p) [
   | inl y ↦ let ne : (v.identity == q) ≡ false = ne_eqb v.identity q (λ e. d (sym e ∙ y.1)) in rw (y.0, ne) (found_without vs p q d)
@@ -51,7 +51,7 @@ participant_of-without : (cs : List (Participant Stay)) (p q : ℕ) → particip
 participant_of-without cs p q =
     set_at-cases (λ v. participant_of v cs) p None (λ x. participant_of q (without p cs) ≡ x) q (λ e. ap (λ x. participant_of x (without p cs)) e ∙ gone_without cs p) (found_without cs p q)
 
-distinct_without : (cs : List (Participant Stay)) (p : ℕ) → AreDistinct cs → AreDistinct (without p cs)
+pub distinct_without : {P : Type 0} (cs : List (Participant P)) (p : ℕ) → AreDistinct cs → AreDistinct (without p cs)
 distinct_without [] p a = tt
 distinct_without (v ∷ vs) p a = elim (eqb_tells v.identity p) [
   | inl y ↦ rw y.0 (distinct_without vs p a.1)
@@ -68,9 +68,9 @@ record IsStay (size probes : ℕ) (stay : Stay) : Type 0 where
 
 module _ (s s' : Stays) (o : SlotsObject ℕ) (p : ℕ) (new : Option Stay) (competing : List ℕ) (held : ℕ → Option ℕ) (probes : ℕ → ℕ) (h : HoldsSlots s o) where
   abbrev seen : ℕ → Option Stay
-  seen = set_at (λ v. program_of v s.competitors.items) p new
+  seen = set_at (λ v. program_of v s.competitors) p new
 
-  holds_so : ((q : ℕ) → program_of q s'.competitors.items ≡ seen q) → s'.size ≡ s.size → s'.values ≡ s.values → competing ≡ identities s'.competitors.items → AreDistinct s'.competitors.items →
+  holds_so : ((q : ℕ) → program_of q s'.competitors ≡ seen q) → s'.size ≡ s.size → s'.values ≡ s.values → competing ≡ identities s'.competitors → AreDistinct s'.competitors →
       ((q : ℕ) → held q ≡ held_by (seen q)) → MatchOption new (Unit {0}) (λ stay. IsStay o.pool.size (probes p) stay) → ((q : ℕ) → q ≢ p → probes q ≡ o.pool.probes q) →
       HoldsSlots s' (record { pool = record { size = o.pool.size; competing = competing; held = held; probes = probes }; values = o.values })
   holds_so who size values competing_is distinct held_is own other = record {
@@ -78,8 +78,8 @@ module _ (s s' : Stays) (o : SlotsObject ℕ) (p : ℕ) (new : Option Stay) (com
     low = h.low;
     high = h.high;
     competing = competing_is;
-    competes = λ q. ap (list_any (λ x. x == q)) competing_is ∙ competes_is s'.competitors.items q;
-    crowd = ap length competing_is ∙ length-map s'.competitors.items (λ v. v.identity);
+    competes = λ q. ap (list_any (λ x. x == q)) competing_is ∙ competes_is s'.competitors q;
+    crowd = ap length competing_is ∙ length-map s'.competitors (λ v. v.identity);
     held = λ q. held_is q ∙ sym (ap held_by (who q));
     probes = λ q stay is. (each q stay is).counted;
     few = λ q stay is. (each q stay is).few;
@@ -89,26 +89,26 @@ module _ (s s' : Stays) (o : SlotsObject ℕ) (p : ℕ) (new : Option Stay) (com
     many = h.many;
   }
     where
-      each : (q : ℕ) (stay : Stay) → program_of q s'.competitors.items ≡ Some stay → IsStay o.pool.size (probes q) stay
-      each q stay is = elim (set_at-is (λ v. program_of v s.competitors.items) p new q (Some stay) (sym (who q) ∙ is)) [
+      each : (q : ℕ) (stay : Stay) → program_of q s'.competitors ≡ Some stay → IsStay o.pool.size (probes q) stay
+      each q stay is = elim (set_at-is (λ v. program_of v s.competitors) p new q (Some stay) (sym (who q) ∙ is)) [
         | inl w ↦ subst (λ (x : ℕ). IsStay o.pool.size (probes x) stay) (sym w.0) (subst (λ (x : Option Stay). MatchOption x (Unit {0}) (λ t. IsStay o.pool.size (probes p) t)) w.1 own)
         | inr w ↦ record { counted = other q w.0 ∙ h.probes q stay w.1; few = h.few q stay w.1; in_range = λ n. h.in_range q stay n w.1 }
       ]
 
 -- who may enter does not compete, and there is room
-may_enter : (s : Stays) (o : SlotsObject ℕ) (p : ℕ) → HoldsSlots s o → no_entry o.pool p ≡ None → program_of p s.competitors.items ≡ None
+pub may_enter : (s : Stays) (o : SlotsObject ℕ) (p : ℕ) → HoldsSlots s o → no_entry o.pool p ≡ None → program_of p s.competitors ≡ None
 may_enter s o p h none = elim (cases_Bool (p == 0)) [
   | inl z ↦ absurd (let k = rw z at none in cc)
   | inr z ↦ elim (cases_Bool (competes o.pool p)) [
     | inl b ↦ absurd (let k = rw (z, b) at none in cc)
-    | inr b ↦ absent (program_of p s.competitors.items) (sym (h.competes p) ∙ b)
+    | inr b ↦ absent (program_of p s.competitors) (sym (h.competes p) ∙ b)
   ]
 ]
 
-pub entered : (s s' : Stays) (o : SlotsObject ℕ) (p : ℕ) → HoldsSlots s o → no_entry o.pool p ≡ None → s'.competitors.items ≡ s.competitors.items ++ beginner p (record { probes = 0; held = None }) ∷ [] →
+pub entered : (s s' : Stays) (o : SlotsObject ℕ) (p : ℕ) → HoldsSlots s o → no_entry o.pool p ≡ None → s'.competitors ≡ s.competitors ++ beginner p (record { probes = 0; held = None }) ∷ [] →
     s'.size ≡ s.size → s'.values ≡ s.values → HoldsSlots s' (slots_after o (Pooled (Entered p (Ok tt))))
 entered s s' o p h none items size values =
-    let cs : List (Participant Stay) = s.competitors.items in
+    let cs : List (Participant Stay) = s.competitors in
     let new : Stay = record { probes = 0; held = None } in
     let free = may_enter s o p h none in
     let stay : IsStay o.pool.size (set_at o.pool.probes p 0 p) new = record { counted = set_at-same o.pool.probes p 0; few = λ _. omega arith; in_range = λ n e. absurd (cc) } in
@@ -116,18 +116,18 @@ entered s s' o p h none items size values =
     (ap (λ ids. ids ++ p ∷ []) h.competing ∙ sym (identities-push cs (beginner p new)) ∙ sym (ap identities items)) (rw items (distinct_push cs (beginner p new) (none_kept (participant_of p cs) free) h.apart))
     (seen_kept held_by o.pool.held (λ v. program_of v cs) p (Some new) h.held (ap held_by free)) stay (set_at-other o.pool.probes p 0)
 
-pub left : (s s' : Stays) (o : SlotsObject ℕ) (p n : ℕ) → HoldsSlots s o → s'.competitors.items ≡ without p s.competitors.items → s'.size ≡ s.size → s'.values ≡ s.values →
+pub left : (s s' : Stays) (o : SlotsObject ℕ) (p n : ℕ) → HoldsSlots s o → s'.competitors ≡ without p s.competitors → s'.size ≡ s.size → s'.values ≡ s.values →
     HoldsSlots s' (slots_after o (Pooled (Left p (Ok n))))
 left s s' o p n h items size values =
-    let cs : List (Participant Stay) = s.competitors.items in
-    let who : (q : ℕ) → program_of q s'.competitors.items ≡ set_at (λ v. program_of v cs) p None q =
+    let cs : List (Participant Stay) = s.competitors in
+    let who : (q : ℕ) → program_of q s'.competitors ≡ set_at (λ v. program_of v cs) p None q =
     (λ q. ap (program_of q) items ∙ ap (option_map (λ v. v.program)) (participant_of-without cs p q) ∙ set_at-map (option_map (λ v. v.program)) (λ v. participant_of v cs) p None q) in
     holds_so s s' o p None (filter (λ q. not (q == p)) o.pool.competing) (set_at o.pool.held p None) o.pool.probes h who size values
     (ap (filter (λ q. not (q == p))) h.competing ∙ sym (identities-without cs p) ∙ sym (ap identities items)) (rw items (distinct_without cs p h.apart))
     (seen_set held_by o.pool.held (λ v. program_of v cs) p None None h.held refl) tt (λ q d. refl)
 
 -- one who may probe, and of whom one probe more is counted
-module _ (s s' : Stays) (o : SlotsObject ℕ) (p : ℕ) (old : Stay) (probes : ℕ) (h : HoldsSlots s o) (is : program_of p s.competitors.items ≡ Some old) (none : no_probe o.pool p ≡ None)
+module _ (s s' : Stays) (o : SlotsObject ℕ) (p : ℕ) (old : Stay) (probes : ℕ) (h : HoldsSlots s o) (is : program_of p s.competitors ≡ Some old) (none : no_probe o.pool p ≡ None)
     (counts : old.probes < 64 → probes ≡ old.probes + 1) (size : s'.size ≡ s.size) (values : s'.values ≡ s.values) where
   unheld : old.held ≡ None
   unheld = elim (cases_Bool (competes o.pool p)) [
@@ -142,12 +142,12 @@ module _ (s s' : Stays) (o : SlotsObject ℕ) (p : ℕ) (old : Stay) (probes : �
   one_more : probes ≡ old.probes + 1
   one_more = let few = h.few p old is unheld in let high = h.high in counts (omega arith)
 
-  probed : (holds : Option ℕ) (held : ℕ → Option ℕ) → s'.competitors.items ≡ with_participant (beginner p (record { probes = probes; held = holds })) s.competitors.items →
-      ((q : ℕ) → held q ≡ held_by (set_at (λ v. program_of v s.competitors.items) p (Some (record { probes = probes; held = holds })) q)) →
+  probed : (holds : Option ℕ) (held : ℕ → Option ℕ) → s'.competitors ≡ with_participant (beginner p (record { probes = probes; held = holds })) s.competitors →
+      ((q : ℕ) → held q ≡ held_by (set_at (λ v. program_of v s.competitors) p (Some (record { probes = probes; held = holds })) q)) →
       (holds ≡ None → old.probes + 1 < last_probe o.pool.size) → ((n : ℕ) → holds ≡ Some n → (1 ≤ n) × (n ≤ o.pool.size)) →
       HoldsSlots s' (record { pool = record o.pool { held = held; probes = set_at o.pool.probes p (o.pool.probes p + 1) }; values = o.values })
   probed holds held items held_is few in_range =
-      let cs : List (Participant Stay) = s.competitors.items in
+      let cs : List (Participant Stay) = s.competitors in
       let new : Stay = record { probes = probes; held = holds } in
       let more = set_at o.pool.probes p (o.pool.probes p + 1) in
       let stay : IsStay o.pool.size (more p) new = record {
@@ -158,22 +158,22 @@ module _ (s s' : Stays) (o : SlotsObject ℕ) (p : ℕ) (old : Stay) (probes : �
       holds_so s s' o p (Some new) o.pool.competing held more h (λ q. ap (program_of q) items ∙ program_of-put cs p old new is q) size values
       (h.competing ∙ sym (identities-put cs (beginner p new)) ∙ sym (ap identities items)) (rw items (distinct_put cs (beginner p new) h.apart)) held_is stay (set_at-other o.pool.probes p (o.pool.probes p + 1))
 
-  pub missed : o.pool.probes p + 1 ≢ last_probe o.pool.size → s'.competitors.items ≡ with_participant (beginner p (record { probes = probes; held = None })) s.competitors.items →
+  pub missed : o.pool.probes p + 1 ≢ last_probe o.pool.size → s'.competitors ≡ with_participant (beginner p (record { probes = probes; held = None })) s.competitors →
       HoldsSlots s' (slots_after o (Pooled (Probed p (Ok probe.Missed))))
   missed more items =
       let few = h.few p old is unheld in
       let counted = h.probes p old is in
-      probed None o.pool.held items (seen_kept held_by o.pool.held (λ v. program_of v s.competitors.items) p (Some _) h.held (ap held_by is ∙ unheld)) (λ _. omega arith) (λ n e. absurd (cc))
+      probed None o.pool.held items (seen_kept held_by o.pool.held (λ v. program_of v s.competitors) p (Some _) h.held (ap held_by is ∙ unheld)) (λ _. omega arith) (λ n e. absurd (cc))
 
-  pub got : (n : ℕ) → IsFree o.pool n → s'.competitors.items ≡ with_participant (beginner p (record { probes = probes; held = Some n })) s.competitors.items →
+  pub got : (n : ℕ) → IsFree o.pool n → s'.competitors ≡ with_participant (beginner p (record { probes = probes; held = Some n })) s.competitors →
       HoldsSlots s' (slots_after o (Pooled (Probed p (Ok (probe.Got n)))))
   got n free items =
-      probed (Some n) (set_at o.pool.held p (Some n)) items (seen_set held_by o.pool.held (λ v. program_of v s.competitors.items) p (Some _) (Some n) h.held refl) (λ e. absurd (cc))
+      probed (Some n) (set_at o.pool.held p (Some n)) items (seen_set held_by o.pool.held (λ v. program_of v s.competitors) p (Some _) (Some n) h.held refl) (λ e. absurd (cc))
       (λ m e. let same : n ≡ m = cc in subst (λ (x : ℕ). (1 ≤ x) × (x ≤ o.pool.size)) same (free.first, free.last))
 
 -- ---- a pool that gets more numbers, each with a slot that holds 0
 
-pub widened : (s s' : Stays) (o : SlotsObject ℕ) (more : ℕ) → HoldsSlots s o → widen_refusal o.pool.size more ≡ None → s'.competitors.items ≡ s.competitors.items →
+pub widened : (s s' : Stays) (o : SlotsObject ℕ) (more : ℕ) → HoldsSlots s o → widen_refusal o.pool.size more ≡ None → s'.competitors ≡ s.competitors →
     s'.size ≡ more → s'.values.items ≡ take more s.values.items ++ replicate (more - length s.values.items) 0 → HoldsSlots s' (widened_to more o)
 widened s s' o more h none items size values =
     let may = may_widen o.pool.size more none in
@@ -181,7 +181,7 @@ widened s s' o more h none items size values =
     let low = h.low in
     let many : length o.values ≡ o.pool.size = h.many in
     let old : s.values.items ≡ o.values = sym h.values in
-    let who : (q : ℕ) → program_of q s'.competitors.items ≡ program_of q s.competitors.items = (λ q. ap (program_of q) items) in
+    let who : (q : ℕ) → program_of q s'.competitors ≡ program_of q s.competitors = (λ q. ap (program_of q) items) in
     record {
       size_is = size;
       low = omega arith;

@@ -89,14 +89,14 @@ turns_in ps q = turn_of (program_of q ps)
 
 -- what is kept is of this object
 pub record HoldsNames (terms : RenameTerms) (s : Names) (o : RenameObject) : Type 0 where
-  pub people : HoldsPeople s.participants.items o
-  pub turns : HoldsTurns (turns_in s.participants.items) (length s.participants.items) terms.limit s.moments o.last o.moment o.count o.since
+  pub people : HoldsPeople s.participants o
+  pub turns : HoldsTurns (turns_in s.participants) (length s.participants) terms.limit s.moments o.last o.moment o.count o.since
   pub most_is : s.most ≡ terms.most
   pub limit_is : s.limit ≡ terms.limit
   pub fits : terms.most ≤ 64
   pub low : 1 ≤ terms.limit
   pub few : terms.limit ≤ 1000000
-  pub room : length s.participants.items ≤ terms.most
+  pub room : length s.participants ≤ terms.most
 
 -- this holds of any object that what is kept is of
 abbrev pub OfNames : Names → (RenameTerms → RenameObject → Type 0) → Type 0

@@ -21,14 +21,14 @@ pub record HoldsSlots (s : Stays) (o : SlotsObject ℕ) : Type 0 where
   pub size_is : s.size ≡ o.pool.size
   pub low : 1 ≤ o.pool.size
   pub high : o.pool.size ≤ 64
-  pub competing : o.pool.competing ≡ identities s.competitors.items
-  pub competes : (q : ℕ) → competes o.pool q ≡ is_some (program_of q s.competitors.items)
-  pub crowd : length o.pool.competing ≡ length s.competitors.items
-  pub held : (q : ℕ) → o.pool.held q ≡ held_by (program_of q s.competitors.items)
-  pub probes : (q : ℕ) (stay : Stay) → program_of q s.competitors.items ≡ Some stay → o.pool.probes q ≡ stay.probes
-  pub few : (q : ℕ) (stay : Stay) → program_of q s.competitors.items ≡ Some stay → stay.held ≡ None → stay.probes < last_probe o.pool.size
-  pub in_range : (q : ℕ) (stay : Stay) (n : ℕ) → program_of q s.competitors.items ≡ Some stay → stay.held ≡ Some n → (1 ≤ n) × (n ≤ o.pool.size)
-  pub apart : AreDistinct s.competitors.items
+  pub competing : o.pool.competing ≡ identities s.competitors
+  pub competes : (q : ℕ) → competes o.pool q ≡ is_some (program_of q s.competitors)
+  pub crowd : length o.pool.competing ≡ length s.competitors
+  pub held : (q : ℕ) → o.pool.held q ≡ held_by (program_of q s.competitors)
+  pub probes : (q : ℕ) (stay : Stay) → program_of q s.competitors ≡ Some stay → o.pool.probes q ≡ stay.probes
+  pub few : (q : ℕ) (stay : Stay) → program_of q s.competitors ≡ Some stay → stay.held ≡ None → stay.probes < last_probe o.pool.size
+  pub in_range : (q : ℕ) (stay : Stay) (n : ℕ) → program_of q s.competitors ≡ Some stay → stay.held ≡ Some n → (1 ≤ n) × (n ≤ o.pool.size)
+  pub apart : AreDistinct s.competitors
   pub values : o.values ≡ s.values.items
   pub many : length o.values ≡ o.pool.size
 

@@ -12,7 +12,7 @@ ghost use Rattle.text_checker.specs.judges.Standing.{is_held, turns_in, HoldsNam
 ghost use Rattle.text_checker.specs.judges.Named.{MayBeNamed};
 
 use crate::judges::moments::{Moments, NUMBERS, Row, is_crowded, with_number};
-use crate::judges::people::{find, put};
+use crate::judges::people::People;
 use crate::judges::standing::{Standing, Turn};
 use model_steps::{Participant, Place, Refusal};
 use std::alloc::{AllocError, Global};
@@ -21,7 +21,7 @@ use text_records::Pairs;
 /// The state of the renaming object: the participants that have begun, what they have, and the moments.
 #[derive(Drop)]
 pub struct Names {
-    participants: Vec<Participant<Standing>>,
+    participants: People<Standing>,
     moments: Moments,
     most: u64,
     limit: u64,
@@ -94,7 +94,7 @@ impl Names {
         let room = (lines as u64).min(proposals) as usize;
         Ok(Names {
             moments: Moments::new(alloc, room)?,
-            participants: Vec::new(alloc),
+            participants: People::new(alloc),
             most,
             limit,
         })
@@ -106,9 +106,9 @@ impl Names {
     {
         if id == 0 {
             Some(Refusal::ZeroIdentity)
-        } else if find(&self.participants, id).is_some() {
+        } else if self.participants.find(id).is_some() {
             Some(Refusal::AlreadyBegun)
-        } else if self.most <= self.participants.len() as u64 {
+        } else if self.most <= self.participants.count() as u64 {
             Some(Refusal::Full)
         } else {
             None
@@ -119,7 +119,7 @@ impl Names {
     pub fn step_refusal(&self, id: u64) -> Option<Refusal>
         ensures { OfNames self.now (λ terms o. result ≡ no_step o id) }
     {
-        let Some(standing) = find(&self.participants, id) else {
+        let Some(standing) = self.participants.find(id) else {
             return Some(Refusal::NotBegun);
         };
         if standing.name.is_some() {
@@ -140,7 +140,7 @@ impl Names {
         ensures { OnOk result (OfNames self.old (λ terms o. no_begin terms o id ≡ None → HoldsNames terms self.new (after o (Began id (Ok tt))))) }
     {
         let turn = Turn {
-            seat: self.participants.len(),
+            seat: self.participants.count(),
             count: 0,
             since: 0,
             number: 0,
@@ -151,12 +151,7 @@ impl Names {
             spent: false,
             turn,
         };
-        self.participants.push(Participant {
-            identity: id,
-            program,
-            ended: false,
-        })?;
-        Ok(())
+        self.participants.push(id, program)
     }
 
     /// Gives a place to an identity that may step, and returns whether it may have it. If not, nothing changes.
@@ -165,20 +160,20 @@ impl Names {
         ensures after { OfNames self.old (λ terms o. no_step o id ≡ None → IsTrue result →
             HoldsNames terms self.new (after_step o id (step.Placed place))) }
     {
-        let Some(standing) = find(&self.participants, id) else {
+        let Some(standing) = self.participants.find(id) else {
             return false;
         };
         if standing.place.is_some() {
             return false;
         }
-        if is_given(&self.participants, place) {
+        if is_given(self.participants.list(), place) {
             return false;
         }
         let placed = Standing {
             place: Some(place),
             ..standing
         };
-        put(&mut self.participants, id, placed);
+        self.participants.put(id, placed);
         true
     }
 
@@ -186,7 +181,7 @@ impl Names {
     pub fn has_turns(&self, id: u64) -> bool
         ensures { OfNames self.now (λ terms o. IsTrue result ↔ (1 ≤ o.count id) × (o.count id < terms.limit)) }
     {
-        match find(&self.participants, id) {
+        match self.participants.find(id) {
             Some(standing) => 1 <= standing.turn.count && standing.turn.count < self.limit,
             None => false,
         }
@@ -196,7 +191,7 @@ impl Names {
     pub fn is_last_turn(&self, id: u64) -> bool
         ensures { OfNames self.now (λ terms o. no_step o id ≡ None → IsTrue result ↔ (o.count id ≡ terms.limit)) }
     {
-        match find(&self.participants, id) {
+        match self.participants.find(id) {
             Some(standing) => standing.turn.count == self.limit,
             None => false,
         }
@@ -206,10 +201,10 @@ impl Names {
     pub fn may_propose(&self, id: u64, number: u64) -> bool
         ensures { OfNames self.now (λ terms o. no_step o id ≡ None → IsTrue result ↔ MayPropose terms o id number) }
     {
-        let Some(standing) = find(&self.participants, id) else {
+        let Some(standing) = self.participants.find(id) else {
             return false;
         };
-        let many = self.participants.len();
+        let many = self.participants.count();
         1 <= number && number < 2 * many as u64 && standing.turn.count < self.limit
     }
 
@@ -222,7 +217,7 @@ impl Names {
         ensures { OnOk result (OfNames self.old (λ terms o. no_step o id ≡ None → o.last < 2 ^ 62 → MayPropose terms o id number →
             HoldsNames terms self.new (proposed_by id number o))) }
     {
-        let Some(standing) = find(&self.participants, id) else {
+        let Some(standing) = self.participants.find(id) else {
             return Ok(());
         };
         let turn = standing.turn;
@@ -234,14 +229,11 @@ impl Names {
             since: self.moments.last(),
             number,
         };
-        put(
-            &mut self.participants,
-            id,
-            Standing {
-                turn: next,
-                ..standing
-            },
-        );
+        let proposed = Standing {
+            turn: next,
+            ..standing
+        };
+        self.participants.put(id, proposed);
         Ok(())
     }
 
@@ -250,7 +242,7 @@ impl Names {
     pub fn has_conflict(&self, id: u64) -> bool
         ensures { OfNames self.now (λ terms o. 1 ≤ o.count id → IsTrue result ↔ HasConflict o id) }
     {
-        match find(&self.participants, id) {
+        match self.participants.find(id) {
             Some(standing) => self
                 .moments
                 .was_crowded(standing.turn.since, standing.turn.number),
@@ -262,35 +254,35 @@ impl Names {
     pub fn spend(&mut self, id: u64)
         ensures { OfNames self.old (λ terms o. no_step o id ≡ None → HoldsNames terms self.new (after_step o id step.Spent)) }
     {
-        let Some(standing) = find(&self.participants, id) else {
+        let Some(standing) = self.participants.find(id) else {
             return;
         };
         let spent = Standing {
             spent: true,
             ..standing
         };
-        put(&mut self.participants, id, spent);
+        self.participants.put(id, spent);
     }
 
     /// Gives a name to an identity that may step.
     pub fn name(&mut self, id: u64, name: u64)
         ensures { OfNames self.old (λ terms o. no_step o id ≡ None → HoldsNames terms self.new (after_step o id (step.Named name []))) }
     {
-        let Some(standing) = find(&self.participants, id) else {
+        let Some(standing) = self.participants.find(id) else {
             return;
         };
         let named = Standing {
             name: Some(name),
             ..standing
         };
-        put(&mut self.participants, id, named);
+        self.participants.put(id, named);
     }
 
     /// The seat of an identity that has begun, if the number is one that may be proposed.
     fn seat_for(&self, id: u64, number: u64) -> Option<usize>
-        ensures { MatchOption result (LacksPair (turns_in self.now.participants.items) id number) (HasPair (turns_in self.now.participants.items) id number) }
+        ensures { MatchOption result (LacksPair (turns_in self.now.participants) id number) (HasPair (turns_in self.now.participants) id number) }
     {
-        let standing = find(&self.participants, id)?;
+        let standing = self.participants.find(id)?;
         if number < 1 || NUMBERS as u64 <= number {
             return None;
         }
@@ -333,7 +325,7 @@ impl Names {
     pub fn shows_conflict(&self, id: u64, view: &[(u64, u64)]) -> bool
         ensures { OfNames self.now (λ terms o. 1 ≤ o.count id → IsTrue result ↔ ShowsConflict o id view.now) }
     {
-        let Some(standing) = find(&self.participants, id) else {
+        let Some(standing) = self.participants.find(id) else {
             return false;
         };
         let turn = standing.turn;
@@ -348,7 +340,7 @@ impl Names {
     fn shows_sole(&self, id: u64, number: u64, view: &[(u64, u64)]) -> bool
         ensures { OfNames self.now (λ terms o. 1 ≤ o.count id → IsTrue result ↔ ShowsSole o id number view.now) }
     {
-        let Some(standing) = find(&self.participants, id) else {
+        let Some(standing) = self.participants.find(id) else {
             return false;
         };
         let turn = standing.turn;
@@ -365,15 +357,15 @@ impl Names {
     pub fn may_name(&self, id: u64, name: u64, shown: Option<&Pairs>) -> bool
         ensures { OfNames self.now (λ terms o. no_step o id ≡ None → IsTrue result ↔ MayBeNamed o id name (option_copied shown.entry)) }
     {
-        let Some(standing) = find(&self.participants, id) else {
+        let Some(standing) = self.participants.find(id) else {
             return false;
         };
         let turn = standing.turn;
-        let many = self.participants.len() as u64;
+        let many = self.participants.count() as u64;
         if turn.count < 1 || u64::from(turn.number) != name || 2 * many <= name {
             return false;
         }
-        if is_named(&self.participants, name) {
+        if is_named(self.participants.list(), name) {
             return false;
         }
         match shown {

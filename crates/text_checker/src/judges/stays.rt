@@ -12,7 +12,7 @@ ghost use Rattle.text_checker.specs.judges.Standing.{is_held};
 ghost use Rattle.text_checker.specs.judges.Stays.{HoldsSlots, OfSlots, missed_by, got_by, left_by, stored_by, widened_to};
 
 use crate::judges::names::is_number;
-use crate::judges::people::{find, put};
+use crate::judges::people::People;
 use model_steps::{Participant, Refusal};
 use std::alloc::{AllocError, Global};
 
@@ -29,7 +29,7 @@ pub struct Stay {
 #[derive(Drop)]
 pub struct Stays {
     size: u64,
-    competitors: Vec<Participant<Stay>>,
+    competitors: People<Stay>,
     values: Vec<u64>,
 }
 
@@ -54,7 +54,7 @@ impl Stays {
         let values = Vec::from_elem(alloc, 0u64, size as usize)?;
         Ok(Stays {
             size,
-            competitors: Vec::new(alloc),
+            competitors: People::new(alloc),
             values,
         })
     }
@@ -65,9 +65,9 @@ impl Stays {
     {
         if id == 0 {
             Some(Refusal::ZeroIdentity)
-        } else if find(&self.competitors, id).is_some() {
+        } else if self.competitors.find(id).is_some() {
             Some(Refusal::AlreadyCompeting)
-        } else if self.size <= self.competitors.len() as u64 {
+        } else if self.size <= self.competitors.count() as u64 {
             Some(Refusal::Crowded)
         } else {
             None
@@ -78,7 +78,7 @@ impl Stays {
     pub fn probe_refusal(&self, id: u64) -> Option<Refusal>
         ensures { OfSlots self.now (λ o. result ≡ no_probe o.pool id) }
     {
-        match find(&self.competitors, id) {
+        match self.competitors.find(id) {
             None => Some(Refusal::NotCompeting),
             Some(stay) => match stay.held {
                 None => None,
@@ -98,7 +98,7 @@ impl Stays {
     pub fn number_of(&self, id: u64) -> Result<u64, Refusal>
         ensures { OfSlots self.now (λ o. result ≡ number_in o.pool id) }
     {
-        match find(&self.competitors, id) {
+        match self.competitors.find(id) {
             None => Err(Refusal::NotCompeting),
             Some(stay) => match stay.held {
                 None => Err(Refusal::NotHolding),
@@ -130,19 +130,14 @@ impl Stays {
             probes: 0,
             held: None,
         };
-        self.competitors.push(Participant {
-            identity: id,
-            program,
-            ended: false,
-        })?;
-        Ok(())
+        self.competitors.push(id, program)
     }
 
     /// Whether the next probe of an identity that may probe may be missed.
     pub fn may_miss(&self, id: u64) -> bool
         ensures { OfSlots self.now (λ o. no_probe o.pool id ≡ None → IsTrue result ↔ (o.pool.probes id + 1 ≢ max 1 (o.pool.size - 1))) }
     {
-        match find(&self.competitors, id) {
+        match self.competitors.find(id) {
             Some(stay) => stay.probes.saturating_add(1) != self.size.saturating_sub(1).max(1),
             None => false,
         }
@@ -153,14 +148,14 @@ impl Stays {
         ensures { OfSlots self.old (λ o. no_probe o.pool id ≡ None → o.pool.probes id + 1 ≢ max 1 (o.pool.size - 1) →
             HoldsSlots self.new (missed_by id o)) }
     {
-        let Some(stay) = find(&self.competitors, id) else {
+        let Some(stay) = self.competitors.find(id) else {
             return;
         };
         let missed = Stay {
             probes: stay.probes.saturating_add(1),
             held: None,
         };
-        put(&mut self.competitors, id, missed);
+        self.competitors.put(id, missed);
     }
 
     /// Whether a number is one of the pool that nobody holds.
@@ -173,29 +168,28 @@ impl Stays {
         if self.size < number {
             return false;
         }
-        !is_taken(&self.competitors, number)
+        !is_taken(self.competitors.list(), number)
     }
 
     /// Gives a free number to an identity that may probe.
     pub fn gain(&mut self, id: u64, number: u64)
         ensures { OfSlots self.old (λ o. no_probe o.pool id ≡ None → IsFree o.pool number → HoldsSlots self.new (got_by id number o)) }
     {
-        let Some(stay) = find(&self.competitors, id) else {
+        let Some(stay) = self.competitors.find(id) else {
             return;
         };
         let got = Stay {
             probes: stay.probes.saturating_add(1),
             held: Some(number),
         };
-        put(&mut self.competitors, id, got);
+        self.competitors.put(id, got);
     }
 
     /// Records that an identity gives back the number that it holds.
     pub fn leave(&mut self, id: u64)
         ensures { OfSlots self.old (λ o. (n : ℕ) → number_in o.pool id ≡ Ok n → HoldsSlots self.new (left_by id n o)) }
     {
-        self.competitors
-            .retain(|competitor| competitor.identity != id);
+        self.competitors.remove(id);
     }
 
     /// Puts a value into the slot of a number that is held.

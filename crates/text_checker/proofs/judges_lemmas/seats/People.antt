@@ -32,6 +32,14 @@ pub none_kept : {P : Type 0} (o : Option (Participant P)) → option_map (λ v. 
 none_kept None h = refl
 none_kept (Some v) h = absurd (cc)
 
+-- where an identity is not, nothing is put in
+pub put_nowhere : {P : Type 0} (ps : List (Participant P)) (new : Participant P) → participant_of new.identity ps ≡ None → with_participant new ps ≡ ps
+put_nowhere [] new h = refl
+put_nowhere (v ∷ vs) new h = elim (eqb_tells v.identity new.identity) [
+  | inl e ↦ absurd (let no : Some v ≡ None = rw e.0 at h in cc)
+  | inr e ↦ rw e.0 (ap (λ xs. v ∷ xs) (put_nowhere vs new (rw e.0 at h)))
+]
+
 -- what was found in a list
 pub there : {P : Type 0} (id : ℕ) {xs ys : List (Participant P)} {found : Option P} {x : P} → found ≡ program_of id xs → xs ≡ ys → found ≡ Some x → program_of id ys ≡ Some x
 there id is same some = sym (is ∙ ap (program_of id) same) ∙ some

@@ -15,12 +15,12 @@ value_at (x ∷ xs) (suc j) d r l = said_further x xs (get_or xs j d).0 (get_or 
 
 -- a list that has a pair that no moment has is no moment
 pub no_moment : (terms : RenameTerms) (s : Names) (o : RenameObject) (view : List (ℕ × ℕ)) (j : ℕ) (d : ℕ × ℕ) (i : ℕ) → HoldsNames terms s o → i ≤ o.last → IsRising view → j < length view →
-    LacksPair (turns_in s.participants.items) (get_or view j d).0 (get_or view j d).1 → IsMoment view (o.moment i) → ⊥
+    LacksPair (turns_in s.participants) (get_or view j d).0 (get_or view j d).1 → IsMoment view (o.moment i) → ⊥
 no_moment terms s o view j d i h l r inside lacks is =
     let p : ℕ = (get_or view j d).0 in
     let n : ℕ = (get_or view j d).1 in
-    let says : reported_in (h.turns.rows i) (turns_in s.participants.items p) ≡ Some n = sym (h.turns.shown i l p) ∙ sym (is.values p) ∙ value_at view j d r inside in
-    let t = has_seat (turns_in s.participants.items) (h.turns.rows i) p n (turns_in s.participants.items p) refl says in
+    let says : reported_in (h.turns.rows i) (turns_in s.participants p) ≡ Some n = sym (h.turns.shown i l p) ∙ sym (is.values p) ∙ value_at view j d r inside in
+    let t = has_seat (turns_in s.participants) (h.turns.rows i) p n (turns_in s.participants p) refl says in
     let small = h.turns.small i l t.turn.seat in
     let at = t.at in
     lacks t.turn t.is t.positive (omega arith)
@@ -35,8 +35,8 @@ no_pair turns many = record { wide = refl; says = (λ q. sym (reported_zero (tur
 
 -- the row with one more pair, which comes first
 pub one_pair : (terms : RenameTerms) (s : Names) (o : RenameObject) (h : HoldsNames terms s o) (xs : List (ℕ × ℕ)) (x : ℕ × ℕ) (row : List ℕ) (seat : ℕ) →
-    IsRowOf (turns_in s.participants.items) (length s.participants.items) xs row → HasPair (turns_in s.participants.items) x.0 x.1 seat →
-    IsRowOf (turns_in s.participants.items) (length s.participants.items) (x ∷ xs) (slice_set row seat x.1)
+    IsRowOf (turns_in s.participants) (length s.participants) xs row → HasPair (turns_in s.participants) x.0 x.1 seat →
+    IsRowOf (turns_in s.participants) (length s.participants) (x ∷ xs) (slice_set row seat x.1)
 one_pair terms s o h xs x row seat r k =
     let below = h.turns.seated x.0 k.turn k.is in
     let room = h.room in
@@ -48,8 +48,8 @@ one_pair terms s o h xs x row seat r k =
       wide = length-set row seat x.1 ∙ r.wide;
       says = (λ q. elim (eqb_tells x.0 q) [
         | inl y ↦ rw y.0 (sym (
-            ap (reported_in (slice_set row seat x.1)) (ap (turns_in s.participants.items) (sym y.1) ∙ k.is) ∙ ap number_reported (ap (slice_index (slice_set row seat x.1)) k.at ∙ get_or-set_same row seat x.1 0 inside) ∙ number_some x.1 k.positive))
-        | inr y ↦ rw y.0 (r.says q ∙ elim (turns_in s.participants.items q) as (λ z. turns_in s.participants.items q ≡ z → reported_in row z ≡ reported_in (slice_set row seat x.1) z) [
+            ap (reported_in (slice_set row seat x.1)) (ap (turns_in s.participants) (sym y.1) ∙ k.is) ∙ ap number_reported (ap (slice_index (slice_set row seat x.1)) k.at ∙ get_or-set_same row seat x.1 0 inside) ∙ number_some x.1 k.positive))
+        | inr y ↦ rw y.0 (r.says q ∙ elim (turns_in s.participants q) as (λ z. turns_in s.participants q ≡ z → reported_in row z ≡ reported_in (slice_set row seat x.1) z) [
           | None ↦ λ e. refl
           | Some u ↦ λ e. ap number_reported (sym (get_or-set_other row seat u.seat x.1 0 (λ same. y.1 (sym (h.turns.apart q x.0 u k.turn e k.is (same ∙ sym k.at))))))
         ] refl)
@@ -65,9 +65,9 @@ number_reported_one a b e = elim (eqb_tells a 0) [
 
 -- a rising list is a moment exactly where its row is the moment's
 pub row_tells : (terms : RenameTerms) (s : Names) (o : RenameObject) (h : HoldsNames terms s o) (view : List (ℕ × ℕ)) (row : List ℕ) →
-    IsRowOf (turns_in s.participants.items) (length s.participants.items) view row → TellsMoments o h.turns.rows view (Some row)
+    IsRowOf (turns_in s.participants) (length s.participants) view row → TellsMoments o h.turns.rows view (Some row)
 row_tells terms s o h view row r i l rises = (
-  (λ is. same_number_lists (h.turns.rows i) row (h.turns.held.wide i l ∙ sym r.wide) (λ seat inside. elim (cases_Bool (nat_lt seat (length s.participants.items))) [
+  (λ is. same_number_lists (h.turns.rows i) row (h.turns.held.wide i l ∙ sym r.wide) (λ seat inside. elim (cases_Bool (nat_lt seat (length s.participants))) [
     | inl y ↦
         let k = h.turns.taken seat (ltb-true _ _ y) in
         let e : number_reported (slice_index (h.turns.rows i) k.turn.seat) ≡ number_reported (slice_index row k.turn.seat) =
@@ -75,11 +75,11 @@ row_tells terms s o h view row r i l rises = (
         subst (λ x. slice_index (h.turns.rows i) x ≡ slice_index row x) k.at (number_reported_one _ _ e)
     | inr y ↦ h.turns.unused i l seat (ltb-false _ _ y) ∙ sym (r.unused seat (ltb-false _ _ y))
   ])),
-  (λ e. record { rising = rises; values = (λ q. r.says q ∙ ap (λ x. reported_in x (turns_in s.participants.items q)) (sym e) ∙ sym (h.turns.shown i l q)) }),
+  (λ e. record { rising = rises; values = (λ q. r.says q ∙ ap (λ x. reported_in x (turns_in s.participants q)) (sym e) ∙ sym (h.turns.shown i l q)) }),
 )
 
 -- what a row that is found of a view tells of one who has begun and proposed
-module _ (terms : RenameTerms) (s : Names) (o : RenameObject) (p : ℕ) (st : Standing) (h : HoldsNames terms s o) (is : program_of p s.participants.items ≡ Some st) (some : 1 ≤ o.count p)
+module _ (terms : RenameTerms) (s : Names) (o : RenameObject) (p : ℕ) (st : Standing) (h : HoldsNames terms s o) (is : program_of p s.participants ≡ Some st) (some : 1 ≤ o.count p)
     (view : List (ℕ × ℕ)) where
   moment_since : (i : ℕ) → IsRecent o p i → IsMoment view (o.moment i) → SomeSince (λ j. IsMoment view (o.moment j)) st.turn.since o.last
   moment_since i r m = record { index = i; no_earlier = since_of_recent terms s o p st h is some i r; no_later = r.no_later; passes = m }

@@ -1,21 +1,20 @@
-// Erased by bindings/rust/erase from crates/text_checker/src/judges/names.rt, sha256 f3e9249db5e6a27eb5aaf86b0078d7bba42aa05de0e93473aeb3b22895f53389.
+// Erased by bindings/rust/erase from crates/text_checker/src/judges/names.rt, sha256 cbcaba1f2828bdb39b2dcb513e415931ab56f72174e9fc59b03107ae8621a7cd.
 //! The state of the renaming object.
 
 use crate::kit::alloc::{AllocError, Global};
-use crate::kit::Vec;
 use crate::proved::model_steps::participant::Participant;
 use crate::proved::model_steps::place::Place;
 use crate::proved::model_steps::refusal::Refusal;
 use crate::proved::text_checker::judges::moments::{
     is_crowded, with_number, Moments, Row, NUMBERS,
 };
-use crate::proved::text_checker::judges::people::{find, put};
+use crate::proved::text_checker::judges::people::People;
 use crate::proved::text_checker::judges::standing::{Standing, Turn};
 use crate::proved::text_records::pairs::Pairs;
 
 /// The state of the renaming object: the participants that have begun, what they have, and the moments.
 pub struct Names {
-    participants: Vec<Participant<Standing>>,
+    participants: People<Standing>,
     moments: Moments,
     most: u64,
     limit: u64,
@@ -74,7 +73,7 @@ impl Names {
         let room = (lines as u64).min(proposals) as usize;
         Ok(Names {
             moments: Moments::new(alloc, room)?,
-            participants: Vec::new(alloc),
+            participants: People::new(alloc),
             most,
             limit,
         })
@@ -84,9 +83,9 @@ impl Names {
     pub fn begin_refusal(&self, id: u64) -> Option<Refusal> {
         if id == 0 {
             Some(Refusal::ZeroIdentity)
-        } else if find(&self.participants, id).is_some() {
+        } else if self.participants.find(id).is_some() {
             Some(Refusal::AlreadyBegun)
-        } else if self.most <= self.participants.len() as u64 {
+        } else if self.most <= self.participants.count() as u64 {
             Some(Refusal::Full)
         } else {
             None
@@ -95,7 +94,7 @@ impl Names {
 
     /// Returns the error that a step of an identity must return, failed allocations aside, or `None`.
     pub fn step_refusal(&self, id: u64) -> Option<Refusal> {
-        let Some(standing) = find(&self.participants, id) else {
+        let Some(standing) = self.participants.find(id) else {
             return Some(Refusal::NotBegun);
         };
         if standing.name.is_some() {
@@ -114,7 +113,7 @@ impl Names {
     /// `AllocError`: the allocation failed.
     pub fn begin(&mut self, id: u64) -> Result<(), AllocError> {
         let turn = Turn {
-            seat: self.participants.len(),
+            seat: self.participants.count(),
             count: 0,
             since: 0,
             number: 0,
@@ -125,36 +124,31 @@ impl Names {
             spent: false,
             turn,
         };
-        self.participants.push(Participant {
-            identity: id,
-            program,
-            ended: false,
-        })?;
-        Ok(())
+        self.participants.push(id, program)
     }
 
     /// Gives a place to an identity that may step, and returns whether it may have it. If not, nothing changes.
     pub fn place(&mut self, id: u64, place: Place) -> bool {
-        let Some(standing) = find(&self.participants, id) else {
+        let Some(standing) = self.participants.find(id) else {
             return false;
         };
         if standing.place.is_some() {
             return false;
         }
-        if is_given(&self.participants, place) {
+        if is_given(self.participants.list(), place) {
             return false;
         }
         let placed = Standing {
             place: Some(place),
             ..standing
         };
-        put(&mut self.participants, id, placed);
+        self.participants.put(id, placed);
         true
     }
 
     /// Whether an identity has proposed and has proposals left.
     pub fn has_turns(&self, id: u64) -> bool {
-        match find(&self.participants, id) {
+        match self.participants.find(id) {
             Some(standing) => 1 <= standing.turn.count && standing.turn.count < self.limit,
             None => false,
         }
@@ -162,7 +156,7 @@ impl Names {
 
     /// Whether an identity that has begun has made its last proposal.
     pub fn is_last_turn(&self, id: u64) -> bool {
-        match find(&self.participants, id) {
+        match self.participants.find(id) {
             Some(standing) => standing.turn.count == self.limit,
             None => false,
         }
@@ -170,10 +164,10 @@ impl Names {
 
     /// Whether an identity that may step may propose a number.
     pub fn may_propose(&self, id: u64, number: u64) -> bool {
-        let Some(standing) = find(&self.participants, id) else {
+        let Some(standing) = self.participants.find(id) else {
             return false;
         };
-        let many = self.participants.len();
+        let many = self.participants.count();
         1 <= number && number < 2 * many as u64 && standing.turn.count < self.limit
     }
 
@@ -183,7 +177,7 @@ impl Names {
     ///
     /// `AllocError`: the allocation failed. The state is then of no use.
     pub fn propose(&mut self, id: u64, number: u64) -> Result<(), AllocError> {
-        let Some(standing) = find(&self.participants, id) else {
+        let Some(standing) = self.participants.find(id) else {
             return Ok(());
         };
         let turn = standing.turn;
@@ -195,21 +189,18 @@ impl Names {
             since: self.moments.last(),
             number,
         };
-        put(
-            &mut self.participants,
-            id,
-            Standing {
-                turn: next,
-                ..standing
-            },
-        );
+        let proposed = Standing {
+            turn: next,
+            ..standing
+        };
+        self.participants.put(id, proposed);
         Ok(())
     }
 
     /// Whether another identity proposes the same in some moment since the last proposal of an identity that has made
     /// one.
     pub fn has_conflict(&self, id: u64) -> bool {
-        match find(&self.participants, id) {
+        match self.participants.find(id) {
             Some(standing) => self
                 .moments
                 .was_crowded(standing.turn.since, standing.turn.number),
@@ -219,31 +210,31 @@ impl Names {
 
     /// Records that an identity, which may step, is spent.
     pub fn spend(&mut self, id: u64) {
-        let Some(standing) = find(&self.participants, id) else {
+        let Some(standing) = self.participants.find(id) else {
             return;
         };
         let spent = Standing {
             spent: true,
             ..standing
         };
-        put(&mut self.participants, id, spent);
+        self.participants.put(id, spent);
     }
 
     /// Gives a name to an identity that may step.
     pub fn name(&mut self, id: u64, name: u64) {
-        let Some(standing) = find(&self.participants, id) else {
+        let Some(standing) = self.participants.find(id) else {
             return;
         };
         let named = Standing {
             name: Some(name),
             ..standing
         };
-        put(&mut self.participants, id, named);
+        self.participants.put(id, named);
     }
 
     /// The seat of an identity that has begun, if the number is one that may be proposed.
     fn seat_for(&self, id: u64, number: u64) -> Option<usize> {
-        let standing = find(&self.participants, id)?;
+        let standing = self.participants.find(id)?;
         if number < 1 || NUMBERS as u64 <= number {
             return None;
         }
@@ -280,7 +271,7 @@ impl Names {
     /// Whether a view is a moment since the last proposal of an identity that has made one, and another proposes the
     /// same in it.
     pub fn shows_conflict(&self, id: u64, view: &[(u64, u64)]) -> bool {
-        let Some(standing) = find(&self.participants, id) else {
+        let Some(standing) = self.participants.find(id) else {
             return false;
         };
         let turn = standing.turn;
@@ -293,7 +284,7 @@ impl Names {
     /// Whether a view is a moment since the last proposal of an identity that has made one, and it alone proposes this
     /// number in it.
     fn shows_sole(&self, id: u64, number: u64, view: &[(u64, u64)]) -> bool {
-        let Some(standing) = find(&self.participants, id) else {
+        let Some(standing) = self.participants.find(id) else {
             return false;
         };
         let turn = standing.turn;
@@ -308,15 +299,15 @@ impl Names {
 
     /// Whether an identity that may step may be given a name, by the view `shown` if there is one.
     pub fn may_name(&self, id: u64, name: u64, shown: Option<&Pairs>) -> bool {
-        let Some(standing) = find(&self.participants, id) else {
+        let Some(standing) = self.participants.find(id) else {
             return false;
         };
         let turn = standing.turn;
-        let many = self.participants.len() as u64;
+        let many = self.participants.count() as u64;
         if turn.count < 1 || u64::from(turn.number) != name || 2 * many <= name {
             return false;
         }
-        if is_named(&self.participants, name) {
+        if is_named(self.participants.list(), name) {
             return false;
         }
         match shown {

@@ -1,29 +1,79 @@
-// Erased by bindings/rust/erase from crates/text_checker/src/judges/people.rt, sha256 34002752f79663d14b5722de3b01df99103165d6369c6469d3dc39fe2dc744f2.
+// Erased by bindings/rust/erase from crates/text_checker/src/judges/people.rt, sha256 940ec71e75af4990b24268a18a1b4cab46360f9bd2b540e8098bcfebc748f55b.
 //! Participants in a list, found by their identities.
 
+use crate::kit::alloc::{AllocError, Global};
 use crate::kit::Vec;
+use crate::proved::model_steps::hints::Hints;
 use crate::proved::model_steps::participant::Participant;
 
-/// Returns what is kept of an identity, or `None` if the list does not have it.
-pub fn find<P: Copy>(participants: &[Participant<P>], id: u64) -> Option<P> {
-    for participant in participants {
-        if participant.identity == id {
-            return Some(participant.program);
-        }
-    }
-    None
+/// Participants with distinct identities, in the order in which they came, and an index to try first for each. Contracts
+/// see the list.
+pub struct People<P> {
+    hints: Hints,
+    list: Vec<Participant<P>>,
 }
 
-/// Replaces what is kept of an identity, if the list has it.
-pub fn put<P: Copy>(participants: &mut Vec<Participant<P>>, id: u64, program: P) {
-    for i in 0..participants.len() {
-        if participants[i].identity == id {
-            participants[i] = Participant {
-                identity: id,
-                program,
-                ended: false,
-            };
-            return;
+impl<P> People<P> {
+    /// Makes an empty list. This allocates nothing.
+    pub fn new(alloc: Global) -> People<P> {
+        People {
+            hints: Hints::new(),
+            list: Vec::new(alloc),
         }
+    }
+
+    /// Returns the number of participants, which is below 2^63.
+    pub fn count(&self) -> usize {
+        self.list.len()
+    }
+
+    /// Returns the participants, in the order in which they came.
+    pub fn list(&self) -> &[Participant<P>] {
+        &self.list
+    }
+}
+
+impl<P: Copy> People<P> {
+    /// Returns what is kept of an identity, or `None` if the list does not have it.
+    pub fn find(&self, id: u64) -> Option<P> {
+        let Some(i) = self.hints.find(&self.list, id) else {
+            return None;
+        };
+        Some(self.list[i].program)
+    }
+
+    /// Replaces what is kept of an identity, if the list has it.
+    pub fn put(&mut self, id: u64, program: P) {
+        let Some(i) = self.hints.find(&self.list, id) else {
+            return;
+        };
+        self.list[i] = Participant {
+            identity: id,
+            program,
+            ended: false,
+        };
+    }
+
+    /// Adds an identity, if the list does not have it.
+    ///
+    /// # Errors
+    ///
+    /// `AllocError`: the allocation failed. Nothing has changed for those in the list.
+    pub fn push(&mut self, id: u64, program: P) -> Result<(), AllocError> {
+        if self.find(id).is_some() {
+            return Ok(());
+        }
+        self.hints.note(id, self.list.len());
+        self.list.push(Participant {
+            identity: id,
+            program,
+            ended: false,
+        })?;
+        Ok(())
+    }
+
+    /// Removes an identity.
+    pub fn remove(&mut self, id: u64) {
+        self.list.retain(|participant| participant.identity != id);
     }
 }

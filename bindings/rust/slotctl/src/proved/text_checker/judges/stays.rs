@@ -1,4 +1,4 @@
-// Erased by bindings/rust/erase from crates/text_checker/src/judges/stays.rt, sha256 9bfcde596307f3aa54cd20d9c67b504b256db415525811db648df2818212dfeb.
+// Erased by bindings/rust/erase from crates/text_checker/src/judges/stays.rt, sha256 d8c7548f2dc9129f196eae14f22fc2b87213c2f2098f953edca0819d1f5d6f1e.
 //! The state of the pool and the slots.
 
 use crate::kit::alloc::{AllocError, Global};
@@ -6,7 +6,7 @@ use crate::kit::Vec;
 use crate::proved::model_steps::participant::Participant;
 use crate::proved::model_steps::refusal::Refusal;
 use crate::proved::text_checker::judges::names::is_number;
-use crate::proved::text_checker::judges::people::{find, put};
+use crate::proved::text_checker::judges::people::People;
 
 /// The present stay of a competitor.
 #[derive(Clone, Copy)]
@@ -20,7 +20,7 @@ pub struct Stay {
 /// The state of the pool and the slots: the competitors, what they hold, and the values in the slots.
 pub struct Stays {
     size: u64,
-    competitors: Vec<Participant<Stay>>,
+    competitors: People<Stay>,
     values: Vec<u64>,
 }
 
@@ -41,7 +41,7 @@ impl Stays {
         let values = Vec::from_elem(alloc, 0u64, size as usize)?;
         Ok(Stays {
             size,
-            competitors: Vec::new(alloc),
+            competitors: People::new(alloc),
             values,
         })
     }
@@ -50,9 +50,9 @@ impl Stays {
     pub fn enter_refusal(&self, id: u64) -> Option<Refusal> {
         if id == 0 {
             Some(Refusal::ZeroIdentity)
-        } else if find(&self.competitors, id).is_some() {
+        } else if self.competitors.find(id).is_some() {
             Some(Refusal::AlreadyCompeting)
-        } else if self.size <= self.competitors.len() as u64 {
+        } else if self.size <= self.competitors.count() as u64 {
             Some(Refusal::Crowded)
         } else {
             None
@@ -61,7 +61,7 @@ impl Stays {
 
     /// Returns the error that `probe` of an identity must return, or `None`.
     pub fn probe_refusal(&self, id: u64) -> Option<Refusal> {
-        match find(&self.competitors, id) {
+        match self.competitors.find(id) {
             None => Some(Refusal::NotCompeting),
             Some(stay) => match stay.held {
                 None => None,
@@ -79,7 +79,7 @@ impl Stays {
     /// - `NotCompeting`: the identity does not compete.
     /// - `NotHolding`: the identity competes and holds no number.
     pub fn number_of(&self, id: u64) -> Result<u64, Refusal> {
-        match find(&self.competitors, id) {
+        match self.competitors.find(id) {
             None => Err(Refusal::NotCompeting),
             Some(stay) => match stay.held {
                 None => Err(Refusal::NotHolding),
@@ -107,17 +107,12 @@ impl Stays {
             probes: 0,
             held: None,
         };
-        self.competitors.push(Participant {
-            identity: id,
-            program,
-            ended: false,
-        })?;
-        Ok(())
+        self.competitors.push(id, program)
     }
 
     /// Whether the next probe of an identity that may probe may be missed.
     pub fn may_miss(&self, id: u64) -> bool {
-        match find(&self.competitors, id) {
+        match self.competitors.find(id) {
             Some(stay) => stay.probes.saturating_add(1) != self.size.saturating_sub(1).max(1),
             None => false,
         }
@@ -125,14 +120,14 @@ impl Stays {
 
     /// Records that an identity misses a probe that may be missed.
     pub fn miss(&mut self, id: u64) {
-        let Some(stay) = find(&self.competitors, id) else {
+        let Some(stay) = self.competitors.find(id) else {
             return;
         };
         let missed = Stay {
             probes: stay.probes.saturating_add(1),
             held: None,
         };
-        put(&mut self.competitors, id, missed);
+        self.competitors.put(id, missed);
     }
 
     /// Whether a number is one of the pool that nobody holds.
@@ -143,25 +138,24 @@ impl Stays {
         if self.size < number {
             return false;
         }
-        !is_taken(&self.competitors, number)
+        !is_taken(self.competitors.list(), number)
     }
 
     /// Gives a free number to an identity that may probe.
     pub fn gain(&mut self, id: u64, number: u64) {
-        let Some(stay) = find(&self.competitors, id) else {
+        let Some(stay) = self.competitors.find(id) else {
             return;
         };
         let got = Stay {
             probes: stay.probes.saturating_add(1),
             held: Some(number),
         };
-        put(&mut self.competitors, id, got);
+        self.competitors.put(id, got);
     }
 
     /// Records that an identity gives back the number that it holds.
     pub fn leave(&mut self, id: u64) {
-        self.competitors
-            .retain(|competitor| competitor.identity != id);
+        self.competitors.remove(id);
     }
 
     /// Puts a value into the slot of a number that is held.

@@ -7,17 +7,17 @@ use Rattle.text_checker.proofs.judges.names.Names.may_name.Goals as goal
 
 pub returns-then-is_named : goal.returns-then-is_named
 returns-then-is_named c = λ terms o h none.
-    let given = ap (list_any (λ v. is_held c.args.name v.program.name)) (sym c.deref-2.ensures.value) ∙ sym c.is_named.ensures ∙ c.if-is_named.true in
-    ((λ y. cc), (λ k. let w = somebody_has (λ s. s.name) o.name c.args.self.now.participants.items c.args.name h.people.name h.people.apart given in absurd (k.free.free w.0 w.1)))
+    let given = ap (list_any (λ v. is_held c.args.name v.program.name)) (sym c.list.ensures) ∙ sym c.is_named.ensures ∙ c.if-is_named.true in
+    ((λ y. cc), (λ k. let w = somebody_has (λ s. s.name) o.name c.args.self.now.participants c.args.name h.people.name h.people.apart given in absurd (k.free.free w.0 w.1)))
 
 pub returns-in-Some-shown : goal.returns-in-Some-shown
 returns-in-Some-shown c = λ terms o h none.
-    let counted = count_is terms c.args.self.now o c.args.id c.in-Some.standing h (there c.args.id c.find.ensures c.deref.ensures.value c.in-Some.is) in
+    let counted = count_is terms c.args.self.now o c.args.id c.in-Some.standing h (there c.args.id c.find.ensures refl c.in-Some.is) in
     let once = c.if-turn-lt1.false in
     let some : 1 ≤ o.count c.args.id = omega arith in
-    let unnamed = ap (list_any (λ v. is_held c.args.name v.program.name)) (sym c.deref-2.ensures.value) ∙ sym c.is_named.ensures ∙ c.if-is_named.false in
+    let unnamed = ap (list_any (λ v. is_held c.args.name v.program.name)) (sym c.list.ensures) ∙ sym c.is_named.ensures ∙ c.if-is_named.false in
     let below = c.if-many-name.false in
-    let free = free_name c.args.self.now.participants.items o c.args.name c.len-many.result h.people (c.len-many.ensures ∙ c.args.self.now.participants.ok.0) (omega arith) unnamed in
+    let free = free_name c.args.self.now.participants o c.args.name c.count-many.result h.people c.count-many.ensures.count (omega arith) unnamed in
     let w = subst (λ (v : List (ℕ × ℕ)). IsTrue c.shows_sole.result ↔ ShowsSole o c.args.id c.args.name v) c.as_slice.ensures (c.shows_sole.ensures terms o h some) in
     let reported : IsTrue c.shows_sole.result ↔ MayBeNamed o c.args.id c.args.name (Some c.in-Some-shown.view.now) = (
       (λ y. record { view = c.in-Some-shown.view.now; written = refl; some = some; shows = w.0 y; free = free }),
@@ -27,13 +27,13 @@ returns-in-Some-shown c = λ terms o h none.
 
 pub returns-in-None : goal.returns-in-None
 returns-in-None c = λ terms o h none.
-    let is = there c.args.id c.find.ensures c.deref.ensures.value c.in-Some.is in
+    let is = there c.args.id c.find.ensures refl c.in-Some.is in
     let counted = count_is terms c.args.self.now o c.args.id c.in-Some.standing h is in
     let once = c.if-turn-lt1.false in
     let some : 1 ≤ o.count c.args.id = omega arith in
-    let unnamed = ap (list_any (λ v. is_held c.args.name v.program.name)) (sym c.deref-2.ensures.value) ∙ sym c.is_named.ensures ∙ c.if-is_named.false in
+    let unnamed = ap (list_any (λ v. is_held c.args.name v.program.name)) (sym c.list.ensures) ∙ sym c.is_named.ensures ∙ c.if-is_named.false in
     let below = c.if-many-name.false in
-    let free = free_name c.args.self.now.participants.items o c.args.name c.len-many.result h.people (c.len-many.ensures ∙ c.args.self.now.participants.ok.0) (omega arith) unnamed in
+    let free = free_name c.args.self.now.participants o c.args.name c.count-many.result h.people c.count-many.ensures.count (omega arith) unnamed in
     let s = stand terms c.args.self.now o c.args.id c.in-Some.standing h is some in
     let w = c.was_quiet.ensures o.last h.turns.rows h.turns.held s.since s.small in
     let same : c.in-Some.standing.turn.number ≡ c.args.name = sym c.from.ensures ∙ c.if-from-name.false in

@@ -5,5 +5,5 @@ use Rattle.text_checker.proofs.judges.names.Names.name.Goals as goal
 
 pub returns : goal.returns
 returns c = λ terms o h none.
-    named terms c.args.self.now (record { participants = c.put.new.participants; moments = c.args.self.now.moments; most = c.args.self.now.most; limit = c.args.self.now.limit }) o c.args.id
-    c.in-Some.standing _ h (there c.args.id c.find.ensures c.deref.ensures.value c.in-Some.is) c.put.ensures refl refl c.args.name [] refl refl
+    named terms c.args.self.now (record { participants = c.put.new.self; moments = c.args.self.now.moments; most = c.args.self.now.most; limit = c.args.self.now.limit }) o c.args.id
+    c.in-Some.standing _ h (there c.args.id c.find.ensures refl c.in-Some.is) c.put.ensures refl refl c.args.name [] refl refl

@@ -7,9 +7,9 @@ use Rattle.text_checker.proofs.judges.names.Names.propose.Goals as goal
 pub returns : goal.returns
 returns c = λ terms o h none few may.
     let s : Names = c.args.self.now in
-    let ps = s.participants.items in
+    let ps = s.participants in
     let old : Standing = c.in-Some.standing in
-    let is = there c.args.id c.find.ensures c.deref.ensures.value c.in-Some.is in
+    let is = there c.args.id c.find.ensures refl c.in-Some.is in
     let many = h.people.many in
     let fits = h.fits in
     let room = h.room in
@@ -23,7 +23,7 @@ returns c = λ terms o h none few may.
     let left = may.rounds in
     let limit = h.few in
     let count' : c.saturating_add.result ≡ old.turn.count + 1 = grind (arith, c.saturating_add.ensures, count, left, limit) in
-    has_proposed terms s (record { participants = c.put.new.participants; moments = c.propose.new.self; most = s.most; limit = s.limit }) o c.args.id old
+    has_proposed terms s (record { participants = c.put.new.self; moments = c.propose.new.self; most = s.most; limit = s.limit }) o c.args.id old
     (record old { turn = record { seat = old.turn.seat; count = c.saturating_add.result; since = c.last.result; number = c.min-number.result } }) h is c.put.ensures refl refl c.args.number
     may.positive small left (λ i. record old { turn = record { seat = old.turn.seat; count = count' i; since = last i; number = number i } })
     (subst (λ (n : ℕ). HoldsMoments c.propose.new.self (o.last + 1) (set_at h.turns.rows (o.last + 1) (slice_set (h.turns.rows o.last) old.turn.seat n))) number held)

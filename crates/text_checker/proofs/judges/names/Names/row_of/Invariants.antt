@@ -6,7 +6,7 @@ use Rattle.text_checker.proofs.judges.names.Names.row_of.Given as goal
 abbrev pub invariant-loop-i : goal.invariant-loop-i
 invariant-loop-i l = record {
   inside : l.i ≤ length l.view;
-  said : (terms : RenameTerms) (o : RenameObject) → HoldsNames terms l.self o → IsRowOf (turns_in l.self.participants.items) (length l.self.participants.items) (drop l.i l.view) l.row;
+  said : (terms : RenameTerms) (o : RenameObject) → HoldsNames terms l.self o → IsRowOf (turns_in l.self.participants) (length l.self.participants) (drop l.i l.view) l.row;
 }
 
 abbrev pub decreases-loop-i : goal.decreases-loop-i

@@ -10,14 +10,14 @@ not_true false h = refl
 
 pub returns-then-from-number : goal.returns-then-from-number
 returns-then-from-number c = λ terms o h some.
-    let is = there c.args.id c.find.ensures c.deref.ensures.value c.in-Some.is in (
+    let is = there c.args.id c.find.ensures refl c.in-Some.is in (
       (λ y. absurd (false≢true y)),
       (λ k. absurd (c.if-from-number.true (c.from.ensures ∙ sole_number terms c.args.self.now o c.args.id c.in-Some.standing h is some c.args.view.now c.args.number k))),
     )
 
 pub returns-in-Some-row_since : goal.returns-in-Some-row_since
 returns-in-Some-row_since c = λ terms o h some.
-    let is = there c.args.id c.find.ensures c.deref.ensures.value c.in-Some.is in
+    let is = there c.args.id c.find.ensures refl c.in-Some.is in
     let same : c.in-Some.standing.turn.number ≡ c.args.number = sym c.from.ensures ∙ c.if-from-number.false in
     let tells : TellsSince o h.turns.rows c.in-Some.standing.turn.since c.args.view.now (Some c.in-Some-row_since.row) =
     subst (λ (x : Option (List ℕ)). TellsSince o h.turns.rows c.in-Some.standing.turn.since c.args.view.now x) c.in-Some-row_since.is (c.row_since.ensures terms o h) in
@@ -28,7 +28,7 @@ returns-in-Some-row_since c = λ terms o h some.
 
 pub returns-in-None : goal.returns-in-None
 returns-in-None c = λ terms o h some.
-    let is = there c.args.id c.find.ensures c.deref.ensures.value c.in-Some.is in
+    let is = there c.args.id c.find.ensures refl c.in-Some.is in
     let none : TellsSince o h.turns.rows c.in-Some.standing.turn.since c.args.view.now None =
     subst (λ (x : Option (List ℕ)). TellsSince o h.turns.rows c.in-Some.standing.turn.since c.args.view.now x) c.in-None.is (c.row_since.ensures terms o h) in (
       (λ y. absurd (false≢true y)),
