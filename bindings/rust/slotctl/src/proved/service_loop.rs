@@ -1,4 +1,4 @@
-// Erased by bindings/rust/erase from crates/service_loop/src/lib.rt, sha256 6979ace5d7e649bf4a274471317d9d3e9d02e5a35447299a2b2a3434f704fb93.
+// Erased by bindings/rust/erase from crates/service_loop/src/lib.rt, sha256 ecd9d22831cbc0b97bfb83652dbdd1963bccf0799f0f7d5382982079eae8868c.
 //! Connections that share one service, in one thread.
 //!
 //! `Buffers` are a connection without its stream: one side of a transcript (`Responder`), what came and is not taken yet, and what was said and is not
@@ -52,6 +52,7 @@ pub mod buffers;
 pub mod connection;
 pub mod connections;
 pub mod doors;
+pub mod failing;
 pub mod gathering;
 pub mod host_fault;
 pub mod hosting;

@@ -1,4 +1,4 @@
-// Erased by bindings/rust/erase from crates/text_records/src/lib.rt, sha256 a1389226ac9ffdea50f38f58451c6675b29d1c3765e81165922fec53fd97087a.
+// Erased by bindings/rust/erase from crates/text_records/src/lib.rt, sha256 6ec27174f6db5fa4bfd00f255467ec78108336de91fdb28ad8c619f048123b26.
 //! The lines of a record, read and written.
 //!
 //! A record is lines of JSON: a header, which has the configuration of the run, and then an event with its reply as
@@ -30,6 +30,7 @@
 
 pub mod compact;
 pub mod header;
+pub mod laws;
 pub mod line;
 pub mod object;
 pub mod pairs;
@@ -39,4 +40,5 @@ pub mod record_line;
 pub mod reply_text;
 pub mod reported;
 pub mod rows;
+pub mod seals;
 pub mod text;

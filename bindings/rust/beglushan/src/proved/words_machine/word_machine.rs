@@ -1,4 +1,4 @@
-// Erased by bindings/rust/erase from crates/words_machine/src/word_machine.rt, sha256 6034aa91281ac0e499abb104becbecf7f877964967f02ccf45af9672190bfb1b.
+// Erased by bindings/rust/erase from crates/words_machine/src/word_machine.rt, sha256 9730d1a6fb99b939d6da776b5f3d3be9fb274e5aa7db8b9d1bc6bb50f7156de2.
 //! A machine over words.
 
 use crate::kit::alloc::{AllocError, Allocator};

@@ -1,4 +1,4 @@
-// Erased by bindings/rust/erase from crates/service_follow/src/log_persister.rt, sha256 828779959814e8ebe8481d53b3cec046f9600f77951708241c0f7974f57c31da.
+// Erased by bindings/rust/erase from crates/service_follow/src/log_persister.rt, sha256 ed7a185517bb41250c64c2454f77a9545734db36751ba2ee037cb5156aebcb7a.
 //! Serves the clients of one front end over a log.
 
 use crate::kit::alloc::{AllocError, Allocator, Global};

@@ -1,4 +1,4 @@
-// Erased by bindings/rust/erase from crates/service_host/src/log_plan.rt, sha256 8bf4fd7f5b34b17acad3ec1a3610cd958dcc90394a21c87bf18101aa26b00e70.
+// Erased by bindings/rust/erase from crates/service_host/src/log_plan.rt, sha256 590fa1e9ba48081be4c8d5cdf14ca283169a236c937f853b6223eead91acec5a.
 //! A log in etcd that keeps the history of a hall.
 
 use crate::kit::alloc::Global;
@@ -68,6 +68,7 @@ impl<'r, R: Clock> Pause for Patience<'r, R> {
         true
     }
 
+    // Trusted, since no contract speaks of time: that the clock goes on, and that what it counts is a second.
     fn seconds(&self) -> u64 {
         let Some(made) = self.made else {
             return u64::MAX;

@@ -1,4 +1,4 @@
-// Erased by bindings/rust/erase from crates/service_host/src/persisters.rt, sha256 fa658db9dd5d3d136b89ee01b60550fa59fe0f47dee6ae3219ced4c70887d43c.
+// Erased by bindings/rust/erase from crates/service_host/src/persisters.rt, sha256 4d83bacec9383ad67a54504dc82690749354a373610e2e47bc5888d35eda4ad0.
 //! What is kept of the turns of a loop over a hall.
 
 use crate::kit::alloc::{Allocator, Global};

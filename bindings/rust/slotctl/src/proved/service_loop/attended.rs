@@ -1,4 +1,4 @@
-// Erased by bindings/rust/erase from crates/service_loop/src/attended.rt, sha256 5a7c872ac2d59e5dd765739151f09898ba105072158d088042829b14ea21360c.
+// Erased by bindings/rust/erase from crates/service_loop/src/attended.rt, sha256 ab08a88c4f9893cf16d5744258ed376b23d6e8bee7f245c82d1c672f70788303.
 //! A service, and who keeps the stays in its pool.
 
 use crate::proved::model_asked::event::Event;
@@ -70,6 +70,27 @@ impl<D> Attended<D> {
             self.stays.quit(ending.number);
         } else {
             self.stays.ended(ending.number, tick);
+        }
+    }
+
+    /// These connections ended at this tick, in this order.
+    pub fn end_all(&mut self, endings: &[Ending], tick: u64) {
+        for ending in endings {
+            self.end(*ending, tick);
+        }
+    }
+
+    /// Where an answer was lost, nobody keeps the stays from this tick on that may have begun by it.
+    pub fn end_lost(&mut self, lost: bool, tick: u64) {
+        if lost {
+            let number = NOBODY;
+            self.end(
+                Ending {
+                    number,
+                    by_quit: false,
+                },
+                tick,
+            );
         }
     }
 

@@ -1,4 +1,4 @@
-// Erased by bindings/rust/erase from crates/service_loop/src/connection.rt, sha256 7cd1b5739c0961910dcb44d4d88f0ddba4fba04f6e1c11e8bd0a4a11f391a4a6.
+// Erased by bindings/rust/erase from crates/service_loop/src/connection.rt, sha256 9a92a55e83bd00f3085ce6d5a31fb8761cb9da000fbb3b0c5d0ae39cd158b696.
 //! A connection: its stream, and what is held of it.
 
 use crate::kit::alloc::Allocator;
@@ -236,6 +236,16 @@ impl<S: Stream, A: Allocator> Connection<S, A> {
             self.buffers.fail();
         }
         self.peek = Some(peek);
+    }
+
+    /// It is at fault, and due: nothing more is sent to it. Returns true if it was idle, and is to be queued.
+    pub fn fail(&mut self) -> bool {
+        self.buffers.fail();
+        let is_idle = self.stage == ConnectionStage::Idle;
+        if is_idle {
+            self.stage = ConnectionStage::Queued;
+        }
+        is_idle
     }
 
     /// Its lines went to the persister, if any were, and what they are answered is not known: then it is at fault. It waits for its next turn.

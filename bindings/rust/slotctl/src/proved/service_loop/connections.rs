@@ -1,4 +1,4 @@
-// Erased by bindings/rust/erase from crates/service_loop/src/connections.rt, sha256 dc3b54ec6ff10333b067ad9d6ae46cde7c3d07c3065fc8822ff189a5af979552.
+// Erased by bindings/rust/erase from crates/service_loop/src/connections.rt, sha256 335b775e53249984ba94b27610ffb9a49a68855b3c0fbb544008ba6eaa5d82e6.
 //! The connections of a server, their seats, and who is to have a turn.
 
 use crate::kit::alloc::{AllocError, Global};
@@ -7,9 +7,11 @@ use crate::kit::mio::{Poll, Token};
 use crate::kit::Vec;
 use crate::proved::model_asked::kind::WorldKind;
 use crate::proved::model_pool::stays::stays::Stays;
-use crate::proved::service_loop::attended::Ending;
+use crate::proved::service_loop::attended::{Attended, Ending};
 use crate::proved::service_loop::buffers::Buffers;
 use crate::proved::service_loop::connection::{Connection, ConnectionStage};
+use crate::proved::service_loop::failing::fail_keepers;
+use crate::proved::service_loop::persist::Persist;
 use crate::proved::service_loop::socket::Socket;
 use std::mem;
 
@@ -222,31 +224,27 @@ impl ConnectionTable {
         Ok(())
     }
 
-    // The connection of a seat is at fault and due.
-    fn fail_one(&mut self, key: usize) -> Result<(), AllocError> {
-        let Some(connection) = self.seated(key) else {
-            return Ok(());
-        };
-        connection.buffers.fail();
-        if connection.stage == ConnectionStage::Idle {
-            connection.stage = ConnectionStage::Queued;
-            self.ready.push(key)?;
-        }
-        Ok(())
+    /// The connections that have ended keep no stay from this tick on. Where an answer was lost, nobody keeps a stay that may have begun by it.
+    pub fn note_ended<D>(&mut self, service: &mut Attended<D>, lost: bool, tick: u64) {
+        service.end_all(&self.ended, tick);
+        self.ended.clear();
+        service.end_lost(lost, tick);
     }
 
-    /// Each connection that keeps a stay is at fault and due: nothing more is sent to it.
+    /// Where the persister may not answer those who keep stays, each connection that keeps one is at fault and due.
     ///
     /// # Errors
     ///
     /// `AllocError`: the list of connections that are due could not grow.
-    pub fn fail_keepers(&mut self, stays: &Stays) -> Result<(), AllocError> {
-        for key in 0..self.seats.len() {
-            if key < self.numbers.len() && stays.keeps_any(self.numbers[key]) {
-                self.fail_one(key)?;
-            }
+    pub fn check_keepers<D, K: Persist<D>>(
+        &mut self,
+        persister: &K,
+        stays: &Stays,
+    ) -> Result<(), AllocError> {
+        if persister.may_answer_stays() {
+            return Ok(());
         }
-        Ok(())
+        fail_keepers(&mut self.seats, &self.numbers, stays, &mut self.ready)
     }
 
     /// After a turn in which the first `called` ready seats were called: those that have more to do are due again, behind the others.

@@ -1,4 +1,4 @@
-// Erased by bindings/rust/erase from crates/service_loop/src/hosting.rt, sha256 c1415c204652ca9e2b44db6ea0aeafe19942460ddefca37cdcf2ae560c232e3d.
+// Erased by bindings/rust/erase from crates/service_loop/src/hosting.rt, sha256 d91c91ab65aa1152edebf6e9fd466a72b1e65ae897716e1854147133c57fe220.
 //! A server in one thread, by the readiness of its sockets.
 
 use crate::kit::alloc::{AllocError, Global};
@@ -16,7 +16,7 @@ use crate::kit::time::{Duration, Instant};
 use crate::kit::String;
 use crate::proved::model_asked::kind::WorldKind;
 use crate::proved::service_loop::answering::answer_queries;
-use crate::proved::service_loop::attended::{Attended, Ending, NOBODY};
+use crate::proved::service_loop::attended::Attended;
 use crate::proved::service_loop::connection::Connection;
 use crate::proved::service_loop::connections::ConnectionTable;
 use crate::proved::service_loop::doors::{Accepted, Doors};
@@ -275,8 +275,7 @@ impl Hosting {
         self.accept_all()?;
         self.tell_full(errors);
         self.tell_tick(&mut service.service, persister)?;
-        self.end_stays(rt, service, persister, shared)?;
-        self.serve(rt, service, persister, shared)?;
+        self.serve_all(rt, service, persister, shared)?;
         self.tell_trouble(persister.trouble(), errors);
         self.tell_room(persister.lasting_tenths(), errors);
         self.tell_lost(errors);
@@ -405,6 +404,19 @@ impl Hosting {
         Ok(())
     }
 
+    // Hears which connections have ended, ends the stays that are due, and gives each connection that is due its turn. Whoever keeps a stay and may
+    // not be answered is sent nothing.
+    fn serve_all<R, D: Service<R>, K: Persist<D>>(
+        &mut self,
+        rt: &R,
+        service: &mut Attended<D>,
+        persister: &mut K,
+        shared: &mut SharedBuffers<Global>,
+    ) -> Result<(), HostFault<K::Fault>> {
+        self.end_stays(rt, service, persister, shared)?;
+        self.serve(rt, service, persister, shared)
+    }
+
     // Gives each connection that is due its turn.
     fn serve<R, D: Service<R>, K: Persist<D>>(
         &mut self,
@@ -413,22 +425,7 @@ impl Hosting {
         persister: &mut K,
         shared: &mut SharedBuffers<Global>,
     ) -> Result<(), HostFault<K::Fault>> {
-        let ConnectionTable {
-            seats,
-            numbers,
-            ready,
-            ..
-        } = &mut self.connections;
-        shared.share_among(ready.len());
-        let called = match &mut self.batch {
-            None => {
-                iterate(rt, service, persister, shared, seats, numbers, ready).map(Called::Served)
-            }
-            Some(batch) => {
-                iterate_prefetched(rt, service, persister, batch, shared, seats, numbers, ready)
-            }
-        };
-        match called {
+        match self.iterate_all(rt, service, persister, shared) {
             Ok(called) => {
                 self.note_lost(called);
                 self.take_numbers(rt, service, persister, shared, called)?;
@@ -436,6 +433,32 @@ impl Hosting {
                 self.settle(called.count())
             }
             Err(fault) => Err(HostFault::Persist(fault)),
+        }
+    }
+
+    // Makes one iteration over the connections that are due.
+    fn iterate_all<R, D: Service<R>, K: Persist<D>>(
+        &mut self,
+        rt: &R,
+        service: &mut Attended<D>,
+        persister: &mut K,
+        shared: &mut SharedBuffers<Global>,
+    ) -> Result<Called, K::Fault> {
+        let ConnectionTable {
+            seats,
+            numbers,
+            ready,
+            ..
+        } = &mut self.connections;
+        shared.share_among(ready.len());
+        match &mut self.batch {
+            None => {
+                let called = iterate(rt, service, persister, shared, seats, numbers, ready)?;
+                Ok(Called::Served(called))
+            }
+            Some(batch) => {
+                iterate_prefetched(rt, service, persister, batch, shared, seats, numbers, ready)
+            }
         }
     }
 
@@ -520,24 +543,7 @@ impl Hosting {
         Ok(())
     }
 
-    // The connections that have ended keep no stay from now on, and nobody keeps one of which it was lost whether it began.
-    fn note_ended<D>(&mut self, service: &mut Attended<D>) {
-        for ending in &self.connections.ended {
-            service.end(*ending, self.tick);
-        }
-        self.connections.ended.clear();
-        if self.lost {
-            service.end(
-                Ending {
-                    number: NOBODY,
-                    by_quit: false,
-                },
-                self.tick,
-            );
-        }
-    }
-
-    // Ends the stays that are due, where a second has passed or connections have ended, and any are to end.
+    // Hears which connections have ended, and ends the stays that are due. Whoever keeps a stay and may not be answered is at fault.
     fn end_stays<R, D: Service<R>, K: Persist<D>>(
         &mut self,
         rt: &R,
@@ -545,18 +551,28 @@ impl Hosting {
         persister: &mut K,
         shared: &mut SharedBuffers<Global>,
     ) -> Result<(), HostFault<K::Fault>> {
-        let looks = self.looks || self.has_ended();
-        self.note_ended(service);
+        let ended = self.has_ended();
+        self.connections.note_ended(service, self.lost, self.tick);
+        self.connections.check_keepers(persister, &service.stays)?;
+        self.end_if_due(rt, service, persister, shared, ended)
+    }
+
+    // Ends the stays that are due, where a second has passed or connections have ended, and any are to end.
+    fn end_if_due<R, D: Service<R>, K: Persist<D>>(
+        &mut self,
+        rt: &R,
+        service: &mut Attended<D>,
+        persister: &mut K,
+        shared: &mut SharedBuffers<Global>,
+        ended: bool,
+    ) -> Result<(), HostFault<K::Fault>> {
         let Some(grace) = self.options.grace else {
             return Ok(());
         };
         if service.lacks {
             return Err(HostFault::Memory);
         }
-        if !persister.may_answer_stays() {
-            self.connections.fail_keepers(&service.stays)?;
-        }
-        if !looks || (persister.shares_stays() && !self.looks) {
+        if !self.looks && (!ended || persister.shares_stays()) {
             return Ok(());
         }
         self.looks = false;

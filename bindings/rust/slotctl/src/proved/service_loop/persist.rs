@@ -1,4 +1,4 @@
-// Erased by bindings/rust/erase from crates/service_loop/src/persist.rt, sha256 7971f80249595e836cf855b0281bf5324cfe9754c452af99ac100c7c324d41c4.
+// Erased by bindings/rust/erase from crates/service_loop/src/persist.rt, sha256 bb189ebe9982b428dee553d85dc4c9a3da561e76c1ff4d914bb4df73c1cbe44b.
 //! What is kept of a turn before its replies go out.
 
 use crate::kit::alloc::Allocator;

@@ -1,4 +1,4 @@
-// Erased by bindings/rust/erase from crates/text_records/src/text.rt, sha256 12329bd4a0dd3cf4ac30162cedddc5004b89761e7440ddd2efb47531ecb8cad9.
+// Erased by bindings/rust/erase from crates/text_records/src/text.rt, sha256 fa8c6f08d07572f207f95a4b66c09657791e6e6171005da22afd2bf2764030ca.
 //! A text that grows.
 
 use crate::kit::alloc::{AllocError, Global};
@@ -21,6 +21,12 @@ impl Text {
     /// Returns the bytes.
     pub fn as_slice(&self) -> &[u8] {
         &self.bytes
+    }
+
+    /// Returns the bytes, and ends the buffer.
+    pub fn into_bytes(self) -> Vec<u8> {
+        let Text { bytes } = self;
+        bytes
     }
 
     /// Appends bytes.

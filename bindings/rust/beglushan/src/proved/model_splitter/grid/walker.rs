@@ -1,4 +1,4 @@
-// Erased by bindings/rust/erase from crates/model_splitter/src/grid/walker.rt, sha256 cc09ab81697671f45c0150a3eabf752100aba93d3aa359c99384cd761dae2bcc.
+// Erased by bindings/rust/erase from crates/model_splitter/src/grid/walker.rt, sha256 22fd84028405d4564dda6ce303e4cff5f368b1851cf3e4e7d727f0f768e2dc23.
 //! A walk from door to door.
 
 use crate::proved::model_splitter::grid::door::Door;
@@ -42,6 +42,7 @@ impl StepProgram for Walker {
         self.visitor.next()
     }
 
+    #[inline(always)]
     fn resume(&mut self, got: Answer<u64>) -> Note<Place> {
         match self.visitor.resume(got) {
             Note::Ended(Way::Stop) => Note::Ended(Place::from(self.door.number())),
