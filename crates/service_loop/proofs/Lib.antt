@@ -12,6 +12,7 @@ mod ReportedLemmas
 mod RoundLemmas
 mod SeatLemmas
 mod SendingLemmas
+mod TableLemmas
 mod TakingLemmas
 mod WaitingLemmas
 pub mod cited

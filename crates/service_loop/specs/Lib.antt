@@ -16,3 +16,4 @@ pub mod Taking
 pub mod Waiting
 pub mod Keepers
 pub mod Sendings
+pub mod Table

@@ -1,8 +1,9 @@
 //! The connections of a server, their seats, and who is to have a turn.
 
-ghost use Rattle.std.specs.Prelude.{◌≡◌, ◌≤◌, ◌+◌, ◌++◌, [], length, drop, IfOk, OnOk};
-ghost use Rattle.service_loop.specs.Attending.{Hears, acts_of_endings};
+ghost use Rattle.std.specs.Prelude.{◌≡◌, ◌≤◌, ◌<◌, ◌+◌, ◌^◌, ◌++◌, ◌∷◌, [], length, drop, get_or, None, IfOk, OnOk};
+ghost use Rattle.service_loop.specs.Attending.{Hears, acts_of_endings, number_at};
 ghost use Rattle.service_loop.specs.Keepers.{MayServe};
+ghost use Rattle.service_loop.specs.Table.{AreNumbered, ending_at, seat_over};
 ghost use Rattle.service_loop.specs.Sendings.{Unsent, sockets};
 
 use crate::attended::{Attended, Ending};
@@ -58,6 +59,28 @@ fn has_unsent(seat: &Option<Connection<Socket, Global>>) -> bool {
     }
 }
 
+// Whether whoever sits there said `quit`.
+fn is_over_at(seats: &[Option<Connection<Socket, Global>>], key: usize) -> bool
+    ensures { result ≡ seat_over (get_or seats.now key None) }
+{
+    if key < seats.len() {
+        if let Some(connection) = &seats[key] {
+            return connection.buffers.is_over();
+        }
+    }
+    false
+}
+
+// How many lines whoever sits there sent, and whether it is at fault.
+fn counts_at(seats: &[Option<Connection<Socket, Global>>], key: usize) -> (u64, bool) {
+    if key < seats.len() {
+        if let Some(connection) = &seats[key] {
+            return (connection.buffers.lines(), connection.buffers.is_broken());
+        }
+    }
+    (0, false)
+}
+
 impl ConnectionTable {
     /// No seats, for up to `clients` clients.
     ///
@@ -97,17 +120,23 @@ impl ConnectionTable {
     }
 
     // The connection that is given this seat has the next number.
+    #[tactic(auto, using(crate::proofs::TableLemmas::numbered_at))]
     fn number_seat(&mut self, key: usize)
-        ensures { self.new.open ≡ self.old.open }
+        ensures open { self.new.open ≡ self.old.open }
+        ensures numbered { key < length self.old.numbers.items → self.old.next + 1 < 2 ^ 64 → AreNumbered self.old.numbers.items self.old.next →
+            (number_at self.new.numbers.items key ≡ self.old.next) × AreNumbered self.new.numbers.items self.new.next }
     {
-        if let Some(number) = self.numbers.get_mut(key) {
-            *number = self.next;
+        if key < self.numbers.len() {
+            self.numbers[key] = self.next;
             self.next = self.next.saturating_add(1);
         }
     }
 
     // Notes that the connection of a seat has ended.
-    fn note_end(&mut self, key: usize, by_quit: bool) -> Result<(), AllocError> {
+    fn note_end(&mut self, key: usize, by_quit: bool) -> Result<(), AllocError>
+        ensures noted { OnOk result (key < length self.old.numbers.items → self.new.ended.items ≡ self.old.ended.items ++
+            record { number = number_at self.old.numbers.items key; by_quit = by_quit } ∷ []) }
+    {
         if key < self.numbers.len() {
             let number = self.numbers[key];
             self.ended.push(Ending { number, by_quit })?;
@@ -117,7 +146,8 @@ impl ConnectionTable {
 
     // Whoever sat there leaves, and this connection has the seat, or none. Says whether there is such a seat.
     fn fill(&mut self, key: usize, connection: Option<Connection<Socket, Global>>) -> bool
-        ensures { self.new.open ≡ self.old.open }
+        ensures open { self.new.open ≡ self.old.open }
+        ensures ended { self.new.ended ≡ self.old.ended }
     {
         match self.seats.get_mut(key) {
             Some(seat) => {
@@ -214,20 +244,22 @@ impl ConnectionTable {
     }
 
     // Notes of whoever sits there and leaves how many lines it sent, whether it leaves by a fault, and whether it said `quit`.
-    fn note_leaving(&mut self, key: usize) -> Result<(), AllocError> {
-        let (lines, broken, is_over) = match self.seated(key) {
-            Some(Connection { buffers, .. }) => {
-                (buffers.lines(), buffers.is_broken(), buffers.is_over())
-            }
-            None => (0, false, false),
-        };
+    fn note_leaving(&mut self, key: usize) -> Result<(), AllocError>
+        ensures noted { OnOk result (key < length self.old.numbers.items →
+            self.new.ended.items ≡ self.old.ended.items ++ ending_at self.old.numbers.items self.old.seats.items key ∷ []) }
+    {
+        let is_over = is_over_at(&self.seats, key);
+        let (lines, broken) = counts_at(&self.seats, key);
         self.lines = self.lines.saturating_add(lines);
         self.faults = self.faults.saturating_add(u64::from(broken));
         self.note_end(key, is_over)
     }
 
     // Whoever sits there leaves, and the seat is empty then.
-    fn leave(&mut self, key: usize) -> Result<(), AllocError> {
+    fn leave(&mut self, key: usize) -> Result<(), AllocError>
+        ensures noted { OnOk result (key < length self.old.numbers.items →
+            self.new.ended.items ≡ self.old.ended.items ++ ending_at self.old.numbers.items self.old.seats.items key ∷ []) }
+    {
         self.note_leaving(key)?;
         self.fill(key, None);
         let _ = self.empty.push(key);
