@@ -1,4 +1,4 @@
-// Erased by bindings/rust/erase from crates/service_loop/src/connections.rt, sha256 335b775e53249984ba94b27610ffb9a49a68855b3c0fbb544008ba6eaa5d82e6.
+// Erased by bindings/rust/erase from crates/service_loop/src/connections.rt, sha256 ca2c3d7112ecdb25aa24e4372b81cd9a4914cb8b5606c61885406722f5957bf7.
 //! The connections of a server, their seats, and who is to have a turn.
 
 use crate::kit::alloc::{AllocError, Global};
@@ -54,6 +54,26 @@ fn has_unsent(seat: &Option<Connection<Socket, Global>>) -> bool {
     }
 }
 
+// Whether whoever sits there said `quit`.
+fn is_over_at(seats: &[Option<Connection<Socket, Global>>], key: usize) -> bool {
+    if key < seats.len() {
+        if let Some(connection) = &seats[key] {
+            return connection.buffers.is_over();
+        }
+    }
+    false
+}
+
+// How many lines whoever sits there sent, and whether it is at fault.
+fn counts_at(seats: &[Option<Connection<Socket, Global>>], key: usize) -> (u64, bool) {
+    if key < seats.len() {
+        if let Some(connection) = &seats[key] {
+            return (connection.buffers.lines(), connection.buffers.is_broken());
+        }
+    }
+    (0, false)
+}
+
 impl ConnectionTable {
     /// No seats, for up to `clients` clients.
     ///
@@ -92,8 +112,8 @@ impl ConnectionTable {
 
     // The connection that is given this seat has the next number.
     fn number_seat(&mut self, key: usize) {
-        if let Some(number) = self.numbers.get_mut(key) {
-            *number = self.next;
+        if key < self.numbers.len() {
+            self.numbers[key] = self.next;
             self.next = self.next.saturating_add(1);
         }
     }
@@ -203,12 +223,8 @@ impl ConnectionTable {
 
     // Notes of whoever sits there and leaves how many lines it sent, whether it leaves by a fault, and whether it said `quit`.
     fn note_leaving(&mut self, key: usize) -> Result<(), AllocError> {
-        let (lines, broken, is_over) = match self.seated(key) {
-            Some(Connection { buffers, .. }) => {
-                (buffers.lines(), buffers.is_broken(), buffers.is_over())
-            }
-            None => (0, false, false),
-        };
+        let is_over = is_over_at(&self.seats, key);
+        let (lines, broken) = counts_at(&self.seats, key);
         self.lines = self.lines.saturating_add(lines);
         self.faults = self.faults.saturating_add(u64::from(broken));
         self.note_end(key, is_over)
