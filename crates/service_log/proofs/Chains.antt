@@ -4,7 +4,7 @@ use Rattle.std.proofs.Common.{length-append, Result, Ok, Err, IfOk, IfErr, ◌�
 use Rattle.service_log.specs.declared.replica.Step.{Step}
 use Rattle.service_log.specs.declared.replica.Step.TheVariants.{Nothing, Answered, Passed}
 use Rattle.service_log.specs.declared.serve_fault.Cause.{Cause}
-use Rattle.service_log.specs.declared.serve_fault.Cause.TheVariants.{Memory, Poisoned, Full, Busy, Store}
+use Rattle.service_log.specs.declared.serve_fault.Cause.TheVariants.{Memory, Damaged, Poisoned, Full, Busy, Store}
 use Rattle.service_log.specs.declared.serve_fault.ServeFault.{ServeFault}
 use Rattle.service_log.specs.declared.serve_fault.ServeFault.TheVariants.{TooLong, Unknown}
 use Rattle.service_log.specs.Places.{Adds, Keeps, Same}
@@ -127,6 +127,7 @@ module _ {M R : Type 0} (applies : M → List ℕ → R → M → Type 0) where
   pub fault_goes_on : (stands : ℕ → List ℕ → Type 0) (old new : ReplicaState M) (cause : Cause) → FaultLeaves old cause new → new.poisoned ≡ false → GoesOn applies stands old new
   fault_goes_on stands old new (Store fault) is well = same_goes_on stands old new new.behind is (ap (λ (r : ReplicaState M). r.poisoned) (sym is) ∙ well)
   fault_goes_on stands old new Memory is well = absurd (let bad : true ≡ false = sym is ∙ well in cc)
+  fault_goes_on stands old new Damaged is well = absurd (let bad : true ≡ false = sym is ∙ well in cc)
   fault_goes_on stands old new Poisoned is well = absurd (let bad : true ≡ false = sym is.0 ∙ (ap (λ (r : ReplicaState M). r.poisoned) (sym is.1) ∙ well) in cc)
   fault_goes_on stands old new Full is well = subst (GoesOn applies stands old) (sym is.1) (none_goes_on stands old (ap (λ (r : ReplicaState M). r.poisoned) (sym is.1) ∙ well))
   fault_goes_on stands old new Busy is well = absurd is
@@ -135,6 +136,7 @@ module _ {M R : Type 0} (applies : M → List ℕ → R → M → Type 0) where
   pub fault_ends : (old mid new : ReplicaState M) (cause : Cause) → mid.poisoned ≡ false → FaultLeaves mid cause new → EndsBy old cause new
   fault_ends old mid new (Store fault) well is = ap (λ (r : ReplicaState M). r.poisoned) is ∙ well
   fault_ends old mid new Memory well is = is
+  fault_ends old mid new Damaged well is = is
   fault_ends old mid new Poisoned well is = absurd (let bad : true ≡ false = sym is.0 ∙ well in cc)
   fault_ends old mid new Full well is = (subst (λ (r : ReplicaState M). MOST_PLACES ≤ r.place) (sym is.1) is.0, ap (λ (r : ReplicaState M). r.poisoned) is.1 ∙ well)
   fault_ends old mid new Busy well is = absurd is

@@ -1,7 +1,7 @@
 -- Replicas of a machine that apply the entries of one log (state machine replication: Schneider 1990).
 use Rattle.std.specs.Prelude.{◌≡◌, ◌≤◌, ℕ, ◌+◌, List, [], ◌∷◌, ◌++◌, length, false, true}
 use Rattle.service_log.specs.declared.serve_fault.Cause.{Cause}
-use Rattle.service_log.specs.declared.serve_fault.Cause.TheVariants.{Store, Memory, Poisoned, Full, Busy}
+use Rattle.service_log.specs.declared.serve_fault.Cause.TheVariants.{Store, Memory, Damaged, Poisoned, Full, Busy}
 use Rattle.service_log.specs.declared.serve_fault.ServeFault.{ServeFault}
 use Rattle.service_log.specs.declared.serve_fault.ServeFault.TheVariants.{TooLong, Unknown}
 use Rattle.service_log.specs.declared.store.TheConstants.{MOST_PLACES}
@@ -18,11 +18,12 @@ pub record AddsOnce (before : ℕ → List ℕ → Type 0) (batch : List ℕ) (a
   pub at : ℕ
   pub adds : Adds before at batch after
 
--- so a fault of a step leaves a replica: where an entry was to be applied and memory was refused it is poisoned, and else as it was, but that
--- it may be behind now. No place is left where all were applied, and no step learns that others came first
+-- so a fault of a step leaves a replica: where an entry was not applied it is poisoned, and else as it was, but that it may be
+-- behind now. No place is left where all were applied, and no step learns that others came first
 abbrev pub FaultLeaves : {M : Type 0} → ReplicaState M → Cause → ReplicaState M → Type 0
 FaultLeaves old (Store fault) new = new ≡ record old { behind = new.behind }
 FaultLeaves old Memory new = new.poisoned ≡ true
+FaultLeaves old Damaged new = new.poisoned ≡ true
 FaultLeaves old Poisoned new = (old.poisoned ≡ true) × (new ≡ old)
 FaultLeaves old Full new = (MOST_PLACES ≤ old.place) × (new ≡ old)
 FaultLeaves old Busy new = ⊥
@@ -31,6 +32,7 @@ FaultLeaves old Busy new = ⊥
 abbrev pub EndsBy : {M : Type 0} → ReplicaState M → Cause → ReplicaState M → Type 0
 EndsBy old (Store fault) new = new.poisoned ≡ false
 EndsBy old Memory new = new.poisoned ≡ true
+EndsBy old Damaged new = new.poisoned ≡ true
 EndsBy old Poisoned new = (old.poisoned ≡ true) × (new ≡ old)
 EndsBy old Full new = (MOST_PLACES ≤ new.place) × (new.poisoned ≡ false)
 EndsBy old Busy new = new.poisoned ≡ false

@@ -15,8 +15,8 @@
 //! more. It takes an entry of equal bytes for its own. So two batches that are meant as two entries must differ: let
 //! each begin with its own token.
 //!
-//! If an allocation fails while a machine applies an entry, nothing is known of the machine. Its replica is poisoned,
-//! and never answers again (`Cause::Poisoned`).
+//! If a machine does not apply an entry, since an allocation failed or the entry is damaged, nothing is known of the machine. Its replica is
+//! poisoned, and never answers again (`Cause::Poisoned`).
 //!
 //! From `tests_log/src/replica_tests.rt`, over a store that loses the answer to each put:
 //!
@@ -45,7 +45,7 @@ pub mod store_fault;
 
 pub use group::Group;
 pub use laws::{law_of_agreement, law_of_following, law_of_limits, law_of_memory};
-pub use machine::Machine;
+pub use machine::{ApplyFault, Machine};
 pub use memory_store::MemoryStore;
 pub use replica::{MOST_BATCH, MOST_STEPS, Replica, Step};
 pub use serve_fault::{Cause, ServeFault};

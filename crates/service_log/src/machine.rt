@@ -4,6 +4,21 @@ ghost use Rattle.std.specs.Prelude.{ℕ, List, OnOk};
 
 use std::alloc::AllocError;
 
+/// Why an entry was not applied.
+#[derive(Clone, Copy, Debug, Drop, PartialEq, Eq)]
+pub enum ApplyFault {
+    /// An allocation failed.
+    Memory,
+    /// The entry is damaged: it tells what no state can follow from.
+    Damaged,
+}
+
+impl From<AllocError> for ApplyFault {
+    fn from(_refused: AllocError) -> ApplyFault {
+        ApplyFault::Memory
+    }
+}
+
 /// A state machine that applies entries, each a list of bytes.
 pub trait Machine {
     /// The replies to an entry.
@@ -19,8 +34,11 @@ pub trait Machine {
     ///
     /// # Errors
     ///
-    /// `AllocError`: an allocation failed. Nothing is then known of the machine.
-    fn apply(&mut self, entry: &[u8], replies: &mut Self::Replies) -> Result<(), AllocError>
+    /// Nothing is known of the machine after either:
+    ///
+    /// - `Memory`: an allocation failed.
+    /// - `Damaged`: the entry is damaged.
+    fn apply(&mut self, entry: &[u8], replies: &mut Self::Replies) -> Result<(), ApplyFault>
         ensures { OnOk result (applies self.old entry.now replies.new self.new) };
 
     /// Replaces the replies by none.

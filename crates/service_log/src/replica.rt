@@ -98,7 +98,7 @@ impl<M: Machine> Replica<M> {
         self.place
     }
 
-    /// Returns true if and only if an allocation failed while it applied an entry.
+    /// Returns true if and only if it could not apply an entry.
     pub fn is_poisoned(&self) -> bool
         ensures { result ≡ self.now.poisoned }
     {
@@ -138,10 +138,10 @@ impl<M: Machine> Replica<M> {
             }
             Err(fault) => return Err(Cause::Store(fault)),
         }
-        let Ok(()) = self.machine.apply(&self.entry, replies) else {
+        if let Err(fault) = self.machine.apply(&self.entry, replies) {
             self.poisoned = true;
-            return Err(Cause::Memory);
-        };
+            return Err(Cause::of_apply(fault));
+        }
         self.place += 1;
         if self.entry.as_slice() == batch {
             Ok(Step::Answered)
@@ -174,10 +174,10 @@ impl<M: Machine> Replica<M> {
             Ok(Put::Taken) => return Ok(Step::Nothing),
             Err(fault) => return Err(Cause::Store(fault)),
         }
-        let Ok(()) = self.machine.apply(batch, replies) else {
+        if let Err(fault) = self.machine.apply(batch, replies) {
             self.poisoned = true;
-            return Err(Cause::Memory);
-        };
+            return Err(Cause::of_apply(fault));
+        }
         self.place += 1;
         self.behind = false;
         Ok(Step::Answered)
@@ -245,6 +245,7 @@ impl<M: Machine> Replica<M> {
     /// - `Full`: all 10^16 places of the log are used. Nothing has changed.
     /// - `Store`: the store failed. The replica is now behind.
     /// - `Memory`: an allocation failed while it applied an entry. The replica is now poisoned.
+    /// - `Damaged`: an entry of the log is damaged. The replica is now poisoned.
     pub fn step<S: Store>(
         &mut self,
         store: &mut S,
@@ -366,6 +367,7 @@ impl<M: Machine> Replica<M> {
     /// - `Poisoned`: the replica was poisoned before. Nothing of it has changed.
     /// - `Store`: the store failed.
     /// - `Memory`: an allocation failed while it applied an entry. The replica is now poisoned.
+    /// - `Damaged`: an entry of the log is damaged. The replica is now poisoned.
     pub fn catch_up<S: Store>(
         &mut self,
         store: &mut S,

@@ -1,5 +1,9 @@
 //! Why a replica does not answer a batch.
 
+ghost use Rattle.std.specs.Prelude.{◌≡◌};
+ghost use Rattle.service_log.specs.Causes.{cause_of_apply};
+
+use crate::machine::ApplyFault;
 use crate::store_fault::StoreFault;
 use std::error::Error;
 use std::fmt;
@@ -12,6 +16,8 @@ pub enum Cause {
     Store(StoreFault),
     /// An allocation failed while the replica applied an entry. This poisons the replica.
     Memory,
+    /// An entry of the log is damaged. This poisons the replica.
+    Damaged,
     /// The replica was poisoned before. Nothing is known of its machine, and it never goes on.
     Poisoned,
     /// The log has no place left.
@@ -20,12 +26,25 @@ pub enum Cause {
     Busy,
 }
 
+impl Cause {
+    /// The cause that is behind an entry which was not applied.
+    pub(crate) fn of_apply(fault: ApplyFault) -> Cause
+        ensures { result ≡ cause_of_apply fault }
+    {
+        match fault {
+            ApplyFault::Memory => Cause::Memory,
+            ApplyFault::Damaged => Cause::Damaged,
+        }
+    }
+}
+
 impl fmt::Display for Cause {
     fn fmt<W: fmt::Write>(&self, f: &mut fmt::Formatter<W>) -> fmt::Result {
         match self {
             Cause::Store(fault) => write!(f, "{fault}"),
             Cause::Memory => f.write_str("no memory to apply an entry"),
-            Cause::Poisoned => f.write_str("no memory was there to apply an earlier entry"),
+            Cause::Damaged => f.write_str("an entry of the log is damaged"),
+            Cause::Poisoned => f.write_str("an earlier entry was not applied"),
             Cause::Full => f.write_str("the log is full"),
             Cause::Busy => f.write_str("others came first"),
         }

@@ -1,5 +1,6 @@
 mod LfLemmas
 mod AnswerLemmas
+mod AttendanceLemmas
 mod AttendedLemmas
 mod BuffersLemmas
 mod CallLemmas

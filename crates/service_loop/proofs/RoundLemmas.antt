@@ -56,10 +56,6 @@ module _ {T K : Type 0} (may : T → Request → ShownReply → T → Type 0) (p
   pub served_waits : (k l : K) (w u : T) → waits k w l u → WasServed may prefetches persists waits k w l u
   served_waits k l w u done = (Waits ∷ [], (l, u, done, (refl, refl)))
 
-  pub served_maybe : (k l : K) (w u : T) → ((l ≡ k) × (u ≡ w)) ⊎ waits k w l u → WasServed may prefetches persists waits k w l u
-  served_maybe k l w u (inl same) = ([], same)
-  served_maybe k l w u (inr done) = served_waits k l w u done
-
   -- one thing was done after another
   done_then : (xs ys : List Deed) (k mid l : K) (w then u : T) → AllDone may prefetches persists waits k w xs mid then → AllDone may prefetches persists waits mid then ys l u → AllDone may prefetches persists waits k w (xs ++ ys) l u
   done_then [] ys k mid l w then u one two = subst (λ (m : K). AllDone may prefetches persists waits m w ys l u) one.0 (subst (λ (v : T). AllDone may prefetches persists waits mid v ys l u) one.1 two)
@@ -67,30 +63,3 @@ module _ {T K : Type 0} (may : T → Request → ShownReply → T → Type 0) (p
 
   pub served_then : (k mid l : K) (w then u : T) → WasServed may prefetches persists waits k w mid then → WasServed may prefetches persists waits mid then l u → WasServed may prefetches persists waits k w l u
   served_then k mid l w then u one two = (one.0 ++ two.0, done_then one.0 two.0 k mid l w then u one.1 two.1)
-
-  module _ {C : Type 0} (on : Seating C) where
-    -- a turn of the loop
-    pub served_turn : (k l : K) (w u : T) (seats seats' : List (Option C)) → LoopIteration on may persists k w seats l u seats' → WasServed may prefetches persists waits k w l u
-    served_turn k l w u seats seats' t = (Serves (all_turns t.log) ∷ [], (l, u, (t.reported, t.taken.run, t.kept), (refl, refl)))
-
-    -- and one whose answers were prefetched before
-    pub served_prefetched : (peek : C → Option Peek) (Due : C → Type 0) (kind : WorldKind) (k l : K) (w u : T) (lines : List ℕ) (seats seats' : List (Option C)) → PrefetchedIteration on peek Due may prefetches persists kind k w seats lines l u seats' →
-        WasServed may prefetches persists waits k w l u
-    served_prefetched peek Due kind k l w u lines seats seats' t =
-        let turn = served_turn t.prefetched_by l t.ready u t.gathered_seats seats' t.turn in
-        elim t.prefetched as (λ _. WasServed may prefetches persists waits k w l u) [
-          | inl none ↦ subst (λ (j : K). WasServed may prefetches persists waits j w l u) none.1 (subst (λ (v : T). WasServed may prefetches persists waits t.prefetched_by v l u) none.2 turn)
-          | inr prefetched ↦ (Prefetches lines ∷ turn.0, (t.prefetched_by, t.ready, prefetched, turn.1))
-        ]
-
-    -- the same of a turn by its result, where it went well
-    pub served_turned : {E : Type 0} (Due : C → Type 0) (r : Result ℕ E) (ready : List ℕ) (k l : K) (w u : T) (seats seats' : List (Option C)) → is_ok r ≡ true →
-        IfOk r (λ called. ServedIteration on may persists Due (take called ready) k w seats l u seats') → WasServed may prefetches persists waits k w l u
-    served_turned Due (Ok n) ready k l w u seats seats' is served = served_turn k l w u seats seats' served.turn
-    served_turned Due (Err fault) ready k l w u seats seats' is served = absurd (cc is)
-
-    pub served_called : {E : Type 0} (peek : C → Option Peek) (Due : C → Type 0) (kind : WorldKind) (r : Result Called E) (k l : K) (w u : T) (lines : List ℕ) (seats seats' : List (Option C)) → is_ok r ≡ true →
-        ((n : ℕ) → r ≡ Ok (called.Served n) → PrefetchedIteration on peek Due may prefetches persists kind k w seats lines l u seats') → ((n : ℕ) → r ≡ Ok (called.Unserved n) → waits k w l u) → WasServed may prefetches persists waits k w l u
-    served_called peek Due kind (Ok (called.Served n)) k l w u lines seats seats' is served lost = served_prefetched peek Due kind k l w u lines seats seats' (served n refl)
-    served_called peek Due kind (Ok (called.Unserved n)) k l w u lines seats seats' is served lost = served_waits k l w u (lost n refl)
-    served_called peek Due kind (Err fault) k l w u lines seats seats' is served lost = absurd (cc is)

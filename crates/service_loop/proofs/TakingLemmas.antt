@@ -156,29 +156,6 @@ module _ {C : Type 0} (on : Seating C) (ahead : Bool) where
           ];
         }
 
-  -- that numbers were taken is what a server does to its service and its persister
-  pub served_takings : {T K : Type 0} (may : T → Request → ShownReply → T → Type 0) (prefetches : K → T → List ℕ → K → T → Type 0) (persists waits : K → T → K → T → Type 0) (k l : K) (w u : T) (seats seats' : List (Option C)) →
-      TakingsKept on ahead may persists k w seats l u seats' → WasServed may prefetches persists waits k w l u
-  served_takings may prefetches persists waits k l w u seats seats' t = (Serves (all_turns t.log) ∷ [], (l, u, (t.reported, t.taken.run, t.kept), (refl, refl)))
-
-  -- and so it is where the answers were prefetched before
-  served_ahead : {T K : Type 0} (may : T → Request → ShownReply → T → Type 0) (prefetches : K → T → List ℕ → K → T → Type 0) (persists waits : K → T → K → T → Type 0) (k l : K) (w u : T) (lines : List ℕ) (seats seats' : List (Option C)) →
-      TakingsPrefetched on ahead may prefetches persists k w seats lines l u seats' → WasServed may prefetches persists waits k w l u
-  served_ahead {T = T} {K = K} may prefetches persists waits k l w u lines seats seats' t =
-      let turn = served_takings may prefetches persists waits t.prefetched_by l t.ready u seats seats' t.turn in
-      elim t.prefetched as (λ _. WasServed may prefetches persists waits k w l u) [
-        | inl none ↦ subst (λ (j : K). WasServed may prefetches persists waits j w l u) none.1 (subst (λ (v : T). WasServed may prefetches persists waits t.prefetched_by v l u) none.2 turn)
-        | inr prefetched ↦ (Prefetches lines ∷ turn.0, (t.prefetched_by, t.ready, prefetched, turn.1))
-      ]
-
-  -- or where they were not
-  pub served_prefetch : {T K E : Type 0} (may : T → Request → ShownReply → T → Type 0) (prefetches : K → T → List ℕ → K → T → Type 0) (persists waits : K → T → K → T → Type 0) (result : Result Called E) (k l : K) (w u : T) (lines : List ℕ)
-      (seats seats' : List (Option C)) → ((n : ℕ) → result ≡ Ok (called.Served n) → TakingsPrefetched on ahead may prefetches persists k w seats lines l u seats') → ((n : ℕ) → result ≡ Ok (called.Unserved n) → waits k w l u) →
-      OnOk result (WasServed may prefetches persists waits k w l u)
-  served_prefetch may prefetches persists waits (Ok (called.Served n)) k l w u lines seats seats' served lost = served_ahead may prefetches persists waits k l w u lines seats seats' (served n refl)
-  served_prefetch may prefetches persists waits (Ok (called.Unserved n)) k l w u lines seats seats' served lost = served_waits may prefetches persists waits k l w u (lost n refl)
-  served_prefetch may prefetches persists waits (Err e) k l w u lines seats seats' served lost = tt
-
 -- lines of events, one after another
 pub lines_append : (xs ys : List Event) → event_lines (xs ++ ys) ≡ event_lines xs ++ event_lines ys
 lines_append [] ys = refl

@@ -15,5 +15,6 @@ pub mod Losing
 pub mod Taking
 pub mod Waiting
 pub mod Keepers
+pub mod Attendance
 pub mod Sendings
 pub mod Table

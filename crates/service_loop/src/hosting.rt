@@ -1,7 +1,8 @@
 //! A server in one thread, by the readiness of its sockets.
 
-ghost use Rattle.std.specs.Prelude.{◌≡◌, ◌⊎◌, List, Option, true, OnOk};
+ghost use Rattle.std.specs.Prelude.{◌≡◌, ◌⊎◌, ℕ, List, Option, true, OnOk};
 ghost use Rattle.model_asked.specs.Requests.{Request};
+ghost use Rattle.service_loop.specs.Attendance.{WasAttended};
 ghost use Rattle.service_loop.specs.Attending.{Hears, acts_of_endings};
 ghost use Rattle.service_loop.specs.Keepers.{EndsAtTick, HearsAndEnds};
 ghost use Rattle.service_loop.specs.Releasing.{EndsDue};
@@ -192,14 +193,15 @@ pub fn host<R, D: Service<R>, K: Persist<D>, W: Write, E: Write>(
 where
     R: Net + Wait + Clock,
     requires { (q : Request) → D.knows q ≡ true }
-    ensures { OnOk result (WasServed D.may K.prefetches K.persists K.waits persister.old service.old.service persister.new service.new.service) }
+    ensures served { OnOk result (WasServed D.may K.prefetches K.persists K.waits persister.old service.old.service persister.new service.new.service) }
+    ensures attended { OnOk result (WasAttended D.may K.prefetches K.persists K.waits K.shares K.holds options.grace persister.old service.old persister.new service.new) }
 {
     let mut shared = SharedBuffers::new(alloc)?;
     let mut hosting = Hosting::new(rt, alloc, options, listeners, persister.most_prefetched())?;
     hosting.tell_listening(output)?;
     hosting.tell_trouble(persister.trouble(), errors);
     for _ in rt.forever() {
-        hosting.go_round(rt, service, persister, &mut shared, errors)?;
+        hosting.go_round(rt, options.grace, service, persister, &mut shared, errors)?;
         if hosting.is_over() {
             break;
         }
@@ -307,6 +309,7 @@ impl Hosting {
     fn go_round<R: Clock, D: Service<R>, K: Persist<D>, E: Write>(
         &mut self,
         rt: &R,
+        grace: Option<u64>,
         service: &mut Attended<D>,
         persister: &mut K,
         shared: &mut SharedBuffers<Global>,
@@ -315,13 +318,13 @@ impl Hosting {
         requires knows { (q : Request) → D.knows q ≡ true }
         requires room { AreShared shared.old }
         ensures room { AreShared shared.new }
-        ensures served { OnOk result (WasServed D.may K.prefetches K.persists K.waits persister.old service.old.service persister.new service.new.service) }
+        ensures attended { OnOk result (WasAttended D.may K.prefetches K.persists K.waits K.shares K.holds grace persister.old service.old persister.new service.new) }
     {
         self.wait(rt)?;
         self.accept_all()?;
         self.tell_full(errors);
         self.tell_tick(&mut service.service, persister)?;
-        self.serve_all(rt, service, persister, shared)?;
+        self.serve_all(rt, grace, service, persister, shared)?;
         self.tell_trouble(persister.trouble(), errors);
         self.tell_room(persister.lasting_tenths(), errors);
         self.tell_lost(errors);
@@ -455,6 +458,7 @@ impl Hosting {
     fn serve_all<R, D: Service<R>, K: Persist<D>>(
         &mut self,
         rt: &R,
+        grace: Option<u64>,
         service: &mut Attended<D>,
         persister: &mut K,
         shared: &mut SharedBuffers<Global>,
@@ -462,12 +466,12 @@ impl Hosting {
         requires knows { (q : Request) → D.knows q ≡ true }
         requires room { AreShared shared.old }
         ensures room { AreShared shared.new }
-        ensures served { OnOk result (WasServed D.may K.prefetches K.persists K.waits persister.old service.old.service persister.new service.new.service) }
+        ensures attended { OnOk result (WasAttended D.may K.prefetches K.persists K.waits K.shares K.holds grace persister.old service.old persister.new service.new) }
         ensures keepers { OnOk result ((heard : Attended D) × (seats : List (Option (Connection Socket Global))) ×
             Hears (acts_of_endings self.old.tick self.old.lost self.old.connections.ended.items) service.old heard ×
             SendsToKeepers sockets (K.may_answer persister.old) heard.stays self.old.connections.numbers.items self.old.connections.seats.items seats) }
     {
-        self.end_stays(rt, service, persister, shared)?;
+        self.end_stays(rt, grace, service, persister, shared)?;
         self.serve(rt, service, persister, shared)
     }
 
@@ -482,7 +486,7 @@ impl Hosting {
         requires knows { (q : Request) → D.knows q ≡ true }
         requires room { AreShared shared.old }
         ensures room { AreShared shared.new }
-        ensures served { OnOk result (WasServed D.may K.prefetches K.persists K.waits persister.old service.old.service persister.new service.new.service) }
+        ensures attended { (grace : Option ℕ) → OnOk result (WasAttended D.may K.prefetches K.persists K.waits K.shares K.holds grace persister.old service.old persister.new service.new) }
         ensures sent { OnOk result ((seats : List (Option (Connection Socket Global))) × HasSent sockets self.old.connections.seats.items seats) }
     {
         match self.iterate_all(rt, service, persister, shared) {
@@ -507,7 +511,7 @@ impl Hosting {
         requires knows { (q : Request) → D.knows q ≡ true }
         requires room { AreShared shared.old }
         ensures room { AreShared shared.new }
-        ensures served { OnOk result (WasServed D.may K.prefetches K.persists K.waits persister.old service.old.service persister.new service.new.service) }
+        ensures attended { (grace : Option ℕ) → OnOk result (WasAttended D.may K.prefetches K.persists K.waits K.shares K.holds grace persister.old service.old persister.new service.new) }
         ensures sent { OnOk result (HasSent sockets self.old.connections.seats.items self.new.connections.seats.items) }
     {
         let ConnectionTable {
@@ -540,7 +544,7 @@ impl Hosting {
         requires knows { (q : Request) → D.knows q ≡ true }
         requires room { AreShared shared.old }
         ensures room { AreShared shared.new }
-        ensures served { OnOk result (WasServed D.may K.prefetches K.persists K.waits persister.old service.old.service persister.new service.new.service) }
+        ensures attended { (grace : Option ℕ) → OnOk result (WasAttended D.may K.prefetches K.persists K.waits K.shares K.holds grace persister.old service.old persister.new service.new) }
         ensures sent { OnOk result (HasSent sockets self.old.connections.seats.items self.new.connections.seats.items) }
     {
         let Called::Served(count) = called else {
@@ -570,7 +574,7 @@ impl Hosting {
         requires knows { (q : Request) → D.knows q ≡ true }
         requires room { AreShared shared.old }
         ensures room { AreShared shared.new }
-        ensures served { OnOk result (WasServed D.may K.prefetches K.persists K.waits persister.old service.old.service persister.new service.new.service) }
+        ensures attended { (grace : Option ℕ) → OnOk result (WasAttended D.may K.prefetches K.persists K.waits K.shares K.holds grace persister.old service.old persister.new service.new) }
         ensures sent { OnOk result (HasSent sockets self.old.connections.seats.items self.new.connections.seats.items) }
     {
         let ConnectionTable {
@@ -629,6 +633,7 @@ impl Hosting {
     fn end_stays<R, D: Service<R>, K: Persist<D>>(
         &mut self,
         rt: &R,
+        grace: Option<u64>,
         service: &mut Attended<D>,
         persister: &mut K,
         shared: &mut SharedBuffers<Global>,
@@ -636,8 +641,8 @@ impl Hosting {
         requires knows { (q : Request) → D.knows q ≡ true }
         requires room { AreShared shared.old }
         ensures room { AreShared shared.new }
-        ensures served { OnOk result (WasServed D.may K.prefetches K.persists K.waits persister.old service.old.service persister.new service.new.service) }
-        ensures ends { OnOk result (HearsAndEnds K.may_answer (EndsDue D.may K.persists K.waits K.shares K.holds) self.old.options.grace self.old.looks self.old.tick
+        ensures attended { OnOk result (WasAttended D.may K.prefetches K.persists K.waits K.shares K.holds grace persister.old service.old persister.new service.new) }
+        ensures ends { OnOk result (HearsAndEnds K.may_answer (EndsDue D.may K.persists K.waits K.shares K.holds) grace self.old.looks self.old.tick
             (acts_of_endings self.old.tick self.old.lost self.old.connections.ended.items) self.old.connections.numbers.items self.new.connections.seats.items
             persister.old service.old persister.new service.new) }
         ensures unsent { OnOk result (Unsent sockets self.old.connections.seats.items self.new.connections.seats.items) }
@@ -645,13 +650,14 @@ impl Hosting {
         let ended = self.has_ended();
         self.connections.note_ended(service, self.lost, self.tick);
         self.connections.check_keepers(persister, &service.stays)?;
-        self.end_if_due(rt, service, persister, shared, ended)
+        self.end_if_due(rt, grace, service, persister, shared, ended)
     }
 
     // Ends the stays that are due, where a second has passed or connections have ended, and any are to end.
     fn end_if_due<R, D: Service<R>, K: Persist<D>>(
         &mut self,
         rt: &R,
+        grace: Option<u64>,
         service: &mut Attended<D>,
         persister: &mut K,
         shared: &mut SharedBuffers<Global>,
@@ -660,12 +666,11 @@ impl Hosting {
         requires knows { (q : Request) → D.knows q ≡ true }
         requires room { AreShared shared.old }
         ensures room { AreShared shared.new }
-        ensures served { OnOk result (WasServed D.may K.prefetches K.persists K.waits persister.old service.old.service persister.new service.new.service) }
-        ensures ends { OnOk result (EndsAtTick (EndsDue D.may K.persists K.waits K.shares K.holds) self.old.options.grace self.old.looks self.old.tick
+        ensures ends { OnOk result (EndsAtTick (EndsDue D.may K.persists K.waits K.shares K.holds) grace self.old.looks self.old.tick
             persister.old service.old persister.new service.new) }
         ensures table { self.new.connections ≡ self.old.connections }
     {
-        let Some(grace) = self.options.grace else {
+        let Some(grace) = grace else {
             return Ok(());
         };
         if service.lacks {

@@ -1,9 +1,25 @@
-//! Laws of what a connection takes.
+//! Laws of what a connection takes, and of stays that a server ends.
 
+ghost use Rattle.std.specs.Prelude.{ℕ, Option};
+ghost use Rattle.service_loop.specs.Attendance.{KeepsGrace};
 ghost use Rattle.service_loop.specs.ConnectionBuffers.{NeedsLf};
+
+use crate::persist::Persist;
+use model_pool::stays::law_of_grace;
+use text_player::Service;
 
 /// A law, which runs nothing, of what a connection takes (`Takes`), and so of each iteration of the loop (`LoopIteration`): by bytes with no LF among them
 /// there is no turn, at the end of what comes neither. So no event of an iteration is of a line that no LF ended.
 pub fn law_of_cut_lines()
     ensures { NeedsLf }
 {}
+
+/// A law, which runs nothing, of the stays that a server ends (`WasAttended`, of `host`).
+///
+/// A stay that is due has been graced: among all that was heard since the start, its keeper said `quit`, or ended at a tick more than the grace time
+/// before, and nobody has kept it since. Or nobody kept it at the start, and it was due by the table that was there then.
+pub fn law_of_hosted_grace<R, D: Service<R>, K: Persist<D>>()
+    ensures { (grace : Option ℕ) → KeepsGrace D.may K.prefetches K.persists K.waits K.shares K.holds grace }
+{
+    law_of_grace();
+}

@@ -24,7 +24,9 @@
 //! answers the last reply. This is kept before it is answered, like all else. Where answers are prefetched, the lines of that are a batch of their own
 //! (`prefetch_takings`).
 //!
-//! `host` is a whole server over sockets: it waits until some are ready (`mio`), gives those their turn, and closes who is at an end or idle.
+//! `host` is a whole server over sockets: it waits until some are ready (`mio`), gives those their turn, and closes who is at an end or idle. Its theorem
+//! (`WasAttended`): from its start to its end nothing else was done than such turns, each said of the numbers of its connections; what was heard
+//! of connections that ended, at a tick; and what was done to end the stays that are due then (`law_of_hosted_grace`).
 //!
 //! Not promised, and shown by running it: that a connection that is due has its turn soon, and what sockets carry.
 //!
@@ -78,7 +80,7 @@ pub use failing::fail_keepers;
 pub use gathering::{Batch, Called, gather, iterate_prefetched};
 pub use host_fault::HostFault;
 pub use hosting::{HostOptions, Hosted, host};
-pub use laws::law_of_cut_lines;
+pub use laws::{law_of_cut_lines, law_of_hosted_grace};
 pub use peek::Peek;
 pub use persist::{Persist, Prefetch, Tally};
 pub use releasing::{end_due, law_of_releases, release, release_all};

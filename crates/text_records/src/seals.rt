@@ -107,7 +107,8 @@ fn held_line(line: &[u8]) -> &[u8]
 pub fn opened_line(line: &[u8]) -> &[u8]
     ensures { result.now ≡ opened_line line.now }
 {
-    match after_front(line, b"{\"crc32c\":\"") {
+    // Four bytes tell it apart from a line of a record, which is the common one.
+    match after_front(line, b"{\"cr") {
         Some(_) => held_line(line),
         None => line,
     }

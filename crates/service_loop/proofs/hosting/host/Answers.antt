@@ -1,6 +1,7 @@
 use Rattle.std.proofs.Common.{◌++◌, []}
-use Rattle.service_loop.proofs.RoundLemmas.{always, owes_nothing, served_none, served_then}
-use Rattle.service_loop.specs.Rounds.{WasServed}
+use Rattle.service_loop.specs.Attendance.{WasAttended}
+use Rattle.service_loop.proofs.AttendanceLemmas.{attended_none, attended_then, was_served}
+use Rattle.service_loop.proofs.RoundLemmas.{always, ok_then, owes_nothing}
 use contract.BorrowLft.{⊑_meet, ⊑_refl, ⊑_static}
 use Rattle.service_loop.proofs.hosting.host.Goals.{in-None, in-Some+in_ok-go_round+then-is_over}
 use Rattle.service_loop.proofs.hosting.host.Goals as goal
@@ -16,38 +17,49 @@ into_iter-iterator-requires g c κs = λ within.
 pub loop-init : goal.loop-init
 loop-init g c = record {
   room = c.in_ok-shared.ensures;
-  served = served_none g.D.Service.may g.K.Persist.prefetches g.K.Persist.persists g.K.Persist.waits c.args.persister.now c.args.service.now.service;
+  attended = attended_none g.D.Service.may g.K.Persist.prefetches g.K.Persist.persists g.K.Persist.waits g.K.Persist.shares g.K.Persist.holds c.args.options.grace
+      c.args.persister.now c.args.service.now;
 }
 
 pub loop-preserved : goal.loop-preserved
 loop-preserved g c = record {
   room = c.go_round.ensures.room;
-  served = served_then g.D.Service.may g.K.Persist.prefetches g.K.Persist.persists g.K.Persist.waits _ _ _ _ _ _ c.loop.invariant.served c.in_ok-go_round.ensures.served;
+  attended = attended_then g.D.Service.may g.K.Persist.prefetches g.K.Persist.persists g.K.Persist.waits g.K.Persist.shares g.K.Persist.holds _ _ _ _ _ _ _
+      c.loop.invariant.attended c.in_ok-go_round.ensures.attended;
 }
 
-pub returns : goal.returns
-returns g c =
+pub returns-clause-attended : goal.returns-clause-attended
+returns-clause-attended g c =
     let may = g.D.Service.may in
     let prefetches = g.K.Persist.prefetches in
     let persists = g.K.Persist.persists in
     let waits = g.K.Persist.waits in
-    always c.tell_end.result (WasServed may prefetches persists waits c.args.persister.now c.args.service.now.service c.match-next.persister c.match-next.service.service)
-    (elim c.match-next.branch as (λ _. WasServed may prefetches persists waits c.args.persister.now c.args.service.now.service c.match-next.persister c.match-next.service.service) [
-      | in-None w ↦ rw (w.persister-is, w.service-is) c.loop.invariant.served
-      | in-Some+in_ok-go_round+then-is_over w ↦ rw (w.persister-is, w.service-is) (served_then may prefetches persists waits _ _ _ _ _ _ c.loop.invariant.served w.in_ok-go_round.ensures.served)
+    let shares = g.K.Persist.shares in
+    let holds = g.K.Persist.holds in
+    let grace = c.args.options.grace in
+    always c.tell_end.result _
+    (elim c.match-next.branch as (λ _. WasAttended may prefetches persists waits shares holds grace c.args.persister.now c.args.service.now c.match-next.persister c.match-next.service) [
+      | in-None w ↦ rw (w.persister-is, w.service-is) c.loop.invariant.attended
+      | in-Some+in_ok-go_round+then-is_over w ↦ rw (w.persister-is, w.service-is) (attended_then may prefetches persists waits shares holds grace _ _ _ _ _ _
+          c.loop.invariant.attended w.in_ok-go_round.ensures.attended)
     ])
+
+pub returns-clause-served : goal.returns-clause-served
+returns-clause-served g c =
+    ok_then c.tell_end.result _ _ (was_served g.D.Service.may g.K.Persist.prefetches g.K.Persist.persists g.K.Persist.waits g.K.Persist.shares g.K.Persist.holds c.args.options.grace _ _ _ _)
+    (returns-clause-attended g c)
 
 pub go_round-requires : goal.go_round-requires
 go_round-requires g c = record { knows = c.requires; room = c.loop.invariant.room }
 
 pub returns-in_err-shared : goal.returns-in_err-shared
-returns-in_err-shared g c = owes_nothing c.from_residual.result _ c.from_residual.ensures.0
+returns-in_err-shared g c = record { served = owes_nothing c.from_residual.result _ c.from_residual.ensures.0; attended = owes_nothing c.from_residual.result _ c.from_residual.ensures.0 }
 
 pub returns-in_err-hosting : goal.returns-in_err-hosting
-returns-in_err-hosting g c = owes_nothing c.from_residual-in_err-hosting.result _ c.from_residual-in_err-hosting.ensures.0
+returns-in_err-hosting g c = record { served = owes_nothing c.from_residual-in_err-hosting.result _ c.from_residual-in_err-hosting.ensures.0; attended = owes_nothing c.from_residual-in_err-hosting.result _ c.from_residual-in_err-hosting.ensures.0 }
 
 pub returns-in_err-tell_listening : goal.returns-in_err-tell_listening
-returns-in_err-tell_listening g c = owes_nothing c.from_residual-in_err-tell_listening.result _ c.from_residual-in_err-tell_listening.ensures.0
+returns-in_err-tell_listening g c = record { served = owes_nothing c.from_residual-in_err-tell_listening.result _ c.from_residual-in_err-tell_listening.ensures.0; attended = owes_nothing c.from_residual-in_err-tell_listening.result _ c.from_residual-in_err-tell_listening.ensures.0 }
 
 pub returns-in_err-go_round : goal.returns-in_err-go_round
-returns-in_err-go_round g c = owes_nothing c.from_residual-in_err-go_round.result _ c.from_residual-in_err-go_round.ensures.0
+returns-in_err-go_round g c = record { served = owes_nothing c.from_residual-in_err-go_round.result _ c.from_residual-in_err-go_round.ensures.0; attended = owes_nothing c.from_residual-in_err-go_round.result _ c.from_residual-in_err-go_round.ensures.0 }

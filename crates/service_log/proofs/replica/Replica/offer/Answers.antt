@@ -12,11 +12,6 @@ returns-in-Err-clause-adds g c =
     let stands = g.S.Store.stands in
     subst (λ (at : ℕ). Adds (stands c.args.store.now) at c.args.batch.now (stands c.put.new.self)) (ap (λ q. q.place) c.self.view_is) c.put.ensures.adds
 
-pub returns-in_default-clause-adds : goal.returns-in_default-clause-adds
-returns-in_default-clause-adds g c =
-    let stands = g.S.Store.stands in
-    subst (λ (at : ℕ). Adds (stands c.args.store.now) at c.args.batch.now (stands c.put.new.self)) (ap (λ q. q.place) c.self.view_is) c.put.ensures.adds
-
 pub returns-clause-adds : goal.returns-clause-adds
 returns-clause-adds g c =
     let stands = g.S.Store.stands in

@@ -1,19 +1,10 @@
 -- To end stays is what a server does to its service and its persister.
-use Rattle.std.proofs.Common.{OnOk, ap, subst, sym}
+use Rattle.std.proofs.Common.{ap, subst, sym}
 use Rattle.service_loop.specs.Keepers.{MayServe}
-use Rattle.service_loop.specs.Rounds.{WasServed}
 use Rattle.service_loop.specs.Sendings.{Unsent, sockets}
+use Rattle.service_loop.proofs.AttendanceLemmas.{attended_ends}
 use Rattle.service_loop.proofs.RoundLemmas.{always, ok_then}
 use Rattle.service_loop.proofs.hosting.Hosting.end_stays.Goals as goal
-
-pub returns-clause-served : goal.returns-clause-served
-returns-clause-served g c =
-    let may = g.D.Service.may in
-    let prefetches = g.K.Persist.prefetches in
-    let persists = g.K.Persist.persists in
-    let waits = g.K.Persist.waits in
-    subst (λ d. OnOk c.end_if_due.result (WasServed may prefetches persists waits c.args.persister.now d c.end_if_due.new.persister c.end_if_due.new.service.service)) c.note_ended.ensures.same
-    c.end_if_due.ensures.served
 
 pub returns-clause-ends : goal.returns-clause-ends
 returns-clause-ends g c =
@@ -29,6 +20,12 @@ returns-clause-ends g c =
           (subst (λ l. MayServe may heard.stays l checked) (ap (λ x. x.items) c.note_ended.ensures.table.0) c.in_ok-check_keepers.ensures.serves);
       ended = ended;
     }) c.end_if_due.ensures.ends
+
+pub returns-clause-attended : goal.returns-clause-attended
+returns-clause-attended g c =
+    let ends = returns-clause-ends g c in
+    ok_then c.end_if_due.result _ _ (attended_ends g.D.Service.may g.K.Persist.prefetches g.K.Persist.persists g.K.Persist.waits g.K.Persist.shares g.K.Persist.holds c.args.grace
+        c.args.self.now.looks c.args.self.now.tick c.args.self.now.lost c.args.self.now.connections.ended.items _ _ _ _ _ _) ends
 
 pub returns-clause-unsent : goal.returns-clause-unsent
 returns-clause-unsent g c =

@@ -2,29 +2,31 @@
 use Rattle.std.proofs.Common.{◌≡◌, ◌∙◌, sym}
 use Rattle.service_loop.specs.declared.connection.ConnectionStage.TheVariants as stage
 use Rattle.service_loop.specs.Sendings.{sockets}
-use Rattle.service_loop.proofs.RoundLemmas.{served_prefetched, served_turn, served_waits}
+use Rattle.service_loop.proofs.AttendanceLemmas.{attended_lost, attended_prefetched, attended_turn}
 use Rattle.service_loop.proofs.SendingLemmas.{has_sent_back, has_sent_gathered, has_sent_prefetched, has_sent_then, has_sent_turn, sent_called}
 use Rattle.service_loop.proofs.hosting.Hosting.iterate_all.Goals as goal
 
-pub returns-in_ok-called-in-None-clause-served : goal.returns-in_ok-called-in-None-clause-served
-returns-in_ok-called-in-None-clause-served g c =
-    served_turn g.D.Service.may g.K.Persist.prefetches g.K.Persist.persists g.K.Persist.waits sockets _ _ _ _ _ _ c.in_ok-called-in-None.ensures.turned.0.turn
+pub returns-in_ok-called-in-None-clause-attended : goal.returns-in_ok-called-in-None-clause-attended
+returns-in_ok-called-in-None-clause-attended g c = λ grace.
+    let t = c.in_ok-called-in-None.ensures.turned in
+    attended_turn g.D.Service.may g.K.Persist.prefetches g.K.Persist.persists g.K.Persist.waits g.K.Persist.shares g.K.Persist.holds grace sockets _ _ _ _ _ _ _ t.0.turn t.1
 
 pub returns-in_ok-called-in-None-clause-sent : goal.returns-in_ok-called-in-None-clause-sent
 returns-in_ok-called-in-None-clause-sent g c =
     let t = c.in_ok-called-in-None.ensures.turned.0.turn in
     has_sent_back sockets _ _ _ c.iterate.new.seats c.deref_mut.ensures.value (sym c.deref_mut.ensures.len) (t.sent.many ∙ t.taken.many) (has_sent_turn sockets g.D.Service.may g.K.Persist.persists _ _ _ _ _ _ t)
 
-pub returns-in-Some-clause-served : goal.returns-in-Some-clause-served
-returns-in-Some-clause-served g c =
+pub returns-in-Some-clause-attended : goal.returns-in-Some-clause-attended
+returns-in-Some-clause-attended g c = λ grace.
     let may = g.D.Service.may in
     let prefetches = g.K.Persist.prefetches in
     let persists = g.K.Persist.persists in
     let waits = g.K.Persist.waits in
     let e = c.iterate_prefetched.ensures in
     sent_called c.iterate_prefetched.result _
-    (λ n is. served_prefetched may prefetches persists waits sockets (λ x. x.peek) (λ x. x.stage ≡ stage.Queued) _ _ _ _ _ _ _ _ (e.served n is).0)
-    (λ n is. served_waits may prefetches persists waits _ _ _ _ (e.lost n is).0)
+    (λ n is. let t = e.served n is in
+    attended_prefetched may prefetches persists waits g.K.Persist.shares g.K.Persist.holds grace sockets (λ x. x.peek) (λ x. x.stage ≡ stage.Queued) _ _ _ _ _ _ _ _ _ t.0 t.1)
+    (λ n is. attended_lost may prefetches persists waits g.K.Persist.shares g.K.Persist.holds grace c.in-Some.batch.kind c.iterate_prefetched.new.batch.lines.items _ _ _ _ (e.lost n is))
 
 pub returns-in-Some-clause-sent : goal.returns-in-Some-clause-sent
 returns-in-Some-clause-sent g c =
