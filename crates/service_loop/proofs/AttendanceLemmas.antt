@@ -16,7 +16,7 @@ use Rattle.service_loop.specs.declared.attended.Attended.{Attended}
 use Rattle.service_loop.specs.declared.attended.Ending.{Ending}
 use Rattle.service_loop.specs.declared.attended.TheConstants.{NOBODY}
 use Rattle.service_loop.specs.Attendance.{AllAttended, AreHeard, AreLeft, AreLost, AttendedBy, AttendedDeed, EndsStays, KeepsGrace, WasAttended}
-use Rattle.service_loop.specs.Attendance.AttendedDeed.{Waits, Prefetches, Serves, Loses, Ends}
+use Rattle.service_loop.specs.Attendance.AttendedDeed.{Waits, Prefetches, Serves, Takes, Loses, Ends}
 use Rattle.service_loop.specs.Attending.{Hears, acts_in, acts_of_endings, number_at}
 use Rattle.service_loop.specs.Gathering.{PrefetchedIteration}
 use Rattle.service_loop.specs.Keepers.{EndsAtTick, HearsAndEnds}
@@ -96,12 +96,12 @@ lost_all kind stays (line ∷ lines) =
     let one = lost_act stays (entered_by (meaning kind line)) in
     lost_append one (lost_acts kind (after_acts stays one) lines) (lost_one stays (entered_by (meaning kind line))) (lost_all kind (after_acts stays one) lines)
 
-module _ {D K : Type 0} (may : D → Request → ShownReply → D → Type 0) (prefetches : K → D → List ℕ → K → D → Type 0) (persists waits : K → D → K → D → Type 0) (shares : K → Bool) (holds : K → D → SlotsState ℕ) (grace : Option ℕ) where
+module _ {C D K : Type 0} (on : Seating C) (may : D → Request → ShownReply → D → Type 0) (prefetches : K → D → List ℕ → K → D → Type 0) (persists waits : K → D → K → D → Type 0) (shares : K → Bool) (holds : K → D → SlotsState ℕ) (grace : Option ℕ) where
   abbrev Was : K → Attended D → K → Attended D → Type 0
-  Was k w l u = WasAttended may prefetches persists waits shares holds grace k w l u
+  Was k w l u = WasAttended on may prefetches persists waits shares holds grace k w l u
 
   abbrev All : K → Attended D → List AttendedDeed → K → Attended D → Type 0
-  All k w deeds l u = AllAttended may prefetches persists waits shares holds grace k w deeds l u
+  All k w deeds l u = AllAttended on may prefetches persists waits shares holds grace k w deeds l u
 
   -- nothing was done
   pub attended_none : (k : K) (w : Attended D) → Was k w k w
@@ -130,32 +130,53 @@ module _ {D K : Type 0} (may : D → Request → ShownReply → D → Type 0) (p
   attended_ends passed tick lost endings numbers seats k l w u h =
       (Ends passed tick lost endings ∷ [], (l, u, record { heard = h.heard; hears = h.hears; same = h.same; ended = h.ended }, (refl, refl)))
 
-  -- turns were taken and kept
-  served : (numbers : List ℕ) (log : TurnLog) (k l : K) (w u : Attended D) (reported : D) → Runs may w.service (all_turns log) reported → persists k reported l u.service → Hears (acts_in (number_at numbers) log) w u → Was k w l u
-  served numbers log k l w u reported run kept hears = (Serves numbers log ∷ [], (l, u, (reported, run, kept, hears), (refl, refl)))
+  -- connections took turns
+  pub attended_turn : (numbers : List ℕ) (k l : K) (w u : Attended D) (seats seats' : List (Option C)) → (t : LoopIteration on may persists k w.service seats l u.service seats') → Hears (acts_in (number_at numbers) t.log) w u → Was k w l u
+  attended_turn numbers k l w u seats seats' t hears =
+      (Serves numbers t.log ∷ [], (l, u, record { seats = seats; seats' = seats'; turn = t; log_is = refl; hears = hears }, (refl, refl)))
 
-  -- and before them their answers were prefetched, where there were any
-  prefetched_then : (lines numbers : List ℕ) (log : TurnLog) (k mid l : K) (w u : Attended D) (ready reported : D) → ((lines ≡ []) × (mid ≡ k) × (ready ≡ w.service)) ⊎ prefetches k w.service lines mid ready →
-      Runs may ready (all_turns log) reported → persists mid reported l u.service → Hears (acts_in (number_at numbers) log) w u → Was k w l u
-  prefetched_then lines numbers log k mid l w u ready reported (inl none) run kept hears =
-      served numbers log k l w u reported (subst (λ (d : D). Runs may d (all_turns log) reported) none.2 run) (subst (λ (m : K). persists m reported l u.service) none.1 kept) hears
-  prefetched_then lines numbers log k mid l w u ready reported (inr done) run kept hears =
+  -- or numbers
+  pub attended_takings : (ahead : Bool) (numbers : List ℕ) (k l : K) (w u : Attended D) (seats seats' : List (Option C)) → (t : TakingsKept on ahead may persists k w.service seats l u.service seats') → Hears (acts_in (number_at numbers) t.log) w u → Was k w l u
+  attended_takings ahead numbers k l w u seats seats' t hears =
+      (Takes numbers t.log ∷ [], (l, u, record { ahead = ahead; seats = seats; seats' = seats'; taking = t; log_is = refl; hears = hears }, (refl, refl)))
+
+  -- before them their answers were prefetched, where there were any
+  prefetched_then : (lines : List ℕ) (k mid l : K) (w u : Attended D) (ready : D) → ((lines ≡ []) × (mid ≡ k) × (ready ≡ w.service)) ⊎ prefetches k w.service lines mid ready → Was mid (record w { service = ready }) l u → Was k w l u
+  prefetched_then lines k mid l w u ready (inl none) later =
+      subst (λ (m : K). Was m w l u) none.1 (subst (λ (d : D). Was mid (record w { service = d }) l u) none.2 later)
+  prefetched_then lines k mid l w u ready (inr done) later =
       let after = record w { service = ready } in
-      attended_then k mid l w after u (Prefetches lines ∷ [], (mid, after, (done, inside w ready), (refl, refl)))
-      (served numbers log mid l after u reported run kept (outside w ready u hears))
+      attended_then k mid l w after u (Prefetches lines ∷ [], (mid, after, (done, inside w ready), (refl, refl))) later
+
+  pub attended_prefetched : (peek : C → Option Peek) (Due : C → Type 0) (kind : WorldKind) (numbers : List ℕ) (k l : K) (w u : Attended D) (lines : List ℕ) (seats seats' : List (Option C)) →
+      (t : PrefetchedIteration on peek Due may prefetches persists kind k w.service seats lines l u.service seats') → Hears (acts_in (number_at numbers) t.turn.log) w u → Was k w l u
+  attended_prefetched peek Due kind numbers k l w u lines seats seats' t hears =
+      prefetched_then lines k t.prefetched_by l w u t.ready t.prefetched
+      (attended_turn numbers t.prefetched_by l (record w { service = t.ready }) u t.gathered_seats seats' t.turn (outside w t.ready u hears))
+
+  pub attended_takings_prefetched : (ahead : Bool) (numbers : List ℕ) (k l : K) (w u : Attended D) (lines : List ℕ) (seats seats' : List (Option C)) →
+      (t : TakingsPrefetched on ahead may prefetches persists k w.service seats lines l u.service seats') → Hears (acts_in (number_at numbers) t.turn.log) w u → Was k w l u
+  attended_takings_prefetched ahead numbers k l w u lines seats seats' t hears =
+      prefetched_then lines k t.prefetched_by l w u t.ready t.prefetched
+      (attended_takings ahead numbers t.prefetched_by l (record w { service = t.ready }) u seats seats' t.turn (outside w t.ready u hears))
 
   -- so it is what a server does to its service and its persister
-  served_ends : (passed : Bool) (tick : ℕ) (acts : List Act) (k l : K) (w u : Attended D) → EndsStays may prefetches persists waits shares holds grace passed tick acts k w l u → WasServed may prefetches persists waits k w.service l u.service
+  served_ends : (passed : Bool) (tick : ℕ) (acts : List Act) (k l : K) (w u : Attended D) → EndsStays on may prefetches persists waits shares holds grace passed tick acts k w l u → WasServed may prefetches persists waits k w.service l u.service
   served_ends passed tick acts k l w u e = subst (λ (d : D). WasServed may prefetches persists waits k d l u.service) e.same
       (elim e.ended.only as (λ _. WasServed may prefetches persists waits k e.heard.service l u.service) [
         | inl none ↦ rw (none.0, none.1) (served_none may prefetches persists waits k e.heard.service)
         | inr some ↦ served_due may prefetches persists waits shares holds _ k l e.heard u some.2
       ])
 
-  served_by : (deed : AttendedDeed) (k l : K) (w u : Attended D) → AttendedBy may prefetches persists waits shares holds grace k w deed l u → WasServed may prefetches persists waits k w.service l u.service
+  served_by : (deed : AttendedDeed) (k l : K) (w u : Attended D) → AttendedBy on may prefetches persists waits shares holds grace k w deed l u → WasServed may prefetches persists waits k w.service l u.service
   served_by Waits k l w u by = served_waits may prefetches persists waits k l w.service u.service by.0
   served_by (Prefetches lines) k l w u by = (Deed.Prefetches lines ∷ [], (l, u.service, by.0, (refl, refl)))
-  served_by (Serves numbers log) k l w u by = (Deed.Serves (all_turns log) ∷ [], (l, u.service, (by.0, by.1, by.2), (refl, refl)))
+  served_by (Serves numbers log) k l w u by =
+      let t = by.turn in
+      (Deed.Serves (all_turns t.log) ∷ [], (l, u.service, (t.reported, t.taken.run, t.kept), (refl, refl)))
+  served_by (Takes numbers log) k l w u by =
+      let t = by.taking in
+      (Deed.Serves (all_turns t.log) ∷ [], (l, u.service, (t.reported, t.taken.run, t.kept), (refl, refl)))
   served_by (Loses kind lines) k l w u by = served_waits may prefetches persists waits k l w.service u.service by.0
   served_by (Ends passed tick lost endings) k l w u by = served_ends passed tick (acts_of_endings tick lost endings) k l w u by
 
@@ -187,7 +208,7 @@ module _ {D K : Type 0} (may : D → Request → ShownReply → D → Type 0) (p
       let turns = r.released.turns in
       (freed_in turns ++ [], hears_then (freed_in turns) [] w r.reported u r.released.heard r.same, left_append (freed_in turns) [] (left_in turns) tt)
 
-  heard_ends : (passed : Bool) (tick : ℕ) (lost : Bool) (endings : List Ending) (k l : K) (w u : Attended D) → EndsStays may prefetches persists waits shares holds grace passed tick (acts_of_endings tick lost endings) k w l u → HeardFirst (Ends passed tick lost endings) w u
+  heard_ends : (passed : Bool) (tick : ℕ) (lost : Bool) (endings : List Ending) (k l : K) (w u : Attended D) → EndsStays on may prefetches persists waits shares holds grace passed tick (acts_of_endings tick lost endings) k w l u → HeardFirst (Ends passed tick lost endings) w u
   heard_ends passed tick lost endings k l w u e =
       let first = acts_of_endings tick lost endings in
       let left : LeftBy e.heard u = elim e.ended.only as (λ _. LeftBy e.heard u) [
@@ -196,10 +217,11 @@ module _ {D K : Type 0} (may : D → Request → ShownReply → D → Type 0) (p
       ] in
       (first ++ left.0, hears_then first left.0 w e.heard u e.hears left.1, λ deeds rest later. (left.0, rest, append_assoc first left.0 rest, left.2, later))
 
-  heard_by : (deed : AttendedDeed) (k l : K) (w u : Attended D) → AttendedBy may prefetches persists waits shares holds grace k w deed l u → HeardFirst deed w u
+  heard_by : (deed : AttendedDeed) (k l : K) (w u : Attended D) → AttendedBy on may prefetches persists waits shares holds grace k w deed l u → HeardFirst deed w u
   heard_by Waits k l w u by = ([], by.1, λ deeds rest later. later)
   heard_by (Prefetches lines) k l w u by = ([], by.1, λ deeds rest later. later)
-  heard_by (Serves numbers log) k l w u by = (acts_in (number_at numbers) log, by.3, λ deeds rest later. (rest, refl, later))
+  heard_by (Serves numbers log) k l w u by = (acts_in (number_at numbers) log, by.hears, λ deeds rest later. (rest, refl, later))
+  heard_by (Takes numbers log) k l w u by = (acts_in (number_at numbers) log, by.hears, λ deeds rest later. (rest, refl, later))
   heard_by (Loses kind lines) k l w u by =
       let lost = lost_acts kind w.stays (whole_lines lines) in
       (lost, by.1, λ deeds rest later. (lost, rest, refl, lost_all kind w.stays (whole_lines lines), later))
@@ -219,30 +241,10 @@ module _ {D K : Type 0} (may : D → Request → ShownReply → D → Type 0) (p
       (h.stays_are well).1 ∙ rw kept refl
 
   pub keeps_grace : ((g tick : ℕ) (first : List KeptStay) (acts : List Act) (stay : KeptStay) → Has stay (after_acts first acts) → IsDue g tick stay.keeper → IsGraced g tick first acts stay) →
-      KeepsGrace may prefetches persists waits shares holds grace
+      KeepsGrace on may prefetches persists waits shares holds grace
   keeps_grace law = λ k mid l w v u deeds passed tick lost endings all e keeps well g stay has due.
       let heard = heard_all deeds k mid w v all in
       let ends = acts_of_endings tick lost endings in
       let acts = heard.0 ++ ends in
       let is = table_after acts w e.heard (hears_then heard.0 ends w v e.heard heard.2 e.hears) keeps well in
       (heard.0, heard.1, law g tick w.stays acts stay (subst (Has stay) is has) due)
-
-  module _ {C : Type 0} (on : Seating C) where
-    -- a turn of the loop
-    pub attended_turn : (numbers : List ℕ) (k l : K) (w u : Attended D) (seats seats' : List (Option C)) → (t : LoopIteration on may persists k w.service seats l u.service seats') → Hears (acts_in (number_at numbers) t.log) w u → Was k w l u
-    attended_turn numbers k l w u seats seats' t hears = served numbers t.log k l w u t.reported t.taken.run t.kept hears
-
-    -- and one whose answers were prefetched before
-    pub attended_prefetched : (peek : C → Option Peek) (Due : C → Type 0) (kind : WorldKind) (numbers : List ℕ) (k l : K) (w u : Attended D) (lines : List ℕ) (seats seats' : List (Option C)) →
-        (t : PrefetchedIteration on peek Due may prefetches persists kind k w.service seats lines l u.service seats') → Hears (acts_in (number_at numbers) t.turn.log) w u → Was k w l u
-    attended_prefetched peek Due kind numbers k l w u lines seats seats' t hears =
-        prefetched_then lines numbers t.turn.log k t.prefetched_by l w u t.ready t.turn.reported t.prefetched t.turn.taken.run t.turn.kept hears
-
-    -- numbers were taken
-    pub attended_takings : (ahead : Bool) (numbers : List ℕ) (k l : K) (w u : Attended D) (seats seats' : List (Option C)) → (t : TakingsKept on ahead may persists k w.service seats l u.service seats') → Hears (acts_in (number_at numbers) t.log) w u → Was k w l u
-    attended_takings ahead numbers k l w u seats seats' t hears = served numbers t.log k l w u t.reported t.taken.run t.kept hears
-
-    pub attended_takings_prefetched : (ahead : Bool) (numbers : List ℕ) (k l : K) (w u : Attended D) (lines : List ℕ) (seats seats' : List (Option C)) →
-        (t : TakingsPrefetched on ahead may prefetches persists k w.service seats lines l u.service seats') → Hears (acts_in (number_at numbers) t.turn.log) w u → Was k w l u
-    attended_takings_prefetched ahead numbers k l w u lines seats seats' t hears =
-        prefetched_then lines numbers t.turn.log k t.prefetched_by l w u t.ready t.turn.reported t.prefetched t.turn.taken.run t.turn.kept hears

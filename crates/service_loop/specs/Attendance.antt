@@ -8,23 +8,25 @@ use Rattle.model_pool.specs.slots.SlotsState.{SlotsState}
 use Rattle.model_pool.specs.stays.Stays.{Act, Has, IsDue, IsGraced}
 use Rattle.model_pool.specs.stays.Stays.Act.{Entered, Left, Ended as KeeperEnded, Quit}
 use Rattle.text_lines.specs.Lines.{whole_lines}
-use Rattle.text_player.specs.Runs.{Runs}
-use Rattle.text_player.specs.Shared.{TurnLog, all_turns}
+use Rattle.text_player.specs.Shared.{TurnLog}
 use Rattle.service_loop.specs.Attending.{Hears, acts_in, acts_of_endings, number_at}
 use Rattle.service_loop.specs.Keepers.{EndsAtTick}
 use Rattle.service_loop.specs.Losing.{lost_acts}
 use Rattle.service_loop.specs.Releasing.{EndsDue}
+use Rattle.service_loop.specs.Seats.{LoopIteration, Seating}
+use Rattle.service_loop.specs.Taking.{TakingsKept}
 use Rattle.service_loop.specs.declared.attended.Attended.{Attended}
 use Rattle.service_loop.specs.declared.attended.Ending.{Ending}
 use Rattle.service_loop.specs.declared.attended.TheConstants.{NOBODY}
 
 -- one thing that is done: the persister goes on by itself; the answers to these lines are prefetched; connections of these numbers take the turns of a
--- log; the answers to these lines are lost; or, at a tick, it is heard which connections ended and whether an answer was lost, and then stays are ended
+-- log, or numbers by its turns; the answers to these lines are lost; or, at a tick, it is heard which connections ended and whether an answer was lost, and then stays are ended
 -- that are due, all of them where a second has passed
 pub data AttendedDeed : Type 0 where
   Waits : AttendedDeed
   Prefetches : List ℕ → AttendedDeed
   Serves : List ℕ → TurnLog → AttendedDeed
+  Takes : List ℕ → TurnLog → AttendedDeed
   Loses : WorldKind → List ℕ → AttendedDeed
   Ends : Bool → ℕ → Bool → List Ending → AttendedDeed
 
@@ -51,16 +53,29 @@ AreHeard [] acts = acts ≡ []
 AreHeard (Waits ∷ deeds) acts = AreHeard deeds acts
 AreHeard (Prefetches lines ∷ deeds) acts = AreHeard deeds acts
 AreHeard (Serves numbers log ∷ deeds) acts = (rest : List Act) × (acts ≡ acts_in (number_at numbers) log ++ rest) × AreHeard deeds rest
+AreHeard (Takes numbers log ∷ deeds) acts = (rest : List Act) × (acts ≡ acts_in (number_at numbers) log ++ rest) × AreHeard deeds rest
 AreHeard (Loses kind lines ∷ deeds) acts = (lost rest : List Act) × (acts ≡ lost ++ rest) × AreLost lost × AreHeard deeds rest
 AreHeard (Ends passed tick lost endings ∷ deeds) acts =
     (left rest : List Act) × (acts ≡ acts_of_endings tick lost endings ++ (left ++ rest)) × AreLeft left × AreHeard deeds rest
 
-module _ {D K : Type 0} (may : D → Request → ShownReply → D → Type 0) (prefetches : K → D → List ℕ → K → D → Type 0) (persists waits : K → D → K → D → Type 0) (shares : K → Bool) (holds : K → D → SlotsState ℕ) (grace : Option ℕ) where
-  -- connections of these numbers took the turns of this log: they lead the service to where it was when what it tells was kept, and what they say of
-  -- stays was heard of the connection that said it
-  abbrev pub ServesLog : List ℕ → TurnLog → K → Attended D → K → Attended D → Type 0
-  ServesLog numbers log k w l u =
-      (reported : D) × Runs may w.service (all_turns log) reported × persists k reported l u.service × Hears (acts_in (number_at numbers) log) w u
+module _ {C D K : Type 0} (on : Seating C) (may : D → Request → ShownReply → D → Type 0) (prefetches : K → D → List ℕ → K → D → Type 0) (persists waits : K → D → K → D → Type 0) (shares : K → Bool) (holds : K → D → SlotsState ℕ) (grace : Option ℕ) where
+  -- The connections at some seats took the turns of this log, each those to the lines that it sent; what the service tells of them was kept; and only then
+  -- were replies sent, to each connection of those that wait for it. What the turns say of stays was heard of the number of the connection that took them
+  pub record ServesLog (numbers : List ℕ) (log : TurnLog) (k : K) (w : Attended D) (l : K) (u : Attended D) : Type 0 where
+    pub seats : List (Option C)
+    pub seats' : List (Option C)
+    pub turn : LoopIteration on may persists k w.service seats l u.service seats'
+    pub log_is : turn.log ≡ log
+    pub hears : Hears (acts_in (number_at numbers) log) w u
+
+  -- and so they took numbers (`TakesNumber`)
+  pub record TakesLog (numbers : List ℕ) (log : TurnLog) (k : K) (w : Attended D) (l : K) (u : Attended D) : Type 0 where
+    pub ahead : Bool
+    pub seats : List (Option C)
+    pub seats' : List (Option C)
+    pub taking : TakingsKept on ahead may persists k w.service seats l u.service seats'
+    pub log_is : taking.log ≡ log
+    pub hears : Hears (acts_in (number_at numbers) log) w u
 
   -- it was heard how these connections ended, and then the stays that are due were ended
   pub record EndsStays (passed : Bool) (tick : ℕ) (acts : List Act) (k : K) (w : Attended D) (l : K) (u : Attended D) : Type 0 where
@@ -74,6 +89,7 @@ module _ {D K : Type 0} (may : D → Request → ShownReply → D → Type 0) (p
   AttendedBy k w Waits l u = waits k w.service l u.service × Hears [] w u
   AttendedBy k w (Prefetches lines) l u = prefetches k w.service lines l u.service × Hears [] w u
   AttendedBy k w (Serves numbers log) l u = ServesLog numbers log k w l u
+  AttendedBy k w (Takes numbers log) l u = TakesLog numbers log k w l u
   AttendedBy k w (Loses kind lines) l u = waits k w.service l u.service × Hears (lost_acts kind w.stays (whole_lines lines)) w u
   AttendedBy k w (Ends passed tick lost endings) l u = EndsStays passed tick (acts_of_endings tick lost endings) k w l u
 

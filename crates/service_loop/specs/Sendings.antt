@@ -1,14 +1,20 @@
 -- when a server sends replies, and to whom it sends none
 use Rattle.std.specs.Prelude.{◌≡◌, ◌⊎◌, ℕ, zero, suc, true, List, [], get_or, Option, Some, None}
+use Rattle.std.specs.declared.alloc.Global.{Global}
 use Rattle.model_pool.specs.declared.stays.kept_stay.KeptStay.{KeptStay}
 use Rattle.model_pool.specs.stays.Stays.{keeps_any}
 use Rattle.service_loop.specs.Attending.{number_at}
 use Rattle.service_loop.specs.Seats.{RepliesSent, Seating, SeatIs, SeatSends, seats_of}
 use Rattle.service_loop.specs.declared.connection.Connection.{Connection}
+use Rattle.service_loop.specs.declared.socket.Socket.{Socket}
 
 -- of connections over sockets, which tell no bytes
 abbrev pub sockets : {S A : Type 0} → Seating (Connection S A)
 sockets = seats_of (λ s. None) (λ s. None)
+
+-- of those of a server
+abbrev pub hosted : Seating (Connection Socket Global)
+hosted = sockets
 
 module _ {C : Type 0} (on : Seating C) where
   -- nothing is sent to a connection, and one at fault stays so; an empty seat stays empty

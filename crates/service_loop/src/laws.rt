@@ -3,6 +3,7 @@
 ghost use Rattle.std.specs.Prelude.{ℕ, Option};
 ghost use Rattle.service_loop.specs.Attendance.{KeepsGrace};
 ghost use Rattle.service_loop.specs.ConnectionBuffers.{NeedsLf};
+ghost use Rattle.service_loop.specs.Sendings.{hosted};
 
 use crate::persist::Persist;
 use model_pool::stays::law_of_grace;
@@ -19,7 +20,7 @@ pub fn law_of_cut_lines()
 /// A stay that is due has been graced: among all that was heard since the start, its keeper said `quit`, or ended at a tick more than the grace time
 /// before, and nobody has kept it since. Or nobody kept it at the start, and it was due by the table that was there then.
 pub fn law_of_hosted_grace<R, D: Service<R>, K: Persist<D>>()
-    ensures { (grace : Option ℕ) → KeepsGrace D.may K.prefetches K.persists K.waits K.shares K.holds grace }
+    ensures { (grace : Option ℕ) → KeepsGrace hosted D.may K.prefetches K.persists K.waits K.shares K.holds grace }
 {
     law_of_grace();
 }

@@ -1,3 +1,4 @@
+use Rattle.service_loop.specs.Sendings.{hosted}
 use Rattle.service_loop.specs.SharedBuffers.{AreShared}
 use Rattle.service_loop.specs.Attendance.{WasAttended}
 use Rattle.service_loop.proofs.hosting.host.Given as goal
@@ -6,6 +7,6 @@ use Rattle.service_loop.proofs.hosting.host.Given as goal
 abbrev pub invariant-loop : goal.invariant-loop
 invariant-loop g l = record {
   room : AreShared l.shared;
-  attended : WasAttended g.D.Service.may g.K.Persist.prefetches g.K.Persist.persists g.K.Persist.waits g.K.Persist.shares g.K.Persist.holds l.fn.options.grace
+  attended : WasAttended hosted g.D.Service.may g.K.Persist.prefetches g.K.Persist.persists g.K.Persist.waits g.K.Persist.shares g.K.Persist.holds l.fn.options.grace
       l.fn.persister l.fn.service l.persister l.service;
 }

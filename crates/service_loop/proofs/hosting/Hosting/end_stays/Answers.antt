@@ -1,7 +1,7 @@
 -- To end stays is what a server does to its service and its persister.
 use Rattle.std.proofs.Common.{ap, subst, sym}
 use Rattle.service_loop.specs.Keepers.{MayServe}
-use Rattle.service_loop.specs.Sendings.{Unsent, sockets}
+use Rattle.service_loop.specs.Sendings.{Unsent, hosted, sockets}
 use Rattle.service_loop.proofs.AttendanceLemmas.{attended_ends}
 use Rattle.service_loop.proofs.RoundLemmas.{always, ok_then}
 use Rattle.service_loop.proofs.hosting.Hosting.end_stays.Goals as goal
@@ -24,7 +24,7 @@ returns-clause-ends g c =
 pub returns-clause-attended : goal.returns-clause-attended
 returns-clause-attended g c =
     let ends = returns-clause-ends g c in
-    ok_then c.end_if_due.result _ _ (attended_ends g.D.Service.may g.K.Persist.prefetches g.K.Persist.persists g.K.Persist.waits g.K.Persist.shares g.K.Persist.holds c.args.grace
+    ok_then c.end_if_due.result _ _ (attended_ends hosted g.D.Service.may g.K.Persist.prefetches g.K.Persist.persists g.K.Persist.waits g.K.Persist.shares g.K.Persist.holds c.args.grace
         c.args.self.now.looks c.args.self.now.tick c.args.self.now.lost c.args.self.now.connections.ended.items _ _ _ _ _ _) ends
 
 pub returns-clause-unsent : goal.returns-clause-unsent

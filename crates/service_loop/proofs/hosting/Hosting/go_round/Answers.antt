@@ -1,4 +1,5 @@
 -- The persister may go on, then stays are ended, and then a turn is taken.
+use Rattle.service_loop.specs.Sendings.{hosted}
 use Rattle.service_loop.proofs.AttendanceLemmas.{attended_maybe, attended_then}
 use Rattle.service_loop.proofs.hosting.Hosting.go_round.Goals as goal
 
@@ -11,5 +12,5 @@ returns-clause-attended g c =
     let shares = g.K.Persist.shares in
     let holds = g.K.Persist.holds in
     let grace = c.args.grace in
-    attended_then may prefetches persists waits shares holds grace _ _ _ _ _ _ (attended_maybe may prefetches persists waits shares holds grace _ _ _ _ c.in_ok-tell_tick.ensures)
+    attended_then hosted may prefetches persists waits shares holds grace _ _ _ _ _ _ (attended_maybe hosted may prefetches persists waits shares holds grace _ _ _ _ c.in_ok-tell_tick.ensures)
     c.in_ok-serve_all.ensures.attended

@@ -1,5 +1,5 @@
 -- Stays are ended, and then a turn is taken, in which whoever keeps a stay may be answered or is sent nothing.
-use Rattle.service_loop.specs.Sendings.{sockets}
+use Rattle.service_loop.specs.Sendings.{hosted, sockets}
 use Rattle.service_loop.proofs.AttendanceLemmas.{attended_then}
 use Rattle.service_loop.proofs.RoundLemmas.{ok_then}
 use Rattle.service_loop.proofs.SendingLemmas.{sends_keepers, sends_keepers_of}
@@ -8,7 +8,7 @@ use Rattle.service_loop.proofs.hosting.Hosting.serve_all.Goals as goal
 pub returns-clause-attended : goal.returns-clause-attended
 returns-clause-attended g c =
     let grace = c.args.grace in
-    ok_then c.serve.result _ _ (attended_then g.D.Service.may g.K.Persist.prefetches g.K.Persist.persists g.K.Persist.waits g.K.Persist.shares g.K.Persist.holds grace _ _ _ _ _ _ c.in_ok-end_stays.ensures.attended)
+    ok_then c.serve.result _ _ (attended_then hosted g.D.Service.may g.K.Persist.prefetches g.K.Persist.persists g.K.Persist.waits g.K.Persist.shares g.K.Persist.holds grace _ _ _ _ _ _ c.in_ok-end_stays.ensures.attended)
     (c.serve.ensures.attended grace)
 
 pub returns-clause-keepers : goal.returns-clause-keepers
