@@ -24,6 +24,7 @@ use Rattle.service_loop.specs.Losing.{entered_by, lost_act, lost_acts}
 use Rattle.service_loop.specs.Releasing.{EndsDue, competes_for, freed_by, freed_in, freed_of, is_freed}
 use Rattle.service_loop.specs.Rounds.{Deed, WasServed}
 use Rattle.service_loop.specs.Seats.{LoopIteration, Seating}
+use Rattle.service_loop.specs.Table.{AreNumbered}
 use Rattle.service_loop.specs.Taking.{TakingsKept, TakingsPrefetched}
 use Rattle.service_loop.specs.declared.connection.Connection.{Connection}
 use Rattle.service_loop.proofs.AttendedLemmas.{hears_none, hears_then}
@@ -131,14 +132,14 @@ module _ {C D K : Type 0} (on : Seating C) (may : D → Request → ShownReply �
       (Ends passed tick lost endings ∷ [], (l, u, record { heard = h.heard; hears = h.hears; same = h.same; ended = h.ended }, (refl, refl)))
 
   -- connections took turns
-  pub attended_turn : (numbers : List ℕ) (k l : K) (w u : Attended D) (seats seats' : List (Option C)) → (t : LoopIteration on may persists k w.service seats l u.service seats') → Hears (acts_in (number_at numbers) t.log) w u → Was k w l u
-  attended_turn numbers k l w u seats seats' t hears =
-      (Serves numbers t.log ∷ [], (l, u, record { seats = seats; seats' = seats'; turn = t; log_is = refl; hears = hears }, (refl, refl)))
+  pub attended_turn : (numbers : List ℕ) (next : ℕ) → AreNumbered numbers next → (k l : K) (w u : Attended D) (seats seats' : List (Option C)) → (t : LoopIteration on may persists k w.service seats l u.service seats') → Hears (acts_in (number_at numbers) t.log) w u → Was k w l u
+  attended_turn numbers next numbered k l w u seats seats' t hears =
+      (Serves numbers t.log ∷ [], (l, u, record { seats = seats; seats' = seats'; turn = t; log_is = refl; next = next; numbered = numbered; hears = hears }, (refl, refl)))
 
   -- or numbers
-  pub attended_takings : (ahead : Bool) (numbers : List ℕ) (k l : K) (w u : Attended D) (seats seats' : List (Option C)) → (t : TakingsKept on ahead may persists k w.service seats l u.service seats') → Hears (acts_in (number_at numbers) t.log) w u → Was k w l u
-  attended_takings ahead numbers k l w u seats seats' t hears =
-      (Takes numbers t.log ∷ [], (l, u, record { ahead = ahead; seats = seats; seats' = seats'; taking = t; log_is = refl; hears = hears }, (refl, refl)))
+  pub attended_takings : (ahead : Bool) (numbers : List ℕ) (next : ℕ) → AreNumbered numbers next → (k l : K) (w u : Attended D) (seats seats' : List (Option C)) → (t : TakingsKept on ahead may persists k w.service seats l u.service seats') → Hears (acts_in (number_at numbers) t.log) w u → Was k w l u
+  attended_takings ahead numbers next numbered k l w u seats seats' t hears =
+      (Takes numbers t.log ∷ [], (l, u, record { ahead = ahead; seats = seats; seats' = seats'; taking = t; log_is = refl; next = next; numbered = numbered; hears = hears }, (refl, refl)))
 
   -- before them their answers were prefetched, where there were any
   prefetched_then : (lines : List ℕ) (k mid l : K) (w u : Attended D) (ready : D) → ((lines ≡ []) × (mid ≡ k) × (ready ≡ w.service)) ⊎ prefetches k w.service lines mid ready → Was mid (record w { service = ready }) l u → Was k w l u
@@ -148,17 +149,17 @@ module _ {C D K : Type 0} (on : Seating C) (may : D → Request → ShownReply �
       let after = record w { service = ready } in
       attended_then k mid l w after u (Prefetches lines ∷ [], (mid, after, (done, inside w ready), (refl, refl))) later
 
-  pub attended_prefetched : (peek : C → Option Peek) (Due : C → Type 0) (kind : WorldKind) (numbers : List ℕ) (k l : K) (w u : Attended D) (lines : List ℕ) (seats seats' : List (Option C)) →
+  pub attended_prefetched : (peek : C → Option Peek) (Due : C → Type 0) (kind : WorldKind) (numbers : List ℕ) (next : ℕ) → AreNumbered numbers next → (k l : K) (w u : Attended D) (lines : List ℕ) (seats seats' : List (Option C)) →
       (t : PrefetchedIteration on peek Due may prefetches persists kind k w.service seats lines l u.service seats') → Hears (acts_in (number_at numbers) t.turn.log) w u → Was k w l u
-  attended_prefetched peek Due kind numbers k l w u lines seats seats' t hears =
+  attended_prefetched peek Due kind numbers next numbered k l w u lines seats seats' t hears =
       prefetched_then lines k t.prefetched_by l w u t.ready t.prefetched
-      (attended_turn numbers t.prefetched_by l (record w { service = t.ready }) u t.gathered_seats seats' t.turn (outside w t.ready u hears))
+      (attended_turn numbers next numbered t.prefetched_by l (record w { service = t.ready }) u t.gathered_seats seats' t.turn (outside w t.ready u hears))
 
-  pub attended_takings_prefetched : (ahead : Bool) (numbers : List ℕ) (k l : K) (w u : Attended D) (lines : List ℕ) (seats seats' : List (Option C)) →
+  pub attended_takings_prefetched : (ahead : Bool) (numbers : List ℕ) (next : ℕ) → AreNumbered numbers next → (k l : K) (w u : Attended D) (lines : List ℕ) (seats seats' : List (Option C)) →
       (t : TakingsPrefetched on ahead may prefetches persists k w.service seats lines l u.service seats') → Hears (acts_in (number_at numbers) t.turn.log) w u → Was k w l u
-  attended_takings_prefetched ahead numbers k l w u lines seats seats' t hears =
+  attended_takings_prefetched ahead numbers next numbered k l w u lines seats seats' t hears =
       prefetched_then lines k t.prefetched_by l w u t.ready t.prefetched
-      (attended_takings ahead numbers t.prefetched_by l (record w { service = t.ready }) u seats seats' t.turn (outside w t.ready u hears))
+      (attended_takings ahead numbers next numbered t.prefetched_by l (record w { service = t.ready }) u seats seats' t.turn (outside w t.ready u hears))
 
   -- so it is what a server does to its service and its persister
   served_ends : (passed : Bool) (tick : ℕ) (acts : List Act) (k l : K) (w u : Attended D) → EndsStays on may prefetches persists waits shares holds grace passed tick acts k w l u → WasServed may prefetches persists waits k w.service l u.service

@@ -1,5 +1,5 @@
 -- a connection is given the next number
-use Rattle.std.proofs.Common.{◌≡◌, ◌⊎◌, inl, inr, ℕ, ◌<◌, ◌+◌, List, length, get_or, set, refl, sym, subst, ◌∙◌, arith}
+use Rattle.std.proofs.Common.{◌≡◌, ◌⊎◌, inl, inr, ℕ, zero, suc, ◌<◌, ◌+◌, List, [], ◌∷◌, ◌++◌, length, get_or, set, refl, sym, subst, ◌∙◌, arith}
 use Rattle.service_loop.proofs.Common.{cases_eq, get_or-set_same, get_or-set_other}
 use Rattle.service_loop.specs.Attending.{number_at}
 use Rattle.service_loop.specs.Table.{AreNumbered}
@@ -28,3 +28,46 @@ numbered_at numbers key next inside so =
         ];
       },
     )
+
+-- a seat has no number
+pub numbered_none : (numbers : List ℕ) (key next : ℕ) → 0 < next → AreNumbered numbers next → AreNumbered (set numbers key 0) next
+numbered_none numbers key next some so =
+    let there : (i : ℕ) → (i ≡ key → ⊥) → number_at (set numbers key 0) i ≡ number_at numbers i = λ i other. get_or-set_other numbers key i 0 0 other in
+    let either : (i : ℕ) → (number_at (set numbers key 0) i ≡ 0) ⊎ (number_at (set numbers key 0) i ≡ number_at numbers i) = λ i. elim (cases_eq i key) as (λ _. (number_at (set numbers key 0) i ≡ 0) ⊎ (number_at (set numbers key 0) i ≡ number_at numbers i)) [
+      | inl same ↦ inl (subst (λ (k : ℕ). number_at (set numbers key 0) k ≡ 0) (sym same) (cleared numbers key))
+      | inr other ↦ inr (there i other)
+    ] in
+    record {
+      below = λ i. elim (either i) as (λ _. number_at (set numbers key 0) i < next) [
+        | inl none ↦ rw none some
+        | inr same ↦ rw same (so.below i)
+      ];
+      own = λ i j same. elim (either i) as (λ _. (i ≡ j) ⊎ (number_at (set numbers key 0) i ≡ 0)) [
+        | inl none ↦ inr none
+        | inr first ↦ elim (either j) as (λ _. (i ≡ j) ⊎ (number_at (set numbers key 0) i ≡ 0)) [
+          | inl none ↦ inr (same ∙ none)
+          | inr second ↦ rw first (so.own i j (sym first ∙ same ∙ second))
+        ]
+      ];
+    }
+  where
+    cleared : (numbers : List ℕ) (key : ℕ) → number_at (set numbers key 0) key ≡ 0
+    cleared [] key = refl
+    cleared (n ∷ ns) zero = refl
+    cleared (n ∷ ns) (suc key) = cleared ns key
+
+-- one seat more
+number_more : (numbers : List ℕ) (i : ℕ) → number_at (numbers ++ 0 ∷ []) i ≡ number_at numbers i
+number_more [] zero = refl
+number_more [] (suc i) = refl
+number_more (n ∷ ns) zero = refl
+number_more (n ∷ ns) (suc i) = number_more ns i
+
+pub numbered_more : (numbers : List ℕ) (next : ℕ) → AreNumbered numbers next → AreNumbered (numbers ++ 0 ∷ []) next
+numbered_more numbers next so = record {
+  below = λ i. rw (number_more numbers i) (so.below i);
+  own = λ i j same. rw (number_more numbers i) (so.own i j (sym (number_more numbers i) ∙ same ∙ number_more numbers j));
+}
+
+pub numbered_empty : AreNumbered [] 1
+numbered_empty = record { below = λ i. omega arith; own = λ i j same. inr refl }

@@ -14,6 +14,7 @@ use Rattle.service_loop.specs.Keepers.{EndsAtTick}
 use Rattle.service_loop.specs.Losing.{lost_acts}
 use Rattle.service_loop.specs.Releasing.{EndsDue}
 use Rattle.service_loop.specs.Seats.{LoopIteration, Seating}
+use Rattle.service_loop.specs.Table.{AreNumbered}
 use Rattle.service_loop.specs.Taking.{TakingsKept}
 use Rattle.service_loop.specs.declared.attended.Attended.{Attended}
 use Rattle.service_loop.specs.declared.attended.Ending.{Ending}
@@ -60,12 +61,15 @@ AreHeard (Ends passed tick lost endings ∷ deeds) acts =
 
 module _ {C D K : Type 0} (on : Seating C) (may : D → Request → ShownReply → D → Type 0) (prefetches : K → D → List ℕ → K → D → Type 0) (persists waits : K → D → K → D → Type 0) (shares : K → Bool) (holds : K → D → SlotsState ℕ) (grace : Option ℕ) where
   -- The connections at some seats took the turns of this log, each those to the lines that it sent; what the service tells of them was kept; and only then
-  -- were replies sent, to each connection of those that wait for it. What the turns say of stays was heard of the number of the connection that took them
+  -- were replies sent, to each connection of those that wait for it. What the turns say of stays was heard of the number of the connection that took them,
+  -- which no other has
   pub record ServesLog (numbers : List ℕ) (log : TurnLog) (k : K) (w : Attended D) (l : K) (u : Attended D) : Type 0 where
     pub seats : List (Option C)
     pub seats' : List (Option C)
     pub turn : LoopIteration on may persists k w.service seats l u.service seats'
     pub log_is : turn.log ≡ log
+    pub next : ℕ
+    pub numbered : AreNumbered numbers next
     pub hears : Hears (acts_in (number_at numbers) log) w u
 
   -- and so they took numbers (`TakesNumber`)
@@ -75,6 +79,8 @@ module _ {C D K : Type 0} (on : Seating C) (may : D → Request → ShownReply �
     pub seats' : List (Option C)
     pub taking : TakingsKept on ahead may persists k w.service seats l u.service seats'
     pub log_is : taking.log ≡ log
+    pub next : ℕ
+    pub numbered : AreNumbered numbers next
     pub hears : Hears (acts_in (number_at numbers) log) w u
 
   -- it was heard how these connections ended, and then the stays that are due were ended

@@ -9,6 +9,11 @@ pub record AreNumbered (numbers : List ℕ) (next : ℕ) : Type 0 where
   pub below : (i : ℕ) → number_at numbers i < next
   pub own : (i j : ℕ) → number_at numbers i ≡ number_at numbers j → (i ≡ j) ⊎ (number_at numbers i ≡ 0)
 
+-- the number of the connection at each seat, and that of the next
+pub record Numbering : Type 0 where
+  pub items : List ℕ
+  pub next : ℕ
+
 -- the connection at a seat said `quit`
 abbrev pub seat_over : {S A : Type 0} → Option (Connection S A) → Bool
 seat_over None = false

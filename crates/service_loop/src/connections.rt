@@ -3,7 +3,7 @@
 ghost use Rattle.std.specs.Prelude.{◌≡◌, ◌≤◌, ◌<◌, ◌+◌, ◌^◌, ◌++◌, ◌∷◌, [], length, drop, get_or, None, IfOk, OnOk};
 ghost use Rattle.service_loop.specs.Attending.{Hears, acts_of_endings, number_at};
 ghost use Rattle.service_loop.specs.Keepers.{MayServe};
-ghost use Rattle.service_loop.specs.Table.{AreNumbered, ending_at, seat_over};
+ghost use Rattle.service_loop.specs.Table.{ending_at, seat_over};
 ghost use Rattle.service_loop.specs.Sendings.{Unsent, sockets};
 
 use crate::attended::{Attended, Ending};
@@ -11,6 +11,7 @@ use crate::buffers::Buffers;
 use crate::connection::{Connection, ConnectionStage};
 use crate::failing::fail_keepers;
 use crate::persist::Persist;
+use crate::seat_numbers::SeatNumbers;
 use crate::socket::Socket;
 use mio::event::Event;
 use mio::{Poll, Token};
@@ -31,8 +32,8 @@ const FLUSH_TICKS: u64 = 10;
 pub struct ConnectionTable {
     /// The seats, some of them empty.
     pub seats: Vec<Option<Connection<Socket, Global>>>,
-    /// The number of the connection at each seat. No other connection ever has it.
-    pub numbers: Vec<u64>,
+    /// The number of the connection at each seat.
+    pub numbers: SeatNumbers,
     /// The seats whose connections are due, in the order in which they became so.
     pub ready: Vec<usize>,
     /// How many seats are taken.
@@ -43,8 +44,6 @@ pub struct ConnectionTable {
     pub faults: u64,
     /// The connections that have ended since this list was last emptied. One that said `quit` may stand in it twice.
     pub ended: Vec<Ending>,
-    /// The number of the next connection.
-    next: u64,
     /// How many lines were taken of those that have left.
     lines: u64,
     later: Vec<usize>,
@@ -91,13 +90,12 @@ impl ConnectionTable {
         let few = clients.min(MOST_RESERVED);
         Ok(ConnectionTable {
             seats: Vec::with_capacity(alloc, few)?,
-            numbers: Vec::with_capacity(alloc, few)?,
+            numbers: SeatNumbers::new(alloc, few)?,
             ready: Vec::with_capacity(alloc, few)?,
             open: 0,
             served: 0,
             faults: 0,
             ended: Vec::new(alloc),
-            next: 1,
             lines: 0,
             later: Vec::with_capacity(alloc, few)?,
             empty: Vec::with_capacity(alloc, few)?,
@@ -112,24 +110,11 @@ impl ConnectionTable {
             return Ok(key);
         }
         let key = self.seats.len();
-        self.numbers.push(0)?;
+        self.numbers.add_seat()?;
         if self.seats.push(None).is_err() {
             return Err(AllocError);
         }
         Ok(key)
-    }
-
-    // The connection that is given this seat has the next number.
-    #[tactic(auto, using(crate::proofs::TableLemmas::numbered_at))]
-    fn number_seat(&mut self, key: usize)
-        ensures open { self.new.open ≡ self.old.open }
-        ensures numbered { key < length self.old.numbers.items → self.old.next + 1 < 2 ^ 64 → AreNumbered self.old.numbers.items self.old.next →
-            (number_at self.new.numbers.items key ≡ self.old.next) × AreNumbered self.new.numbers.items self.new.next }
-    {
-        if key < self.numbers.len() {
-            self.numbers[key] = self.next;
-            self.next = self.next.saturating_add(1);
-        }
     }
 
     // Notes that the connection of a seat has ended.
@@ -137,8 +122,9 @@ impl ConnectionTable {
         ensures noted { OnOk result (key < length self.old.numbers.items → self.new.ended.items ≡ self.old.ended.items ++
             record { number = number_at self.old.numbers.items key; by_quit = by_quit } ∷ []) }
     {
-        if key < self.numbers.len() {
-            let number = self.numbers[key];
+        let numbers = self.numbers.all();
+        if key < numbers.len() {
+            let number = numbers[key];
             self.ended.push(Ending { number, by_quit })?;
         }
         Ok(())
@@ -192,7 +178,7 @@ impl ConnectionTable {
         };
         let connection = Connection::new(stream, buffers, tick);
         if self.fill(key, Some(connection)) {
-            self.number_seat(key);
+            self.numbers.number(key);
             self.open = self.open.saturating_add(1);
         }
         Ok(())
@@ -296,7 +282,7 @@ impl ConnectionTable {
         if persister.may_answer_stays() {
             return Ok(());
         }
-        fail_keepers(&mut self.seats, &self.numbers, stays, &mut self.ready)
+        fail_keepers(&mut self.seats, self.numbers.all(), stays, &mut self.ready)
     }
 
     /// After a turn in which the first `called` ready seats were called: those that have more to do are due again, behind the others.

@@ -523,10 +523,12 @@ impl Hosting {
         shared.share_among(ready.len());
         match &mut self.batch {
             None => {
+                let numbers = numbers.all();
                 let called = iterate(rt, service, persister, shared, seats, numbers, ready)?;
                 Ok(Called::Served(called))
             }
             Some(batch) => {
+                let numbers = numbers.all();
                 iterate_prefetched(rt, service, persister, batch, shared, seats, numbers, ready)
             }
         }
@@ -584,6 +586,7 @@ impl Hosting {
             ..
         } = &mut self.connections;
         let first = &ready[..count.min(ready.len())];
+        let numbers = numbers.all();
         if !any_takes(seats, first) {
             return Ok(Called::Served(count));
         }

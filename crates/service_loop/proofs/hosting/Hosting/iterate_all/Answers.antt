@@ -9,7 +9,7 @@ use Rattle.service_loop.proofs.hosting.Hosting.iterate_all.Goals as goal
 pub returns-in_ok-called-in-None-clause-attended : goal.returns-in_ok-called-in-None-clause-attended
 returns-in_ok-called-in-None-clause-attended g c = λ grace.
     let t = c.in_ok-called-in-None.ensures.turned in
-    attended_turn hosted g.D.Service.may g.K.Persist.prefetches g.K.Persist.persists g.K.Persist.waits g.K.Persist.shares g.K.Persist.holds grace _ _ _ _ _ _ _ t.0.turn t.1
+    attended_turn hosted g.D.Service.may g.K.Persist.prefetches g.K.Persist.persists g.K.Persist.waits g.K.Persist.shares g.K.Persist.holds grace _ _ c.all-numbers.ensures.own _ _ _ _ _ _ t.0.turn t.1
 
 pub returns-in_ok-called-in-None-clause-sent : goal.returns-in_ok-called-in-None-clause-sent
 returns-in_ok-called-in-None-clause-sent g c =
@@ -25,7 +25,7 @@ returns-in-Some-clause-attended g c = λ grace.
     let e = c.iterate_prefetched.ensures in
     sent_called c.iterate_prefetched.result _
     (λ n is. let t = e.served n is in
-    attended_prefetched hosted may prefetches persists waits g.K.Persist.shares g.K.Persist.holds grace (λ x. x.peek) (λ x. x.stage ≡ stage.Queued) _ _ _ _ _ _ _ _ _ t.0 t.1)
+    attended_prefetched hosted may prefetches persists waits g.K.Persist.shares g.K.Persist.holds grace (λ x. x.peek) (λ x. x.stage ≡ stage.Queued) _ _ _ c.all-numbers-in-Some.ensures.own _ _ _ _ _ _ _ t.0 t.1)
     (λ n is. attended_lost hosted may prefetches persists waits g.K.Persist.shares g.K.Persist.holds grace c.in-Some.batch.kind c.iterate_prefetched.new.batch.lines.items _ _ _ _ (e.lost n is))
 
 pub returns-in-Some-clause-sent : goal.returns-in-Some-clause-sent
