@@ -26,7 +26,9 @@
 //!
 //! `host` is a whole server over sockets: it waits until some are ready (`mio`), gives those their turn, and closes who is at an end or idle.
 //!
-//! Not promised, and shown by running it: that a connection that is due has its turn soon, and what sockets carry.
+//! What was taken, given back and refused is counted, and told of in lines where a log of them is wanted (`Audit`, `AuditLog`).
+//!
+//! Not promised, and shown by running it: what an audit tells, that a connection that is due has its turn soon, and what sockets carry.
 //!
 //! From `tests_log/src/turn_tests.rt`:
 //!
@@ -48,6 +50,9 @@
 pub mod answering;
 mod asking;
 pub mod attended;
+pub mod audit;
+mod audit_lines;
+pub mod audit_log;
 pub mod buffers;
 pub mod connection;
 pub mod connections;
@@ -72,6 +77,8 @@ pub mod watching;
 
 pub use answering::answer_queries;
 pub use attended::{Attended, Ending};
+pub use audit::Audit;
+pub use audit_log::AuditLog;
 pub use buffers::{Buffers, MOST_LINES, UNSENT_ROOM};
 pub use connection::{Connection, ConnectionStage};
 pub use failing::fail_keepers;
