@@ -76,6 +76,9 @@ pub enum HostFailure {
     /// The log was put back to an older state under the server, which answers nothing more.
     #[error("the log went back")]
     WentBack,
+    /// The file of the audit log could not be opened.
+    #[error("the file of --log could not be opened: {0}")]
+    AuditLog(ErrorKind),
     /// The members of the log did not answer, or the log failed.
     #[error("log fault: {0}")]
     Log(LogFault),

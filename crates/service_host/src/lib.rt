@@ -3,7 +3,7 @@
 //! `host_hall` opens the journal, where one is named, and has `service_loop` serve clients over the hall of its record. `Recorded` keeps what
 //! a write-ahead hall tells of each turn in its journal before a reply of that turn is sent; `Unrecorded` serves a hall whose history ends with
 //! the program. `Reading` tells of either whether the history stores reads. Where a log in etcd is named (`LogPlan`), the hall is served over
-//! that (`service_follow`), and other servers share it.
+//! that (`service_follow`), and other servers share it. `AuditFile` is the file to which the lines of an audit are appended, where one is named.
 //!
 //! The theorem (`law_of_hosting`): after a turn of the loop over a write-ahead hall and its journal all turns of all connections were answered
 //! as is due in one order. The history has gained just their accepted events, plain reads aside; header and journal are its record and are
@@ -22,6 +22,7 @@
 //! ```
 #![tactic(auto)]
 
+pub mod audit_file;
 pub mod export;
 pub mod failure;
 pub mod freeing;
@@ -33,6 +34,7 @@ pub mod persisters;
 pub mod reading;
 pub mod start;
 
+pub use audit_file::AuditFile;
 pub use export::write_events;
 pub use failure::HostFailure;
 pub use freeing::{law_of_freed_stays, law_of_hosted_releases};

@@ -1,5 +1,6 @@
 //! A whole server of a hall, by its plan.
 
+use crate::audit_file::AuditFile;
 use crate::export::write_events;
 use crate::failure::HostFailure;
 use crate::keepers::stays_at_start;
@@ -13,11 +14,11 @@ use service_hall::{Compactor, Hall, Reads};
 use service_journal::{Disk, FileDisk, Journal, Opened, SealedDisk};
 use service_log::Store;
 use service_log::etcd::{EtcdStore, TcpDial};
-use service_loop::{Attended, HostOptions, Hosted, host};
+use service_loop::{Attended, Audit, AuditLog, HostOptions, Hosted, host};
 use service_watch::listeners::{ListenPlan, Listening, SocketFile, listen};
 use std::alloc::{AllocGlobal, Global};
 use std::fs::File;
-use std::io::Write;
+use std::io::{ErrorKind, Write};
 use std::net::Net;
 use std::rt::{Clock, Files};
 use std::sync::Wait;
@@ -58,6 +59,8 @@ pub struct HostPlan<'a> {
     pub keeping: Keeping<'a>,
     /// Whether a line at first and then one a minute tells how much there is.
     pub reports: bool,
+    /// The file to which a log of an audit is appended, where one is wanted.
+    pub log: Option<&'a str>,
 }
 
 impl HostPlan<'_> {
@@ -69,7 +72,13 @@ impl HostPlan<'_> {
             idle: self.idle,
             grace: self.grace,
             reports: self.reports,
+            logs: self.log.is_some(),
         }
+    }
+
+    // What is told of numbers and refusals.
+    fn audit(&self, alloc: Global) -> Audit {
+        Audit::new(alloc, self.log.is_some())
     }
 }
 
@@ -108,12 +117,13 @@ fn open_journal<R: Clock + Files<File = File> + AllocGlobal + Copy + Drop>(
 }
 
 // Serves a hall whose history is in the journal of a path.
-fn host_journal<R, W: Write, E: Write>(
+fn host_journal<R, L: AuditLog, W: Write, E: Write>(
     rt: &R,
     alloc: Global,
     plan: &HostPlan<'_>,
     path: &str,
     new: bool,
+    audit: &mut L,
     output: &mut W,
     errors: &mut E,
 ) -> Result<(), HostFailure>
@@ -121,17 +131,18 @@ where
     R: Net + Wait + Clock + Files<File = File> + AllocGlobal + Copy + Drop,
 {
     match open_journal(rt, alloc, plan.config, path, new) {
-        Ok(opened) => host_recorded(rt, alloc, plan, opened, output, errors),
+        Ok(opened) => host_recorded(rt, alloc, plan, opened, audit, output, errors),
         Err(failure) => Err(failure),
     }
 }
 
 // Serves what was read of a journal, which is compacted before where it is long.
-fn host_recorded<R: Net + Wait + Clock + Files, D: Disk, W: Write, E: Write>(
+fn host_recorded<R: Net + Wait + Clock + Files, D: Disk, L: AuditLog, W: Write, E: Write>(
     rt: &R,
     alloc: Global,
     plan: &HostPlan<'_>,
     opened: Opened<D>,
+    audit: &mut L,
     output: &mut W,
     errors: &mut E,
 ) -> Result<(), HostFailure> {
@@ -155,7 +166,7 @@ fn host_recorded<R: Net + Wait + Clock + Files, D: Disk, W: Write, E: Write>(
         service: write_ahead,
         reads: plan.reads,
     };
-    let mut attended = Attended::new(reading, stays, plan.grace.is_some());
+    let mut attended = Attended::new(reading, stays, plan.grace.is_some(), plan.audit(alloc));
     let Listening { listeners, file } = match listen(rt, alloc, plan.listen) {
         Ok(listening) => listening,
         Err(fault) => return Err(HostFailure::from(fault)),
@@ -167,6 +178,7 @@ fn host_recorded<R: Net + Wait + Clock + Files, D: Disk, W: Write, E: Write>(
         listeners,
         &mut attended,
         &mut persister,
+        audit,
         output,
         errors,
     );
@@ -174,10 +186,11 @@ fn host_recorded<R: Net + Wait + Clock + Files, D: Disk, W: Write, E: Write>(
 }
 
 // Serves a hall whose history ends with the program.
-fn host_unrecorded<R: Net + Wait + Clock + Files, W: Write, E: Write>(
+fn host_unrecorded<R: Net + Wait + Clock + Files, L: AuditLog, W: Write, E: Write>(
     rt: &R,
     alloc: Global,
     plan: &HostPlan<'_>,
+    audit: &mut L,
     output: &mut W,
     errors: &mut E,
 ) -> Result<(), HostFailure> {
@@ -186,7 +199,12 @@ fn host_unrecorded<R: Net + Wait + Clock + Files, W: Write, E: Write>(
         service: hall,
         reads: plan.reads,
     };
-    let mut attended = Attended::new(reading, Stays::new(alloc), plan.grace.is_some());
+    let mut attended = Attended::new(
+        reading,
+        Stays::new(alloc),
+        plan.grace.is_some(),
+        plan.audit(alloc),
+    );
     let mut persister = Unrecorded {
         alloc,
         compactor: Compactor::new(),
@@ -200,6 +218,7 @@ fn host_unrecorded<R: Net + Wait + Clock + Files, W: Write, E: Write>(
         listeners,
         &mut attended,
         &mut persister,
+        audit,
         output,
         errors,
     );
@@ -235,11 +254,12 @@ fn followed<R: Files<File = File>, S: Store + Drop, P: Pause + Drop>(
 }
 
 // Serves a hall whose history is in a log.
-fn host_log<R, W: Write, E: Write>(
+fn host_log<R, L: AuditLog, W: Write, E: Write>(
     rt: &R,
     alloc: Global,
     plan: &HostPlan<'_>,
     log: LogPlan<'_>,
+    audit: &mut L,
     output: &mut W,
     errors: &mut E,
 ) -> Result<(), HostFailure>
@@ -248,18 +268,19 @@ where
 {
     let pause = Patience::new(rt, log.patience);
     match store_of(rt, alloc, log) {
-        Ok(store) => host_followed(rt, alloc, plan, store, pause, output, errors),
+        Ok(store) => host_followed(rt, alloc, plan, store, pause, audit, output, errors),
         Err(failure) => Err(failure),
     }
 }
 
 // Serves what follows a log, whatever that stands in: a proof over a store in etcd is long.
-fn host_followed<R, S: Store + Drop, P: Pause + Drop, W: Write, E: Write>(
+fn host_followed<R, S: Store + Drop, P: Pause + Drop, L: AuditLog, W: Write, E: Write>(
     rt: &R,
     alloc: Global,
     plan: &HostPlan<'_>,
     store: S,
     pause: P,
+    audit: &mut L,
     output: &mut W,
     errors: &mut E,
 ) -> Result<(), HostFailure>
@@ -280,7 +301,12 @@ where
     persister.choose_reads(plan.reads);
     // Who kept the stays that are there at the start follows from the log.
     let reply_queue = ReplyQueue::new(alloc);
-    let mut attended = Attended::new(reply_queue, Stays::new(alloc), plan.grace.is_some());
+    let mut attended = Attended::new(
+        reply_queue,
+        Stays::new(alloc),
+        plan.grace.is_some(),
+        plan.audit(alloc),
+    );
     let hosted = host(
         rt,
         alloc,
@@ -288,6 +314,7 @@ where
         listeners,
         &mut attended,
         &mut persister,
+        audit,
         output,
         errors,
     );
@@ -329,6 +356,17 @@ fn export_followed<R: Files<File = File>, S: Store + Drop, P: Pause + Drop, W: W
     }
 }
 
+// The file of an audit log, where one is named.
+fn open_audit<'a, R: Files<File = File>>(
+    rt: &'a R,
+    path: Option<&'a str>,
+) -> Result<Option<AuditFile<'a, R>>, ErrorKind> {
+    match path {
+        Some(path) => Ok(Some(AuditFile::open(rt, path)?)),
+        None => Ok(None),
+    }
+}
+
 /// Serves a hall to clients until standard input ends where that is a pipe, or else until the program is killed.
 ///
 /// Where a journal is named, its file is read, or made where it is to be new, and the hall is that of its record: a last line that was cut off by a crash is
@@ -344,7 +382,7 @@ fn export_followed<R: Files<File = File>, S: Store + Drop, P: Pause + Drop, W: W
 ///
 /// # Errors
 ///
-/// - Before anything is listened on: the journal or the log could not be opened, or holds another hall; or an address could not be bound.
+/// - Before anything is listened on: the audit log could not be opened; the journal or the log could not be opened, or holds another hall; or an address could not be bound.
 /// - Later: the journal, the log, standard output, the system's poll or an allocation failed. Nothing is sent of that turn.
 pub fn host_hall<R, W: Write, E: Write>(
     rt: &R,
@@ -356,10 +394,18 @@ pub fn host_hall<R, W: Write, E: Write>(
 where
     R: Net + Wait + Clock + Files<File = File> + AllocGlobal + Copy + Drop,
 {
+    let mut audit = match open_audit(rt, plan.log) {
+        Ok(audit) => audit,
+        Err(why) => return Err(HostFailure::AuditLog(why)),
+    };
     match plan.keeping {
-        Keeping::Nothing => host_unrecorded(rt, alloc, &plan, output, errors),
-        Keeping::Journal(path) => host_journal(rt, alloc, &plan, path, false, output, errors),
-        Keeping::NewJournal(path) => host_journal(rt, alloc, &plan, path, true, output, errors),
-        Keeping::Log(log) => host_log(rt, alloc, &plan, log, output, errors),
+        Keeping::Nothing => host_unrecorded(rt, alloc, &plan, &mut audit, output, errors),
+        Keeping::Journal(path) => {
+            host_journal(rt, alloc, &plan, path, false, &mut audit, output, errors)
+        }
+        Keeping::NewJournal(path) => {
+            host_journal(rt, alloc, &plan, path, true, &mut audit, output, errors)
+        }
+        Keeping::Log(log) => host_log(rt, alloc, &plan, log, &mut audit, output, errors),
     }
 }

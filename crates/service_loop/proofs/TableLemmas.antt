@@ -1,5 +1,5 @@
 -- a connection is given the next number
-use Rattle.std.proofs.Common.{◌≡◌, ◌⊎◌, inl, inr, ℕ, zero, suc, ◌<◌, ◌+◌, List, [], ◌∷◌, ◌++◌, length, get_or, set, refl, sym, subst, ◌∙◌, arith}
+use Rattle.std.proofs.Common.{◌≡◌, ◌⊎◌, inl, inr, ℕ, zero, suc, ◌<◌, ◌≤◌, ◌+◌, List, [], ◌∷◌, ◌++◌, length, get_or, set, refl, sym, subst, ◌∙◌, arith}
 use Rattle.service_loop.proofs.Common.{cases_eq, get_or-set_same, get_or-set_other}
 use Rattle.service_loop.specs.Attending.{number_at}
 use Rattle.service_loop.specs.Table.{AreNumbered}
@@ -29,7 +29,17 @@ numbered_at numbers key next inside so =
       },
     )
 
--- a seat has no number
+-- a seat has no number, and there is none
+pub cleared : (numbers : List ℕ) (key : ℕ) → number_at (set numbers key 0) key ≡ 0
+cleared [] key = refl
+cleared (n ∷ ns) zero = refl
+cleared (n ∷ ns) (suc key) = cleared ns key
+
+pub unnumbered : (numbers : List ℕ) (key : ℕ) → length numbers ≤ key → number_at numbers key ≡ 0
+unnumbered [] key none = refl
+unnumbered (n ∷ ns) zero none = absurd (omega (arith, none))
+unnumbered (n ∷ ns) (suc key) none = unnumbered ns key (omega (arith, none))
+
 pub numbered_none : (numbers : List ℕ) (key next : ℕ) → 0 < next → AreNumbered numbers next → AreNumbered (set numbers key 0) next
 numbered_none numbers key next some so =
     let there : (i : ℕ) → (i ≡ key → ⊥) → number_at (set numbers key 0) i ≡ number_at numbers i = λ i other. get_or-set_other numbers key i 0 0 other in
@@ -50,11 +60,6 @@ numbered_none numbers key next some so =
         ]
       ];
     }
-  where
-    cleared : (numbers : List ℕ) (key : ℕ) → number_at (set numbers key 0) key ≡ 0
-    cleared [] key = refl
-    cleared (n ∷ ns) zero = refl
-    cleared (n ∷ ns) (suc key) = cleared ns key
 
 -- one seat more
 number_more : (numbers : List ℕ) (i : ℕ) → number_at (numbers ++ 0 ∷ []) i ≡ number_at numbers i

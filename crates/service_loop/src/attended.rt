@@ -8,6 +8,7 @@ ghost use Rattle.service_loop.specs.Attending.{AttendedMay, Hears, act_of_ending
 ghost use Rattle.service_loop.specs.Losing.{lost_act};
 ghost use Rattle.service_loop.specs.AttendingProofs.{attended_answers};
 
+use crate::audit::Audit;
 use model_asked::{Event, Reply};
 use model_pool::stays::Stays;
 use model_steps::{Refusal, View};
@@ -38,6 +39,8 @@ pub struct Attended<D> {
     pub speaker: u64,
     /// Whether an allocation failed, so that a stay may lack in the table.
     pub lacks: bool,
+    /// What is told of numbers and refusals.
+    pub audit: Audit,
 }
 
 // Whether who said `enter` keeps the stay, by the reply to it.
@@ -56,7 +59,7 @@ fn gives_back(reply: &Reply<()>) -> bool
 
 impl<D> Attended<D> {
     /// A service with these stays. Where it does not keep them, they stay as they are.
-    pub fn new(service: D, stays: Stays, keeps: bool) -> Attended<D>
+    pub fn new(service: D, stays: Stays, keeps: bool, audit: Audit) -> Attended<D>
         ensures { (result.service ≡ service) × (result.stays ≡ stays) × (result.keeps ≡ keeps) × (result.lacks ≡ false) }
     {
         Attended {
@@ -65,6 +68,7 @@ impl<D> Attended<D> {
             keeps,
             speaker: 0,
             lacks: false,
+            audit,
         }
     }
 
@@ -79,6 +83,7 @@ impl<D> Attended<D> {
     pub fn end(&mut self, ending: Ending, tick: u64)
         ensures { self.new ≡ record self.old { stays = after_ending self.old.keeps tick ending self.old.stays } }
     {
+        self.audit.let_go(ending.number);
         if !self.keeps {
             return;
         }
@@ -178,6 +183,7 @@ fn apply_and_hear<R, D: Service<R>>(
     ensures { AttendedMay D.may attended.old (Take event) (with_view result view.new) attended.new }
 {
     let reply = attended.service.apply(rt, event, view);
+    attended.audit.note(attended.speaker, event, &reply);
     attended.hear(event, &reply);
     reply
 }
@@ -189,16 +195,22 @@ impl<R, D: Service<R>> Service<R> for Attended<D> {
 
     ghost answers = { λ w q known. attended_answers D.may w q (D.answers w.service q known) };
 
-    // Where nothing is noted the reply goes on as it is. Each line of clients comes by here, so it is no call of its own.
+    // Where no stay is noted the reply goes on as it is. Each line of clients comes by here, so it is no call of its own.
     #[inline(always)]
     fn apply(&mut self, rt: &R, event: Event, view: &mut View) -> Reply<()> {
         if !self.keeps {
-            return self.service.apply(rt, event, view);
+            let reply = self.service.apply(rt, event, view);
+            self.audit.note(self.speaker, event, &reply);
+            return reply;
         }
         apply_and_hear(self, rt, event, view)
     }
 
     fn owner(&mut self, rt: &R, n: u64) -> Reply<View> {
-        self.service.owner(rt, n)
+        let reply = self.service.owner(rt, n);
+        if let Reply::Refused(why) = &reply {
+            self.audit.count_refusal(*why);
+        }
+        reply
     }
 }

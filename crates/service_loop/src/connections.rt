@@ -7,12 +7,14 @@ ghost use Rattle.service_loop.specs.Table.{ending_at, seat_over};
 ghost use Rattle.service_loop.specs.Sendings.{Unsent, sockets};
 
 use crate::attended::{Attended, Ending};
+use crate::audit::Audit;
 use crate::buffers::Buffers;
 use crate::connection::{Connection, ConnectionStage};
 use crate::failing::fail_keepers;
 use crate::persist::Persist;
 use crate::seat_numbers::SeatNumbers;
 use crate::socket::Socket;
+use crate::turns::number_at;
 use mio::event::Event;
 use mio::{Poll, Token};
 use model_asked::WorldKind;
@@ -152,7 +154,7 @@ impl ConnectionTable {
         self.seats.get_mut(key)?.as_mut()
     }
 
-    /// Gives a seat to a stream. One that cannot be waited for is closed.
+    /// Gives a seat to a stream, and returns the number of its connection. One that cannot be waited for is closed.
     ///
     /// # Errors
     ///
@@ -164,24 +166,24 @@ impl ConnectionTable {
         kind: WorldKind,
         mut stream: Socket,
         tick: u64,
-    ) -> Result<(), AllocError>
+    ) -> Result<Option<u64>, AllocError>
         ensures one { self.new.open ≤ self.old.open + 1 }
     {
         stream.hurry();
         let key = self.empty_seat()?;
         if stream.register(poll, Token(key)).is_err() {
             let _ = self.empty.push(key);
-            return Ok(());
+            return Ok(None);
         }
         let Ok(buffers) = Buffers::new(alloc, kind) else {
             return Err(AllocError);
         };
         let connection = Connection::new(stream, buffers, tick);
-        if self.fill(key, Some(connection)) {
-            self.numbers.number(key);
-            self.open = self.open.saturating_add(1);
+        if !self.fill(key, Some(connection)) {
+            return Ok(None);
         }
-        Ok(())
+        self.open = self.open.saturating_add(1);
+        Ok(Some(self.numbers.number(key)))
     }
 
     /// Notes what the system tells of a connection, which is due then.
@@ -319,15 +321,26 @@ impl ConnectionTable {
     /// # Errors
     ///
     /// `AllocError`: the list of empty seats could not grow.
-    pub fn sweep(&mut self, tick: u64, idle: Option<u64>) -> Result<(), AllocError> {
+    pub fn sweep(
+        &mut self,
+        tick: u64,
+        idle: Option<u64>,
+        audit: &mut Audit,
+    ) -> Result<(), AllocError> {
         for key in 0..self.seats.len() {
-            self.sweep_one(key, tick, idle)?;
+            self.sweep_one(key, tick, idle, audit)?;
         }
         Ok(())
     }
 
-    // The same, of one seat.
-    fn sweep_one(&mut self, key: usize, tick: u64, idle: Option<u64>) -> Result<(), AllocError> {
+    // The same, of one seat. That it said nothing is told.
+    fn sweep_one(
+        &mut self,
+        key: usize,
+        tick: u64,
+        idle: Option<u64>,
+        audit: &mut Audit,
+    ) -> Result<(), AllocError> {
         let Some(connection) = self.seated(key) else {
             return Ok(());
         };
@@ -336,7 +349,12 @@ impl ConnectionTable {
         let most = if leaving { Some(FLUSH_TICKS) } else { idle };
         let rests = connection.stage == ConnectionStage::Idle;
         match most {
-            Some(most) if rests && most <= quiet => self.leave(key),
+            Some(most) if rests && most <= quiet => {
+                if !leaving {
+                    audit.note_idle(number_at(self.numbers.all(), key));
+                }
+                self.leave(key)
+            }
             _ => Ok(()),
         }
     }

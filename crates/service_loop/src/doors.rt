@@ -41,8 +41,8 @@ impl Drop for Doors {
 /// What came of accepting one connection.
 #[derive(Drop)]
 pub enum Accepted {
-    /// This one.
-    Stream(Socket),
+    /// This one, and the address that it comes from, where that is of the network.
+    Stream(Socket, Option<SocketAddr>),
     /// None, and another may be tried.
     Nobody,
     /// None: the system has no room for more.
@@ -120,7 +120,7 @@ impl Doors {
             return Accepted::Nobody;
         };
         match listener.accept() {
-            Ok((stream, _)) => Accepted::Stream(Socket::Network(stream)),
+            Ok((stream, peer)) => Accepted::Stream(Socket::Network(stream), Some(peer)),
             Err(error) => not_accepted(&error, &mut self.network_waits),
         }
     }
@@ -132,7 +132,7 @@ impl Doors {
             return Accepted::Nobody;
         };
         match local.listener.accept() {
-            Ok((stream, _)) => Accepted::Stream(Socket::Local(stream)),
+            Ok((stream, _)) => Accepted::Stream(Socket::Local(stream), None),
             Err(error) => not_accepted(&error, &mut self.local_waits),
         }
     }

@@ -28,7 +28,9 @@
 //! (`WasAttended`): from its start to its end nothing else was done than such turns, each said of the numbers of its connections; what was heard
 //! of connections that ended, at a tick; and what was done to end the stays that are due then (`law_of_hosted_grace`).
 //!
-//! Not promised, and shown by running it: that a connection that is due has its turn soon, and what sockets carry.
+//! What was taken, given back and refused is counted, and told of in lines where a log of them is wanted (`Audit`, `AuditLog`).
+//!
+//! Not promised, and shown by running it: what an audit tells, that a connection that is due has its turn soon, and what sockets carry.
 //!
 //! From `tests_log/src/turn_tests.rt`:
 //!
@@ -50,6 +52,9 @@
 pub mod answering;
 mod asking;
 pub mod attended;
+pub mod audit;
+mod audit_lines;
+pub mod audit_log;
 pub mod buffers;
 pub mod connection;
 pub mod connections;
@@ -75,6 +80,8 @@ pub mod watching;
 
 pub use answering::answer_queries;
 pub use attended::{Attended, Ending};
+pub use audit::Audit;
+pub use audit_log::AuditLog;
 pub use buffers::{Buffers, MOST_LINES, UNSENT_ROOM};
 pub use connection::{Connection, ConnectionStage};
 pub use failing::fail_keepers;

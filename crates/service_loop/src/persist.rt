@@ -136,6 +136,11 @@ pub trait Persist<D> {
     fn end_stays(&mut self, service: &mut D, due: &[u64]) -> Result<(), Self::Fault>
         ensures { OnOk result (waits self.old service.old self.new service.new) };
 
+    /// The identities whose stays the last `end_stays` ended since their servers are gone, for people.
+    fn ended_of_gone(&self) -> &[u64] {
+        &[]
+    }
+
     /// Returns true if and only if an identity competes, where all is kept that the service told.
     fn has_stay(&self, service: &D, identity: u64) -> bool
         ensures { result ≡ is_some (stay_of identity (holds self.now service.now).pool.competitors) };

@@ -12,6 +12,7 @@ ghost use Rattle.service_loop.specs.Releasing.{AreProbes, EndsDue, Forgot, Relea
 ghost use Rattle.model_pool.specs.stays.Stays.{all_due};
 
 use crate::attended::Attended;
+use crate::audit::{Asker, Audit};
 use crate::host_fault::HostFault;
 use crate::persist::Persist;
 use model_asked::{Event, Reply};
@@ -103,6 +104,7 @@ fn forget_one<D, K: Persist<D>>(service: &mut Attended<D>, persister: &K, identi
     ensures { Forgot (K.holds persister.now service.old.service) (identity ∷ []) service.old service.new }
 {
     if !persister.has_stay(&service.service, identity) {
+        service.audit.note_ended(identity);
         service.forget(identity);
     }
 }
@@ -113,6 +115,16 @@ fn forget_ended<D, K: Persist<D>>(service: &mut Attended<D>, persister: &K, due:
 {
     for identity in due {
         forget_one(service, persister, *identity);
+    }
+}
+
+// Tells an audit which of these identities compete.
+fn note_due<D, K: Persist<D>>(audit: &mut Audit, service: &D, persister: &K, due: &[u64]) {
+    audit.clear_due();
+    for identity in due {
+        if persister.has_stay(service, *identity) {
+            audit.note_due(*identity);
+        }
     }
 }
 
@@ -129,14 +141,18 @@ fn end_these<R, D: Service<R>, K: Persist<D>>(
     ensures { OnOk result (EndsDue D.may K.persists K.waits K.shares K.holds due.now persister.old service.old persister.new service.new) }
 {
     if persister.shares_stays() {
+        note_due(&mut service.audit, &service.service, persister, due);
         persister.end_stays(&mut service.service, due)?;
+        service.audit.note_gone(persister.ended_of_gone());
         forget_ended(service, persister, due);
         return Ok(());
     }
     if due.is_empty() {
         return Ok(());
     }
+    service.audit.listen_to(Asker::Grace);
     release_all(rt, service, view, due);
+    service.audit.listen_to(Asker::Client);
     persister.persist(&mut service.service)
 }
 

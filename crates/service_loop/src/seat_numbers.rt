@@ -64,18 +64,22 @@ impl SeatNumbers {
         }
     }
 
-    /// The connection that is given this seat has the next number; or 0, where 2^64 connections had one.
-    #[tactic(auto, using(crate::proofs::TableLemmas::numbered_at, crate::proofs::TableLemmas::numbered_none))]
-    pub fn number(&mut self, key: usize)
-        ensures { key < length self.old.items → self.old.next + 1 < 2 ^ 64 → number_at self.new.items key ≡ self.old.next }
+    /// The connection that is given this seat has the next number, which is returned; or 0, where 2^64 connections had one or there is no such seat.
+    #[tactic(auto, using(crate::proofs::TableLemmas::numbered_at, crate::proofs::TableLemmas::numbered_none, crate::proofs::TableLemmas::cleared, crate::proofs::TableLemmas::unnumbered))]
+    pub fn number(&mut self, key: usize) -> u64
+        ensures given { result ≡ number_at self.new.items key }
+        ensures next { key < length self.old.items → self.old.next + 1 < 2 ^ 64 → result ≡ self.old.next }
     {
-        if key < self.numbers.len() {
-            let Some(later) = self.next.checked_add(1) else {
-                self.numbers[key] = 0;
-                return;
-            };
-            self.numbers[key] = self.next;
-            self.next = later;
+        if key >= self.numbers.len() {
+            return 0;
         }
+        let Some(later) = self.next.checked_add(1) else {
+            self.numbers[key] = 0;
+            return 0;
+        };
+        let number = self.next;
+        self.numbers[key] = number;
+        self.next = later;
+        number
     }
 }

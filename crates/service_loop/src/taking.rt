@@ -17,6 +17,7 @@ ghost use Rattle.service_loop.specs.SharedBuffers.{AreShared};
 ghost use Rattle.service_loop.specs.Taking.{IsTaking, NumbersTaken, SaysTaking, SeatGivenUp, SeatTook, TakingsGivenUp, TakingsKept, TakingsPrefetched, events_for, events_of, probed, seat_taken_for, wants_probe};
 
 use crate::attended::Attended;
+use crate::audit::Asker;
 use crate::connection::{Connection, ConnectionStage};
 use crate::gathering::{Batch, Called, prefetch};
 use crate::losing::note_lost;
@@ -121,7 +122,9 @@ fn take_number_at<R, D: Service<R>, S: Stream, A: Allocator, B: Allocator>(
         if let Some(connection) = &mut seats[key] {
             if let ConnectionStage::Idle = connection.stage {
                 service.listen_to(number);
+                service.audit.listen_to(Asker::Taker { answered: false });
                 connection.take_number(rt, service, shared, ahead);
+                service.audit.listen_to(Asker::Client);
             }
         }
     }

@@ -1,7 +1,7 @@
 //! Those who watch a server.
 
 use crate::persist::Tally;
-use service_watch::{Numbers, Scrapers};
+use service_watch::{Numbers, REFUSALS, Releases, Scrapers};
 use std::io;
 use std::net::SocketAddr;
 
@@ -40,6 +40,12 @@ pub struct LoopNumbers {
     pub lines: u64,
     /// How many seconds were counted.
     pub ticks: u64,
+    /// How many numbers were given back, by the cause.
+    pub releases: Releases,
+    /// How many lines were answered by each refusal, by its number less 1.
+    pub refusals: [u64; REFUSALS],
+    /// How many lines of the audit log were lost, where one is written.
+    pub audit_lines_lost: Option<u64>,
     /// Whether the answers that clients wanted last were prefetched.
     pub learnt: bool,
 }
@@ -99,6 +105,9 @@ impl Watch {
             faults: loops.faults,
             lines: loops.lines,
             ticks: loops.ticks,
+            releases: loops.releases,
+            refusals: loops.refusals,
+            audit_lines_lost: loops.audit_lines_lost,
             ready: loops.learnt && tally.log_answers != Some(false),
             events: tally.events,
             events_left: tally.events_left,

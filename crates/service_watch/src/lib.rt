@@ -28,7 +28,7 @@ pub mod scraper;
 pub mod scrapers;
 
 pub use answer::put_answer;
-pub use numbers::Numbers;
+pub use numbers::{Numbers, REFUSALS, Releases};
 pub use page::put_page;
 pub use request::{Asked, MOST_REQUEST, asked_by};
 pub use scraper::Scraper;

@@ -2,6 +2,20 @@
 
 use crate::durations::DurationHistogram;
 
+/// How many refusals there are: their numbers are from 1 to this.
+pub const REFUSALS: usize = 14;
+
+/// How many numbers were given back since the start, by the cause.
+#[derive(Clone, Copy, Debug, Drop, PartialEq, Eq)]
+pub struct Releases {
+    /// A client said `leave`.
+    pub client: u64,
+    /// The grace time of their keeper was over.
+    pub grace: u64,
+    /// The front end of their keeper was gone.
+    pub front_end: u64,
+}
+
 /// What a page tells of a server. What is not known there is none, and left out of the page.
 #[derive(Clone, Copy, Debug, Drop, PartialEq, Eq)]
 pub struct Numbers {
@@ -15,6 +29,12 @@ pub struct Numbers {
     pub lines: u64,
     /// How many seconds were counted since the start.
     pub ticks: u64,
+    /// How many numbers were given back since the start.
+    pub releases: Releases,
+    /// How many lines were answered by each refusal since the start: by refusal N at the place N - 1.
+    pub refusals: [u64; REFUSALS],
+    /// How many lines of the audit log were lost since the start.
+    pub audit_lines_lost: Option<u64>,
     /// Whether the log answers, where there is one.
     pub ready: bool,
     /// How many events the history has.

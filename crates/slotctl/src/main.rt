@@ -168,6 +168,7 @@ fn host_plan_of<'a>(hosting: Hosting<'a>, seen: bool) -> HostPlan<'a> {
         },
         keeping: keeping_of(hosting.keeping),
         reports: hosting.verbose || seen,
+        log: hosting.log,
     }
 }
 
@@ -199,7 +200,7 @@ fn report_hosted<W: Write, E: Write>(
             return report_judged(Failure::BadRecord(line), failure, output, errors);
         }
         // To start again would change neither.
-        HostFailure::Missing | HostFailure::Exists => {
+        HostFailure::Missing | HostFailure::Exists | HostFailure::AuditLog(_) => {
             let _ = tell(&failure, errors);
             return 1;
         }

@@ -4,7 +4,7 @@ use crate::turn_doubles::{Piped, Reported, Teller};
 use model_asked::WorldKind;
 use model_pool::stays::Stays;
 use service_loop::{
-    Attended, Batch, Buffers, Called, Connection, ConnectionStage, SharedBuffers,
+    Attended, Audit, Batch, Buffers, Called, Connection, ConnectionStage, SharedBuffers,
     iterate_prefetched,
 };
 use std::alloc::{AllocError, Global};
@@ -103,7 +103,7 @@ fn make_due(seats: &mut Seats, ready: &mut Vec<usize>) -> Result<(), &'static st
 // Turns until all connections are at their end: how many there were.
 fn run(alloc: Global, teller: &mut Teller, seats: &mut Seats) -> Result<usize, &'static str> {
     let reported = Reported::new(alloc, WorldKind::Rename);
-    let mut attended = Attended::new(reported, Stays::new(alloc), false);
+    let mut attended = Attended::new(reported, Stays::new(alloc), false, Audit::new(alloc, false));
     let mut batch = Batch::new(alloc, WorldKind::Rename, teller.most);
     let Ok(mut room) = SharedBuffers::new(alloc) else {
         return Err("no memory");

@@ -89,23 +89,24 @@ same_idle_by rows a b m n held held' small small' (inr h) (inl k) = absurd (h.0 
 same_idle_by rows a b m n held held' small small' (inr h) (inr k) = h.1 ∙ same_idle_of rows a b held held' ∙ sym k.1
 
 -- what is made of the matched values is the hosting, where there is one
-pub hosted : (rows : List Row) (c : Config) (endpoints : Endpoints) (clients idle : ℕ) (holding : Holding) (stores : Bool) (keeping : Keeping) (verbose : Bool) (o : Option Hosting)
+pub hosted : (rows : List Row) (c : Config) (endpoints : Endpoints) (clients idle : ℕ) (holding : Holding) (stores : Bool) (keeping : Keeping) (verbose : Bool) (log : Option (Bor (List ℕ))) (o : Option Hosting)
     → IsConfigOf rows c → AreEndpointsOf rows endpoints → HasNumber rows (codes "clients") clients → IsIdleOf rows holding idle
-    → IsHoldingOf rows holding → StoreReads rows stores → IsKeepingOf rows keeping → verbose ≡ asks_flag (codes "verbose") rows
-    → IfSome o (λ h. (h.config ≡ c) × (h.clients ≡ clients) × (h.idle ≡ idle)) → IfSome o (λ h. (h.endpoints ≡ endpoints) × (h.keeping ≡ keeping) × (h.verbose ≡ verbose) × (h.holding ≡ holding) × (h.stores_reads ≡ stores))
+    → IsHoldingOf rows holding → StoreReads rows stores → IsKeepingOf rows keeping → verbose ≡ asks_flag (codes "verbose") rows → HasText rows (codes "log") log
+    → IfSome o (λ h. (h.config ≡ c) × (h.clients ≡ clients) × (h.idle ≡ idle)) → IfSome o (λ h. (h.endpoints ≡ endpoints) × (h.keeping ≡ keeping) × (h.verbose ≡ verbose) × (h.holding ≡ holding) × (h.stores_reads ≡ stores)) → IfSome o (λ h. h.log ≡ log)
     → (IsSome o ↔ IsHostingRange c.world clients idle) → idle < 2 ^ 64
     → MatchOption o ((h : Hosting) → IsHostingOf rows h → ⊥) (IsHostingOf rows)
-hosted rows c endpoints clients idle holding stores keeping verbose (Some h) config has_endpoints has_clients has_idle has_holding has_reads has_keeping asks sizes others range small = record {
+hosted rows c endpoints clients idle holding stores keeping verbose log (Some h) config has_endpoints has_clients has_idle has_holding has_reads has_keeping asks has_log sizes others logs range small = record {
   config = subst (λ (x : Config). IsConfigOf rows x) (sym sizes.0) config;
   endpoints = subst (λ (x : Endpoints). AreEndpointsOf rows x) (sym others.0) has_endpoints;
   clients = subst (λ x. HasNumber rows (codes "clients") x) (sym sizes.1) has_clients;
   idle = subst (λ (x : Holding). IsIdleOf rows x h.idle) (sym others.3) (subst (λ (x : ℕ). IsIdleOf rows holding x) (sym sizes.2) has_idle);
   keeping = subst (λ (x : Keeping). IsKeepingOf rows x) (sym others.1) has_keeping;
   verbose = others.2 ∙ asks;
+  log = subst (λ (x : Option (Bor (List ℕ))). HasText rows (codes "log") x) (sym logs) has_log;
   holding = subst (λ (x : Holding). IsHoldingOf rows x) (sym others.3) has_holding;
   reads = subst (λ (x : Bool). StoreReads rows x) (sym others.4) has_reads;
 }
-hosted rows c endpoints clients idle holding stores keeping verbose None config has_endpoints has_clients has_idle has_holding has_reads has_keeping asks sizes others range small = λ h is.
+hosted rows c endpoints clients idle holding stores keeping verbose log None config has_endpoints has_clients has_idle has_holding has_reads has_keeping asks has_log sizes others logs range small = λ h is.
     let same_clients : h.clients ≡ clients = same_number rows (codes "clients") h.clients clients is.clients has_clients in
     let same_idle : h.idle ≡ idle = same_idle_by rows h.holding holding h.idle idle is.holding has_holding (let fits = h.in_range in omega arith) small is.idle has_idle in
     let same_kind : h.config.world ≡ c.world = same_world rows h.config.world c.world is.config.world config.world in

@@ -178,6 +178,7 @@ pub record IsHostingOf (rows : List Row) (h : Hosting) : Type 0 where
   pub reads : StoreReads rows h.stores_reads
   pub keeping : IsKeepingOf rows h.keeping
   pub verbose : h.verbose ≡ asks_flag (codes "verbose") rows
+  pub log : HasText rows (codes "log") h.log
 
 -- the subcommand that asks for this
 abbrev pub subcommand_name : Ask → List ℕ

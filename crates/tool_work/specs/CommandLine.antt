@@ -120,7 +120,7 @@ serve_app = with_options (codes "serve") (world_option ∷ m_option ∷ k_option
 
 -- `--address ADDRESS`, or 127.0.0.1; `--port NUMBER`, of 16 bits, or none; `--unix PATH`, or none; `--mode BITS`, or 660; `--metrics NUMBER`, of 16
 -- bits, or none; `--metrics-address ADDRESS`, or 127.0.0.1; `--clients NUMBER`, from 1 to 1,000,000, or 10000; `--idle NUMBER`, at most 31,536,000, or none; `--hold
--- HOW`, or forever; `--grace NUMBER`, from 1 to 86,400, or none; `--reads HOW`, or plain; `--journal FILE`, and with it `--new`; `--etcd MEMBERS` and `--prefix NAME`, or none; `--patience NUMBER`, from 1 to 3,600, or 10
+-- HOW`, or forever; `--grace NUMBER`, from 1 to 86,400, or none; `--reads HOW`, or plain; `--journal FILE`, and with it `--new`; `--etcd MEMBERS` and `--prefix NAME`, or none; `--patience NUMBER`, from 1 to 3,600, or 10; `--log FILE`, or none
 abbrev pub host_app : App
 host_app = with_options (codes "host") (world_option ∷ m_option ∷ k_option ∷ limit_option
     ∷ chosen_option (codes "address") (codes "127.0.0.1") ∷ some_number_option (codes "port") 0 65535
@@ -128,7 +128,7 @@ host_app = with_options (codes "host") (world_option ∷ m_option ∷ k_option �
     ∷ some_number_option (codes "metrics") 0 65535 ∷ chosen_option (codes "metrics-address") (codes "127.0.0.1") ∷ number_option (codes "clients") 1 1000000 (codes "10000")
     ∷ some_number_option (codes "idle") 0 31536000 ∷ chosen_option (codes "hold") (codes "forever") ∷ some_number_option (codes "grace") 1 86400
     ∷ chosen_option (codes "reads") (codes "plain") ∷ text_option (codes "journal") ∷ flag (codes "new") ∷ text_option (codes "etcd") ∷ text_option (codes "prefix")
-    ∷ number_option (codes "patience") 1 3600 (codes "10") ∷ flag (codes "export") ∷ flag (codes "verbose") ∷ [])
+    ∷ number_option (codes "patience") 1 3600 (codes "10") ∷ flag (codes "export") ∷ flag (codes "verbose") ∷ text_option (codes "log") ∷ [])
 
 -- `held` has no options
 abbrev pub held_app : App

@@ -312,6 +312,8 @@ pub struct Hosting<'a> {
     pub keeping: Keeping<'a>,
     /// Whether it tells once a minute how much there is.
     pub verbose: bool,
+    /// The file to which it appends who took numbers, gave them back or was refused, where one is named.
+    pub log: Option<&'a str>,
     ghost in_range: { IsHostingRange config.world clients idle },
 }
 
@@ -326,10 +328,12 @@ impl<'a> Hosting<'a> {
         stores_reads: bool,
         keeping: Keeping<'a>,
         verbose: bool,
+        log: Option<&'a str>,
     ) -> Option<Hosting<'a>>
         ensures sizes { IfSome result (λ h. (h.config ≡ config) × (h.clients ≡ clients) × (h.idle ≡ idle)) }
         ensures others { IfSome result (λ h. (h.endpoints ≡ endpoints.entry) × (h.keeping ≡ keeping.entry) × (h.verbose ≡ verbose)
             × (h.holding ≡ holding) × (h.stores_reads ≡ stores_reads)) }
+        ensures log { IfSome result (λ h. h.log ≡ log.entry) }
         ensures range { IsSome result ↔ IsHostingRange config.world clients idle }
     {
         if clients < 1 || 1_000_000 < clients || 31_536_000 < idle {
@@ -347,6 +351,7 @@ impl<'a> Hosting<'a> {
             stores_reads,
             keeping,
             verbose,
+            log,
         })
     }
 }

@@ -345,6 +345,11 @@ const HOST: Manual = Manual {
             takes: Takes::Nothing,
             help: "tells on standard error once a minute how many clients, events and bytes there are",
         },
+        Choice {
+            name: "log",
+            takes: Takes::Text("FILE"),
+            help: "appends to a file a line of JSON for each number taken or given back and each refusal 8, 9 or 10, with the time and the peer; moved away it is made anew",
+        },
     ],
 };
 

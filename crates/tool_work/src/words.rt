@@ -289,6 +289,7 @@ fn host_given<'a>(matches: &ArgMatches<'a>) -> Option<Hosting<'a>>
     let stores_reads = reads_given(matches)?;
     let keeping = keeping_given(matches)?;
     let verbose = flag_given(matches, "verbose");
+    let log = text_given(matches, "log");
     Hosting::new(
         config,
         endpoints,
@@ -298,6 +299,7 @@ fn host_given<'a>(matches: &ArgMatches<'a>) -> Option<Hosting<'a>>
         stores_reads,
         keeping,
         verbose,
+        log,
     )
 }
 

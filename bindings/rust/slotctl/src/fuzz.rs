@@ -16,6 +16,7 @@ use crate::proved::service_host::persisters::Unrecorded;
 use crate::proved::service_host::reading::Reading;
 use crate::proved::service_loop::answering::answer_queries;
 use crate::proved::service_loop::attended::Attended;
+use crate::proved::service_loop::audit::Audit;
 use crate::proved::service_loop::buffers::Buffers;
 use crate::proved::service_loop::connection::{Connection, ConnectionStage};
 use crate::proved::service_loop::shared::SharedBuffers;
@@ -241,7 +242,7 @@ fn hosted(config: Config, bytes: &[u8], pieces: u64, most: usize) -> Vec<u8> {
         service: hall,
         reads: Reads::Logged,
     };
-    let mut service = Attended::new(reading, Stays::new(Global), false);
+    let mut service = Attended::new(reading, Stays::new(Global), false, Audit::new(Global, true));
     let mut persister = Unrecorded {
         alloc: Global,
         compactor: Compactor::new(),

@@ -22,3 +22,25 @@ impl Instant {
         Ok(self.0.elapsed())
     }
 }
+
+/// A time of the system's calendar.
+#[derive(Clone, Copy)]
+pub struct SystemTime(std::time::SystemTime);
+
+/// `UNIX_EPOCH`: the beginning of 1970.
+pub const UNIX_EPOCH: SystemTime = SystemTime(std::time::UNIX_EPOCH);
+
+impl SystemTime {
+    /// `now`: the present time.
+    pub fn now<R: Clock>(_rt: &R) -> io::Result<SystemTime> {
+        Ok(SystemTime(std::time::SystemTime::now()))
+    }
+
+    /// `duration_since`: how long after an earlier time it is.
+    pub fn duration_since(
+        &self,
+        earlier: SystemTime,
+    ) -> Result<Duration, std::time::SystemTimeError> {
+        self.0.duration_since(earlier.0)
+    }
+}

@@ -1,10 +1,10 @@
-// Erased by bindings/rust/erase from crates/service_host/src/lib.rt, sha256 4bb1cf9475faae50c13b25220cb517fa596d27a93151a13200a4c89b6dbd543b.
+// Erased by bindings/rust/erase from crates/service_host/src/lib.rt, sha256 750f962a4810ffee6397ee2943bd540d8ccd9d86fe674e1f02e517f44db012f7.
 //! A hall that an operator hosts: clients of a socket in one thread, and a journal of what was accepted.
 //!
 //! `host_hall` opens the journal, where one is named, and has `service_loop` serve clients over the hall of its record. `Recorded` keeps what
 //! a write-ahead hall tells of each turn in its journal before a reply of that turn is sent; `Unrecorded` serves a hall whose history ends with
 //! the program. `Reading` tells of either whether the history stores reads. Where a log in etcd is named (`LogPlan`), the hall is served over
-//! that (`service_follow`), and other servers share it.
+//! that (`service_follow`), and other servers share it. `AuditFile` is the file to which the lines of an audit are appended, where one is named.
 //!
 //! The theorem (`law_of_hosting`): after a turn of the loop over a write-ahead hall and its journal all turns of all connections were answered
 //! as is due in one order. The history has gained just their accepted events, plain reads aside; header and journal are its record and are
@@ -22,6 +22,7 @@
 //! host_hall(rt, alloc, host_plan_of(hosting, seen), output, errors)
 //! ```
 
+pub mod audit_file;
 pub mod export;
 pub mod failure;
 pub mod holders;

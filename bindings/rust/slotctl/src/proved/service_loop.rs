@@ -1,4 +1,4 @@
-// Erased by bindings/rust/erase from crates/service_loop/src/lib.rt, sha256 ecd9d22831cbc0b97bfb83652dbdd1963bccf0799f0f7d5382982079eae8868c.
+// Erased by bindings/rust/erase from crates/service_loop/src/lib.rt, sha256 7bff343462df6266d2790af89bcde076375cc7768642290df06d0e4dff4f9b73.
 //! Connections that share one service, in one thread.
 //!
 //! `Buffers` are a connection without its stream: one side of a transcript (`Responder`), what came and is not taken yet, and what was said and is not
@@ -27,7 +27,9 @@
 //!
 //! `host` is a whole server over sockets: it waits until some are ready (`mio`), gives those their turn, and closes who is at an end or idle.
 //!
-//! Not promised, and shown by running it: that a connection that is due has its turn soon, and what sockets carry.
+//! What was taken, given back and refused is counted, and told of in lines where a log of them is wanted (`Audit`, `AuditLog`).
+//!
+//! Not promised, and shown by running it: what an audit tells, that a connection that is due has its turn soon, and what sockets carry.
 //!
 //! From `tests_log/src/turn_tests.rt`:
 //!
@@ -48,6 +50,9 @@
 pub mod answering;
 mod asking;
 pub mod attended;
+pub mod audit;
+mod audit_lines;
+pub mod audit_log;
 pub mod buffers;
 pub mod connection;
 pub mod connections;

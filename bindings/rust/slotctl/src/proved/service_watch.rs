@@ -1,4 +1,4 @@
-// Erased by bindings/rust/erase from crates/service_watch/src/lib.rt, sha256 aa127449fdc541cccccac2f65a94da889eac895b0dac568028e3fd22018d2c16.
+// Erased by bindings/rust/erase from crates/service_watch/src/lib.rt, sha256 c6b6bb23f4e1eede165811da997be36ab8a17f71ba4ca1bbb8b0f19e95d1d4dc.
 //! What a server shows those who watch it: a page of metrics in the text form of Prometheus, version 0.0.4, over HTTP/1.1.
 //!
 //! `put_page` writes the page of `Numbers`, `asked_by` says what a request asks for, and `put_answer` writes what is answered. `Scrapers` are those

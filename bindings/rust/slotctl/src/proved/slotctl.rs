@@ -1,4 +1,4 @@
-// Erased by bindings/rust/erase from crates/slotctl/src/main.rt, sha256 6565cc29062c1d3e91c0941532f98c8506c01d185aaa75737414a02a8ec3ca15.
+// Erased by bindings/rust/erase from crates/slotctl/src/main.rt, sha256 2b32d14d9dade32a234e8468151ee9d5ea100e838856a95f8e12d19a7eb377b9.
 //! The program `slotctl`: plays schedules of shared-memory algorithms, one access a step.
 //!
 //! `slotctl play --world splitter --m 2` reads commands from the standard input, one a line, and writes a reply to each to
@@ -173,6 +173,7 @@ fn host_plan_of<'a>(hosting: Hosting<'a>, seen: bool) -> HostPlan<'a> {
         },
         keeping: keeping_of(hosting.keeping),
         reports: hosting.verbose || seen,
+        log: hosting.log,
     }
 }
 
@@ -204,7 +205,7 @@ fn report_hosted<W: Write, E: Write>(
             return report_judged(Failure::BadRecord(line), failure, output, errors);
         }
         // To start again would change neither.
-        HostFailure::Missing | HostFailure::Exists => {
+        HostFailure::Missing | HostFailure::Exists | HostFailure::AuditLog(_) => {
             let _ = tell(&failure, errors);
             return 1;
         }

@@ -1,4 +1,4 @@
-// Erased by bindings/rust/erase from crates/service_host/src/failure.rt, sha256 a7664c641c1a25d079c2df3eaa1cb637358e8904a71f492ea6efe8056840471f.
+// Erased by bindings/rust/erase from crates/service_host/src/failure.rt, sha256 ce166eaa10a632a9f6ea0547bda52225a59b1188c2e01ff5b54cb2f040915f3c.
 //! Why a hall is not hosted, or no more.
 
 use crate::kit::alloc::AllocError;
@@ -80,6 +80,9 @@ pub enum HostFailure {
     /// The log was put back to an older state under the server, which answers nothing more.
     #[error("the log went back")]
     WentBack,
+    /// The file of the audit log could not be opened.
+    #[error("the file of --log could not be opened: {0}")]
+    AuditLog(ErrorKind),
     /// The members of the log did not answer, or the log failed.
     #[error("log fault: {0}")]
     Log(LogFault),

@@ -1,9 +1,9 @@
-// Erased by bindings/rust/erase from crates/service_host/src/start.rt, sha256 3e6e4149b26d309c5b0d6693fc6e7d90548f3fc55e3cdfe8e3bb855284c24e7e.
+// Erased by bindings/rust/erase from crates/service_host/src/start.rt, sha256 271f121ade3e0bd3a21059c7234e1afb6c0203c0d5a87206f9ded4b2cfe89d0d.
 //! A whole server of a hall, by its plan.
 
 use crate::kit::alloc::{AllocGlobal, Global};
 use crate::kit::fs::File;
-use crate::kit::io::Write;
+use crate::kit::io::{ErrorKind, Write};
 use crate::kit::net::Net;
 use crate::kit::rt::{Clock, Files};
 use crate::kit::sync::Wait;
@@ -17,6 +17,7 @@ use crate::proved::service_follow::reply_queue::ReplyQueue;
 use crate::proved::service_hall::compactor::Compactor;
 use crate::proved::service_hall::hall::Hall;
 use crate::proved::service_hall::reads::Reads;
+use crate::proved::service_host::audit_file::AuditFile;
 use crate::proved::service_host::export::write_events;
 use crate::proved::service_host::failure::HostFailure;
 use crate::proved::service_host::keepers::stays_at_start;
@@ -33,6 +34,8 @@ use crate::proved::service_log::etcd::dial::TcpDial;
 use crate::proved::service_log::etcd::etcd_store::EtcdStore;
 use crate::proved::service_log::store::Store;
 use crate::proved::service_loop::attended::Attended;
+use crate::proved::service_loop::audit::Audit;
+use crate::proved::service_loop::audit_log::AuditLog;
 use crate::proved::service_loop::hosting::{host, HostOptions, Hosted};
 use crate::proved::service_watch::listeners::listening::{listen, ListenPlan, Listening};
 use crate::proved::service_watch::listeners::socket_file::SocketFile;
@@ -72,6 +75,8 @@ pub struct HostPlan<'a> {
     pub keeping: Keeping<'a>,
     /// Whether a line at first and then one a minute tells how much there is.
     pub reports: bool,
+    /// The file to which a log of an audit is appended, where one is wanted.
+    pub log: Option<&'a str>,
 }
 
 impl HostPlan<'_> {
@@ -83,7 +88,13 @@ impl HostPlan<'_> {
             idle: self.idle,
             grace: self.grace,
             reports: self.reports,
+            logs: self.log.is_some(),
         }
+    }
+
+    // What is told of numbers and refusals.
+    fn audit(&self, alloc: Global) -> Audit {
+        Audit::new(alloc, self.log.is_some())
     }
 }
 
@@ -122,12 +133,13 @@ fn open_journal<R: Clock + Files<File = File> + AllocGlobal + Copy>(
 }
 
 // Serves a hall whose history is in the journal of a path.
-fn host_journal<R, W: Write, E: Write>(
+fn host_journal<R, L: AuditLog, W: Write, E: Write>(
     rt: &R,
     alloc: Global,
     plan: &HostPlan<'_>,
     path: &str,
     new: bool,
+    audit: &mut L,
     output: &mut W,
     errors: &mut E,
 ) -> Result<(), HostFailure>
@@ -135,17 +147,18 @@ where
     R: Net + Wait + Clock + Files<File = File> + AllocGlobal + Copy,
 {
     match open_journal(rt, alloc, plan.config, path, new) {
-        Ok(opened) => host_recorded(rt, alloc, plan, opened, output, errors),
+        Ok(opened) => host_recorded(rt, alloc, plan, opened, audit, output, errors),
         Err(failure) => Err(failure),
     }
 }
 
 // Serves what was read of a journal, which is compacted before where it is long.
-fn host_recorded<R: Net + Wait + Clock + Files, D: Disk, W: Write, E: Write>(
+fn host_recorded<R: Net + Wait + Clock + Files, D: Disk, L: AuditLog, W: Write, E: Write>(
     rt: &R,
     alloc: Global,
     plan: &HostPlan<'_>,
     opened: Opened<D>,
+    audit: &mut L,
     output: &mut W,
     errors: &mut E,
 ) -> Result<(), HostFailure> {
@@ -169,7 +182,7 @@ fn host_recorded<R: Net + Wait + Clock + Files, D: Disk, W: Write, E: Write>(
         service: write_ahead,
         reads: plan.reads,
     };
-    let mut attended = Attended::new(reading, stays, plan.grace.is_some());
+    let mut attended = Attended::new(reading, stays, plan.grace.is_some(), plan.audit(alloc));
     let Listening { listeners, file } = match listen(rt, alloc, plan.listen) {
         Ok(listening) => listening,
         Err(fault) => return Err(HostFailure::from(fault)),
@@ -181,6 +194,7 @@ fn host_recorded<R: Net + Wait + Clock + Files, D: Disk, W: Write, E: Write>(
         listeners,
         &mut attended,
         &mut persister,
+        audit,
         output,
         errors,
     );
@@ -188,10 +202,11 @@ fn host_recorded<R: Net + Wait + Clock + Files, D: Disk, W: Write, E: Write>(
 }
 
 // Serves a hall whose history ends with the program.
-fn host_unrecorded<R: Net + Wait + Clock + Files, W: Write, E: Write>(
+fn host_unrecorded<R: Net + Wait + Clock + Files, L: AuditLog, W: Write, E: Write>(
     rt: &R,
     alloc: Global,
     plan: &HostPlan<'_>,
+    audit: &mut L,
     output: &mut W,
     errors: &mut E,
 ) -> Result<(), HostFailure> {
@@ -200,7 +215,12 @@ fn host_unrecorded<R: Net + Wait + Clock + Files, W: Write, E: Write>(
         service: hall,
         reads: plan.reads,
     };
-    let mut attended = Attended::new(reading, Stays::new(alloc), plan.grace.is_some());
+    let mut attended = Attended::new(
+        reading,
+        Stays::new(alloc),
+        plan.grace.is_some(),
+        plan.audit(alloc),
+    );
     let mut persister = Unrecorded {
         alloc,
         compactor: Compactor::new(),
@@ -214,6 +234,7 @@ fn host_unrecorded<R: Net + Wait + Clock + Files, W: Write, E: Write>(
         listeners,
         &mut attended,
         &mut persister,
+        audit,
         output,
         errors,
     );
@@ -249,11 +270,12 @@ fn followed<R: Files<File = File>, S: Store, P: Pause>(
 }
 
 // Serves a hall whose history is in a log.
-fn host_log<R, W: Write, E: Write>(
+fn host_log<R, L: AuditLog, W: Write, E: Write>(
     rt: &R,
     alloc: Global,
     plan: &HostPlan<'_>,
     log: LogPlan<'_>,
+    audit: &mut L,
     output: &mut W,
     errors: &mut E,
 ) -> Result<(), HostFailure>
@@ -262,18 +284,19 @@ where
 {
     let pause = Patience::new(rt, log.patience);
     match store_of(rt, alloc, log) {
-        Ok(store) => host_followed(rt, alloc, plan, store, pause, output, errors),
+        Ok(store) => host_followed(rt, alloc, plan, store, pause, audit, output, errors),
         Err(failure) => Err(failure),
     }
 }
 
 // Serves what follows a log, whatever that stands in: a proof over a store in etcd is long.
-fn host_followed<R, S: Store, P: Pause, W: Write, E: Write>(
+fn host_followed<R, S: Store, P: Pause, L: AuditLog, W: Write, E: Write>(
     rt: &R,
     alloc: Global,
     plan: &HostPlan<'_>,
     store: S,
     pause: P,
+    audit: &mut L,
     output: &mut W,
     errors: &mut E,
 ) -> Result<(), HostFailure>
@@ -294,7 +317,12 @@ where
     persister.choose_reads(plan.reads);
     // Who kept the stays that are there at the start follows from the log.
     let reply_queue = ReplyQueue::new(alloc);
-    let mut attended = Attended::new(reply_queue, Stays::new(alloc), plan.grace.is_some());
+    let mut attended = Attended::new(
+        reply_queue,
+        Stays::new(alloc),
+        plan.grace.is_some(),
+        plan.audit(alloc),
+    );
     let hosted = host(
         rt,
         alloc,
@@ -302,6 +330,7 @@ where
         listeners,
         &mut attended,
         &mut persister,
+        audit,
         output,
         errors,
     );
@@ -343,6 +372,17 @@ fn export_followed<R: Files<File = File>, S: Store, P: Pause, W: Write>(
     }
 }
 
+// The file of an audit log, where one is named.
+fn open_audit<'a, R: Files<File = File>>(
+    rt: &'a R,
+    path: Option<&'a str>,
+) -> Result<Option<AuditFile<'a, R>>, ErrorKind> {
+    match path {
+        Some(path) => Ok(Some(AuditFile::open(rt, path)?)),
+        None => Ok(None),
+    }
+}
+
 /// Serves a hall to clients until standard input ends where that is a pipe, or else until the program is killed.
 ///
 /// Where a journal is named, its file is read, or made where it is to be new, and the hall is that of its record: a last line that was cut off by a crash is
@@ -358,7 +398,7 @@ fn export_followed<R: Files<File = File>, S: Store, P: Pause, W: Write>(
 ///
 /// # Errors
 ///
-/// - Before anything is listened on: the journal or the log could not be opened, or holds another hall; or an address could not be bound.
+/// - Before anything is listened on: the audit log could not be opened; the journal or the log could not be opened, or holds another hall; or an address could not be bound.
 /// - Later: the journal, the log, standard output, the system's poll or an allocation failed. Nothing is sent of that turn.
 pub fn host_hall<R, W: Write, E: Write>(
     rt: &R,
@@ -370,10 +410,18 @@ pub fn host_hall<R, W: Write, E: Write>(
 where
     R: Net + Wait + Clock + Files<File = File> + AllocGlobal + Copy,
 {
+    let mut audit = match open_audit(rt, plan.log) {
+        Ok(audit) => audit,
+        Err(why) => return Err(HostFailure::AuditLog(why)),
+    };
     match plan.keeping {
-        Keeping::Nothing => host_unrecorded(rt, alloc, &plan, output, errors),
-        Keeping::Journal(path) => host_journal(rt, alloc, &plan, path, false, output, errors),
-        Keeping::NewJournal(path) => host_journal(rt, alloc, &plan, path, true, output, errors),
-        Keeping::Log(log) => host_log(rt, alloc, &plan, log, output, errors),
+        Keeping::Nothing => host_unrecorded(rt, alloc, &plan, &mut audit, output, errors),
+        Keeping::Journal(path) => {
+            host_journal(rt, alloc, &plan, path, false, &mut audit, output, errors)
+        }
+        Keeping::NewJournal(path) => {
+            host_journal(rt, alloc, &plan, path, true, &mut audit, output, errors)
+        }
+        Keeping::Log(log) => host_log(rt, alloc, &plan, log, &mut audit, output, errors),
     }
 }

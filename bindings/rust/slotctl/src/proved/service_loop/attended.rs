@@ -1,4 +1,4 @@
-// Erased by bindings/rust/erase from crates/service_loop/src/attended.rt, sha256 ab08a88c4f9893cf16d5744258ed376b23d6e8bee7f245c82d1c672f70788303.
+// Erased by bindings/rust/erase from crates/service_loop/src/attended.rt, sha256 108fcf6d4d7017e0ef668b6a8d6498d75492e2748749b07c1d12704c851fc95d.
 //! A service, and who keeps the stays in its pool.
 
 use crate::proved::model_asked::event::Event;
@@ -6,6 +6,7 @@ use crate::proved::model_asked::reply::Reply;
 use crate::proved::model_pool::stays::stays::Stays;
 use crate::proved::model_steps::refusal::Refusal;
 use crate::proved::model_steps::view::View;
+use crate::proved::service_loop::audit::Audit;
 use crate::proved::text_player::service::Service;
 
 /// The number of no connection. It keeps a stay that may have begun, though no connection may be answered so.
@@ -32,6 +33,8 @@ pub struct Attended<D> {
     pub speaker: u64,
     /// Whether an allocation failed, so that a stay may lack in the table.
     pub lacks: bool,
+    /// What is told of numbers and refusals.
+    pub audit: Audit,
 }
 
 // Whether who said `enter` keeps the stay, by the reply to it.
@@ -46,13 +49,14 @@ fn gives_back(reply: &Reply<()>) -> bool {
 
 impl<D> Attended<D> {
     /// A service with these stays. Where it does not keep them, they stay as they are.
-    pub fn new(service: D, stays: Stays, keeps: bool) -> Attended<D> {
+    pub fn new(service: D, stays: Stays, keeps: bool, audit: Audit) -> Attended<D> {
         Attended {
             service,
             stays,
             keeps,
             speaker: 0,
             lacks: false,
+            audit,
         }
     }
 
@@ -63,6 +67,7 @@ impl<D> Attended<D> {
 
     /// A connection ended at this tick.
     pub fn end(&mut self, ending: Ending, tick: u64) {
+        self.audit.let_go(ending.number);
         if !self.keeps {
             return;
         }
@@ -140,21 +145,28 @@ fn apply_and_hear<R, D: Service<R>>(
     view: &mut View,
 ) -> Reply<()> {
     let reply = attended.service.apply(rt, event, view);
+    attended.audit.note(attended.speaker, event, &reply);
     attended.hear(event, &reply);
     reply
 }
 
 impl<R, D: Service<R>> Service<R> for Attended<D> {
-    // Where nothing is noted the reply goes on as it is. Each line of clients comes by here, so it is no call of its own.
+    // Where no stay is noted the reply goes on as it is. Each line of clients comes by here, so it is no call of its own.
     #[inline(always)]
     fn apply(&mut self, rt: &R, event: Event, view: &mut View) -> Reply<()> {
         if !self.keeps {
-            return self.service.apply(rt, event, view);
+            let reply = self.service.apply(rt, event, view);
+            self.audit.note(self.speaker, event, &reply);
+            return reply;
         }
         apply_and_hear(self, rt, event, view)
     }
 
     fn owner(&mut self, rt: &R, n: u64) -> Reply<View> {
-        self.service.owner(rt, n)
+        let reply = self.service.owner(rt, n);
+        if let Reply::Refused(why) = &reply {
+            self.audit.count_refusal(*why);
+        }
+        reply
     }
 }

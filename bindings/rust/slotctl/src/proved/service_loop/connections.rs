@@ -1,4 +1,4 @@
-// Erased by bindings/rust/erase from crates/service_loop/src/connections.rt, sha256 ca2c3d7112ecdb25aa24e4372b81cd9a4914cb8b5606c61885406722f5957bf7.
+// Erased by bindings/rust/erase from crates/service_loop/src/connections.rt, sha256 fa9a214d100581b307019550b6d07673ce3f296b2b6081120dff19d110a540f1.
 //! The connections of a server, their seats, and who is to have a turn.
 
 use crate::kit::alloc::{AllocError, Global};
@@ -8,11 +8,13 @@ use crate::kit::Vec;
 use crate::proved::model_asked::kind::WorldKind;
 use crate::proved::model_pool::stays::stays::Stays;
 use crate::proved::service_loop::attended::{Attended, Ending};
+use crate::proved::service_loop::audit::Audit;
 use crate::proved::service_loop::buffers::Buffers;
 use crate::proved::service_loop::connection::{Connection, ConnectionStage};
 use crate::proved::service_loop::failing::fail_keepers;
 use crate::proved::service_loop::persist::Persist;
 use crate::proved::service_loop::socket::Socket;
+use crate::proved::service_loop::turns::number_at;
 use std::mem;
 
 /// For so many clients at most room is taken at once, in lists that lie below all that clients make grow: so what those leave goes back to
@@ -146,7 +148,7 @@ impl ConnectionTable {
         self.seats.get_mut(key)?.as_mut()
     }
 
-    /// Gives a seat to a stream. One that cannot be waited for is closed.
+    /// Gives a seat to a stream, and returns the number of its connection. One that cannot be waited for is closed.
     ///
     /// # Errors
     ///
@@ -158,22 +160,23 @@ impl ConnectionTable {
         kind: WorldKind,
         mut stream: Socket,
         tick: u64,
-    ) -> Result<(), AllocError> {
+    ) -> Result<Option<u64>, AllocError> {
         stream.hurry();
         let key = self.empty_seat()?;
         if stream.register(poll, Token(key)).is_err() {
             let _ = self.empty.push(key);
-            return Ok(());
+            return Ok(None);
         }
         let Ok(buffers) = Buffers::new(alloc, kind) else {
             return Err(AllocError);
         };
         let connection = Connection::new(stream, buffers, tick);
-        if self.fill(key, Some(connection)) {
-            self.number_seat(key);
-            self.open = self.open.saturating_add(1);
+        if !self.fill(key, Some(connection)) {
+            return Ok(None);
         }
-        Ok(())
+        self.number_seat(key);
+        self.open = self.open.saturating_add(1);
+        Ok(Some(number_at(&self.numbers, key)))
     }
 
     /// Notes what the system tells of a connection, which is due then.
@@ -292,15 +295,26 @@ impl ConnectionTable {
     /// # Errors
     ///
     /// `AllocError`: the list of empty seats could not grow.
-    pub fn sweep(&mut self, tick: u64, idle: Option<u64>) -> Result<(), AllocError> {
+    pub fn sweep(
+        &mut self,
+        tick: u64,
+        idle: Option<u64>,
+        audit: &mut Audit,
+    ) -> Result<(), AllocError> {
         for key in 0..self.seats.len() {
-            self.sweep_one(key, tick, idle)?;
+            self.sweep_one(key, tick, idle, audit)?;
         }
         Ok(())
     }
 
-    // The same, of one seat.
-    fn sweep_one(&mut self, key: usize, tick: u64, idle: Option<u64>) -> Result<(), AllocError> {
+    // The same, of one seat. That it said nothing is told.
+    fn sweep_one(
+        &mut self,
+        key: usize,
+        tick: u64,
+        idle: Option<u64>,
+        audit: &mut Audit,
+    ) -> Result<(), AllocError> {
         let Some(connection) = self.seated(key) else {
             return Ok(());
         };
@@ -309,7 +323,12 @@ impl ConnectionTable {
         let most = if leaving { Some(FLUSH_TICKS) } else { idle };
         let rests = connection.stage == ConnectionStage::Idle;
         match most {
-            Some(most) if rests && most <= quiet => self.leave(key),
+            Some(most) if rests && most <= quiet => {
+                if !leaving {
+                    audit.note_idle(number_at(&self.numbers, key));
+                }
+                self.leave(key)
+            }
             _ => Ok(()),
         }
     }

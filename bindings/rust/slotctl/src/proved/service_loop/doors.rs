@@ -1,4 +1,4 @@
-// Erased by bindings/rust/erase from crates/service_loop/src/doors.rt, sha256 fb249dd1d40a9b985e594ea9e8b1de962dd15789ab7918a0e16fa52aea1e3267.
+// Erased by bindings/rust/erase from crates/service_loop/src/doors.rt, sha256 c1217d3d5755fafdef50218b9330ecd8d9ce1f57074b4b305124b8c0da9fab74.
 //! The listeners for clients, and who waits there.
 
 use crate::kit::io;
@@ -28,8 +28,8 @@ pub struct Doors {
 
 /// What came of accepting one connection.
 pub enum Accepted {
-    /// This one.
-    Stream(Socket),
+    /// This one, and the address that it comes from, where that is of the network.
+    Stream(Socket, Option<SocketAddr>),
     /// None, and another may be tried.
     Nobody,
     /// None: the system has no room for more.
@@ -107,7 +107,7 @@ impl Doors {
             return Accepted::Nobody;
         };
         match listener.accept() {
-            Ok((stream, _)) => Accepted::Stream(Socket::Network(stream)),
+            Ok((stream, peer)) => Accepted::Stream(Socket::Network(stream), Some(peer)),
             Err(error) => not_accepted(&error, &mut self.network_waits),
         }
     }
@@ -119,7 +119,7 @@ impl Doors {
             return Accepted::Nobody;
         };
         match local.listener.accept() {
-            Ok((stream, _)) => Accepted::Stream(Socket::Local(stream)),
+            Ok((stream, _)) => Accepted::Stream(Socket::Local(stream), None),
             Err(error) => not_accepted(&error, &mut self.local_waits),
         }
     }

@@ -1,10 +1,10 @@
-// Erased by bindings/rust/erase from crates/service_loop/src/hosting.rt, sha256 d91c91ab65aa1152edebf6e9fd466a72b1e65ae897716e1854147133c57fe220.
+// Erased by bindings/rust/erase from crates/service_loop/src/hosting.rt, sha256 03808630cc7cd1818e547490d2bfa8887fa9e4959c95c44a440cf13430002644.
 //! A server in one thread, by the readiness of its sockets.
 
 use crate::kit::alloc::{AllocError, Global};
 use crate::kit::format;
 use crate::kit::io;
-use crate::kit::io::Write;
+use crate::kit::io::{ErrorKind, Write};
 use crate::kit::mio::event::Event;
 use crate::kit::mio::net::TcpListener;
 use crate::kit::mio::unix::SourceFd;
@@ -17,6 +17,8 @@ use crate::kit::String;
 use crate::proved::model_asked::kind::WorldKind;
 use crate::proved::service_loop::answering::answer_queries;
 use crate::proved::service_loop::attended::Attended;
+use crate::proved::service_loop::audit::Audit;
+use crate::proved::service_loop::audit_log::AuditLog;
 use crate::proved::service_loop::connection::Connection;
 use crate::proved::service_loop::connections::ConnectionTable;
 use crate::proved::service_loop::doors::{Accepted, Doors};
@@ -64,6 +66,8 @@ pub struct HostOptions {
     pub grace: Option<u64>,
     /// Whether a line at first and then one a minute tells how much there is.
     pub reports: bool,
+    /// Whether a log of an audit is written, whose file may be moved at any time.
+    pub logs: bool,
 }
 
 impl HostOptions {
@@ -116,6 +120,10 @@ struct Hosting {
     sweeps: bool,
     /// Whether a second has passed since it was last looked for stays that are to end.
     looks: bool,
+    /// Whether a second has passed since the log of the audit was last told.
+    rotates: bool,
+    /// Whether it was said that it could not be written.
+    said_unwritten: bool,
     teller: Teller,
     /// Whether it was said that something is amiss with the persister.
     said_trouble: bool,
@@ -132,7 +140,8 @@ struct Hosting {
 /// was read goes to the persister before (`iterate_prefetched`), which is called once a second too. It ends at the end of standard input where
 /// that is a pipe, or else never: then replies are sent, as far as clients take them within a second, and a line `served N` is written. Those who
 /// watch are served between the turns: what they ask changes neither the service nor the persister. Where the options give a grace time, stays
-/// whose connections have ended are ended between the turns (`end_due`).
+/// whose connections have ended are ended between the turns (`end_due`). What the audit of the service tells is appended to a log once all of an
+/// iteration is kept.
 ///
 /// # Errors
 ///
@@ -140,13 +149,14 @@ struct Hosting {
 /// - `Network`: the system's poll failed.
 /// - `Output`: `output` failed.
 /// - `Persist`: the persister failed. Nothing is sent of that turn.
-pub fn host<R, D: Service<R>, K: Persist<D>, W: Write, E: Write>(
+pub fn host<R, D: Service<R>, K: Persist<D>, L: AuditLog, W: Write, E: Write>(
     rt: &R,
     alloc: Global,
     options: HostOptions,
     listeners: Listeners,
     service: &mut Attended<D>,
     persister: &mut K,
+    log: &mut L,
     output: &mut W,
     errors: &mut E,
 ) -> Result<Hosted, HostFault<K::Fault>>
@@ -158,7 +168,7 @@ where
     hosting.tell_listening(output)?;
     hosting.tell_trouble(persister.trouble(), errors);
     for _ in rt.forever() {
-        hosting.go_round(rt, service, persister, &mut shared, errors)?;
+        hosting.go_round(rt, service, persister, &mut shared, log, errors)?;
         if hosting.is_over() {
             break;
         }
@@ -255,6 +265,8 @@ impl Hosting {
             ticked: false,
             sweeps: false,
             looks: false,
+            rotates: false,
+            said_unwritten: false,
             teller: Teller::new(rt, alloc)?,
             said_trouble: false,
             said_tenths: 0,
@@ -262,36 +274,76 @@ impl Hosting {
         })
     }
 
-    // Once round: waits, accepts, has the persister go on, serves, and tells how much there is where that is due or asked.
-    fn go_round<R: Clock, D: Service<R>, K: Persist<D>, E: Write>(
+    // Once round: waits, accepts, has the persister go on, serves, and tells what was done, and how much there is where that is due or asked.
+    fn go_round<R: Clock, D: Service<R>, K: Persist<D>, L: AuditLog, E: Write>(
         &mut self,
         rt: &R,
         service: &mut Attended<D>,
         persister: &mut K,
         shared: &mut SharedBuffers<Global>,
+        log: &mut L,
         errors: &mut E,
     ) -> Result<(), HostFault<K::Fault>> {
-        self.wait(rt)?;
-        self.accept_all()?;
+        self.wait(rt, &mut service.audit)?;
+        self.accept_all(&mut service.audit)?;
         self.tell_full(errors);
         self.tell_tick(&mut service.service, persister)?;
         self.serve_all(rt, service, persister, shared)?;
         self.tell_trouble(persister.trouble(), errors);
         self.tell_room(persister.lasting_tenths(), errors);
         self.tell_lost(errors);
-        self.tell_numbers(&service.service, persister, errors);
+        self.write_audit(&mut service.audit, log, errors);
+        self.tell_numbers(service, persister, errors);
         Ok(())
+    }
+
+    // Writes what the audit tells, all of which is kept. Where a second has passed the log may look where it is.
+    fn write_audit<L: AuditLog, E: Write>(
+        &mut self,
+        audit: &mut Audit,
+        log: &mut L,
+        errors: &mut E,
+    ) {
+        if self.rotates {
+            self.rotates = false;
+            log.tick();
+        }
+        if !audit.lines().is_empty() {
+            let written = log.write(audit.lines());
+            audit.settle(written);
+        }
+        self.tell_unwritten(log.trouble(), errors);
+    }
+
+    // Says once that the log of the audit cannot be written, and once that it is written again.
+    fn tell_unwritten<E: Write>(&mut self, trouble: Option<ErrorKind>, errors: &mut E) {
+        if self.said_unwritten == trouble.is_some() {
+            return;
+        }
+        self.said_unwritten = trouble.is_some();
+        match trouble {
+            Some(why) => {
+                if let Ok(line) = format!(in self.alloc;
+                    "slotctl: the file of --log could not be written: {why}; the service goes on\n"
+                ) {
+                    self.teller.tell(line.as_bytes(), errors);
+                }
+            }
+            None => self
+                .teller
+                .tell(b"slotctl: the file of --log is written again\n", errors),
+        }
     }
 
     // Tells how much there is where that is due, and those who watch.
     fn tell_numbers<D, K: Persist<D>, E: Write>(
         &mut self,
-        service: &D,
+        service: &Attended<D>,
         persister: &K,
         errors: &mut E,
     ) {
         if self.is_report_due() {
-            self.tell_tally(persister.tally(service), errors);
+            self.tell_tally(persister.tally(&service.service), errors);
         }
         self.serve_watchers(service, persister);
     }
@@ -333,6 +385,7 @@ impl Hosting {
             || self.full
             || self.options.grace.is_some()
             || self.options.reports
+            || self.options.logs
             || self.batch.is_some()
             || self.watch.is_some()
     }
@@ -353,12 +406,14 @@ impl Hosting {
 
     // Waits, and notes what the system tells. Who says nothing is closed only where all that the system has to tell was noted: a wait that
     // was interrupted tells nothing, and one that tells as much as there is room for may leave something untold.
-    fn wait<R: Clock, F>(&mut self, rt: &R) -> Result<(), HostFault<F>> {
+    fn wait<R: Clock, F>(&mut self, rt: &R, audit: &mut Audit) -> Result<(), HostFault<F>> {
         self.note_events(self.next_wait())?;
         self.note_tick(rt)?;
+        audit.note_time(rt);
         if self.sweeps && !self.note_events(Duration::from_millis(0))? {
             self.sweeps = false;
-            self.connections.sweep(self.tick, self.options.idle)?;
+            self.connections
+                .sweep(self.tick, self.options.idle, audit)?;
         }
         Ok(())
     }
@@ -389,17 +444,18 @@ impl Hosting {
             self.ticked = true;
             self.sweeps = true;
             self.looks = true;
+            self.rotates = true;
         }
         Ok(())
     }
 
     // Accepts who waits, as far as there is room.
-    fn accept_all(&mut self) -> Result<(), AllocError> {
+    fn accept_all(&mut self, audit: &mut Audit) -> Result<(), AllocError> {
         for _ in 0..MOST_ACCEPTS {
             if !self.can_accept() {
                 break;
             }
-            self.accept()?;
+            self.accept(audit)?;
         }
         Ok(())
     }
@@ -604,12 +660,16 @@ impl Hosting {
     }
 
     // Accepts one connection, if one waits. Where the system has no room for it, none is accepted until another leaves.
-    fn accept(&mut self) -> Result<(), AllocError> {
+    fn accept(&mut self, audit: &mut Audit) -> Result<(), AllocError> {
         match self.doors.accept() {
-            Accepted::Stream(stream) => {
+            Accepted::Stream(stream, peer) => {
                 let kind = self.options.kind;
-                self.connections
+                let admitted = self
+                    .connections
                     .admit(self.alloc, &self.poll, kind, stream, self.tick)?;
+                if let Some(number) = admitted {
+                    audit.admit(number, peer)?;
+                }
             }
             Accepted::Nobody => {}
             Accepted::Full => self.full = true,
@@ -725,28 +785,31 @@ impl Hosting {
     }
 
     // What the loop itself knows.
-    fn numbers(&self) -> LoopNumbers {
+    fn numbers(&self, audit: &Audit) -> LoopNumbers {
         LoopNumbers {
             clients: self.connections.open as u64,
             accepted: self.connections.accepted(),
             faults: self.connections.faults,
             lines: self.connections.lines(),
             ticks: self.tick,
+            releases: audit.releases(),
+            refusals: audit.refusals(),
+            audit_lines_lost: audit.lost(),
             learnt: !self.lost,
         }
     }
 
     // Serves those who watch, as far as they may go on now.
-    fn serve_watchers<D, K: Persist<D>>(&mut self, service: &D, persister: &K) {
+    fn serve_watchers<D, K: Persist<D>>(&mut self, service: &Attended<D>, persister: &K) {
         let Some(mut watch) = self.watch.take() else {
             return;
         };
         if watch.wants_look(self.tick) {
-            let tally = persister.tally(service);
+            let tally = persister.tally(&service.service);
             watch.note(&tally, self.tick);
             watch.scrapers().read(&self.poll, self.tick);
             if watch.scrapers().want_answers() {
-                let numbers = watch.numbers(&self.numbers(), &tally);
+                let numbers = watch.numbers(&self.numbers(&service.audit), &tally);
                 watch.scrapers().answer(&numbers);
             }
             watch.scrapers().send(self.tick);

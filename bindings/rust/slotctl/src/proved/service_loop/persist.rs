@@ -1,4 +1,4 @@
-// Erased by bindings/rust/erase from crates/service_loop/src/persist.rt, sha256 bb189ebe9982b428dee553d85dc4c9a3da561e76c1ff4d914bb4df73c1cbe44b.
+// Erased by bindings/rust/erase from crates/service_loop/src/persist.rt, sha256 da829c48383b24852a35f33cd81145e86e30bb521f6836abede749458bd38c97.
 //! What is kept of a turn before its replies go out.
 
 use crate::kit::alloc::Allocator;
@@ -89,6 +89,11 @@ pub trait Persist<D>: Sized {
     /// Ends stays that are shared: those of these identities, which nobody keeps here any more, and those of servers that are gone. Is called
     /// about once a second where the server ends stays, and only where `shares_stays` says so.
     fn end_stays(&mut self, service: &mut D, due: &[u64]) -> Result<(), Self::Fault>;
+
+    /// The identities whose stays the last `end_stays` ended since their servers are gone, for people.
+    fn ended_of_gone(&self) -> &[u64] {
+        &[]
+    }
 
     /// Returns true if and only if an identity competes, where all is kept that the service told.
     fn has_stay(&self, service: &D, identity: u64) -> bool;

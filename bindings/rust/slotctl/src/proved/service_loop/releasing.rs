@@ -1,4 +1,4 @@
-// Erased by bindings/rust/erase from crates/service_loop/src/releasing.rt, sha256 ad1ee05b65e6181192f78f0a6b152dcb8b251a156758221d89ddc4df104ef9a9.
+// Erased by bindings/rust/erase from crates/service_loop/src/releasing.rt, sha256 26581318d2b41f4fbb44fb74dc12320f0a9654720ff9961a7c86b89349e673b9.
 //! Stays that a server ends.
 
 use crate::kit::alloc::Global;
@@ -8,6 +8,7 @@ use crate::proved::model_pool::pool::MOST_NUMBERS;
 use crate::proved::model_steps::refusal::Refusal;
 use crate::proved::model_steps::view::View;
 use crate::proved::service_loop::attended::Attended;
+use crate::proved::service_loop::audit::{Asker, Audit};
 use crate::proved::service_loop::host_fault::HostFault;
 use crate::proved::service_loop::persist::Persist;
 use crate::proved::text_player::service::Service;
@@ -81,6 +82,7 @@ pub fn release_all<R, D: Service<R>>(
 // Forgets the stay of an identity, if it does not compete any more.
 fn forget_one<D, K: Persist<D>>(service: &mut Attended<D>, persister: &K, identity: u64) {
     if !persister.has_stay(&service.service, identity) {
+        service.audit.note_ended(identity);
         service.forget(identity);
     }
 }
@@ -89,6 +91,16 @@ fn forget_one<D, K: Persist<D>>(service: &mut Attended<D>, persister: &K, identi
 fn forget_ended<D, K: Persist<D>>(service: &mut Attended<D>, persister: &K, due: &[u64]) {
     for identity in due {
         forget_one(service, persister, *identity);
+    }
+}
+
+// Tells an audit which of these identities compete.
+fn note_due<D, K: Persist<D>>(audit: &mut Audit, service: &D, persister: &K, due: &[u64]) {
+    audit.clear_due();
+    for identity in due {
+        if persister.has_stay(service, *identity) {
+            audit.note_due(*identity);
+        }
     }
 }
 
@@ -102,14 +114,18 @@ fn end_these<R, D: Service<R>, K: Persist<D>>(
     due: &[u64],
 ) -> Result<(), K::Fault> {
     if persister.shares_stays() {
+        note_due(&mut service.audit, &service.service, persister, due);
         persister.end_stays(&mut service.service, due)?;
+        service.audit.note_gone(persister.ended_of_gone());
         forget_ended(service, persister, due);
         return Ok(());
     }
     if due.is_empty() {
         return Ok(());
     }
+    service.audit.listen_to(Asker::Grace);
     release_all(rt, service, view, due);
+    service.audit.listen_to(Asker::Client);
     persister.persist(&mut service.service)
 }
 

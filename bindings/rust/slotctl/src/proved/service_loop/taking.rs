@@ -1,4 +1,4 @@
-// Erased by bindings/rust/erase from crates/service_loop/src/taking.rt, sha256 37c09c7354c7b9d3021eee89020494ab898ac2f3be2b73648e932f38fe1a4cce.
+// Erased by bindings/rust/erase from crates/service_loop/src/taking.rt, sha256 825ecef4558ebc4aba7378dc8a65bfa7dc04dff38fa79c955de6f125c1a518dc.
 //! Lines that take a number, after a turn of the loop: `take ID` is `enter ID`, and `probe ID` as often as it takes.
 
 use crate::kit::alloc::{AllocError, Allocator};
@@ -8,6 +8,7 @@ use crate::proved::model_asked::reply::Reply;
 use crate::proved::model_pool::pool::MOST_NUMBERS;
 use crate::proved::model_steps::view::View;
 use crate::proved::service_loop::attended::Attended;
+use crate::proved::service_loop::audit::Asker;
 use crate::proved::service_loop::connection::{Connection, ConnectionStage};
 use crate::proved::service_loop::gathering::{prefetch, Batch, Called};
 use crate::proved::service_loop::losing::note_lost;
@@ -90,7 +91,9 @@ fn take_number_at<R, D: Service<R>, S: Stream, A: Allocator, B: Allocator>(
         if let Some(connection) = &mut seats[key] {
             if let ConnectionStage::Idle = connection.stage {
                 service.listen_to(number);
+                service.audit.listen_to(Asker::Taker { answered: false });
                 connection.take_number(rt, service, shared, ahead);
+                service.audit.listen_to(Asker::Client);
             }
         }
     }

@@ -1,10 +1,10 @@
-// Erased by bindings/rust/erase from crates/service_loop/src/watching.rt, sha256 0d1675a4fbe54df81996f88de062ecc552a46899e672380d1f4ba0acc5e4f325.
+// Erased by bindings/rust/erase from crates/service_loop/src/watching.rt, sha256 c77eb29562f235f2ddd97f07a35bcde758900fbe8d2c73aaa6bee6f05da6813e.
 //! Those who watch a server.
 
 use crate::kit::io;
 use crate::kit::net::SocketAddr;
 use crate::proved::service_loop::persist::Tally;
-use crate::proved::service_watch::numbers::Numbers;
+use crate::proved::service_watch::numbers::{Numbers, Releases, REFUSALS};
 use crate::proved::service_watch::scrapers::Scrapers;
 
 /// Those who watch, and what is remembered for them.
@@ -30,6 +30,12 @@ pub struct LoopNumbers {
     pub lines: u64,
     /// How many seconds were counted.
     pub ticks: u64,
+    /// How many numbers were given back, by the cause.
+    pub releases: Releases,
+    /// How many lines were answered by each refusal, by its number less 1.
+    pub refusals: [u64; REFUSALS],
+    /// How many lines of the audit log were lost, where one is written.
+    pub audit_lines_lost: Option<u64>,
     /// Whether the answers that clients wanted last were prefetched.
     pub learnt: bool,
 }
@@ -89,6 +95,9 @@ impl Watch {
             faults: loops.faults,
             lines: loops.lines,
             ticks: loops.ticks,
+            releases: loops.releases,
+            refusals: loops.refusals,
+            audit_lines_lost: loops.audit_lines_lost,
             ready: loops.learnt && tally.log_answers != Some(false),
             events: tally.events,
             events_left: tally.events_left,

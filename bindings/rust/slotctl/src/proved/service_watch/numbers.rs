@@ -1,7 +1,21 @@
-// Erased by bindings/rust/erase from crates/service_watch/src/numbers.rt, sha256 c60764e00a3a4c45c98130df84d10f9aa396d9fa5a554eab6a2763d2441e7491.
+// Erased by bindings/rust/erase from crates/service_watch/src/numbers.rt, sha256 487c04124be7b03d63de9ad3e800c309d13f97472f460534aff32280d76577da.
 //! What a page tells.
 
 use crate::proved::service_watch::durations::DurationHistogram;
+
+/// How many refusals there are: their numbers are from 1 to this.
+pub const REFUSALS: usize = 14;
+
+/// How many numbers were given back since the start, by the cause.
+#[derive(Clone, Copy, Debug, PartialEq, Eq)]
+pub struct Releases {
+    /// A client said `leave`.
+    pub client: u64,
+    /// The grace time of their keeper was over.
+    pub grace: u64,
+    /// The front end of their keeper was gone.
+    pub front_end: u64,
+}
 
 /// What a page tells of a server. What is not known there is none, and left out of the page.
 #[derive(Clone, Copy, Debug, PartialEq, Eq)]
@@ -16,6 +30,12 @@ pub struct Numbers {
     pub lines: u64,
     /// How many seconds were counted since the start.
     pub ticks: u64,
+    /// How many numbers were given back since the start.
+    pub releases: Releases,
+    /// How many lines were answered by each refusal since the start: by refusal N at the place N - 1.
+    pub refusals: [u64; REFUSALS],
+    /// How many lines of the audit log were lost since the start.
+    pub audit_lines_lost: Option<u64>,
     /// Whether the log answers, where there is one.
     pub ready: bool,
     /// How many events the history has.

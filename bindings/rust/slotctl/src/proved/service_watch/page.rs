@@ -1,11 +1,11 @@
-// Erased by bindings/rust/erase from crates/service_watch/src/page.rt, sha256 e7da3f235e82ebd3416e86c3db2b488cb0f939384e2510d7fcab085470f68d12.
+// Erased by bindings/rust/erase from crates/service_watch/src/page.rt, sha256 d35bc49a5384723519e2dd3f7285c7b936d592030a125156820d7aa6e14f60a3.
 //! The page of metrics.
 
 use crate::kit::alloc::AllocError;
 use crate::kit::itoa::Buffer;
 use crate::kit::Vec;
 use crate::proved::service_watch::durations::{Bucket, DurationHistogram};
-use crate::proved::service_watch::numbers::Numbers;
+use crate::proved::service_watch::numbers::{Numbers, Releases, REFUSALS};
 
 /// What a metric is, for Prometheus.
 #[derive(Clone, Copy)]
@@ -174,6 +174,48 @@ fn put_clients(numbers: &Numbers, page: &mut Vec<u8>) -> Result<(), AllocError> 
     put_number(ready, u64::from(numbers.ready), page)
 }
 
+// Appends how many numbers were given back, by the cause.
+fn put_releases(releases: Releases, page: &mut Vec<u8>) -> Result<(), AllocError> {
+    let metric = counter(
+        "slotctl_releases_total",
+        "Numbers that were given back since the start, by the cause.",
+    );
+    put_head(metric, page)?;
+    put(metric.name, page)?;
+    put_value("{cause=\"client\"}", releases.client, page)?;
+    put(metric.name, page)?;
+    put_value("{cause=\"grace\"}", releases.grace, page)?;
+    put(metric.name, page)?;
+    put_value("{cause=\"front_end\"}", releases.front_end, page)
+}
+
+// Appends how many lines were answered by each refusal.
+fn put_refusals(refusals: &[u64; REFUSALS], page: &mut Vec<u8>) -> Result<(), AllocError> {
+    let metric = counter(
+        "slotctl_refusals_total",
+        "Lines that were refused since the start, by the number of the refusal.",
+    );
+    put_head(metric, page)?;
+    for at in 0..REFUSALS {
+        put(metric.name, page)?;
+        put("{refusal=\"", page)?;
+        put_digits(at as u64 + 1, page)?;
+        put_value("\"}", refusals[at], page)?;
+    }
+    Ok(())
+}
+
+// Appends what was refused to clients, and what was given back.
+fn put_audit(numbers: &Numbers, page: &mut Vec<u8>) -> Result<(), AllocError> {
+    put_releases(numbers.releases, page)?;
+    put_refusals(&numbers.refusals, page)?;
+    let lost = counter(
+        "slotctl_audit_lines_lost_total",
+        "Lines of the audit log that were not written since the start.",
+    );
+    put_known(lost, numbers.audit_lines_lost, page)
+}
+
 // Appends what concerns the history and what it leads to.
 fn put_hall(numbers: &Numbers, page: &mut Vec<u8>) -> Result<(), AllocError> {
     let events = gauge("slotctl_history_events", "Events of the history.");
@@ -244,6 +286,7 @@ fn put_keeping(numbers: &Numbers, page: &mut Vec<u8>) -> Result<(), AllocError> 
 /// `AllocError`: an allocation failed. A part of the page may stand there.
 pub fn put_page(numbers: &Numbers, page: &mut Vec<u8>) -> Result<(), AllocError> {
     put_clients(numbers, page)?;
+    put_audit(numbers, page)?;
     put_hall(numbers, page)?;
     put_keeping(numbers, page)
 }

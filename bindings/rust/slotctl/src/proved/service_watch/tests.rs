@@ -1,9 +1,9 @@
-// Erased by bindings/rust/erase from crates/service_watch/src/tests.rt, sha256 853a49c7f0bbc117fb360e9d33d345c0afa8143232c55d3035b366af0f986d4e.
+// Erased by bindings/rust/erase from crates/service_watch/src/tests.rt, sha256 9bd5ba479f7e920a12eb81e096ca3d81b89b982e7c9b644d2fe64084f52d808d.
 use crate::kit::Vec;
 use crate::kit::HostRuntime;
 use crate::proved::service_watch::durations::DurationHistogram;
 use crate::proved::service_watch::request::{Asked, asked_by};
-use crate::proved::service_watch::numbers::Numbers;
+use crate::proved::service_watch::numbers::{Numbers, Releases};
 use crate::proved::service_watch::answer::put_answer;
 use crate::proved::service_watch::page::put_page;
 use crate::kit::time::Duration;
@@ -16,6 +16,13 @@ fn few() -> Numbers {
         faults: 2,
         lines: 12_345,
         ticks: 61,
+        releases: Releases {
+            client: 4,
+            grace: 1,
+            front_end: 0,
+        },
+        refusals: [0, 0, 0, 0, 0, 0, 0, 1, 0, 0, 0, 0, 0, 0],
+        audit_lines_lost: None,
         ready: true,
         events: 7,
         events_left: None,
@@ -49,6 +56,27 @@ slotctl_ticks_total 61
 # HELP slotctl_ready 1 where clients are answered, 0 while the log does not answer.
 # TYPE slotctl_ready gauge
 slotctl_ready 1
+# HELP slotctl_releases_total Numbers that were given back since the start, by the cause.
+# TYPE slotctl_releases_total counter
+slotctl_releases_total{cause=\"client\"} 4
+slotctl_releases_total{cause=\"grace\"} 1
+slotctl_releases_total{cause=\"front_end\"} 0
+# HELP slotctl_refusals_total Lines that were refused since the start, by the number of the refusal.
+# TYPE slotctl_refusals_total counter
+slotctl_refusals_total{refusal=\"1\"} 0
+slotctl_refusals_total{refusal=\"2\"} 0
+slotctl_refusals_total{refusal=\"3\"} 0
+slotctl_refusals_total{refusal=\"4\"} 0
+slotctl_refusals_total{refusal=\"5\"} 0
+slotctl_refusals_total{refusal=\"6\"} 0
+slotctl_refusals_total{refusal=\"7\"} 0
+slotctl_refusals_total{refusal=\"8\"} 1
+slotctl_refusals_total{refusal=\"9\"} 0
+slotctl_refusals_total{refusal=\"10\"} 0
+slotctl_refusals_total{refusal=\"11\"} 0
+slotctl_refusals_total{refusal=\"12\"} 0
+slotctl_refusals_total{refusal=\"13\"} 0
+slotctl_refusals_total{refusal=\"14\"} 0
 # HELP slotctl_history_events Events of the history.
 # TYPE slotctl_history_events gauge
 slotctl_history_events 7
@@ -80,6 +108,7 @@ fn each_number_has_its_line(rt: HostRuntime) {
         numbers_free: Some(6),
         names_given: Some(8),
         journal_bytes: Some(9),
+        audit_lines_lost: Some(12),
         syncs: Some(syncs),
         log_place: Some(10),
         log_age: Some(11),
@@ -89,6 +118,7 @@ fn each_number_has_its_line(rt: HostRuntime) {
     assert_eq!(rt; put_page(&numbers, &mut page).is_ok(), true);
     for line in [
         "slotctl_ready 0",
+        "slotctl_audit_lines_lost_total 12",
         "slotctl_history_events_left 999993",
         "slotctl_compactions_total 4",
         "slotctl_competitors 5",

@@ -1,4 +1,4 @@
-// Erased by bindings/rust/erase from crates/tool_work/src/asked.rt, sha256 7be0b1e46bb1cf803da2b5c164fee8309594fbbb33e8977aae95af4b74f42290.
+// Erased by bindings/rust/erase from crates/tool_work/src/asked.rt, sha256 9e8dd0d3a2b2e7800925f39d19b35a688d703ce2463aa46211d1bdb505d505dd.
 //! What the program can be asked for.
 
 use crate::kit::net::IpAddr;
@@ -280,6 +280,8 @@ pub struct Hosting<'a> {
     pub keeping: Keeping<'a>,
     /// Whether it tells once a minute how much there is.
     pub verbose: bool,
+    /// The file to which it appends who took numbers, gave them back or was refused, where one is named.
+    pub log: Option<&'a str>,
 }
 
 impl<'a> Hosting<'a> {
@@ -293,6 +295,7 @@ impl<'a> Hosting<'a> {
         stores_reads: bool,
         keeping: Keeping<'a>,
         verbose: bool,
+        log: Option<&'a str>,
     ) -> Option<Hosting<'a>> {
         if clients < 1 || 1_000_000 < clients || 31_536_000 < idle {
             return None;
@@ -309,6 +312,7 @@ impl<'a> Hosting<'a> {
             stores_reads,
             keeping,
             verbose,
+            log,
         })
     }
 }

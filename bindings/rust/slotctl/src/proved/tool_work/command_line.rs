@@ -1,4 +1,4 @@
-// Erased by bindings/rust/erase from crates/tool_work/src/command_line.rt, sha256 108686a435d88093f3c328114d5a1f139fbef911ec95e0e8cf47c4903ef56fd9.
+// Erased by bindings/rust/erase from crates/tool_work/src/command_line.rt, sha256 4082f0200040044eac8647389408005d64724a8227c933d434d058ecbf89c8c3.
 //! The command line of the program, for `clap`.
 
 use crate::kit::alloc::{AllocError, Global};
@@ -342,6 +342,11 @@ const HOST: Manual = Manual {
             name: "verbose",
             takes: Takes::Nothing,
             help: "tells on standard error once a minute how many clients, events and bytes there are",
+        },
+        Choice {
+            name: "log",
+            takes: Takes::Text("FILE"),
+            help: "appends to a file a line of JSON for each number taken or given back and each refusal 8, 9 or 10, with the time and the peer; moved away it is made anew",
         },
     ],
 };

@@ -1,4 +1,4 @@
-// Erased by bindings/rust/erase from crates/tool_work/src/words.rt, sha256 e076b80a5ae018570ea19c9a890ae48bdd6607a4caa592945991f63e9d9244d7.
+// Erased by bindings/rust/erase from crates/tool_work/src/words.rt, sha256 7a0b70eed99d11f6a5a853de4a3ae32501435728e813f0bbc4cf0d2da73c4669.
 //! What the words of a command line ask for.
 
 use crate::kit::alloc::Global;
@@ -224,6 +224,7 @@ fn host_given<'a>(matches: &ArgMatches<'a>) -> Option<Hosting<'a>> {
     let stores_reads = reads_given(matches)?;
     let keeping = keeping_given(matches)?;
     let verbose = flag_given(matches, "verbose");
+    let log = text_given(matches, "log");
     Hosting::new(
         config,
         endpoints,
@@ -233,6 +234,7 @@ fn host_given<'a>(matches: &ArgMatches<'a>) -> Option<Hosting<'a>> {
         stores_reads,
         keeping,
         verbose,
+        log,
     )
 }
 
