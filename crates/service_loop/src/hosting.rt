@@ -1,6 +1,6 @@
 //! A server in one thread, by the readiness of its sockets.
 
-ghost use Rattle.std.specs.Prelude.{◌≡◌, ◌⊎◌, ℕ, List, Option, true, OnOk};
+ghost use Rattle.std.specs.Prelude.{◌≡◌, ◌⊎◌, ◌<◌, ◌≤◌, ◌+◌, ℕ, List, Option, true, OnOk};
 ghost use Rattle.model_asked.specs.Requests.{Request};
 ghost use Rattle.service_loop.specs.Attendance.{WasAttended};
 ghost use Rattle.service_loop.specs.Attending.{Hears, acts_of_endings};
@@ -409,7 +409,9 @@ impl Hosting {
     }
 
     // Whether a connection that waits can be accepted.
-    fn can_accept(&self) -> bool {
+    fn can_accept(&self) -> bool
+        ensures { result ≡ true → self.now.connections.«open» < self.now.options.clients }
+    {
         self.doors.are_waited_at()
             && !self.full
             && self.connections.open < self.options.clients
@@ -499,8 +501,11 @@ impl Hosting {
         Ok(())
     }
 
-    // Accepts who waits, as far as there is room.
-    fn accept_all(&mut self, audit: &mut Audit) -> Result<(), AllocError> {
+    // Accepts who waits, as far as there is room: never more are served at once than the options let.
+    fn accept_all(&mut self, audit: &mut Audit) -> Result<(), AllocError>
+        ensures options { self.new.options ≡ self.old.options }
+        ensures few { self.old.connections.«open» ≤ self.old.options.clients → self.new.connections.«open» ≤ self.old.options.clients }
+    {
         for _ in 0..MOST_ACCEPTS {
             if !self.can_accept() {
                 break;
@@ -770,7 +775,10 @@ impl Hosting {
     }
 
     // Accepts one connection, if one waits. Where the system has no room for it, none is accepted until another leaves.
-    fn accept(&mut self, audit: &mut Audit) -> Result<(), AllocError> {
+    fn accept(&mut self, audit: &mut Audit) -> Result<(), AllocError>
+        ensures options { self.new.options ≡ self.old.options }
+        ensures one { self.new.connections.«open» ≤ self.old.connections.«open» + 1 }
+    {
         match self.doors.accept() {
             Accepted::Stream(stream, peer) => {
                 let kind = self.options.kind;
