@@ -213,7 +213,15 @@ where
     hosting.tell_listening(output)?;
     hosting.tell_trouble(persister.trouble(), errors);
     for _ in rt.forever() {
-        hosting.go_round(rt, options.grace, service, persister, &mut shared, log, errors)?;
+        hosting.go_round(
+            rt,
+            options.grace,
+            service,
+            persister,
+            &mut shared,
+            log,
+            errors,
+        )?;
         if hosting.is_over() {
             break;
         }
