@@ -1,5 +1,5 @@
 -- the entries of a compaction, written and read back
-use Rattle.std.proofs.Common.{◌≡◌, ◌<◌, ◌+◌, ◌^◌, ◌∷◌, ◌++◌, ℕ, suc, Bool, true, false, if◌then◌else◌, Some, None, List, [], length, take, drop, inl, inr, refl, sym, ap, subst, ◌∙◌, arith, append_assoc, length-append, add-one, drop-cons, get_or}
+use Rattle.std.proofs.Common.{◌≡◌, ◌<◌, ◌+◌, ◌^◌, ◌∷◌, ◌++◌, ℕ, suc, Bool, true, false, if◌then◌else◌, Option, Some, None, List, [], length, take, drop, inl, inr, refl, sym, ap, subst, ◌∙◌, arith, append_assoc, length-append, add-one, drop-cons, get_or}
 use Rattle.std.proofs.Math.Seq.{drop-append_seam, drop-append-add, take-append_seam, take-length}
 use Rattle.std.proofs.lemmas.Bool.Decides.{leb_tells}
 use Rattle.std.specs.Cmp.Lexicographic.{other_text}
@@ -10,7 +10,9 @@ use Rattle.service_follow.specs.Entries.{is_there}
 use Rattle.service_follow.specs.Kept.{token_of}
 use Rattle.service_follow.specs.Marks.{entries_in, head_at, is_head, kept_in, kind_by, mark_of, next_in, number_of, stay_in, stays_in}
 use Rattle.service_follow.specs.Tellings.{AreStays, IsReadBack, IsStay, IsTelling, first_entry, last_entry, more_entry, number_then, stay_text, stay_texts}
+use Rattle.service_follow.specs.Terms.{told_text}
 use Rattle.service_follow.specs.declared.gathering.Gathering.{Gathering}
+use Rattle.service_follow.specs.declared.hall_terms.ToldTerms.{ToldTerms}
 use Rattle.service_follow.specs.declared.front_end_stay.FrontEndStay.{FrontEndStay}
 use Rattle.service_follow.specs.declared.marks.Mark.TheVariants.{Ordinary}
 use Rattle.service_follow.proofs.Heads.{byte_behind, digits_many, digits_read, head_long}
@@ -92,8 +94,10 @@ module _ (token : List ℕ) (count : ℕ) (long : length token ≡ 32) where
         | inr t ↦ absurd (let a = t.1 in omega (arith, a, many, head))
       ]
 
-  pub first_told : IsTelling token (first_entry token count)
-  first_told = record { marked = ap is_lines (kind_read (codes " compaction\n")); own = token_read (codes " compaction\n") }
+  pub first_told : (told : Option ToldTerms) → IsTelling token (first_entry token count told)
+  first_told told =
+      let behind = codes " compaction" ++ (told_text told ++ 10 ∷ []) in
+      record { marked = ap is_lines (kind_read behind); own = token_read behind }
 
   pub more_told : (before lines : List ℕ) → IsTelling token (more_entry token count before lines)
   more_told before lines =
@@ -176,7 +180,7 @@ module _ (token : List ℕ) (count : ℕ) (part : Gathering) (lines : List ℕ) 
 
   pub read_back : entries < 2 ^ 64 → length kept < 2 ^ 64 → AreStays kept → IsReadBack token count part lines entries kept
   read_back small few are = record {
-    first = kind_read token count long (codes " compaction\n");
+    first = λ told. kind_read token count long (codes " compaction" ++ (told_text told ++ 10 ∷ []));
     more = kind_read token count long (codes " more behind " ++ (part.head ++ 10 ∷ lines));
     last = kind_read token count long (codes " ends behind " ++ (part.head ++ 32 ∷ numbers));
     goes_on = next_read token count long (codes " more behind ") (10 ∷ lines) part.head refl fits part refl;

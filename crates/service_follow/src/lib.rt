@@ -29,7 +29,7 @@
 //! From `tests_log/src/persister_tests.rt`:
 //!
 //! ```text
-//! LogPersister::open(alloc, lossy, tries, config, [b'a'; 32])
+//! LogPersister::open(alloc, lossy, tries, config, [b'a'; 32], TERMS)
 //! ..
 //! if persister.prefetch(&mut reply_queue, lines)? == Prefetch::Lost {
 //!     return Ok(None);
@@ -42,6 +42,7 @@
 mod compaction;
 pub mod front_end_stay;
 mod gathering;
+pub mod hall_terms;
 mod keeping;
 mod lasting;
 pub mod laws;
@@ -61,13 +62,14 @@ pub mod tallying;
 pub mod watches;
 
 pub use front_end_stay::FrontEndStay;
+pub use hall_terms::{HallTerms, ToldTerms, terms_of};
 pub use laws::{
     law_of_batches, law_of_compactions, law_of_halls, law_of_keepers, law_of_log_hosting,
-    law_of_silence, law_of_starts, law_of_tellings,
+    law_of_silence, law_of_starts, law_of_tellings, law_of_terms,
 };
 pub use log_fault::LogFault;
 pub use log_hall::LogHall;
-pub use log_persister::LogPersister;
+pub use log_persister::{LogPersister, TermsChange};
 pub use machine::HallMachine;
 pub use marks::{Mark, mark_of};
 pub use note::{Asked, Note};
