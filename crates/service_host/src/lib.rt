@@ -32,6 +32,7 @@ pub mod log_plan;
 pub mod persisters;
 pub mod reading;
 pub mod start;
+pub mod terms;
 
 pub use export::write_events;
 pub use failure::HostFailure;
@@ -42,3 +43,4 @@ pub use log_plan::LogPlan;
 pub use persisters::{Recorded, Unrecorded};
 pub use reading::Reading;
 pub use start::{HostPlan, Keeping, export_hall, host_hall};
+pub use terms::change_terms;

@@ -2,7 +2,7 @@
 
 use crate::front_tests::{answers, config};
 use crate::log_doubles::{Lossy, Tries};
-use service_follow::{LogFault, LogPersister, Pause, ReplyQueue};
+use service_follow::{HallTerms, LogFault, LogPersister, Pause, ReplyQueue};
 use service_hall::Reads;
 use service_log::{MemoryStore, Store, StoreFault};
 use service_loop::{Persist, Prefetch};
@@ -13,6 +13,9 @@ const FIRST: &[u8] = b"beglushan hall 1 world rename m 4 k 4 limit 1000\n";
 
 /// How that of a hall for three begins.
 const OF_THREE: &[u8] = b"beglushan hall 1 world rename m 3 k 4 limit 1000\n";
+
+/// For how long stays go on.
+const TERMS: HallTerms = HallTerms::Forever;
 
 /// What another front end has written behind it.
 const OTHERS: &[u8] = b"another 1\nenter 1\nprobe 1\n";
@@ -41,7 +44,7 @@ fn opened(
     };
     let lossy = Lossy::new(store, every);
     let tries = Tries { most, left: 0 };
-    LogPersister::open(alloc, lossy, tries, config, [b'a'; 32])
+    LogPersister::open(alloc, lossy, tries, config, [b'a'; 32], TERMS)
 }
 
 // What a front end answers to lines, as a turn of its loop does; none where they are lost.

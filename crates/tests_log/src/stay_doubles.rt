@@ -3,7 +3,7 @@
 use crate::front_tests::{answers, config};
 use crate::log_doubles::{HandClock, SharedLog};
 use crate::persister_tests::reported;
-use service_follow::{LogPersister, ReplyQueue};
+use service_follow::{HallTerms, LogPersister, ReplyQueue};
 use service_hall::Hall;
 use service_log::{MemoryStore, Store};
 use std::alloc::{AllocError, Global};
@@ -94,9 +94,8 @@ pub(crate) fn front_end(site: &Site, letter: u8) -> Option<FrontEnd<'_>> {
     let clock = HandClock {
         seconds: &site.seconds,
     };
-    let mut front = LogPersister::open(site.alloc, store, clock, config()?, [letter; 32]).ok()?;
-    front.grant_grace(GRACE);
-    Some(front)
+    let terms = HallTerms::Grace(GRACE);
+    LogPersister::open(site.alloc, store, clock, config()?, [letter; 32], terms).ok()
 }
 
 /// Whether a front end answers lines so.
