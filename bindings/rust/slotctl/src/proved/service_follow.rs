@@ -1,4 +1,4 @@
-// Erased by bindings/rust/erase from crates/service_follow/src/lib.rt, sha256 99bbc4d3b957ba1b86c08accb23eceda581cd51eb14aa8796d1fbf3206f7f899.
+// Erased by bindings/rust/erase from crates/service_follow/src/lib.rt, sha256 770b6991f84a16e51a5707c06d2ae2673bbe99a5fb585797f031ba21766712a6.
 //! A hall whose history is a log that several machines share.
 //!
 //! `HallMachine` is a hall as the machine of a `service_log::Replica`: an entry of the log is a first line, a token of its own, and then lines
@@ -30,7 +30,7 @@
 //! From `tests_log/src/persister_tests.rt`:
 //!
 //! ```text
-//! LogPersister::open(alloc, lossy, tries, config, [b'a'; 32])
+//! LogPersister::open(alloc, lossy, tries, config, [b'a'; 32], TERMS)
 //! ..
 //! if persister.prefetch(&mut reply_queue, lines)? == Prefetch::Lost {
 //!     return Ok(None);
@@ -42,6 +42,7 @@
 mod compaction;
 pub mod front_end_stay;
 mod gathering;
+pub mod hall_terms;
 mod keeping;
 mod lasting;
 pub mod log_fault;

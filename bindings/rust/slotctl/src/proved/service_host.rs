@@ -1,4 +1,4 @@
-// Erased by bindings/rust/erase from crates/service_host/src/lib.rt, sha256 4bb1cf9475faae50c13b25220cb517fa596d27a93151a13200a4c89b6dbd543b.
+// Erased by bindings/rust/erase from crates/service_host/src/lib.rt, sha256 7b7ea2d7eb88d03415d12a71d544565880e33dec757af97e0b1d55c594ce9077.
 //! A hall that an operator hosts: clients of a socket in one thread, and a journal of what was accepted.
 //!
 //! `host_hall` opens the journal, where one is named, and has `service_loop` serve clients over the hall of its record. `Recorded` keeps what
@@ -30,3 +30,4 @@ pub mod log_plan;
 pub mod persisters;
 pub mod reading;
 pub mod start;
+pub mod terms;

@@ -1,10 +1,11 @@
-// Erased by bindings/rust/erase from crates/service_host/src/failure.rt, sha256 a7664c641c1a25d079c2df3eaa1cb637358e8904a71f492ea6efe8056840471f.
+// Erased by bindings/rust/erase from crates/service_host/src/failure.rt, sha256 79f77cfe76fce2f4da6c97fd8562d05066439340cfbbc7bff8730ae195e3da1b.
 //! Why a hall is not hosted, or no more.
 
 use crate::kit::alloc::AllocError;
 use crate::kit::io::ErrorKind;
 use crate::kit::thiserror::Error;
 use crate::proved::model_steps::refusal::{NoMemory, Refusal};
+use crate::proved::service_follow::hall_terms::HallTerms;
 use crate::proved::service_follow::log_fault::LogFault;
 use crate::proved::service_journal::disk::{Disk, DiskFault};
 use crate::proved::service_journal::file_disk::FileFault;
@@ -77,6 +78,12 @@ pub enum HostFailure {
     /// The log is one of another config, or of another version.
     #[error("log of another config")]
     OtherLog,
+    /// The hall of the log has these terms, and the server was started with those.
+    #[error("this hall in etcd has {0}, and this server was started with {1}; change these options, or the hall by --change-terms")]
+    OtherTerms(HallTerms, HallTerms),
+    /// Numbers of the hall of the log are held forever, and somebody competes for them: its terms were not changed.
+    #[error("somebody competes for numbers of this hall, which are held forever, so that no server tells that he is there; change this once all have left")]
+    Competing,
     /// The log was put back to an older state under the server, which answers nothing more.
     #[error("the log went back")]
     WentBack,
@@ -183,6 +190,7 @@ impl From<LogFault> for HostFailure {
             LogFault::Memory => HostFailure::Memory,
             LogFault::NoNames => HostFailure::NoNames,
             LogFault::OtherConfig => HostFailure::OtherLog,
+            LogFault::OtherTerms(hall, own) => HostFailure::OtherTerms(hall, own),
             LogFault::WentBack => HostFailure::WentBack,
             other => HostFailure::Log(other),
         }

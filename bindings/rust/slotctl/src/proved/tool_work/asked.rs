@@ -1,4 +1,4 @@
-// Erased by bindings/rust/erase from crates/tool_work/src/asked.rt, sha256 7be0b1e46bb1cf803da2b5c164fee8309594fbbb33e8977aae95af4b74f42290.
+// Erased by bindings/rust/erase from crates/tool_work/src/asked.rt, sha256 9027668f72757fae502771dbed3f07144a74bf8f22e6663181327671225ec743.
 //! What the program can be asked for.
 
 use crate::kit::net::IpAddr;
@@ -176,6 +176,8 @@ pub struct LogWords<'a> {
     pub patience: u64,
     /// Whether its history is written out, and nobody served.
     pub exported: bool,
+    /// Whether how its stays are held is changed, and nobody served.
+    pub changes_terms: bool,
 }
 
 impl<'a> LogWords<'a> {
@@ -185,6 +187,7 @@ impl<'a> LogWords<'a> {
         prefix: &'a str,
         patience: u64,
         exported: bool,
+        changes_terms: bool,
     ) -> Option<LogWords<'a>> {
         if patience < 1 || 3_600 < patience {
             return None;
@@ -194,6 +197,7 @@ impl<'a> LogWords<'a> {
             prefix,
             patience,
             exported,
+            changes_terms,
         })
     }
 }

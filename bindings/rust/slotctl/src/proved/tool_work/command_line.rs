@@ -1,4 +1,4 @@
-// Erased by bindings/rust/erase from crates/tool_work/src/command_line.rt, sha256 108686a435d88093f3c328114d5a1f139fbef911ec95e0e8cf47c4903ef56fd9.
+// Erased by bindings/rust/erase from crates/tool_work/src/command_line.rt, sha256 41babaec8ca925612e240651f3ef2b6870d7077cbcb1db7dd4b862cdfee763c7.
 //! The command line of the program, for `clap`.
 
 use crate::kit::alloc::{AllocError, Global};
@@ -337,6 +337,11 @@ const HOST: Manual = Manual {
             name: "export",
             takes: Takes::Nothing,
             help: "writes the accepted events of the history in etcd as commands, and serves nobody",
+        },
+        Choice {
+            name: "change-terms",
+            takes: Takes::Nothing,
+            help: "makes --hold and --grace those of the hall in etcd, and serves nobody; its servers end, and start again with these",
         },
         Choice {
             name: "verbose",
