@@ -585,12 +585,12 @@ impl<S: Store, T: Pause> LogPersister<S, T> {
             return Err(LogFault::Memory);
         };
         self.count = count;
-        match self.log.offer(&self.batch, reply_queue) {
-            Ok(_) => Ok(()),
-            Err(cause) => match LogFault::of_cause(cause) {
-                Some(fault) => Err(fault),
-                None => Ok(()),
-            },
+        let Err(cause) = self.log.offer(&self.batch, reply_queue) else {
+            return Ok(());
+        };
+        match LogFault::of_cause(cause) {
+            Some(fault) => Err(fault),
+            None => Ok(()),
         }
     }
 
