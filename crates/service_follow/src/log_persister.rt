@@ -556,6 +556,11 @@ impl<S: Store, T: Pause> LogPersister<S, T> {
         self.sessions.may_answer(self.pause.seconds())
     }
 
+    // Whether the log tells its own terms.
+    fn tells_own(&self) -> bool {
+        self.log.terms().is_some() && self.check_terms().is_ok()
+    }
+
     // Returns the terms before a change: those of the hall, and its own where the log tells none.
     fn terms_before(&self) -> HallTerms {
         match self.log.terms() {
@@ -609,13 +614,16 @@ impl<S: Store, T: Pause> LogPersister<S, T> {
                 };
             }
         }
-        if self.log.terms().is_some() && self.check_terms().is_ok() {
+        if self.tells_own() {
             return Ok(Some(TermsChange::Stands));
         }
         if self.ends_held() {
             return Ok(Some(TermsChange::Held));
         }
         self.offer_change(reply_queue)?;
+        if self.tells_own() {
+            return Ok(Some(TermsChange::Stands));
+        }
         Ok(None)
     }
 
