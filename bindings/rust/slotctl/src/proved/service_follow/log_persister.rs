@@ -1,4 +1,4 @@
-// Erased by bindings/rust/erase from crates/service_follow/src/log_persister.rt, sha256 1fa6bf7335eb4cd6a407582f0cf531981fde2d1c5bdfe1462778aae80b395e8f.
+// Erased by bindings/rust/erase from crates/service_follow/src/log_persister.rt, sha256 99e5b6a1e5fadcaa452906e4642b1946d14177d6a13b851adf6d6eb08311edbb.
 //! Serves the clients of one front end over a log.
 
 use crate::kit::alloc::{AllocError, Allocator, Global};
@@ -418,6 +418,11 @@ impl<S: Store, T: Pause> LogPersister<S, T> {
         self.sessions.may_answer(self.pause.seconds())
     }
 
+    // Whether the log tells its own terms.
+    fn tells_own(&self) -> bool {
+        self.log.terms().is_some() && self.check_terms().is_ok()
+    }
+
     // Returns the terms before a change: those of the hall, and its own where the log tells none.
     fn terms_before(&self) -> HallTerms {
         match self.log.terms() {
@@ -444,12 +449,12 @@ impl<S: Store, T: Pause> LogPersister<S, T> {
             return Err(LogFault::Memory);
         };
         self.count = count;
-        match self.log.offer(&self.batch, reply_queue) {
-            Ok(_) => Ok(()),
-            Err(cause) => match LogFault::of_cause(cause) {
-                Some(fault) => Err(fault),
-                None => Ok(()),
-            },
+        let Err(cause) = self.log.offer(&self.batch, reply_queue) else {
+            return Ok(());
+        };
+        match LogFault::of_cause(cause) {
+            Some(fault) => Err(fault),
+            None => Ok(()),
         }
     }
 
@@ -468,13 +473,16 @@ impl<S: Store, T: Pause> LogPersister<S, T> {
                 };
             }
         }
-        if self.log.terms().is_some() && self.check_terms().is_ok() {
+        if self.tells_own() {
             return Ok(Some(TermsChange::Stands));
         }
         if self.ends_held() {
             return Ok(Some(TermsChange::Held));
         }
         self.offer_change(reply_queue)?;
+        if self.tells_own() {
+            return Ok(Some(TermsChange::Stands));
+        }
         Ok(None)
     }
 
