@@ -81,7 +81,25 @@ text_told t fits =
     let second : terms_by (number_of (take 16 (drop 28 text))) ≡ t.was = ap (λ (l : List ℕ). terms_by (number_of (take 16 l))) further_on ∙ number_back t.was end fits.1 in
     ap text_tells (text_before t end) ∙ (tells_if text refl word ended ∙ ap Some (same_told _ _ t.terms t.was first second))
 
+-- the text is written in four parts
+pub text_pushed : (t : ToldTerms) (line one two three four : List ℕ) → one ≡ line ++ codes " terms " → two ≡ one ++ hex_digits 16 (terms_number t.terms) →
+    three ≡ two ++ codes " was " → four ≡ three ++ hex_digits 16 (terms_number t.was) → four ≡ line ++ terms_text t
+text_pushed t line one two three four a b c d =
+    let new = hex_digits 16 (terms_number t.terms) in
+    let old = hex_digits 16 (terms_number t.was) in
+    d ∙ (ap (λ (l : List ℕ). l ++ old) c
+    ∙ (append_assoc two (codes " was ") old
+    ∙ (ap (λ (l : List ℕ). l ++ (codes " was " ++ old)) b
+    ∙ (append_assoc one new (codes " was " ++ old)
+    ∙ (ap (λ (l : List ℕ). l ++ (new ++ (codes " was " ++ old))) a ∙ append_assoc line (codes " terms ") (new ++ (codes " was " ++ old)))))))
+
 -- ---- first lines
+
+pub behind_short : (entry : List ℕ) → length (behind_first_line entry) ≤ length entry
+behind_short [] = omega arith
+behind_short (b ∷ bs) =
+    let more = behind_short bs in
+    elim (eqb_tells b 10) [ inl e ↦ rw e.0 (omega arith) | inr e ↦ rw e.0 (omega (arith, more)) ]
 
 -- bytes of which none ends a line are passed over
 through : (head rest : List ℕ) → All (λ b. b ≢ 10) head → behind_first_line (head ++ rest) ≡ behind_first_line rest

@@ -19,18 +19,18 @@ use Rattle.service_follow.proofs.Heads.{byte_behind, digits_many, digits_read, h
 
 -- ---- a list of which the length of the front is known
 
-front : {A : Type 0} (xs ys : List A) (n : ℕ) → length xs ≡ n → take n (xs ++ ys) ≡ xs
+pub front : {A : Type 0} (xs ys : List A) (n : ℕ) → length xs ≡ n → take n (xs ++ ys) ≡ xs
 front xs ys n long = subst (λ (k : ℕ). take k (xs ++ ys) ≡ xs) long (take-append_seam xs ys)
 
-back : {A : Type 0} (xs ys : List A) (n : ℕ) → length xs ≡ n → drop n (xs ++ ys) ≡ ys
+pub back : {A : Type 0} (xs ys : List A) (n : ℕ) → length xs ≡ n → drop n (xs ++ ys) ≡ ys
 back xs ys n long = subst (λ (k : ℕ). drop k (xs ++ ys) ≡ ys) long (drop-append_seam xs ys)
 
-further : {A : Type 0} (xs ys : List A) (n k : ℕ) → length xs ≡ n → drop (n + k) (xs ++ ys) ≡ drop k ys
+pub further : {A : Type 0} (xs ys : List A) (n k : ℕ) → length xs ≡ n → drop (n + k) (xs ++ ys) ≡ drop k ys
 further xs ys n k long = subst (λ (m : ℕ). drop (m + k) (xs ++ ys) ≡ drop k ys) long (drop-append-add xs ys k)
 
 -- ---- numbers
 
-number_read : (n : ℕ) (rest : List ℕ) → n < 2 ^ 64 → number_of (take 16 (hex_digits 16 n ++ rest)) ≡ n
+pub number_read : (n : ℕ) (rest : List ℕ) → n < 2 ^ 64 → number_of (take 16 (hex_digits 16 n ++ rest)) ≡ n
 number_read n rest fits = ap number_of (front (hex_digits 16 n) rest 16 (digits_many 16 n)) ∙ digits_read 16 n fits fits
 
 -- ---- stays
@@ -81,7 +81,7 @@ module _ (token : List ℕ) (count : ℕ) (long : length token ≡ 32) where
   byte_at : (behind : List ℕ) (n : ℕ) → slice_get (head_of token count ++ behind) (49 + n) ≡ slice_get behind n
   byte_at behind n = subst (λ (k : ℕ). slice_get (head_of token count ++ behind) (k + n) ≡ slice_get behind n) head_is (byte_behind (head_of token count) behind n)
 
-  kind_read : (behind : List ℕ) → mark_of (head_of token count ++ behind) ≡ (if is_there (slice_get behind 0) 32 then kind_by (slice_get behind 1) else Ordinary)
+  pub kind_read : (behind : List ℕ) → mark_of (head_of token count ++ behind) ≡ (if is_there (slice_get behind 0) 32 then kind_by (slice_get behind 1) else Ordinary)
   kind_read behind = rw (byte_at behind 0, byte_at behind 1) refl
 
   token_read : (behind : List ℕ) → token_of (head_of token count ++ behind) ≡ token

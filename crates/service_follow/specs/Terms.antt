@@ -46,11 +46,15 @@ first_long entry = length entry - length (behind_first_line entry)
 abbrev pub terms_of : List ℕ → Option ToldTerms
 terms_of entry = if nat_le 78 (first_long entry) then text_tells (take 45 (drop (first_long entry - 45) entry)) else None
 
--- the first entry of a log of halls of a config: the version of the texts, the config, and the terms, but in a log of an older version
-abbrev pub first_line_of : Config → Option ToldTerms → List ℕ
-first_line_of c told =
+-- the version of the texts, and a config
+abbrev pub config_text : Config → List ℕ
+config_text c =
     codes "beglushan hall 1 world " ++
-    (world_name c.world ++ (codes " m " ++ (decimal c.m ++ (codes " k " ++ (decimal c.k ++ (codes " limit " ++ (decimal c.limit ++ (told_text told ++ 10 ∷ []))))))))
+    (world_name c.world ++ (codes " m " ++ (decimal c.m ++ (codes " k " ++ (decimal c.k ++ (codes " limit " ++ decimal c.limit))))))
+
+-- the first entry of a log of halls of a config, with the terms of the hall, or without in a log of an older version
+abbrev pub first_line_of : Config → Option ToldTerms → List ℕ
+first_line_of c told = config_text c ++ (told_text told ++ 10 ∷ [])
 
 -- a log begins with the line of a config, with terms or without
 abbrev pub HasFirstLine : (ℕ → List ℕ → Type 0) → Config → Type 0

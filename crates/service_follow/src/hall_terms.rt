@@ -9,6 +9,9 @@ use crate::marks::{is_there, number_of};
 use std::alloc::AllocError;
 use std::fmt;
 
+/// What ends a line.
+const LF: u8 = 10;
+
 /// How many bytes the text of terms has, with the LF behind it.
 const TEXT: usize = 45;
 
@@ -104,13 +107,13 @@ pub(crate) fn push_told(line: &mut Vec<u8>, told: Option<ToldTerms>) -> Result<(
 fn text_tells(text: &[u8; 45]) -> Option<ToldTerms>
     ensures { result ≡ text_tells text.now }
 {
-    if text[..7] != *b" terms ".as_slice() {
+    if &text[..7] != b" terms ".as_slice() {
         return None;
     }
-    if text[23..28] != *b" was ".as_slice() {
+    if &text[23..28] != b" was ".as_slice() {
         return None;
     }
-    if text[44] != 10 {
+    if !is_there(text, 44, LF) {
         return None;
     }
     Some(ToldTerms {

@@ -10,7 +10,7 @@ ghost use Rattle.service_follow.specs.Decided.{AddsBatch, HasLooked, IsDecided, 
 ghost use Rattle.service_follow.specs.Hosted.{HasGoneOn, HasMovedOn, IsAtEnd, IsPrefetchedBy, IsServed};
 ghost use Rattle.service_follow.specs.Pauses.{IsSpent};
 ghost use Rattle.service_follow.specs.Said.{reply_queue_of};
-ghost use Rattle.service_follow.specs.Terms.{HasFirstLine, change_entry, first_line_of, grace_of};
+ghost use Rattle.service_follow.specs.Terms.{HasFirstLine, change_entry, config_text, first_line_of, grace_of, terms_of};
 ghost use Rattle.service_follow.specs.TermsChanges.{HasChangedAlone};
 ghost use Rattle.service_follow.specs.Watched.{watched};
 
@@ -173,6 +173,17 @@ fn put_batch(
     Ok(())
 }
 
+// The version of the texts, and this config.
+fn config_text(alloc: Global, config: Config) -> Result<String, AllocError>
+    ensures { IfOk result (λ text. string_bytes text ≡ config_text config) }
+{
+    let world = config.world.name();
+    let m = config.m;
+    let k = config.k;
+    let limit = config.limit;
+    format!(in alloc; "beglushan hall 1 world {world} m {m} k {k} limit {limit}")
+}
+
 // The first entry of a log of halls of this config, with these terms.
 fn first_line(
     alloc: Global,
@@ -181,11 +192,7 @@ fn first_line(
 ) -> Result<Vec<u8>, AllocError>
     ensures { IfOk result (λ line. line.items ≡ first_line_of config told) }
 {
-    let world = config.world.name();
-    let m = config.m;
-    let k = config.k;
-    let limit = config.limit;
-    let text = format!(in alloc; "beglushan hall 1 world {world} m {m} k {k} limit {limit}")?;
+    let text = config_text(alloc, config)?;
     let mut line = Vec::new(alloc);
     line.extend_from_slice(text.as_bytes())?;
     push_told(&mut line, told)?;
