@@ -6,7 +6,8 @@
 //!
 //! `LogPersister` serves the clients of one front end: before a turn of the loop (`service_loop`) takes the lines that came, they come to stand
 //! in the log as one entry (`prefetch`), and the answers are those due at its place. The turn takes them from the queue of replies, and sends nothing
-//! unless all of the queue of replies was said again (`persister`). The first entry of a log is a line of its config: a front end of another refuses to start.
+//! unless all of the queue of replies was said again (`persister`). The first entry of a log is a line of its config and of its terms (`HallTerms`): a
+//! front end with others refuses to start.
 //!
 //! The theorem (`law_of_log_hosting`): a turn of the loop over a queue of replies that was prefetched and used up is a turn over the hall of the log: all
 //! turns of all connections, in one order, are a run of the hall to which just the entries before this turn's were applied. Halls of one

@@ -185,11 +185,7 @@ fn config_text(alloc: Global, config: Config) -> Result<String, AllocError>
 }
 
 // The first entry of a log of halls of this config, with these terms.
-fn first_line(
-    alloc: Global,
-    config: Config,
-    told: Option<ToldTerms>,
-) -> Result<Vec<u8>, AllocError>
+fn first_line(alloc: Global, config: Config, told: Option<ToldTerms>) -> Result<Vec<u8>, AllocError>
     ensures { IfOk result (λ line. line.items ≡ first_line_of config told) }
 {
     let text = config_text(alloc, config)?;
@@ -246,8 +242,9 @@ impl<S: Store + Drop, T: Pause + Drop> LogPersister<S, T> {
         ensures named { OnOk result (gives_names config.world ≡ true) }
         ensures grace { IfOk result (λ k. grace_of terms ≤ k.sessions.grace) }
     {
-        let mut persister = match LogPersister::open_any(alloc, store, pause, config, token, terms)
-        {
+        let mut persister = match LogPersister::open_any(
+            alloc, store, pause, config, token, terms,
+        ) {
             Ok(persister) => persister,
             Err(fault) => return Err(fault),
         };

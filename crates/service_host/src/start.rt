@@ -232,9 +232,7 @@ fn followed<R: Files<File = File>, S: Store + Drop, P: Pause + Drop>(
     terms: HallTerms,
 ) -> Result<LogPersister<S, P>, HostFailure> {
     match fresh_token(rt) {
-        Ok(token) => Ok(LogPersister::open(
-            alloc, store, pause, config, token, terms,
-        )?),
+        Ok(token) => Ok(LogPersister::open(alloc, store, pause, config, token, terms)?),
         Err(failure) => Err(failure),
     }
 }

@@ -16,7 +16,8 @@ use std::rt::{Clock, Files};
 const MOST_GRACE: u64 = 86_400;
 
 /// What is said where a hall has no terms.
-const NO_TERMS: &str = "slotctl: this hall in etcd was made by an older version, and does not tell how its stays are held; give it --hold and --grace by --change-terms\n";
+const NO_TERMS: &str =
+    "slotctl: this hall in etcd was made by an older version, and does not tell how its stays are held; give it --hold and --grace by --change-terms\n";
 
 /// Returns the terms of a hall whose stays end so many seconds after their connection, or never where no number is given.
 pub(crate) fn terms_by(grace: Option<u64>) -> HallTerms {
@@ -41,9 +42,7 @@ pub(crate) fn followed_any<R: Files<File = File>, S: Store + Drop, P: Pause + Dr
     terms: HallTerms,
 ) -> Result<LogPersister<S, P>, HostFailure> {
     match fresh_token(rt) {
-        Ok(token) => Ok(LogPersister::open_any(
-            alloc, store, pause, config, token, terms,
-        )?),
+        Ok(token) => Ok(LogPersister::open_any(alloc, store, pause, config, token, terms)?),
         Err(failure) => Err(failure),
     }
 }
@@ -63,9 +62,7 @@ fn tell_change<W: Write>(
     output: &mut W,
 ) -> Result<(), HostFailure> {
     let written = match was {
-        Some(told) if told.terms == terms => {
-            write!(output, "the hall has {terms} as before\n")
-        }
+        Some(told) if told.terms == terms => { write!(output, "the hall has {terms} as before\n") }
         Some(told) => {
             let was = told.terms;
             write!(output, "the hall has {terms} now, and had {was}\n")

@@ -209,13 +209,15 @@ fn a_front_end_of_another_config_does_not_start(rt: HostRuntime) {
 }
 
 /// How the log of a hall with a grace time of ten seconds begins, and a change of that to three.
-const OF_TEN: &[u8] = b"beglushan hall 1 world rename m 4 k 4 limit 1000 terms b000000000000000 was b000000000000000\n";
+const OF_TEN: &[u8] =
+    b"beglushan hall 1 world rename m 4 k 4 limit 1000 terms b000000000000000 was b000000000000000\n";
 
 const TO_THREE: &[u8] =
     b"0123456789abcdef0123456789abcdef 1000000000000000 terms 4000000000000000 was b000000000000000\n";
 
 /// A line that tells terms in another way than a front end does.
-const SLANTED: &[u8] = b"beglushan hall 1 world rename m 4 k 4 limit 1000 terms B000000000000000 was b000000000000000\n";
+const SLANTED: &[u8] =
+    b"beglushan hall 1 world rename m 4 k 4 limit 1000 terms B000000000000000 was b000000000000000\n";
 
 #[test]
 fn a_log_tells_the_terms_of_its_hall(rt: HostRuntime) {
