@@ -15,18 +15,18 @@ use Rattle.service_follow.specs.Pauses.{HasWaited}
 digit_plain : (d : ℕ) → hex_digit d ≢ 10
 digit_plain d = elim (leb_tells (suc d) 10) [ inl t ↦ rw t.0 (λ e. omega (arith, e)) | inr t ↦ rw t.0 (λ e. omega (arith, e)) ]
 
-digits_plain : (k n : ℕ) → All (λ b. b ≢ 10) (hex_digits k n)
+pub digits_plain : (k n : ℕ) → All (λ b. b ≢ 10) (hex_digits k n)
 digits_plain zero n = let P : ℕ → Type 0 = λ b. b ≢ 10 in All-nil P
 digits_plain (suc k) n = let P : ℕ → Type 0 = λ b. b ≢ 10 in All-cons P (hex_digit (n % 16)) (hex_digits k (n / 16)) (digit_plain (n % 16)) (digits_plain k (n / 16))
 
-head_plain : (token : List ℕ) (count : ℕ) → All (λ b. b ≢ 10) token → All (λ b. b ≢ 10) (head_of token count)
+pub head_plain : (token : List ℕ) (count : ℕ) → All (λ b. b ≢ 10) token → All (λ b. b ≢ 10) (head_of token count)
 head_plain token count plain =
     let P : ℕ → Type 0 = λ b. b ≢ 10 in
     let space : 32 ≢ 10 = λ e. omega (arith, e) in
     All-append P token (32 ∷ hex_digits 16 count) plain (All-cons P 32 (hex_digits 16 count) space (digits_plain 16 count))
 
 -- behind bytes of which none ends a line
-behind_head : (head lines : List ℕ) → All (λ b. b ≢ 10) head → behind_first_line (head ++ 10 ∷ lines) ≡ lines
+pub behind_head : (head lines : List ℕ) → All (λ b. b ≢ 10) head → behind_first_line (head ++ 10 ∷ lines) ≡ lines
 behind_head [] lines h = refl
 behind_head (b ∷ head) lines h =
     let differ : b ≢ 10 = h 0 b (omega arith) in

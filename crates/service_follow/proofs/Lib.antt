@@ -8,6 +8,7 @@ mod Keepers
 mod Starts
 mod Uncompacted
 mod Told
+mod TermsRead
 mod Silences
 mod Releasing
 mod Moves

@@ -6,6 +6,8 @@ use Rattle.service_follow.specs.FollowState.{FollowState}
 use Rattle.service_follow.specs.Hosted.{HasMovedOn}
 use Rattle.service_follow.specs.Stays.{blind_of, start_of, stays_of}
 use Rattle.service_follow.specs.Tellings.{HasToldAlone, IsTelling}
+use Rattle.service_follow.specs.TermsChanges.{HasChangedAlone, IsChange}
+use Rattle.service_follow.specs.declared.hall_terms.HallTerms.{HallTerms}
 
 pub moved_self : {S : Type 0} (stands : S → ℕ → List ℕ → Type 0) (a : FollowState S) → HasMovedOn stands a a
 moved_self stands a = record { keeps = λ place entry stood. stood; config = refl; from = refl; later = λ well. (well, omega arith) }
@@ -48,6 +50,36 @@ told_then stands token token' token'' a b c x y = record {
 pub told_by : {S : Type 0} (stands : S → ℕ → List ℕ → Type 0) (token token' token'' : List ℕ) (a b : FollowState S) → token' ≡ token →
     HasToldAlone stands token' token'' a b → HasToldAlone stands token token'' a b
 told_by stands token token' token'' a b is told = subst (λ (t : List ℕ). HasToldAlone stands t token'' a b) is told
+
+-- the same, and changes nothing but the terms
+pub changed_self : {S : Type 0} (stands : S → ℕ → List ℕ → Type 0) (token token' : List ℕ) (terms terms' : HallTerms) (a : FollowState S) → token' ≡ token → terms' ≡ terms →
+    HasChangedAlone stands token token' terms terms' a a
+changed_self stands token token' terms terms' a is are = record { moved = moved_self stands a; alone = λ place entry stood. inl stood; token_is = is; terms_are = are }
+
+pub changed_same : {S : Type 0} (stands : S → ℕ → List ℕ → Type 0) (token token' : List ℕ) (terms terms' : HallTerms) (a b : FollowState S) → HasMovedOn stands a b →
+    Same (stands a.store) (stands b.store) → token' ≡ token → terms' ≡ terms → HasChangedAlone stands token token' terms terms' a b
+changed_same stands token token' terms terms' a b moved same is are = record { moved = moved; alone = λ place entry stood. inl (same.only place entry stood); token_is = is; terms_are = are }
+
+pub changed_one : {S : Type 0} (stands : S → ℕ → List ℕ → Type 0) (token : List ℕ) (terms : HallTerms) (a b : FollowState S) (at : ℕ) (written : List ℕ) → HasMovedOn stands a b →
+    Adds (stands a.store) at written (stands b.store) → IsChange token terms written → HasChangedAlone stands token token terms terms a b
+changed_one stands token terms a b at written moved adds change = record {
+  moved = moved;
+  alone = λ place entry stood. elim (adds.only place entry stood) [ inl before ↦ inl before | inr new ↦ inr (subst (IsChange token terms) (sym new.1) change) ];
+  token_is = refl;
+  terms_are = refl;
+}
+
+pub changed_then : {S : Type 0} (stands : S → ℕ → List ℕ → Type 0) (token token' token'' : List ℕ) (terms terms' terms'' : HallTerms) (a b c : FollowState S) →
+    HasChangedAlone stands token token' terms terms' a b → HasChangedAlone stands token' token'' terms' terms'' b c → HasChangedAlone stands token token'' terms terms'' a c
+changed_then stands token token' token'' terms terms' terms'' a b c x y = record {
+  moved = moved_then stands a b c x.moved y.moved;
+  alone = λ place entry stood. elim (y.alone place entry stood) [
+    | inl before ↦ x.alone place entry before
+    | inr new ↦ inr (subst (λ (t : List ℕ). IsChange t terms entry) x.token_is (subst (λ (h : HallTerms). IsChange token' h entry) x.terms_are new))
+  ];
+  token_is = y.token_is ∙ x.token_is;
+  terms_are = y.terms_are ∙ x.terms_are;
+}
 
 -- with what a hall starts at the first place, and at a later one
 pub start_first : (config : Config) (place : ℕ) → (place == 0) ≡ true → stays_of config ≡ start_of config place

@@ -1,5 +1,5 @@
 -- the entries of a compaction, written and read back
-use Rattle.std.proofs.Common.{◌≡◌, ◌<◌, ◌+◌, ◌^◌, ◌∷◌, ◌++◌, ℕ, suc, Bool, true, false, if◌then◌else◌, Some, None, List, [], length, take, drop, inl, inr, refl, sym, ap, subst, ◌∙◌, arith, append_assoc, length-append, add-one, drop-cons, get_or}
+use Rattle.std.proofs.Common.{◌≡◌, ◌<◌, ◌+◌, ◌^◌, ◌∷◌, ◌++◌, ℕ, suc, Bool, true, false, if◌then◌else◌, Option, Some, None, List, [], length, take, drop, inl, inr, refl, sym, ap, subst, ◌∙◌, arith, append_assoc, length-append, add-one, drop-cons, get_or}
 use Rattle.std.proofs.Math.Seq.{drop-append_seam, drop-append-add, take-append_seam, take-length}
 use Rattle.std.proofs.lemmas.Bool.Decides.{leb_tells}
 use Rattle.std.specs.Cmp.Lexicographic.{other_text}
@@ -10,25 +10,27 @@ use Rattle.service_follow.specs.Entries.{is_there}
 use Rattle.service_follow.specs.Kept.{token_of}
 use Rattle.service_follow.specs.Marks.{entries_in, head_at, is_head, kept_in, kind_by, mark_of, next_in, number_of, stay_in, stays_in}
 use Rattle.service_follow.specs.Tellings.{AreStays, IsReadBack, IsStay, IsTelling, first_entry, last_entry, more_entry, number_then, stay_text, stay_texts}
+use Rattle.service_follow.specs.Terms.{told_text}
 use Rattle.service_follow.specs.declared.gathering.Gathering.{Gathering}
+use Rattle.service_follow.specs.declared.hall_terms.ToldTerms.{ToldTerms}
 use Rattle.service_follow.specs.declared.front_end_stay.FrontEndStay.{FrontEndStay}
 use Rattle.service_follow.specs.declared.marks.Mark.TheVariants.{Ordinary}
 use Rattle.service_follow.proofs.Heads.{byte_behind, digits_many, digits_read, head_long}
 
 -- ---- a list of which the length of the front is known
 
-front : {A : Type 0} (xs ys : List A) (n : ℕ) → length xs ≡ n → take n (xs ++ ys) ≡ xs
+pub front : {A : Type 0} (xs ys : List A) (n : ℕ) → length xs ≡ n → take n (xs ++ ys) ≡ xs
 front xs ys n long = subst (λ (k : ℕ). take k (xs ++ ys) ≡ xs) long (take-append_seam xs ys)
 
-back : {A : Type 0} (xs ys : List A) (n : ℕ) → length xs ≡ n → drop n (xs ++ ys) ≡ ys
+pub back : {A : Type 0} (xs ys : List A) (n : ℕ) → length xs ≡ n → drop n (xs ++ ys) ≡ ys
 back xs ys n long = subst (λ (k : ℕ). drop k (xs ++ ys) ≡ ys) long (drop-append_seam xs ys)
 
-further : {A : Type 0} (xs ys : List A) (n k : ℕ) → length xs ≡ n → drop (n + k) (xs ++ ys) ≡ drop k ys
+pub further : {A : Type 0} (xs ys : List A) (n k : ℕ) → length xs ≡ n → drop (n + k) (xs ++ ys) ≡ drop k ys
 further xs ys n k long = subst (λ (m : ℕ). drop (m + k) (xs ++ ys) ≡ drop k ys) long (drop-append-add xs ys k)
 
 -- ---- numbers
 
-number_read : (n : ℕ) (rest : List ℕ) → n < 2 ^ 64 → number_of (take 16 (hex_digits 16 n ++ rest)) ≡ n
+pub number_read : (n : ℕ) (rest : List ℕ) → n < 2 ^ 64 → number_of (take 16 (hex_digits 16 n ++ rest)) ≡ n
 number_read n rest fits = ap number_of (front (hex_digits 16 n) rest 16 (digits_many 16 n)) ∙ digits_read 16 n fits fits
 
 -- ---- stays
@@ -79,7 +81,7 @@ module _ (token : List ℕ) (count : ℕ) (long : length token ≡ 32) where
   byte_at : (behind : List ℕ) (n : ℕ) → slice_get (head_of token count ++ behind) (49 + n) ≡ slice_get behind n
   byte_at behind n = subst (λ (k : ℕ). slice_get (head_of token count ++ behind) (k + n) ≡ slice_get behind n) head_is (byte_behind (head_of token count) behind n)
 
-  kind_read : (behind : List ℕ) → mark_of (head_of token count ++ behind) ≡ (if is_there (slice_get behind 0) 32 then kind_by (slice_get behind 1) else Ordinary)
+  pub kind_read : (behind : List ℕ) → mark_of (head_of token count ++ behind) ≡ (if is_there (slice_get behind 0) 32 then kind_by (slice_get behind 1) else Ordinary)
   kind_read behind = rw (byte_at behind 0, byte_at behind 1) refl
 
   token_read : (behind : List ℕ) → token_of (head_of token count ++ behind) ≡ token
@@ -92,8 +94,10 @@ module _ (token : List ℕ) (count : ℕ) (long : length token ≡ 32) where
         | inr t ↦ absurd (let a = t.1 in omega (arith, a, many, head))
       ]
 
-  pub first_told : IsTelling token (first_entry token count)
-  first_told = record { marked = ap is_lines (kind_read (codes " compaction\n")); own = token_read (codes " compaction\n") }
+  pub first_told : (told : Option ToldTerms) → IsTelling token (first_entry token count told)
+  first_told told =
+      let behind = codes " compaction" ++ (told_text told ++ 10 ∷ []) in
+      record { marked = ap is_lines (kind_read behind); own = token_read behind }
 
   pub more_told : (before lines : List ℕ) → IsTelling token (more_entry token count before lines)
   more_told before lines =
@@ -176,7 +180,7 @@ module _ (token : List ℕ) (count : ℕ) (part : Gathering) (lines : List ℕ) 
 
   pub read_back : entries < 2 ^ 64 → length kept < 2 ^ 64 → AreStays kept → IsReadBack token count part lines entries kept
   read_back small few are = record {
-    first = kind_read token count long (codes " compaction\n");
+    first = λ told. kind_read token count long (codes " compaction" ++ (told_text told ++ 10 ∷ []));
     more = kind_read token count long (codes " more behind " ++ (part.head ++ 10 ∷ lines));
     last = kind_read token count long (codes " ends behind " ++ (part.head ++ 32 ∷ numbers));
     goes_on = next_read token count long (codes " more behind ") (10 ∷ lines) part.head refl fits part refl;

@@ -1,9 +1,7 @@
 -- entries of a log that are applied to a hall
-use Rattle.std.specs.Prelude.{◌≡◌, ◌==◌, ◌&&◌, if◌then◌else◌, ℕ, Bool, false, List, [], ◌∷◌, ◌++◌, codes, decimal, map, Option, Some, None, Result, slice_get}
+use Rattle.std.specs.Prelude.{◌≡◌, ◌==◌, ◌&&◌, if◌then◌else◌, ℕ, Bool, false, List, [], ◌∷◌, ◌++◌, map, Option, Some, None, Result, slice_get}
 use Rattle.model_asked.specs.declared.bad.Bad.{Bad}
 use Rattle.model_asked.specs.declared.command.Command.{Command}
-use Rattle.model_asked.specs.Config.{world_name}
-use Rattle.model_asked.specs.declared.config.Config.{Config}
 use Rattle.model_asked.specs.declared.kind.WorldKind.{WorldKind}
 use Rattle.model_asked.specs.Replies.{ShownReply}
 use Rattle.model_asked.specs.Requests.{Request}
@@ -18,12 +16,6 @@ use Rattle.service_hall.specs.declared.reads.Reads.{Reads}
 use Rattle.service_hall.specs.declared.reads.Reads.TheVariants.{Logged, Plain}
 use Rattle.service_follow.specs.Said.{said, reply_queue_of}
 use Rattle.service_follow.specs.ReplyQueueState.{ReplyQueueState}
-
--- the first entry of a log of halls of a config: the version of the texts, and the config
-abbrev pub first_line_of : Config → List ℕ
-first_line_of c =
-    codes "beglushan hall 1 world " ++
-    (world_name c.world ++ (codes " m " ++ (decimal c.m ++ (codes " k " ++ (decimal c.k ++ (codes " limit " ++ (decimal c.limit ++ codes "\n")))))))
 
 -- an entry is a first line, which is passed over, and then lines of commands
 abbrev pub behind_first_line : List ℕ → List ℕ

@@ -8,9 +8,11 @@ pub mod FollowState
 pub mod Batches
 pub mod Kept
 pub mod Marks
+pub mod Terms
 pub mod StayState
 pub mod Desks
 pub mod Tellings
+pub mod TermsChanges
 pub mod Stays
 pub mod Watched
 pub mod Releases

@@ -1,18 +1,20 @@
 -- the entries of a compaction that a front end offers
-use Rattle.std.specs.Prelude.{◌≡◌, ◌⊎◌, ◌<◌, ◌^◌, codes, ℕ, false, Some, List, [], ◌∷◌, ◌++◌, length}
+use Rattle.std.specs.Prelude.{◌≡◌, ◌⊎◌, ◌<◌, ◌^◌, codes, ℕ, false, Option, Some, List, [], ◌∷◌, ◌++◌, length}
 use Rattle.service_follow.specs.Batches.{head_of, hex_digits}
 use Rattle.service_follow.specs.Desks.{is_lines}
 use Rattle.service_follow.specs.FollowState.{FollowState}
 use Rattle.service_follow.specs.Hosted.{HasMovedOn}
 use Rattle.service_follow.specs.Kept.{token_of}
 use Rattle.service_follow.specs.Marks.{entries_in, kept_in, mark_of, next_in}
+use Rattle.service_follow.specs.Terms.{told_text}
 use Rattle.service_follow.specs.declared.gathering.Gathering.{Gathering}
+use Rattle.service_follow.specs.declared.hall_terms.ToldTerms.{ToldTerms}
 use Rattle.service_follow.specs.declared.front_end_stay.FrontEndStay.{FrontEndStay}
 use Rattle.service_follow.specs.declared.marks.Mark.TheVariants.{Begins, GoesOn, Ends}
 
--- the entry that begins
-abbrev pub first_entry : List ℕ → ℕ → List ℕ
-first_entry token count = head_of token count ++ codes " compaction\n"
+-- the entry that begins, which tells the terms of the hall where it has some
+abbrev pub first_entry : List ℕ → ℕ → Option ToldTerms → List ℕ
+first_entry token count told = head_of token count ++ (codes " compaction" ++ (told_text told ++ 10 ∷ []))
 
 -- an entry of lines, behind the one with this token and this count
 abbrev pub more_entry : List ℕ → ℕ → List ℕ → List ℕ → List ℕ
@@ -57,7 +59,7 @@ AreStays (stay ∷ kept) = IsStay stay × AreStays kept
 -- What is told is read back: which entry it is, that it stands behind the entry that it names, and in the last one how many entries were applied
 -- and who keeps each stay
 pub record IsReadBack (token : List ℕ) (count : ℕ) (part : Gathering) (lines : List ℕ) (entries : ℕ) (kept : List FrontEndStay) : Type 0 where
-  pub first : mark_of (first_entry token count) ≡ Begins
+  pub first : (told : Option ToldTerms) → mark_of (first_entry token count told) ≡ Begins
   pub more : mark_of (more_entry token count part.head lines) ≡ GoesOn
   pub last : mark_of (last_entry token count part.head entries kept) ≡ Ends
   pub goes_on : next_in (Some part) (more_entry token count part.head lines) ≡ Some part

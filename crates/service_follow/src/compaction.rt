@@ -4,6 +4,7 @@ ghost use Rattle.std.specs.Prelude.{◌≡◌, ◌++◌, IfOk, IfSome, OnOk};
 ghost use Rattle.service_follow.specs.Tellings.{HasToldAlone, IsTelling, first_entry, last_entry, more_entry, stay_text, stay_texts};
 
 use crate::front_end_stay::{FrontEndStay, token_of};
+use crate::hall_terms::{ToldTerms, push_told};
 use crate::log_fault::LogFault;
 use crate::log_hall::LogHall;
 use crate::log_persister::{push_count, put_head};
@@ -131,12 +132,19 @@ fn push_stays(entry: &mut Vec<u8>, kept: &[FrontEndStay]) -> Result<(), AllocErr
     Ok(())
 }
 
-// Puts the entry that begins a compaction over a list.
-fn put_first(entry: &mut Vec<u8>, token: &[u8; 32], count: u64) -> Result<(), AllocError>
-    ensures { OnOk result (entry.new.items ≡ first_entry token.now count) }
+// Puts the entry that begins a compaction over a list: with the terms of the hall, for who starts there.
+fn put_first(
+    entry: &mut Vec<u8>,
+    token: &[u8; 32],
+    count: u64,
+    terms: Option<ToldTerms>,
+) -> Result<(), AllocError>
+    ensures { OnOk result (entry.new.items ≡ first_entry token.now count terms) }
 {
     put_head(entry, token, count)?;
-    entry.extend_from_slice(b" compaction\n")?;
+    entry.extend_from_slice(b" compaction")?;
+    push_told(entry, terms)?;
+    entry.push(b'\n')?;
     Ok(())
 }
 
@@ -302,7 +310,7 @@ impl Compaction {
     ) -> Result<(), LogFault>
         ensures told { HasToldAlone S.stands self.old.token self.new.token log.old log.new }
     {
-        let Ok(()) = put_first(&mut self.entry, &self.token, self.count) else {
+        let Ok(()) = put_first(&mut self.entry, &self.token, self.count, log.terms()) else {
             return Err(LogFault::Memory);
         };
         work.first = log.place();

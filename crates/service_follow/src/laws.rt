@@ -1,6 +1,6 @@
 //! What a turn of the loop is over a queue of replies that was prefetched of a log.
 
-ghost use Rattle.std.specs.Prelude.{◌≡◌, ◌<◌, ◌^◌, ℕ, List, [], Option, false, length};
+ghost use Rattle.std.specs.Prelude.{◌≡◌, ◌≢◌, ◌<◌, ◌^◌, ℕ, List, [], All, Option, Some, false, length};
 ghost use Rattle.model_asked.specs.declared.config.Config.{Config};
 ghost use Rattle.service_log.specs.Groups.{IsDetermined};
 ghost use Rattle.service_log.specs.Places.{stands_in};
@@ -20,7 +20,9 @@ ghost use Rattle.service_follow.specs.Stays.{StayApplies, start_of, stays_of};
 ghost use Rattle.service_follow.specs.StayState.{StayState};
 ghost use Rattle.service_follow.specs.Silence.{IsAmong, Look, WasSo, after_looks};
 ghost use Rattle.service_follow.specs.Tellings.{AreStays, IsReadBack};
+ghost use Rattle.service_follow.specs.TermsChanges.{AreTerms, IsTermsRead};
 ghost use Rattle.service_follow.specs.declared.gathering.Gathering.{Gathering};
+ghost use Rattle.service_follow.specs.declared.hall_terms.ToldTerms.{ToldTerms};
 ghost use Rattle.service_follow.specs.declared.front_end_stay.FrontEndStay.{FrontEndStay};
 ghost use Rattle.service_follow.specs.declared.marks.Mark.TheVariants.{Ordinary};
 ghost use Rattle.service_follow.specs.declared.watches.Watch.{Watch};
@@ -74,6 +76,12 @@ pub fn law_of_compactions()
 pub fn law_of_tellings()
     ensures { (token : List ℕ) (count : ℕ) (part : Gathering) (lines : List ℕ) (entries : ℕ) (kept : List FrontEndStay) → length token ≡ 32 →
         length part.head ≡ 49 → entries < 2 ^ 64 → length kept < 2 ^ 64 → AreStays kept → IsReadBack token count part lines entries kept }
+{}
+
+/// A law, which runs nothing: terms that a front end writes (`Terms.antt`) are read back, whatever clients say. A batch tells none.
+pub fn law_of_terms()
+    ensures { (token : List ℕ) (count : ℕ) (told : ToldTerms) → All (λ b. b ≢ 10) token → length token ≡ 32 → AreTerms (Some told) →
+        IsTermsRead token count told }
 {}
 
 /// A law, which runs nothing: a front end that starts at a later place of a log than the first has the hall of one that

@@ -6,7 +6,8 @@
 //!
 //! `LogPersister` serves the clients of one front end: before a turn of the loop (`service_loop`) takes the lines that came, they come to stand
 //! in the log as one entry (`prefetch`), and the answers are those due at its place. The turn takes them from the queue of replies, and sends nothing
-//! unless all of the queue of replies was said again (`persister`). The first entry of a log is a line of its config: a front end of another refuses to start.
+//! unless all of the queue of replies was said again (`persister`). The first entry of a log is a line of its config and of its terms (`HallTerms`): a
+//! front end with others refuses to start.
 //!
 //! The theorem (`law_of_log_hosting`): a turn of the loop over a queue of replies that was prefetched and used up is a turn over the hall of the log: all
 //! turns of all connections, in one order, are a run of the hall to which just the entries before this turn's were applied. Halls of one
@@ -29,7 +30,7 @@
 //! From `tests_log/src/persister_tests.rt`:
 //!
 //! ```text
-//! LogPersister::open(alloc, lossy, tries, config, [b'a'; 32])
+//! LogPersister::open(alloc, lossy, tries, config, [b'a'; 32], TERMS)
 //! ..
 //! if persister.prefetch(&mut reply_queue, lines)? == Prefetch::Lost {
 //!     return Ok(None);
@@ -42,6 +43,7 @@
 mod compaction;
 pub mod front_end_stay;
 mod gathering;
+pub mod hall_terms;
 mod keeping;
 mod lasting;
 pub mod laws;
@@ -61,13 +63,14 @@ pub mod tallying;
 pub mod watches;
 
 pub use front_end_stay::FrontEndStay;
+pub use hall_terms::{HallTerms, ToldTerms, terms_of};
 pub use laws::{
     law_of_batches, law_of_compactions, law_of_halls, law_of_keepers, law_of_log_hosting,
-    law_of_silence, law_of_starts, law_of_tellings,
+    law_of_silence, law_of_starts, law_of_tellings, law_of_terms,
 };
 pub use log_fault::LogFault;
 pub use log_hall::LogHall;
-pub use log_persister::LogPersister;
+pub use log_persister::{LogPersister, TermsChange};
 pub use machine::HallMachine;
 pub use marks::{Mark, mark_of};
 pub use note::{Asked, Note};

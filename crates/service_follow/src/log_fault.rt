@@ -3,6 +3,7 @@
 ghost use Rattle.std.specs.Prelude.{◌≡◌};
 ghost use Rattle.service_follow.specs.Faults.{fault_of, fault_of_cause, fault_of_store};
 
+use crate::hall_terms::HallTerms;
 use model_steps::Refusal;
 use service_log::{Cause, ServeFault, StoreFault};
 use std::error::Error;
@@ -17,6 +18,8 @@ pub enum LogFault {
     NoNames,
     /// The log is one of another config, or of another version.
     OtherConfig,
+    /// The hall has these terms, and this front end was started with those.
+    OtherTerms(HallTerms, HallTerms),
     /// The token has the end of a line in it.
     Token,
     /// The lines are too long for one entry.
@@ -91,6 +94,9 @@ impl fmt::Display for LogFault {
             LogFault::Memory => "no memory",
             LogFault::NoNames => "no names are given in this world",
             LogFault::OtherConfig => "log of another config",
+            LogFault::OtherTerms(hall, own) => {
+                return write!(f, "the hall has {hall}, and this server {own}");
+            }
             LogFault::Token => "a token of more than a line",
             LogFault::TooLong => "too many lines for one entry",
             LogFault::Full => "the log is full",

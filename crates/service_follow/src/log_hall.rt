@@ -13,6 +13,7 @@ ghost use Rattle.service_follow.specs.Said.{reply_queue_of};
 ghost use Rattle.service_follow.specs.Stays.{StayApplies, hall_part, start_of};
 
 use crate::front_end_stay::FrontEndStay;
+use crate::hall_terms::ToldTerms;
 use crate::reply_queue::ReplyQueue;
 use crate::stay_machine::StayMachine;
 use model_asked::Config;
@@ -59,20 +60,17 @@ fn machine_at(alloc: Global, config: Config, place: u64) -> Result<StayMachine, 
     Ok(machine)
 }
 
-// Has a store begin with this line, where nothing stands in it; tells whether it does, once what stands there was read.
+// Has a store begin with this line, where nothing stands in it, and reads the line with which it begins; tells whether there is one.
 fn begins_with<S: Store>(
     store: &mut S,
     line: &[u8],
     entry: &mut Vec<u8>,
 ) -> Result<bool, StoreFault>
-    ensures begins { result ≡ Ok true → S.stands store.new 0 line.now }
+    ensures begins { result ≡ Ok true → S.stands store.new 0 entry.new.items }
     ensures keeps { Keeps (S.stands store.old) (S.stands store.new) }
 {
     store.put(0, line)?;
-    match store.get(0, entry) {
-        Ok(found) => Ok(found && entry.as_slice() == line),
-        Err(fault) => Err(fault),
-    }
+    store.get(0, entry)
 }
 
 impl<S: Store + Drop> LogHall<S> {
@@ -148,6 +146,11 @@ impl<S: Store> LogHall<S> {
         self.replica.machine().compactions()
     }
 
+    /// Returns the terms of the hall, as the entry told that told some last. Not proved.
+    pub(crate) fn terms(&self) -> Option<ToldTerms> {
+        self.replica.machine().terms()
+    }
+
     /// Starts at a place of the log, with nothing applied: from the first with a hall with no event, and from a later one
     /// with a blind machine.
     ///
@@ -182,13 +185,13 @@ impl<S: Store> LogHall<S> {
         let _ = self.store.put_hint(place);
     }
 
-    /// Has the log begin with this line, where nothing stands in it; tells whether it does, once what stands there was read.
+    /// Has the log begin with this line, where nothing stands in it, and reads the line with which it begins; tells whether there is one.
     ///
     /// # Errors
     ///
     /// The store's own fault. The line may stand in the log.
     pub fn begin(&mut self, line: &[u8], entry: &mut Vec<u8>) -> Result<bool, StoreFault>
-        ensures begins { result ≡ Ok true → S.stands self.new.store 0 line.now }
+        ensures begins { result ≡ Ok true → S.stands self.new.store 0 entry.new.items }
         ensures same { (self.new.replica ≡ self.old.replica) × (self.new.config ≡ self.old.config) × (self.new.from ≡ self.old.from) }
     {
         law_of_following::<StayMachine, S>();

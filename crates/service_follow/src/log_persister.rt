@@ -1,19 +1,21 @@
 //! Serves the clients of one front end over a log.
 
-ghost use Rattle.std.specs.Prelude.{◌≡◌, ◌≢◌, ◌↔◌, ◌==◌, ◌+◌, ◌-◌, ◌++◌, ◌<◌, ◌⊎◌, ℕ, [], true, false, ltb, map, Ok, Err, OnOk, IfOk, All};
+ghost use Rattle.std.specs.Prelude.{◌≡◌, ◌≢◌, ◌↔◌, ◌==◌, ◌+◌, ◌-◌, ◌++◌, ◌<◌, ◌≤◌, ◌⊎◌, ℕ, [], true, false, ltb, map, Ok, Err, OnOk, IfOk, All};
 ghost use Rattle.std.specs.List.{list_any};
 ghost use Rattle.std.specs.String.{string_bytes};
 ghost use Rattle.model_asked.specs.Config.{gives_names};
 ghost use Rattle.service_log.specs.Places.{Keeps, Same};
 ghost use Rattle.service_follow.specs.Batches.{batch_by, batch_of, head_of, hex_digit, hex_digits, next_count, told_of};
 ghost use Rattle.service_follow.specs.Decided.{AddsBatch, HasLooked, IsDecided, next_read, release_lines};
-ghost use Rattle.service_follow.specs.Entries.{first_line_of};
 ghost use Rattle.service_follow.specs.Hosted.{HasGoneOn, HasMovedOn, IsAtEnd, IsPrefetchedBy, IsServed};
 ghost use Rattle.service_follow.specs.Pauses.{IsSpent};
 ghost use Rattle.service_follow.specs.Said.{reply_queue_of};
+ghost use Rattle.service_follow.specs.Terms.{HasFirstLine, change_entry, config_text, first_line_of, grace_of, terms_of};
+ghost use Rattle.service_follow.specs.TermsChanges.{HasChangedAlone};
 ghost use Rattle.service_follow.specs.Watched.{watched};
 
 use crate::compaction::Compaction;
+use crate::hall_terms::{HallTerms, ToldTerms, push_told, terms_of};
 use crate::lasting::Lasting;
 use crate::log_fault::LogFault;
 use crate::log_hall::LogHall;
@@ -49,6 +51,19 @@ const DIFFERS: &str = "a compaction of the log tells another history";
 /// How many entries are applied at once where no client asks for anything.
 const TICK_ENTRIES: u64 = 10_000;
 
+/// What came of a change of terms.
+#[derive(Clone, Copy, Debug, Drop, PartialEq, Eq)]
+pub enum TermsChange {
+    /// The hall has the terms.
+    Stands,
+    /// It has not: somebody competes who was told that numbers are held forever, and for whom no front end makes beats.
+    Held,
+}
+
+/// For how many seconds after the grace time of earlier terms somebody may hold a number who was told of them: a front end that has not read of
+/// the change answers for less than 21 seconds.
+const MOST_UNTOLD: u64 = 22;
+
 /// Serves the clients of one front end over a log: what they ask for comes to stand in the log before it is answered.
 pub struct LogPersister<S: Store, T: Pause> {
     alloc: Global,
@@ -63,6 +78,10 @@ pub struct LogPersister<S: Store, T: Pause> {
     no_space: bool,
     /// Whether the store answered when it was last asked.
     answers: bool,
+    /// The terms that it was started with.
+    terms: HallTerms,
+    /// Up to which second the longer grace time of earlier terms lasts.
+    longer_until: u64,
     /// Who keeps stays.
     sessions: Sessions,
     /// The compactions that it offers.
@@ -85,6 +104,8 @@ impl<S: Store + Drop, T: Pause + Drop> Drop for LogPersister<S, T> {
             pause: _,
             no_space: _,
             answers: _,
+            terms: _,
+            longer_until: _,
             sessions: _,
             compaction: _,
             lasting: _,
@@ -152,20 +173,90 @@ fn put_batch(
     Ok(())
 }
 
-// The first entry of a log of halls of this config.
-fn first_line(alloc: Global, config: Config) -> Result<String, AllocError>
-    ensures { IfOk result (λ line. string_bytes line ≡ first_line_of config) }
+// The version of the texts, and this config.
+fn config_text(alloc: Global, config: Config) -> Result<String, AllocError>
+    ensures { IfOk result (λ text. string_bytes text ≡ config_text config) }
 {
     let world = config.world.name();
     let m = config.m;
     let k = config.k;
     let limit = config.limit;
-    format!(in alloc; "beglushan hall 1 world {world} m {m} k {k} limit {limit}\n")
+    format!(in alloc; "beglushan hall 1 world {world} m {m} k {k} limit {limit}")
+}
+
+// The first entry of a log of halls of this config, with these terms.
+fn first_line(alloc: Global, config: Config, told: Option<ToldTerms>) -> Result<Vec<u8>, AllocError>
+    ensures { IfOk result (λ line. line.items ≡ first_line_of config told) }
+{
+    let text = config_text(alloc, config)?;
+    let mut line = Vec::new(alloc);
+    line.extend_from_slice(text.as_bytes())?;
+    push_told(&mut line, told)?;
+    line.push(LF)?;
+    Ok(line)
+}
+
+// Returns true only if an entry is the first one of a log of halls of this config, with terms or without.
+fn is_first_line(alloc: Global, config: Config, entry: &[u8]) -> Result<bool, AllocError>
+    ensures { result ≡ Ok true → entry.now ≡ first_line_of config (terms_of entry.now) }
+{
+    let line = first_line(alloc, config, terms_of(entry))?;
+    Ok(line.as_slice() == entry)
+}
+
+// Puts the entry that changes the terms of a hall over a list.
+fn put_change(
+    entry: &mut Vec<u8>,
+    token: &[u8; 32],
+    count: u64,
+    told: ToldTerms,
+) -> Result<(), AllocError>
+    ensures { OnOk result (entry.new.items ≡ change_entry token.now count told) }
+{
+    put_head(entry, token, count)?;
+    push_told(entry, Some(told))?;
+    entry.push(LF)?;
+    Ok(())
 }
 
 impl<S: Store + Drop, T: Pause + Drop> LogPersister<S, T> {
-    /// Opens the hall of a log. Where nothing stands in the log it begins with a line of the config, and else it has to begin with just that
-    /// line; then all that stands is applied: from the place on that is noted in the store, if a compaction that can be read whole stands
+    /// Opens the hall of a log to serve its clients by these terms, which have to be the hall's, where it has some (`open_any`). Where a change made
+    /// its grace time shorter, the longer one lasts for as long as a client may trust in it.
+    ///
+    /// # Errors
+    ///
+    /// Those of `open_any`, and then `OtherTerms`: the hall has other terms.
+    pub fn open(
+        alloc: Global,
+        store: S,
+        pause: T,
+        config: Config,
+        token: [u8; 32],
+        terms: HallTerms,
+    ) -> Result<LogPersister<S, T>, LogFault>
+        ensures config { IfOk result (λ k. k.log.config ≡ config) }
+        ensures begins { IfOk result (λ k. HasFirstLine (S.stands k.log.store) config) }
+        ensures all { IfOk result (λ k. IsAtEnd (S.lacks k.log.store) k.log.replica.place) }
+        ensures known { IfOk result (λ k. k.log.stays.machine.blind ≡ false) }
+        ensures token { result ≡ Err LogFault.Token ↔ (list_any (λ b. b == 10) token ≡ true) }
+        ensures named { OnOk result (gives_names config.world ≡ true) }
+        ensures grace { IfOk result (λ k. grace_of terms ≤ k.sessions.grace) }
+    {
+        let mut persister = match LogPersister::open_any(
+            alloc, store, pause, config, token, terms,
+        ) {
+            Ok(persister) => persister,
+            Err(fault) => return Err(fault),
+        };
+        match persister.take_terms() {
+            Ok(()) => Ok(persister),
+            Err(fault) => Err(fault),
+        }
+    }
+
+    /// Opens the hall of a log, whatever its terms, to serve nobody. Where nothing stands in the log it begins with a line of the config and of these
+    /// terms, and else it has to begin with a line of the config;
+    /// then all that stands is applied: from the place on that is noted in the store, if a compaction that can be read whole stands
     /// there or behind it, and else from the first entry on. The token, which no other front end has, is to have no end of a line in it.
     ///
     /// # Errors
@@ -176,15 +267,17 @@ impl<S: Store + Drop, T: Pause + Drop> LogPersister<S, T> {
     /// - `Memory`: an allocation failed.
     /// - another `LogFault`: the config's world gives no names, the log begins with another line, an entry is no entry of a hall, or the
     ///   store failed.
-    pub fn open(
+    pub fn open_any(
         alloc: Global,
         store: S,
         pause: T,
         config: Config,
         token: [u8; 32],
+        terms: HallTerms,
     ) -> Result<LogPersister<S, T>, LogFault>
         ensures config { IfOk result (λ k. k.log.config ≡ config) }
-        ensures begins { IfOk result (λ k. S.stands k.log.store 0 (first_line_of config)) }
+        ensures begins { IfOk result (λ k. HasFirstLine (S.stands k.log.store) config) }
+        ensures terms { IfOk result (λ k. k.terms ≡ terms) }
         ensures all { IfOk result (λ k. IsAtEnd (S.lacks k.log.store) k.log.replica.place) }
         ensures known { IfOk result (λ k. k.log.stays.machine.blind ≡ false) }
         ensures token { result ≡ Err LogFault.Token ↔ (list_any (λ b. b == 10) token ≡ true) }
@@ -193,7 +286,8 @@ impl<S: Store + Drop, T: Pause + Drop> LogPersister<S, T> {
         if token.contains(&LF) {
             return Err(LogFault::Token);
         }
-        let Ok(line) = first_line(alloc, config) else {
+        let told = ToldTerms { terms, was: terms };
+        let Ok(line) = first_line(alloc, config, Some(told)) else {
             return Err(LogFault::Memory);
         };
         let log = LogHall::new(alloc, store, config)?;
@@ -207,11 +301,13 @@ impl<S: Store + Drop, T: Pause + Drop> LogPersister<S, T> {
             pause,
             no_space: false,
             answers: true,
+            terms,
+            longer_until: 0,
             sessions: Sessions::new(alloc),
             compaction: Compaction::new(alloc, token),
             lasting: Lasting::new(),
         };
-        match persister.start(line.as_bytes()) {
+        match persister.start(config, &line) {
             Ok(()) => Ok(persister),
             Err(fault) => Err(fault),
         }
@@ -233,16 +329,17 @@ impl<S: Store, T: Pause> LogPersister<S, T> {
         self.log.place()
     }
 
-    // Has the log begin with a line, and applies all that stands in it. A function of its own, since what owns a persister takes it apart at each
-    // way out.
-    fn start(&mut self, line: &[u8]) -> Result<(), LogFault>
+    // Has the log begin with a line of the config, which is this one where nothing stands in it, and applies all that stands in it. A function of
+    // its own, since what owns a persister takes it apart at each way out.
+    fn start(&mut self, config: Config, line: &[u8]) -> Result<(), LogFault>
         ensures other { result ≢ Err LogFault.Token }
-        ensures begins { OnOk result (S.stands self.new.log.store 0 line.now) }
+        ensures begins { OnOk result (HasFirstLine (S.stands self.new.log.store) config) }
         ensures all { OnOk result (IsAtEnd (S.lacks self.new.log.store) self.new.log.replica.place) }
         ensures known { OnOk result (self.new.log.stays.machine.blind ≡ false) }
         ensures config { OnOk result (self.new.log.config ≡ self.old.log.config) }
+        ensures terms { self.new.terms ≡ self.old.terms }
     {
-        self.begin(line)?;
+        self.begin(config, line)?;
         self.apply_hinted()?;
         self.apply_known()
     }
@@ -253,6 +350,7 @@ impl<S: Store, T: Pause> LogPersister<S, T> {
         ensures keeps { OnOk result (Keeps (S.stands self.old.log.store) (S.stands self.new.log.store)) }
         ensures all { OnOk result (IsAtEnd (S.lacks self.new.log.store) self.new.log.replica.place) }
         ensures config { OnOk result (self.new.log.config ≡ self.old.log.config) }
+        ensures terms { self.new.terms ≡ self.old.terms }
     {
         let place = self.log.hint().unwrap_or(0);
         self.log.start_at(self.alloc, place)?;
@@ -267,6 +365,7 @@ impl<S: Store, T: Pause> LogPersister<S, T> {
         ensures all { OnOk result (IsAtEnd (S.lacks self.new.log.store) self.new.log.replica.place) }
         ensures known { OnOk result (self.new.log.stays.machine.blind ≡ false) }
         ensures config { OnOk result (self.new.log.config ≡ self.old.log.config) }
+        ensures terms { self.new.terms ≡ self.old.terms }
     {
         if !self.log.is_blind() {
             return Ok(());
@@ -279,16 +378,29 @@ impl<S: Store, T: Pause> LogPersister<S, T> {
         Ok(())
     }
 
-    // Has the log begin with a line, as soon as the store answers.
-    fn begin(&mut self, line: &[u8]) -> Result<(), LogFault>
+    // Returns an error unless the line with which the log begins, which was read last, is of this config.
+    fn check_first_line(&self, config: Config) -> Result<(), LogFault>
         ensures other { result ≢ Err LogFault.Token }
-        ensures begins { OnOk result (S.stands self.new.log.store 0 line.now) }
+        ensures line { OnOk result (self.now.batch.items ≡ first_line_of config (terms_of self.now.batch.items)) }
+    {
+        match is_first_line(self.alloc, config, &self.batch) {
+            Ok(true) => Ok(()),
+            Ok(false) => Err(LogFault::OtherConfig),
+            Err(_) => Err(LogFault::Memory),
+        }
+    }
+
+    // Has the log begin with a line of the config, as soon as the store answers: with this one, where nothing stands in it.
+    fn begin(&mut self, config: Config, line: &[u8]) -> Result<(), LogFault>
+        ensures other { result ≢ Err LogFault.Token }
+        ensures begins { OnOk result (HasFirstLine (S.stands self.new.log.store) config) }
         ensures config { self.new.log.config ≡ self.old.log.config }
+        ensures terms { self.new.terms ≡ self.old.terms }
     {
         self.pause.begin();
         for _ in 0..MOST_TRIES {
             match self.log.begin(line, &mut self.batch) {
-                Ok(true) => return Ok(()),
+                Ok(true) => return self.check_first_line(config),
                 Ok(false) => return Err(LogFault::OtherConfig),
                 Err(StoreFault::Memory) => return Err(LogFault::Memory),
                 Err(fault) => {
@@ -307,6 +419,7 @@ impl<S: Store, T: Pause> LogPersister<S, T> {
         ensures other { result ≢ Err LogFault.Token }
         ensures moved { HasMovedOn S.stands self.old.log self.new.log }
         ensures all { OnOk result (IsAtEnd (S.lacks self.new.log.store) self.new.log.replica.place) }
+        ensures terms { self.new.terms ≡ self.old.terms }
     {
         let mut reply_queue = ReplyQueue::new(self.alloc);
         self.pause.begin();
@@ -322,6 +435,55 @@ impl<S: Store, T: Pause> LogPersister<S, T> {
             }
         }
         Err(LogFault::Store(StoreFault::Lost))
+    }
+
+    /// Returns the terms of the hall, as the log tells; `None` if it tells none. Not proved.
+    pub fn told_terms(&self) -> Option<ToldTerms> {
+        self.log.terms()
+    }
+
+    // Returns an error where the log tells other terms than it was started with.
+    fn check_terms(&self) -> Result<(), LogFault>
+        ensures { result ≢ Err LogFault.Token }
+    {
+        let Some(told) = self.log.terms() else {
+            return Ok(());
+        };
+        if told.terms == self.terms {
+            return Ok(());
+        }
+        Err(LogFault::OtherTerms(told.terms, self.terms))
+    }
+
+    // Takes the grace time of its terms, which have to be the hall's. The longer one of the terms before lasts for a while.
+    fn take_terms(&mut self) -> Result<(), LogFault>
+        ensures other { result ≢ Err LogFault.Token }
+        ensures same { (self.new.log ≡ self.old.log) × (self.new.terms ≡ self.old.terms) }
+        ensures grace { OnOk result (grace_of self.old.terms ≤ self.new.sessions.grace) }
+    {
+        self.check_terms()?;
+        let grace = self.terms.grace();
+        self.sessions.grace = grace;
+        let Some(told) = self.log.terms() else {
+            return Ok(());
+        };
+        let was = told.was.grace();
+        if grace < was {
+            let now = self.pause.seconds();
+            self.sessions.grace = was;
+            self.longer_until = now.saturating_add(u64::from(was) + MOST_UNTOLD);
+        }
+        Ok(())
+    }
+
+    // Takes the grace time of its own terms, once the longer one of those before has lasted for long enough.
+    fn shorten_grace(&mut self)
+        ensures log { (self.new.log ≡ self.old.log) × (self.new.count ≡ self.old.count) × (self.new.token ≡ self.old.token) }
+        ensures grace { (self.new.sessions.grace ≡ self.old.sessions.grace) ⊎ (self.new.sessions.grace ≡ grace_of self.old.terms) }
+    {
+        if self.longer_until <= self.pause.seconds() {
+            self.sessions.grace = self.terms.grace();
+        }
     }
 
     // Has the batch come to stand in the log, as soon as the store answers.
@@ -346,6 +508,10 @@ impl<S: Store, T: Pause> LogPersister<S, T> {
                 if self.log.is_blind() {
                     reply_queue.clear();
                     return Err(LogFault::Astray);
+                }
+                if let Err(fault) = self.check_terms() {
+                    reply_queue.clear();
+                    return Err(fault);
                 }
                 self.no_space = false;
                 self.answers = true;
@@ -379,13 +545,6 @@ impl<S: Store, T: Pause> LogPersister<S, T> {
         self.compaction.be_due_at(events);
     }
 
-    /// For how many seconds a stay goes on that nobody keeps. It is 0 until this is called.
-    pub fn grant_grace(&mut self, seconds: u32)
-        ensures { self.new.sessions.grace ≡ seconds }
-    {
-        self.sessions.grace = seconds;
-    }
-
     /// Returns true: other front ends share the stays in the pool, so that this persister ends them itself.
     pub fn shares_stays(&self) -> bool
         ensures { result ≡ true }
@@ -399,6 +558,100 @@ impl<S: Store, T: Pause> LogPersister<S, T> {
         ensures { (now : ℕ) × T.tells self.now.pause now × (result ≡ ltb (now - self.now.sessions.sent) 20) }
     {
         self.sessions.may_answer(self.pause.seconds())
+    }
+
+    // Whether the log tells its own terms.
+    fn tells_own(&self) -> bool {
+        self.log.terms().is_some() && self.check_terms().is_ok()
+    }
+
+    // Returns the terms before a change: those of the hall, and its own where the log tells none.
+    fn terms_before(&self) -> HallTerms {
+        match self.log.terms() {
+            Some(told) => told.terms,
+            None => self.terms,
+        }
+    }
+
+    // Whether a change is to wait: numbers would be ended that are held forever.
+    fn ends_held(&self) -> bool {
+        self.terms_before() == HallTerms::Forever
+            && self.terms != HallTerms::Forever
+            && !self.log.hall().slots().pool().competitors().is_empty()
+    }
+
+    // Offers a change of the terms to its own for the next place, once.
+    #[tactic(auto, using(crate::proofs::Moves::changed_self))]
+    fn offer_change(&mut self, reply_queue: &mut ReplyQueue) -> Result<(), LogFault>
+        ensures { HasChangedAlone S.stands self.old.token self.new.token self.old.terms self.new.terms self.old.log self.new.log }
+    {
+        let told = ToldTerms {
+            terms: self.terms,
+            was: self.terms_before(),
+        };
+        let count = self.count.wrapping_add(1);
+        let Ok(()) = put_change(&mut self.batch, &self.token, count, told) else {
+            return Err(LogFault::Memory);
+        };
+        self.count = count;
+        let Err(cause) = self.log.offer(&self.batch, reply_queue) else {
+            return Ok(());
+        };
+        match LogFault::of_cause(cause) {
+            Some(fault) => Err(fault),
+            None => Ok(()),
+        }
+    }
+
+    // Reads the log to its end, and offers a change unless the hall has its terms. `None` where that is to be done once more.
+    #[tactic(auto, using(crate::proofs::Moves::changed_self, crate::proofs::Moves::changed_same, crate::proofs::Moves::changed_then))]
+    fn try_change(&mut self, reply_queue: &mut ReplyQueue) -> Result<Option<TermsChange>, LogFault>
+        ensures { HasChangedAlone S.stands self.old.token self.new.token self.old.terms self.new.terms self.old.log self.new.log }
+    {
+        match self.log.read(TICK_ENTRIES, reply_queue) {
+            Ok(true) => {}
+            Ok(false) => return Ok(None),
+            Err(cause) => {
+                return match LogFault::of_cause(cause) {
+                    Some(fault) => Err(fault),
+                    None => Ok(None),
+                };
+            }
+        }
+        if self.tells_own() {
+            return Ok(Some(TermsChange::Stands));
+        }
+        if self.ends_held() {
+            return Ok(Some(TermsChange::Held));
+        }
+        self.offer_change(reply_queue)?;
+        if self.tells_own() {
+            return Ok(Some(TermsChange::Stands));
+        }
+        Ok(None)
+    }
+
+    /// Has the terms of the hall be those that this was opened for (`open_any`), by an entry of its own. A change stands at a place up to which all was
+    /// read, so that it is known what was before it. It serves nobody.
+    ///
+    /// # Errors
+    ///
+    /// Those behind which nothing more is served (`LogFault::of_cause`), `Memory` if an allocation failed, and `Store` if the store does not answer:
+    /// then the change may stand.
+    #[tactic(auto, using(crate::proofs::Moves::changed_self, crate::proofs::Moves::changed_then))]
+    pub fn change_terms(&mut self, reply_queue: &mut ReplyQueue) -> Result<TermsChange, LogFault>
+        ensures { HasChangedAlone S.stands self.old.token self.new.token self.old.terms self.new.terms self.old.log self.new.log }
+    {
+        self.pause.begin();
+        for _ in 0..MOST_TRIES {
+            if let Some(change) = self.try_change(reply_queue)? {
+                return Ok(change);
+            }
+            if !self.pause.again() {
+                break;
+            }
+        }
+        Err(LogFault::Store(StoreFault::Lost))
     }
 
     // The lines by which the stays end that are to end now, where all of the log was read.
@@ -469,6 +722,22 @@ impl<S: Store, T: Pause> LogPersister<S, T> {
         offered
     }
 
+    // The same, where the log tells no other terms.
+    #[tactic(auto, using(crate::proofs::Moves::moved_self))]
+    fn end_by_terms(&mut self, reply_queue: &mut ReplyQueue, left: &[u64]) -> Result<(), LogFault>
+        ensures released { Same (S.stands self.old.log.store) (S.stands self.new.log.store) ⊎ AddsBatch S.stands self.old.log self.old.token self.new.count
+            (release_lines self.old.token left.now self.old.sessions.grace self.new.sessions.reads self.old.sessions.watches.watches.items
+            self.old.log.stays.machine) self.new.log }
+        ensures looked { OnOk result ((self.new.sessions.reads ≡ next_read self.old.sessions.reads) × (self.new.sessions.watches.watches.items ≡
+            map (watched self.new.sessions.reads self.old.sessions.watches.watches.items) self.old.log.stays.machine.kept)) }
+        ensures counted { (self.new.count ≡ self.old.count) ⊎ (self.new.count ≡ next_count self.old.count) }
+        ensures moved { HasMovedOn S.stands self.old.log self.new.log }
+        ensures unreported { OnOk result (reply_queue.new ≡ reply_queue_of []) }
+    {
+        self.check_terms()?;
+        self.end_due(reply_queue, left)
+    }
+
     /// Ends stays in the pool by one entry at most: those of these identities, which nobody keeps at this front end any more, if it keeps them as
     /// the log tells, and those of front ends of which nothing was heard for longer than they may answer, and the grace time. It is to be called
     /// about once a second. Where this front end keeps a stay and had no entry for 5 seconds, it has an empty one.
@@ -490,7 +759,7 @@ impl<S: Store, T: Pause> LogPersister<S, T> {
         let read = self.log.read(TICK_ENTRIES, reply_queue);
         self.answers = read.is_ok();
         match read {
-            Ok(true) => self.end_due(reply_queue, left),
+            Ok(true) => self.end_by_terms(reply_queue, left),
             Ok(false) => Ok(()),
             Err(cause) => match LogFault::of_cause(cause) {
                 Some(fault) => Err(fault),
@@ -569,8 +838,9 @@ impl<S: Store, T: Pause> Persist<ReplyQueue> for LogPersister<S, T> {
         let caught_up = self.log.catch_up(TICK_ENTRIES, reply_queue);
         self.lasting.look(self.log.hall());
         self.answers = caught_up.is_ok();
+        self.shorten_grace();
         let Err(cause) = caught_up else {
-            return Ok(());
+            return self.check_terms();
         };
         match LogFault::of_cause(cause) {
             Some(fault) => Err(fault),

@@ -43,7 +43,7 @@ impl Model for HallMachine {
 }
 
 /// What stands behind the first line of an entry.
-fn behind_first_line(entry: &[u8]) -> &[u8]
+pub(crate) fn behind_first_line(entry: &[u8]) -> &[u8]
     ensures { result.now ≡ behind_first_line entry.now }
 {
     let mut rest = entry;

@@ -108,8 +108,8 @@ fn digit_value(digit: u8) -> u8
     }
 }
 
-// The number that digits say, the lowest first, in 64 bits.
-fn number_of(digits: &[u8]) -> u64
+/// Returns the number that digits say, the lowest first, in 64 bits.
+pub(crate) fn number_of(digits: &[u8]) -> u64
     ensures { result ≡ number_of digits.now }
 {
     let Some((first, rest)) = digits.split_first() else {

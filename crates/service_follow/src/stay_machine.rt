@@ -10,6 +10,7 @@ ghost use Rattle.service_follow.specs.Stays.{EndsFrom, GoesOnFrom, ReadsPart, St
 
 use crate::front_end_stay::{FrontEndStay, are_same, token_of};
 use crate::gathering::Gathering;
+use crate::hall_terms::{ToldTerms, terms_of};
 use crate::keeping::Keeping;
 use crate::machine::HallMachine;
 use crate::marks::{BEFORE, Mark, entries_in, head_at, kept_in, mark_of};
@@ -41,6 +42,8 @@ pub struct StayMachine {
     differs: bool,
     /// How many compactions were read to their end.
     compactions: u64,
+    /// The terms of the hall, as the entry told that told some last.
+    terms: Option<ToldTerms>,
 }
 
 impl Model for StayMachine {
@@ -67,6 +70,7 @@ impl StayMachine {
             blind,
             differs: false,
             compactions: 0,
+            terms: None,
         })
     }
 
@@ -139,6 +143,21 @@ impl StayMachine {
     /// Returns how many compactions it read to their end. Not proved.
     pub(crate) fn compactions(&self) -> u64 {
         self.compactions
+    }
+
+    /// Returns the terms of the hall, as the entry told that told some last; `None` if none did. It is not proved that they are noted, but what
+    /// each entry tells is (`terms_of`).
+    pub(crate) fn terms(&self) -> Option<ToldTerms> {
+        self.terms
+    }
+
+    // Notes what an entry tells of the terms of the hall, whatever else is known.
+    fn note_terms(&mut self, entry: &[u8])
+        ensures { self.new ≡ self.old }
+    {
+        if let Some(told) = terms_of(entry) {
+            self.terms = Some(told);
+        }
     }
 
     // Lets go what was read of a compaction.
@@ -273,6 +292,7 @@ impl StayMachine {
     fn take_entry(&mut self, entry: &[u8], reply_queue: &mut ReplyQueue) -> Result<(), AllocError>
         ensures { OnOk result (StayApplies self.old entry.now reply_queue.new self.new) }
     {
+        self.note_terms(entry);
         match mark_of(entry) {
             Mark::Ordinary => self.take_if_known(entry, reply_queue),
             Mark::Begins => self.begin(entry, reply_queue),

@@ -1,7 +1,7 @@
 //! Why a hall is not hosted, or no more.
 
 use model_steps::{NoMemory, Refusal};
-use service_follow::LogFault;
+use service_follow::{HallTerms, LogFault};
 use service_journal::{Disk, DiskFault, FileFault, JournalFault, NotOpened, OpenFault};
 use service_loop::HostFault;
 use service_watch::listeners::ListenFault;
@@ -73,6 +73,12 @@ pub enum HostFailure {
     /// The log is one of another config, or of another version.
     #[error("log of another config")]
     OtherLog,
+    /// The hall of the log has these terms, and the server was started with those.
+    #[error("this hall in etcd has {0}, and this server was started with {1}; change these options, or the hall by --change-terms")]
+    OtherTerms(HallTerms, HallTerms),
+    /// Numbers of the hall of the log are held forever, and somebody competes for them: its terms were not changed.
+    #[error("somebody competes for numbers of this hall, which are held forever, so that no server tells that he is there; change this once all have left")]
+    Competing,
     /// The log was put back to an older state under the server, which answers nothing more.
     #[error("the log went back")]
     WentBack,
@@ -182,6 +188,7 @@ impl From<LogFault> for HostFailure {
             LogFault::Memory => HostFailure::Memory,
             LogFault::NoNames => HostFailure::NoNames,
             LogFault::OtherConfig => HostFailure::OtherLog,
+            LogFault::OtherTerms(hall, own) => HostFailure::OtherTerms(hall, own),
             LogFault::WentBack => HostFailure::WentBack,
             other => HostFailure::Log(other),
         }

@@ -33,6 +33,7 @@ pub mod log_plan;
 pub mod persisters;
 pub mod reading;
 pub mod start;
+pub mod terms;
 
 pub use audit_file::AuditFile;
 pub use export::write_events;
@@ -44,3 +45,4 @@ pub use log_plan::LogPlan;
 pub use persisters::{Recorded, Unrecorded};
 pub use reading::Reading;
 pub use start::{HostPlan, Keeping, export_hall, host_hall};
+pub use terms::change_terms;

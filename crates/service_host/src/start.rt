@@ -7,9 +7,10 @@ use crate::keepers::stays_at_start;
 use crate::log_plan::{LogPlan, MEMBER_SECONDS, Patience, fresh_token, members_of};
 use crate::persisters::{Recorded, Unrecorded};
 use crate::reading::Reading;
+use crate::terms::{followed_any, terms_by, warn_of_none};
 use model_asked::Config;
 use model_pool::stays::Stays;
-use service_follow::{LogPersister, Pause, ReplyQueue};
+use service_follow::{HallTerms, LogPersister, Pause, ReplyQueue};
 use service_hall::{Compactor, Hall, Reads};
 use service_journal::{Disk, FileDisk, Journal, Opened, SealedDisk};
 use service_log::Store;
@@ -23,9 +24,6 @@ use std::net::Net;
 use std::rt::{Clock, Files};
 use std::sync::Wait;
 use std::time::Duration;
-
-/// The most seconds of grace: a day.
-const MOST_GRACE: u64 = 86_400;
 
 /// Where the history of a hall is kept.
 #[derive(Clone, Copy, Debug, Drop)]
@@ -225,8 +223,12 @@ fn host_unrecorded<R: Net + Wait + Clock + Files, L: AuditLog, W: Write, E: Writ
     ended(rt, file, hosted.map_err(HostFailure::from))
 }
 
-// The store in which the log of a plan stands.
-fn store_of<'r, R: Net>(
+/// The store in which the log of a plan stands.
+///
+/// # Errors
+///
+/// Those of `members_of`.
+pub(crate) fn store_of<'r, R: Net>(
     rt: &'r R,
     alloc: Global,
     log: LogPlan<'_>,
@@ -239,16 +241,17 @@ fn store_of<'r, R: Net>(
     Ok(EtcdStore::new(alloc, dial, prefix))
 }
 
-// Opens the hall of a log, whatever that stands in: all that stands there is applied.
+// Opens the hall of a log to serve its clients by these terms, whatever it stands in: all that stands there is applied.
 fn followed<R: Files<File = File>, S: Store + Drop, P: Pause + Drop>(
     rt: &R,
     alloc: Global,
     config: Config,
     store: S,
     pause: P,
+    terms: HallTerms,
 ) -> Result<LogPersister<S, P>, HostFailure> {
     match fresh_token(rt) {
-        Ok(token) => Ok(LogPersister::open(alloc, store, pause, config, token)?),
+        Ok(token) => Ok(LogPersister::open(alloc, store, pause, config, token, terms)?),
         Err(failure) => Err(failure),
     }
 }
@@ -287,17 +290,16 @@ fn host_followed<R, S: Store + Drop, P: Pause + Drop, L: AuditLog, W: Write, E: 
 where
     R: Net + Wait + Clock + Files<File = File>,
 {
-    let mut persister = match followed(rt, alloc, plan.config, store, pause) {
+    let terms = terms_by(plan.grace);
+    let mut persister = match followed(rt, alloc, plan.config, store, pause, terms) {
         Ok(persister) => persister,
         Err(failure) => return Err(failure),
     };
+    warn_of_none(persister.told_terms(), errors);
     let Listening { listeners, file } = match listen(rt, alloc, plan.listen) {
         Ok(listening) => listening,
         Err(fault) => return Err(HostFailure::from(fault)),
     };
-    if let Some(grace) = plan.grace {
-        persister.grant_grace(grace.min(MOST_GRACE) as u32);
-    }
     persister.choose_reads(plan.reads);
     // Who kept the stays that are there at the start follows from the log.
     let reply_queue = ReplyQueue::new(alloc);
@@ -350,7 +352,8 @@ fn export_followed<R: Files<File = File>, S: Store + Drop, P: Pause + Drop, W: W
     pause: P,
     output: &mut W,
 ) -> Result<(), HostFailure> {
-    match followed(rt, alloc, config, store, pause) {
+    // It ends no stays, so that it may be of any terms.
+    match followed_any(rt, alloc, config, store, pause, HallTerms::Forever) {
         Ok(persister) => write_events(alloc, persister.hall(), output),
         Err(failure) => Err(failure),
     }

@@ -14,7 +14,7 @@ mod race;
 
 use service_hall::Reads;
 use service_host::{
-    HostFailure, HostPlan, Keeping, LogPlan, export_hall, host_hall, write_holders,
+    HostFailure, HostPlan, Keeping, LogPlan, change_terms, export_hall, host_hall, write_holders,
 };
 use service_lock::Opened;
 use service_lock::server::{Plan, ServeFault, serve};
@@ -146,6 +146,14 @@ fn listen_plan_of<'a>(endpoints: Endpoints<'a>) -> ListenPlan<'a> {
     }
 }
 
+// The seconds of grace of stays that are held so, where they end.
+fn grace_by(holding: Holding) -> Option<u64> {
+    match holding {
+        Holding::Forever => None,
+        Holding::Connection(grace) => Some(grace),
+    }
+}
+
 // What is to be hosted, where somebody may look on.
 fn host_plan_of<'a>(hosting: Hosting<'a>, seen: bool) -> HostPlan<'a> {
     HostPlan {
@@ -157,10 +165,7 @@ fn host_plan_of<'a>(hosting: Hosting<'a>, seen: bool) -> HostPlan<'a> {
         } else {
             Some(hosting.idle)
         },
-        grace: match hosting.holding {
-            Holding::Forever => None,
-            Holding::Connection(grace) => Some(grace),
-        },
+        grace: grace_by(hosting.holding),
         reads: if hosting.stores_reads {
             Reads::Logged
         } else {
@@ -212,7 +217,7 @@ fn report_hosted<W: Write, E: Write>(
     report(failure, output, errors)
 }
 
-// A hall is hosted, or its history is written out.
+// A hall is hosted, or its history is written out, or how its stays are held is changed.
 fn host_words<R, W: Write, E: Write>(
     rt: &R,
     alloc: Global,
@@ -227,6 +232,10 @@ where
     if let KeepingWords::Log(log) = hosting.keeping {
         if log.exported {
             return export_hall(rt, alloc, hosting.config, log_plan_of(log), output);
+        }
+        if log.changes_terms {
+            let grace = grace_by(hosting.holding);
+            return change_terms(rt, alloc, hosting.config, log_plan_of(log), grace, output);
         }
     }
     host_hall(rt, alloc, host_plan_of(hosting, seen), output, errors)

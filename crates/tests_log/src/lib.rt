@@ -20,6 +20,8 @@ mod stay_doubles;
 #[cfg(test)]
 mod stay_tests;
 #[cfg(test)]
+mod terms_tests;
+#[cfg(test)]
 mod turn_doubles;
 #[cfg(test)]
 mod turn_tests;

@@ -2,7 +2,7 @@
 
 use crate::front_tests::{answers, config};
 use crate::log_doubles::{Lossy, Tries};
-use service_follow::{LogFault, LogPersister, Pause, ReplyQueue};
+use service_follow::{HallTerms, LogFault, LogPersister, Pause, ReplyQueue};
 use service_hall::Reads;
 use service_log::{MemoryStore, Store, StoreFault};
 use service_loop::{Persist, Prefetch};
@@ -13,6 +13,9 @@ const FIRST: &[u8] = b"beglushan hall 1 world rename m 4 k 4 limit 1000\n";
 
 /// How that of a hall for three begins.
 const OF_THREE: &[u8] = b"beglushan hall 1 world rename m 3 k 4 limit 1000\n";
+
+/// For how long stays go on.
+const TERMS: HallTerms = HallTerms::Forever;
 
 /// What another front end has written behind it.
 const OTHERS: &[u8] = b"another 1\nenter 1\nprobe 1\n";
@@ -41,7 +44,7 @@ fn opened(
     };
     let lossy = Lossy::new(store, every);
     let tries = Tries { most, left: 0 };
-    LogPersister::open(alloc, lossy, tries, config, [b'a'; 32])
+    LogPersister::open(alloc, lossy, tries, config, [b'a'; 32], TERMS)
 }
 
 // What a front end answers to lines, as a turn of its loop does; none where they are lost.
@@ -203,4 +206,35 @@ fn reads_over_a_log(rt: HostRuntime) {
 fn a_front_end_of_another_config_does_not_start(rt: HostRuntime) {
     let reported = opened(rt.alloc(), &[OF_THREE, OTHERS], 0, 0).err();
     assert!(rt; reported == Some(LogFault::OtherConfig));
+}
+
+/// How the log of a hall with a grace time of ten seconds begins, and a change of that to three.
+const OF_TEN: &[u8] =
+    b"beglushan hall 1 world rename m 4 k 4 limit 1000 terms b000000000000000 was b000000000000000\n";
+
+const TO_THREE: &[u8] =
+    b"0123456789abcdef0123456789abcdef 1000000000000000 terms 4000000000000000 was b000000000000000\n";
+
+/// A line that tells terms in another way than a front end does.
+const SLANTED: &[u8] =
+    b"beglushan hall 1 world rename m 4 k 4 limit 1000 terms B000000000000000 was b000000000000000\n";
+
+#[test]
+fn a_log_tells_the_terms_of_its_hall(rt: HostRuntime) {
+    let own = HallTerms::Forever;
+    let reported = [
+        opened(rt.alloc(), &[OF_TEN, OTHERS], 0, 0).err(),
+        opened(rt.alloc(), &[OF_TEN, OTHERS, TO_THREE], 0, 0).err(),
+        opened(rt.alloc(), &[FIRST, OTHERS, TO_THREE], 0, 0).err(),
+        opened(rt.alloc(), &[SLANTED], 0, 0).err(),
+        opened(rt.alloc(), &[FIRST, OTHERS], 0, 0).err(),
+    ];
+    let due = [
+        Some(LogFault::OtherTerms(HallTerms::Grace(10), own)),
+        Some(LogFault::OtherTerms(HallTerms::Grace(3), own)),
+        Some(LogFault::OtherTerms(HallTerms::Grace(3), own)),
+        Some(LogFault::OtherConfig),
+        None,
+    ];
+    assert!(rt; reported == due);
 }

@@ -3,7 +3,7 @@
 use crate::front_tests::{answers, config};
 use crate::log_doubles::{HandClock, SharedLog};
 use crate::persister_tests::reported;
-use service_follow::{LogPersister, ReplyQueue};
+use service_follow::{HallTerms, LogFault, LogPersister, ReplyQueue, TermsChange};
 use service_hall::Hall;
 use service_log::{MemoryStore, Store};
 use std::alloc::{AllocError, Global};
@@ -85,18 +85,48 @@ impl Site {
     }
 }
 
-/// The front end whose token is this letter.
-pub(crate) fn front_end(site: &Site, letter: u8) -> Option<FrontEnd<'_>> {
-    let store = SharedLog {
+// The log of a site, as a front end asks it.
+fn log_of(site: &Site) -> SharedLog<'_> {
+    SharedLog {
         log: &site.log,
         rival: &site.rival,
-    };
-    let clock = HandClock {
+    }
+}
+
+// The clock of a site.
+fn clock_of(site: &Site) -> HandClock<'_> {
+    HandClock {
         seconds: &site.seconds,
+    }
+}
+
+/// The front end whose token is this letter, and that was started with these terms.
+pub(crate) fn opened_by(
+    site: &Site,
+    letter: u8,
+    terms: HallTerms,
+) -> Result<FrontEnd<'_>, LogFault> {
+    let Some(config) = config() else {
+        return Err(LogFault::NoNames);
     };
-    let mut front = LogPersister::open(site.alloc, store, clock, config()?, [letter; 32]).ok()?;
-    front.grant_grace(GRACE);
-    Some(front)
+    let (log, clock) = (log_of(site), clock_of(site));
+    LogPersister::open(site.alloc, log, clock, config, [letter; 32], terms)
+}
+
+/// What comes of a change to these terms.
+pub(crate) fn changed_to(site: &Site, terms: HallTerms) -> Result<TermsChange, LogFault> {
+    let Some(config) = config() else {
+        return Err(LogFault::NoNames);
+    };
+    let (log, clock) = (log_of(site), clock_of(site));
+    let mut reply_queue = ReplyQueue::new(site.alloc);
+    let mut front = LogPersister::open_any(site.alloc, log, clock, config, [b'z'; 32], terms)?;
+    front.change_terms(&mut reply_queue)
+}
+
+/// The front end whose token is this letter.
+pub(crate) fn front_end(site: &Site, letter: u8) -> Option<FrontEnd<'_>> {
+    opened_by(site, letter, HallTerms::Grace(GRACE)).ok()
 }
 
 /// Whether a front end answers lines so.

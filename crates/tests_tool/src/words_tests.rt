@@ -174,7 +174,8 @@ fn races_are_read(rt: HostRuntime) {
 fn hostings_are_read(rt: HostRuntime) {
     let line =
         "slotctl host --verbose --idle 31536000 --clients 1000000 --port 65535 --address ::1 --world tree";
-    let log = "slotctl host --etcd 10.0.0.1:1,10.0.0.2:1 --prefix a/ --patience 3600 --export";
+    let log =
+        "slotctl host --etcd 10.0.0.1:1,10.0.0.2:1 --prefix a/ --patience 3600 --export --change-terms";
     let reported = [
         hosting(rt.alloc(), "slotctl host", ""),
         hosting(rt.alloc(), line, ""),

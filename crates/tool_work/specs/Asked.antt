@@ -118,10 +118,12 @@ pub record IsLogOf (rows : List Row) (l : LogWords) : Type 0 where
   pub prefix : first_of (codes "prefix") rows ≡ Some l.prefix.now
   pub patience : HasNumber rows (codes "patience") l.patience
   pub exported : l.exported ≡ asks_flag (codes "export") rows
+  pub changes : l.changes_terms ≡ asks_flag (codes "change-terms") rows
 
 -- whether an option that only a log has is among what clap matched
 abbrev pub asks_log : List Row → Bool
-asks_log rows = is_some (first_of (codes "etcd") rows) || is_some (first_of (codes "prefix") rows) || asks_flag (codes "export") rows
+asks_log rows =
+    is_some (first_of (codes "etcd") rows) || is_some (first_of (codes "prefix") rows) || asks_flag (codes "export") rows || asks_flag (codes "change-terms") rows
 
 -- the history is kept so by the options of `host`: in a log, in a journal, which is new where that is asked, or not at all, and in no two of
 -- these

@@ -198,6 +198,8 @@ pub struct LogWords<'a> {
     pub patience: u64,
     /// Whether its history is written out, and nobody served.
     pub exported: bool,
+    /// Whether how its stays are held is changed, and nobody served.
+    pub changes_terms: bool,
     ghost in_range: { IsPatience patience },
 }
 
@@ -208,9 +210,10 @@ impl<'a> LogWords<'a> {
         prefix: &'a str,
         patience: u64,
         exported: bool,
+        changes_terms: bool,
     ) -> Option<LogWords<'a>>
         ensures texts { IfSome result (λ l. (l.members ≡ members.entry) × (l.prefix ≡ prefix.entry)) }
-        ensures others { IfSome result (λ l. (l.patience ≡ patience) × (l.exported ≡ exported)) }
+        ensures others { IfSome result (λ l. (l.patience ≡ patience) × (l.exported ≡ exported) × (l.changes_terms ≡ changes_terms)) }
         ensures range { IsSome result ↔ IsPatience patience }
     {
         if patience < 1 || 3_600 < patience {
@@ -221,6 +224,7 @@ impl<'a> LogWords<'a> {
             prefix,
             patience,
             exported,
+            changes_terms,
         })
     }
 }

@@ -341,6 +341,11 @@ const HOST: Manual = Manual {
             help: "writes the accepted events of the history in etcd as commands, and serves nobody",
         },
         Choice {
+            name: "change-terms",
+            takes: Takes::Nothing,
+            help: "makes --hold and --grace those of the hall in etcd, and serves nobody; its servers end, and start again with these",
+        },
+        Choice {
             name: "verbose",
             takes: Takes::Nothing,
             help: "tells on standard error once a minute how many clients, events and bytes there are",

@@ -165,6 +165,7 @@ fn log_asked(matches: &ArgMatches<'_>) -> bool
     text_given(matches, "etcd").is_some()
         || text_given(matches, "prefix").is_some()
         || flag_given(matches, "export")
+        || flag_given(matches, "change-terms")
 }
 
 // The log that the options of `host` give, where they give one.
@@ -175,7 +176,8 @@ fn log_given<'a>(matches: &ArgMatches<'a>) -> Option<LogWords<'a>>
     let prefix = text_given(matches, "prefix")?;
     let patience = number_given(matches, "patience")?;
     let exported = flag_given(matches, "export");
-    LogWords::new(members, prefix, patience, exported)
+    let changes_terms = flag_given(matches, "change-terms");
+    LogWords::new(members, prefix, patience, exported, changes_terms)
 }
 
 // The same, where an option is matched that only a log has.
@@ -354,12 +356,12 @@ fn why_nothing_in(world: WorldKind, options: &ArgMatches<'_>) -> &'static str {
         return "error: '--reads' wants plain or logged\n";
     }
     if text_given(options, "journal").is_some() {
-        return "error: '--journal' goes with none of '--etcd', '--prefix' and '--export'\n";
+        return "error: '--journal' goes with none of '--etcd', '--prefix', '--export' and '--change-terms'\n";
     }
     if flag_given(options, "new") {
         return "error: '--new' goes with '--journal' alone\n";
     }
-    "error: '--etcd' and '--prefix' go together, and '--export' wants both\n"
+    "error: '--etcd' and '--prefix' go together, and '--export' and '--change-terms' want both\n"
 }
 
 // Why what clap takes asks for nothing, as a text for people.

@@ -1,4 +1,4 @@
-// Erased by bindings/rust/erase from crates/service_host/src/lib.rt, sha256 750f962a4810ffee6397ee2943bd540d8ccd9d86fe674e1f02e517f44db012f7.
+// Erased by bindings/rust/erase from crates/service_host/src/lib.rt, sha256 1c1da1f11b8e1ea6dd93360c5bfbd7df9f27e81bbeacb657d9de6d9814b4a4ae.
 //! A hall that an operator hosts: clients of a socket in one thread, and a journal of what was accepted.
 //!
 //! `host_hall` opens the journal, where one is named, and has `service_loop` serve clients over the hall of its record. `Recorded` keeps what
@@ -31,3 +31,4 @@ pub mod log_plan;
 pub mod persisters;
 pub mod reading;
 pub mod start;
+pub mod terms;

@@ -1,4 +1,4 @@
-// Erased by bindings/rust/erase from crates/service_log/src/lib.rt, sha256 97180ce654ffaff0cb58316e4da9a12a3df24558e12712c41c8c45c879cba246.
+// Erased by bindings/rust/erase from crates/service_log/src/lib.rt, sha256 08f7c4187cdca92b0ad01b016607641aac07620b454d5546cd7951dd13c215f0.
 //! One log that several machines share, and a replica of a machine that follows it (Schneider 1990).
 //!
 //! A `Store` has places, each of which is written at most once, by the first caller. Its entries in order are the log.
@@ -16,8 +16,8 @@
 //! more. It takes an entry of equal bytes for its own. So two batches that are meant as two entries must differ: let
 //! each begin with its own token.
 //!
-//! If an allocation fails while a machine applies an entry, nothing is known of the machine. Its replica is poisoned,
-//! and never answers again (`Cause::Poisoned`).
+//! If a machine does not apply an entry, since an allocation failed or the entry is damaged, nothing is known of the machine. Its replica is
+//! poisoned, and never answers again (`Cause::Poisoned`).
 //!
 //! From `tests_log/src/replica_tests.rt`, over a store that loses the answer to each put:
 //!

@@ -1,4 +1,4 @@
-// Erased by bindings/rust/erase from crates/service_loop/src/lib.rt, sha256 7bff343462df6266d2790af89bcde076375cc7768642290df06d0e4dff4f9b73.
+// Erased by bindings/rust/erase from crates/service_loop/src/lib.rt, sha256 ebfe1060e63fcfdffc4c68f9fa23f8201cc950b21231fb77f2b31444d911025f.
 //! Connections that share one service, in one thread.
 //!
 //! `Buffers` are a connection without its stream: one side of a transcript (`Responder`), what came and is not taken yet, and what was said and is not
@@ -25,7 +25,9 @@
 //! answers the last reply. This is kept before it is answered, like all else. Where answers are prefetched, the lines of that are a batch of their own
 //! (`prefetch_takings`).
 //!
-//! `host` is a whole server over sockets: it waits until some are ready (`mio`), gives those their turn, and closes who is at an end or idle.
+//! `host` is a whole server over sockets: it waits until some are ready (`mio`), gives those their turn, and closes who is at an end or idle. Its theorem
+//! (`WasAttended`): from its start to its end nothing else was done than such turns, each said of the numbers of its connections; what was heard
+//! of connections that ended, at a tick; and what was done to end the stays that are due then (`law_of_hosted_grace`).
 //!
 //! What was taken, given back and refused is counted, and told of in lines where a log of them is wanted (`Audit`, `AuditLog`).
 //!
@@ -65,6 +67,7 @@ mod losing;
 pub mod peek;
 pub mod persist;
 pub mod releasing;
+pub mod seat_numbers;
 pub mod shared;
 pub mod socket;
 pub mod stream;

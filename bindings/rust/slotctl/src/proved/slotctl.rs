@@ -1,4 +1,4 @@
-// Erased by bindings/rust/erase from crates/slotctl/src/main.rt, sha256 2b32d14d9dade32a234e8468151ee9d5ea100e838856a95f8e12d19a7eb377b9.
+// Erased by bindings/rust/erase from crates/slotctl/src/main.rt, sha256 d87534bcbfa84771de5836e8873b63688b16e37b11e5326cbd65af14ceb1fdc4.
 //! The program `slotctl`: plays schedules of shared-memory algorithms, one access a step.
 //!
 //! `slotctl play --world splitter --m 2` reads commands from the standard input, one a line, and writes a reply to each to
@@ -28,6 +28,7 @@ use crate::proved::service_host::failure::HostFailure;
 use crate::proved::service_host::holders::write_holders;
 use crate::proved::service_host::log_plan::LogPlan;
 use crate::proved::service_host::start::{export_hall, host_hall, HostPlan, Keeping};
+use crate::proved::service_host::terms::change_terms;
 use crate::proved::service_lock::book::Opened;
 use crate::proved::service_lock::server::server::{serve, Plan};
 use crate::proved::service_lock::server::server_fault::ServeFault;
@@ -151,6 +152,14 @@ fn listen_plan_of<'a>(endpoints: Endpoints<'a>) -> ListenPlan<'a> {
     }
 }
 
+// The seconds of grace of stays that are held so, where they end.
+fn grace_by(holding: Holding) -> Option<u64> {
+    match holding {
+        Holding::Forever => None,
+        Holding::Connection(grace) => Some(grace),
+    }
+}
+
 // What is to be hosted, where somebody may look on.
 fn host_plan_of<'a>(hosting: Hosting<'a>, seen: bool) -> HostPlan<'a> {
     HostPlan {
@@ -162,10 +171,7 @@ fn host_plan_of<'a>(hosting: Hosting<'a>, seen: bool) -> HostPlan<'a> {
         } else {
             Some(hosting.idle)
         },
-        grace: match hosting.holding {
-            Holding::Forever => None,
-            Holding::Connection(grace) => Some(grace),
-        },
+        grace: grace_by(hosting.holding),
         reads: if hosting.stores_reads {
             Reads::Logged
         } else {
@@ -217,7 +223,7 @@ fn report_hosted<W: Write, E: Write>(
     report(failure, output, errors)
 }
 
-// A hall is hosted, or its history is written out.
+// A hall is hosted, or its history is written out, or how its stays are held is changed.
 fn host_words<R, W: Write, E: Write>(
     rt: &R,
     alloc: Global,
@@ -232,6 +238,10 @@ where
     if let KeepingWords::Log(log) = hosting.keeping {
         if log.exported {
             return export_hall(rt, alloc, hosting.config, log_plan_of(log), output);
+        }
+        if log.changes_terms {
+            let grace = grace_by(hosting.holding);
+            return change_terms(rt, alloc, hosting.config, log_plan_of(log), grace, output);
         }
     }
     host_hall(rt, alloc, host_plan_of(hosting, seen), output, errors)

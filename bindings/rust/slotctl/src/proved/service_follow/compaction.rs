@@ -1,4 +1,4 @@
-// Erased by bindings/rust/erase from crates/service_follow/src/compaction.rt, sha256 8fe2f562a735cc8cd00e9b79efc061ec17492c36766ac586419af4fa711f291b.
+// Erased by bindings/rust/erase from crates/service_follow/src/compaction.rt, sha256 763142825828ed0e7ebc5a338487cc8f9f7ab71c16e02109c7dbd640074bb678.
 //! Compactions that a front end offers.
 
 use crate::kit::alloc::{AllocError, Global};
@@ -7,6 +7,7 @@ use crate::kit::String;
 use crate::kit::Vec;
 use crate::proved::model_asked::event::Event;
 use crate::proved::service_follow::front_end_stay::{token_of, FrontEndStay};
+use crate::proved::service_follow::hall_terms::{push_told, ToldTerms};
 use crate::proved::service_follow::log_fault::LogFault;
 use crate::proved::service_follow::log_hall::LogHall;
 use crate::proved::service_follow::log_persister::{push_count, put_head};
@@ -128,10 +129,17 @@ fn push_stays(entry: &mut Vec<u8>, kept: &[FrontEndStay]) -> Result<(), AllocErr
     Ok(())
 }
 
-// Puts the entry that begins a compaction over a list.
-fn put_first(entry: &mut Vec<u8>, token: &[u8; 32], count: u64) -> Result<(), AllocError> {
+// Puts the entry that begins a compaction over a list: with the terms of the hall, for who starts there.
+fn put_first(
+    entry: &mut Vec<u8>,
+    token: &[u8; 32],
+    count: u64,
+    terms: Option<ToldTerms>,
+) -> Result<(), AllocError> {
     put_head(entry, token, count)?;
-    entry.extend_from_slice(b" compaction\n")?;
+    entry.extend_from_slice(b" compaction")?;
+    push_told(entry, terms)?;
+    entry.push(b'\n')?;
     Ok(())
 }
 
@@ -275,7 +283,7 @@ impl Compaction {
         log: &mut LogHall<S>,
         reply_queue: &mut ReplyQueue,
     ) -> Result<(), LogFault> {
-        let Ok(()) = put_first(&mut self.entry, &self.token, self.count) else {
+        let Ok(()) = put_first(&mut self.entry, &self.token, self.count, log.terms()) else {
             return Err(LogFault::Memory);
         };
         work.first = log.place();

@@ -1,7 +1,8 @@
-// Erased by bindings/rust/erase from crates/service_follow/src/log_fault.rt, sha256 76a9c85248bd41ed967d0704a4a1421df6259a87f0ad9ef8a02076da39a41a66.
+// Erased by bindings/rust/erase from crates/service_follow/src/log_fault.rt, sha256 0d47fb26ed5c932f5093f57234db4c5782dd9642d225a1f3b7256bb880f448c4.
 //! Why a hall over a log is not served, or no more.
 
 use crate::proved::model_steps::refusal::Refusal;
+use crate::proved::service_follow::hall_terms::HallTerms;
 use crate::proved::service_log::serve_fault::{Cause, ServeFault};
 use crate::proved::service_log::store_fault::StoreFault;
 use std::error::Error;
@@ -16,6 +17,8 @@ pub enum LogFault {
     NoNames,
     /// The log is one of another config, or of another version.
     OtherConfig,
+    /// The hall has these terms, and this front end was started with those.
+    OtherTerms(HallTerms, HallTerms),
     /// The token has the end of a line in it.
     Token,
     /// The lines are too long for one entry.
@@ -77,6 +80,9 @@ impl fmt::Display for LogFault {
             LogFault::Memory => "no memory",
             LogFault::NoNames => "no names are given in this world",
             LogFault::OtherConfig => "log of another config",
+            LogFault::OtherTerms(hall, own) => {
+                return write!(f, "the hall has {hall}, and this server {own}");
+            }
             LogFault::Token => "a token of more than a line",
             LogFault::TooLong => "too many lines for one entry",
             LogFault::Full => "the log is full",

@@ -1,4 +1,4 @@
-// Erased by bindings/rust/erase from crates/service_follow/src/log_hall.rt, sha256 f788e3786a92f468526bf628cae6586ae57bf34e28f6964d46c645e5b6f75c82.
+// Erased by bindings/rust/erase from crates/service_follow/src/log_hall.rt, sha256 66f868c1aec337f0daf8d3d85998000afd48ae3f748a0026f6af9f15d284474a.
 //! A hall that follows a log.
 
 use crate::kit::alloc::Global;
@@ -6,6 +6,7 @@ use crate::kit::Vec;
 use crate::proved::model_asked::config::Config;
 use crate::proved::model_steps::refusal::Refusal;
 use crate::proved::service_follow::front_end_stay::FrontEndStay;
+use crate::proved::service_follow::hall_terms::ToldTerms;
 use crate::proved::service_follow::reply_queue::ReplyQueue;
 use crate::proved::service_follow::stay_machine::StayMachine;
 use crate::proved::service_hall::hall::Hall;
@@ -35,17 +36,14 @@ fn machine_at(alloc: Global, config: Config, place: u64) -> Result<StayMachine, 
     Ok(machine)
 }
 
-// Has a store begin with this line, where nothing stands in it; tells whether it does, once what stands there was read.
+// Has a store begin with this line, where nothing stands in it, and reads the line with which it begins; tells whether there is one.
 fn begins_with<S: Store>(
     store: &mut S,
     line: &[u8],
     entry: &mut Vec<u8>,
 ) -> Result<bool, StoreFault> {
     store.put(0, line)?;
-    match store.get(0, entry) {
-        Ok(found) => Ok(found && entry.as_slice() == line),
-        Err(fault) => Err(fault),
-    }
+    store.get(0, entry)
 }
 
 impl<S: Store> LogHall<S> {
@@ -106,6 +104,11 @@ impl<S: Store> LogHall<S> {
         self.replica.machine().compactions()
     }
 
+    /// Returns the terms of the hall, as the entry told that told some last. Not proved.
+    pub(crate) fn terms(&self) -> Option<ToldTerms> {
+        self.replica.machine().terms()
+    }
+
     /// Starts at a place of the log, with nothing applied: from the first with a hall with no event, and from a later one
     /// with a blind machine.
     ///
@@ -132,7 +135,7 @@ impl<S: Store> LogHall<S> {
         let _ = self.store.put_hint(place);
     }
 
-    /// Has the log begin with this line, where nothing stands in it; tells whether it does, once what stands there was read.
+    /// Has the log begin with this line, where nothing stands in it, and reads the line with which it begins; tells whether there is one.
     ///
     /// # Errors
     ///

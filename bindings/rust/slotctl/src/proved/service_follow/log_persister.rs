@@ -1,4 +1,4 @@
-// Erased by bindings/rust/erase from crates/service_follow/src/log_persister.rt, sha256 ed7a185517bb41250c64c2454f77a9545734db36751ba2ee037cb5156aebcb7a.
+// Erased by bindings/rust/erase from crates/service_follow/src/log_persister.rt, sha256 5e6904f8651d337159315678836944c77fe7398c0ea86643ec8234c848e71d37.
 //! Serves the clients of one front end over a log.
 
 use crate::kit::alloc::{AllocError, Allocator, Global};
@@ -7,6 +7,7 @@ use crate::kit::String;
 use crate::kit::Vec;
 use crate::proved::model_asked::config::Config;
 use crate::proved::service_follow::compaction::Compaction;
+use crate::proved::service_follow::hall_terms::{push_told, terms_of, HallTerms, ToldTerms};
 use crate::proved::service_follow::lasting::Lasting;
 use crate::proved::service_follow::log_fault::LogFault;
 use crate::proved::service_follow::log_hall::LogHall;
@@ -45,6 +46,19 @@ const DIFFERS: &str = "a compaction of the log tells another history";
 /// How many entries are applied at once where no client asks for anything.
 const TICK_ENTRIES: u64 = 10_000;
 
+/// What came of a change of terms.
+#[derive(Clone, Copy, Debug, PartialEq, Eq)]
+pub enum TermsChange {
+    /// The hall has the terms.
+    Stands,
+    /// It has not: somebody competes who was told that numbers are held forever, and for whom no front end makes beats.
+    Held,
+}
+
+/// For how many seconds after the grace time of earlier terms somebody may hold a number who was told of them: a front end that has not read of
+/// the change answers for less than 21 seconds.
+const MOST_UNTOLD: u64 = 22;
+
 /// Serves the clients of one front end over a log: what they ask for comes to stand in the log before it is answered.
 pub struct LogPersister<S: Store, T: Pause> {
     alloc: Global,
@@ -59,6 +73,10 @@ pub struct LogPersister<S: Store, T: Pause> {
     no_space: bool,
     /// Whether the store answered when it was last asked.
     answers: bool,
+    /// The terms that it was started with.
+    terms: HallTerms,
+    /// Up to which second the longer grace time of earlier terms lasts.
+    longer_until: u64,
     /// Who keeps stays.
     sessions: Sessions,
     /// The compactions that it offers.
@@ -116,18 +134,77 @@ fn put_batch(
     Ok(())
 }
 
-// The first entry of a log of halls of this config.
-fn first_line(alloc: Global, config: Config) -> Result<String, AllocError> {
+// The version of the texts, and this config.
+fn config_text(alloc: Global, config: Config) -> Result<String, AllocError> {
     let world = config.world.name();
     let m = config.m;
     let k = config.k;
     let limit = config.limit;
-    format!(in alloc; "beglushan hall 1 world {world} m {m} k {k} limit {limit}\n")
+    format!(in alloc; "beglushan hall 1 world {world} m {m} k {k} limit {limit}")
+}
+
+// The first entry of a log of halls of this config, with these terms.
+fn first_line(
+    alloc: Global,
+    config: Config,
+    told: Option<ToldTerms>,
+) -> Result<Vec<u8>, AllocError> {
+    let text = config_text(alloc, config)?;
+    let mut line = Vec::new(alloc);
+    line.extend_from_slice(text.as_bytes())?;
+    push_told(&mut line, told)?;
+    line.push(LF)?;
+    Ok(line)
+}
+
+// Returns true only if an entry is the first one of a log of halls of this config, with terms or without.
+fn is_first_line(alloc: Global, config: Config, entry: &[u8]) -> Result<bool, AllocError> {
+    let line = first_line(alloc, config, terms_of(entry))?;
+    Ok(line.as_slice() == entry)
+}
+
+// Puts the entry that changes the terms of a hall over a list.
+fn put_change(
+    entry: &mut Vec<u8>,
+    token: &[u8; 32],
+    count: u64,
+    told: ToldTerms,
+) -> Result<(), AllocError> {
+    put_head(entry, token, count)?;
+    push_told(entry, Some(told))?;
+    entry.push(LF)?;
+    Ok(())
 }
 
 impl<S: Store, T: Pause> LogPersister<S, T> {
-    /// Opens the hall of a log. Where nothing stands in the log it begins with a line of the config, and else it has to begin with just that
-    /// line; then all that stands is applied: from the place on that is noted in the store, if a compaction that can be read whole stands
+    /// Opens the hall of a log to serve its clients by these terms, which have to be the hall's, where it has some (`open_any`). Where a change made
+    /// its grace time shorter, the longer one lasts for as long as a client may trust in it.
+    ///
+    /// # Errors
+    ///
+    /// Those of `open_any`, and then `OtherTerms`: the hall has other terms.
+    pub fn open(
+        alloc: Global,
+        store: S,
+        pause: T,
+        config: Config,
+        token: [u8; 32],
+        terms: HallTerms,
+    ) -> Result<LogPersister<S, T>, LogFault> {
+        let mut persister = match LogPersister::open_any(alloc, store, pause, config, token, terms)
+        {
+            Ok(persister) => persister,
+            Err(fault) => return Err(fault),
+        };
+        match persister.take_terms() {
+            Ok(()) => Ok(persister),
+            Err(fault) => Err(fault),
+        }
+    }
+
+    /// Opens the hall of a log, whatever its terms, to serve nobody. Where nothing stands in the log it begins with a line of the config and of these
+    /// terms, and else it has to begin with a line of the config;
+    /// then all that stands is applied: from the place on that is noted in the store, if a compaction that can be read whole stands
     /// there or behind it, and else from the first entry on. The token, which no other front end has, is to have no end of a line in it.
     ///
     /// # Errors
@@ -138,17 +215,19 @@ impl<S: Store, T: Pause> LogPersister<S, T> {
     /// - `Memory`: an allocation failed.
     /// - another `LogFault`: the config's world gives no names, the log begins with another line, an entry is no entry of a hall, or the
     ///   store failed.
-    pub fn open(
+    pub fn open_any(
         alloc: Global,
         store: S,
         pause: T,
         config: Config,
         token: [u8; 32],
+        terms: HallTerms,
     ) -> Result<LogPersister<S, T>, LogFault> {
         if token.contains(&LF) {
             return Err(LogFault::Token);
         }
-        let Ok(line) = first_line(alloc, config) else {
+        let told = ToldTerms { terms, was: terms };
+        let Ok(line) = first_line(alloc, config, Some(told)) else {
             return Err(LogFault::Memory);
         };
         let log = LogHall::new(alloc, store, config)?;
@@ -162,11 +241,13 @@ impl<S: Store, T: Pause> LogPersister<S, T> {
             pause,
             no_space: false,
             answers: true,
+            terms,
+            longer_until: 0,
             sessions: Sessions::new(alloc),
             compaction: Compaction::new(alloc, token),
             lasting: Lasting::new(),
         };
-        match persister.start(line.as_bytes()) {
+        match persister.start(config, &line) {
             Ok(()) => Ok(persister),
             Err(fault) => Err(fault),
         }
@@ -179,10 +260,10 @@ impl<S: Store, T: Pause> LogPersister<S, T> {
         self.log.hall()
     }
 
-    // Has the log begin with a line, and applies all that stands in it. A function of its own, since what owns a persister takes it apart at each
-    // way out.
-    fn start(&mut self, line: &[u8]) -> Result<(), LogFault> {
-        self.begin(line)?;
+    // Has the log begin with a line of the config, which is this one where nothing stands in it, and applies all that stands in it. A function of
+    // its own, since what owns a persister takes it apart at each way out.
+    fn start(&mut self, config: Config, line: &[u8]) -> Result<(), LogFault> {
+        self.begin(config, line)?;
         self.apply_hinted()?;
         self.apply_known()
     }
@@ -207,12 +288,21 @@ impl<S: Store, T: Pause> LogPersister<S, T> {
         Ok(())
     }
 
-    // Has the log begin with a line, as soon as the store answers.
-    fn begin(&mut self, line: &[u8]) -> Result<(), LogFault> {
+    // Returns an error unless the line with which the log begins, which was read last, is of this config.
+    fn check_first_line(&self, config: Config) -> Result<(), LogFault> {
+        match is_first_line(self.alloc, config, &self.batch) {
+            Ok(true) => Ok(()),
+            Ok(false) => Err(LogFault::OtherConfig),
+            Err(_) => Err(LogFault::Memory),
+        }
+    }
+
+    // Has the log begin with a line of the config, as soon as the store answers: with this one, where nothing stands in it.
+    fn begin(&mut self, config: Config, line: &[u8]) -> Result<(), LogFault> {
         self.pause.begin();
         for _ in 0..MOST_TRIES {
             match self.log.begin(line, &mut self.batch) {
-                Ok(true) => return Ok(()),
+                Ok(true) => return self.check_first_line(config),
                 Ok(false) => return Err(LogFault::OtherConfig),
                 Err(StoreFault::Memory) => return Err(LogFault::Memory),
                 Err(fault) => {
@@ -243,6 +333,46 @@ impl<S: Store, T: Pause> LogPersister<S, T> {
         Err(LogFault::Store(StoreFault::Lost))
     }
 
+    /// Returns the terms of the hall, as the log tells; `None` if it tells none. Not proved.
+    pub fn told_terms(&self) -> Option<ToldTerms> {
+        self.log.terms()
+    }
+
+    // Returns an error where the log tells other terms than it was started with.
+    fn check_terms(&self) -> Result<(), LogFault> {
+        let Some(told) = self.log.terms() else {
+            return Ok(());
+        };
+        if told.terms == self.terms {
+            return Ok(());
+        }
+        Err(LogFault::OtherTerms(told.terms, self.terms))
+    }
+
+    // Takes the grace time of its terms, which have to be the hall's. The longer one of the terms before lasts for a while.
+    fn take_terms(&mut self) -> Result<(), LogFault> {
+        self.check_terms()?;
+        let grace = self.terms.grace();
+        self.sessions.grace = grace;
+        let Some(told) = self.log.terms() else {
+            return Ok(());
+        };
+        let was = told.was.grace();
+        if grace < was {
+            let now = self.pause.seconds();
+            self.sessions.grace = was;
+            self.longer_until = now.saturating_add(u64::from(was) + MOST_UNTOLD);
+        }
+        Ok(())
+    }
+
+    // Takes the grace time of its own terms, once the longer one of those before has lasted for long enough.
+    fn shorten_grace(&mut self) {
+        if self.longer_until <= self.pause.seconds() {
+            self.sessions.grace = self.terms.grace();
+        }
+    }
+
     // Has the batch come to stand in the log, as soon as the store answers.
     fn serve_batch(&mut self, reply_queue: &mut ReplyQueue) -> Result<Prefetch, LogFault> {
         let now = self.pause.seconds();
@@ -256,6 +386,10 @@ impl<S: Store, T: Pause> LogPersister<S, T> {
                 if self.log.is_blind() {
                     reply_queue.clear();
                     return Err(LogFault::Astray);
+                }
+                if let Err(fault) = self.check_terms() {
+                    reply_queue.clear();
+                    return Err(fault);
                 }
                 self.no_space = false;
                 self.answers = true;
@@ -279,11 +413,6 @@ impl<S: Store, T: Pause> LogPersister<S, T> {
         self.reads = reads;
     }
 
-    /// For how many seconds a stay goes on that nobody keeps. It is 0 until this is called.
-    pub fn grant_grace(&mut self, seconds: u32) {
-        self.sessions.grace = seconds;
-    }
-
     /// Returns true: other front ends share the stays in the pool, so that this persister ends them itself.
     pub fn shares_stays(&self) -> bool {
         true
@@ -293,6 +422,94 @@ impl<S: Store, T: Pause> LogPersister<S, T> {
     /// seconds ago. Others end its stays only later than that and the grace time.
     pub fn may_answer_stays(&self) -> bool {
         self.sessions.may_answer(self.pause.seconds())
+    }
+
+    // Whether the log tells its own terms.
+    fn tells_own(&self) -> bool {
+        self.log.terms().is_some() && self.check_terms().is_ok()
+    }
+
+    // Returns the terms before a change: those of the hall, and its own where the log tells none.
+    fn terms_before(&self) -> HallTerms {
+        match self.log.terms() {
+            Some(told) => told.terms,
+            None => self.terms,
+        }
+    }
+
+    // Whether a change is to wait: numbers would be ended that are held forever.
+    fn ends_held(&self) -> bool {
+        self.terms_before() == HallTerms::Forever
+            && self.terms != HallTerms::Forever
+            && !self.log.hall().slots().pool().competitors().is_empty()
+    }
+
+    // Offers a change of the terms to its own for the next place, once.
+    fn offer_change(&mut self, reply_queue: &mut ReplyQueue) -> Result<(), LogFault> {
+        let told = ToldTerms {
+            terms: self.terms,
+            was: self.terms_before(),
+        };
+        let count = self.count.wrapping_add(1);
+        let Ok(()) = put_change(&mut self.batch, &self.token, count, told) else {
+            return Err(LogFault::Memory);
+        };
+        self.count = count;
+        let Err(cause) = self.log.offer(&self.batch, reply_queue) else {
+            return Ok(());
+        };
+        match LogFault::of_cause(cause) {
+            Some(fault) => Err(fault),
+            None => Ok(()),
+        }
+    }
+
+    // Reads the log to its end, and offers a change unless the hall has its terms. `None` where that is to be done once more.
+    fn try_change(
+        &mut self,
+        reply_queue: &mut ReplyQueue,
+    ) -> Result<Option<TermsChange>, LogFault> {
+        match self.log.read(TICK_ENTRIES, reply_queue) {
+            Ok(true) => {}
+            Ok(false) => return Ok(None),
+            Err(cause) => {
+                return match LogFault::of_cause(cause) {
+                    Some(fault) => Err(fault),
+                    None => Ok(None),
+                };
+            }
+        }
+        if self.tells_own() {
+            return Ok(Some(TermsChange::Stands));
+        }
+        if self.ends_held() {
+            return Ok(Some(TermsChange::Held));
+        }
+        self.offer_change(reply_queue)?;
+        if self.tells_own() {
+            return Ok(Some(TermsChange::Stands));
+        }
+        Ok(None)
+    }
+
+    /// Has the terms of the hall be those that this was opened for (`open_any`), by an entry of its own. A change stands at a place up to which all was
+    /// read, so that it is known what was before it. It serves nobody.
+    ///
+    /// # Errors
+    ///
+    /// Those behind which nothing more is served (`LogFault::of_cause`), `Memory` if an allocation failed, and `Store` if the store does not answer:
+    /// then the change may stand.
+    pub fn change_terms(&mut self, reply_queue: &mut ReplyQueue) -> Result<TermsChange, LogFault> {
+        self.pause.begin();
+        for _ in 0..MOST_TRIES {
+            if let Some(change) = self.try_change(reply_queue)? {
+                return Ok(change);
+            }
+            if !self.pause.again() {
+                break;
+            }
+        }
+        Err(LogFault::Store(StoreFault::Lost))
     }
 
     // The lines by which the stays end that are to end now, where all of the log was read.
@@ -337,6 +554,12 @@ impl<S: Store, T: Pause> LogPersister<S, T> {
         offered
     }
 
+    // The same, where the log tells no other terms.
+    fn end_by_terms(&mut self, reply_queue: &mut ReplyQueue, left: &[u64]) -> Result<(), LogFault> {
+        self.check_terms()?;
+        self.end_due(reply_queue, left)
+    }
+
     /// Ends stays in the pool by one entry at most: those of these identities, which nobody keeps at this front end any more, if it keeps them as
     /// the log tells, and those of front ends of which nothing was heard for longer than they may answer, and the grace time. It is to be called
     /// about once a second. Where this front end keeps a stay and had no entry for 5 seconds, it has an empty one.
@@ -354,7 +577,7 @@ impl<S: Store, T: Pause> LogPersister<S, T> {
         let read = self.log.read(TICK_ENTRIES, reply_queue);
         self.answers = read.is_ok();
         match read {
-            Ok(true) => self.end_due(reply_queue, left),
+            Ok(true) => self.end_by_terms(reply_queue, left),
             Ok(false) => Ok(()),
             Err(cause) => match LogFault::of_cause(cause) {
                 Some(fault) => Err(fault),
@@ -409,8 +632,9 @@ impl<S: Store, T: Pause> Persist<ReplyQueue> for LogPersister<S, T> {
         let caught_up = self.log.catch_up(TICK_ENTRIES, reply_queue);
         self.lasting.look(self.log.hall());
         self.answers = caught_up.is_ok();
+        self.shorten_grace();
         let Err(cause) = caught_up else {
-            return Ok(());
+            return self.check_terms();
         };
         match LogFault::of_cause(cause) {
             Some(fault) => Err(fault),

@@ -1,4 +1,4 @@
-// Erased by bindings/rust/erase from crates/service_follow/src/machine.rt, sha256 c9f42859bb691eb5ce04397d6bb9c42fc0bca22660c2ad231e4a05bfcc9eee32.
+// Erased by bindings/rust/erase from crates/service_follow/src/machine.rt, sha256 8b6882f3642f1aff304071d56b622e2c70e2be5d4d2a202dbd64c96f0218a632.
 //! A hall to which the entries of a log are applied.
 
 use crate::kit::alloc::{AllocError, Global};
@@ -32,7 +32,7 @@ pub struct HallMachine {
 }
 
 /// What stands behind the first line of an entry.
-fn behind_first_line(entry: &[u8]) -> &[u8] {
+pub(crate) fn behind_first_line(entry: &[u8]) -> &[u8] {
     let mut rest = entry;
     while let Some((first, others)) = rest.split_first() {
         rest = others;

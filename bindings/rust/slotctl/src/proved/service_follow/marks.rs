@@ -1,4 +1,4 @@
-// Erased by bindings/rust/erase from crates/service_follow/src/marks.rt, sha256 178c8f59bcc5f77177ae147bb640e51e4c239fa426b1b5d2740d43009f4bc612.
+// Erased by bindings/rust/erase from crates/service_follow/src/marks.rt, sha256 b4aa8cf63bc698ca63288c4c4138d01da7948ac179440c50ecdf890f53a86dc5.
 //! The first lines of the entries of a compaction, as they are read.
 
 use crate::kit::alloc::{AllocError, Global};
@@ -92,8 +92,8 @@ fn digit_value(digit: u8) -> u8 {
     }
 }
 
-// The number that digits say, the lowest first, in 64 bits.
-fn number_of(digits: &[u8]) -> u64 {
+/// Returns the number that digits say, the lowest first, in 64 bits.
+pub(crate) fn number_of(digits: &[u8]) -> u64 {
     let Some((first, rest)) = digits.split_first() else {
         return 0;
     };

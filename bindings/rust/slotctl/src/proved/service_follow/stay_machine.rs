@@ -1,4 +1,4 @@
-// Erased by bindings/rust/erase from crates/service_follow/src/stay_machine.rt, sha256 8010bd852402e2db34163d99c8219d3bec07f9eaae5db6df9eb80bd07131d523.
+// Erased by bindings/rust/erase from crates/service_follow/src/stay_machine.rt, sha256 3e1acfc26f2d461ab1a0f398281d6db49bdb1097a7d969cf82b7cdde0706696a.
 //! A hall to which the entries of a log are applied, and who keeps its stays.
 
 use crate::kit::alloc::{AllocError, Global};
@@ -6,6 +6,7 @@ use crate::proved::model_asked::config::Config;
 use crate::proved::model_steps::refusal::Refusal;
 use crate::proved::service_follow::front_end_stay::{are_same, token_of, FrontEndStay};
 use crate::proved::service_follow::gathering::Gathering;
+use crate::proved::service_follow::hall_terms::{terms_of, ToldTerms};
 use crate::proved::service_follow::keeping::Keeping;
 use crate::proved::service_follow::machine::HallMachine;
 use crate::proved::service_follow::marks::{entries_in, head_at, kept_in, mark_of, Mark, BEFORE};
@@ -33,6 +34,8 @@ pub struct StayMachine {
     differs: bool,
     /// How many compactions were read to their end.
     compactions: u64,
+    /// The terms of the hall, as the entry told that told some last.
+    terms: Option<ToldTerms>,
 }
 
 impl StayMachine {
@@ -47,6 +50,7 @@ impl StayMachine {
             blind,
             differs: false,
             compactions: 0,
+            terms: None,
         })
     }
 
@@ -105,6 +109,19 @@ impl StayMachine {
     /// Returns how many compactions it read to their end. Not proved.
     pub(crate) fn compactions(&self) -> u64 {
         self.compactions
+    }
+
+    /// Returns the terms of the hall, as the entry told that told some last; `None` if none did. It is not proved that they are noted, but what
+    /// each entry tells is (`terms_of`).
+    pub(crate) fn terms(&self) -> Option<ToldTerms> {
+        self.terms
+    }
+
+    // Notes what an entry tells of the terms of the hall, whatever else is known.
+    fn note_terms(&mut self, entry: &[u8]) {
+        if let Some(told) = terms_of(entry) {
+            self.terms = Some(told);
+        }
     }
 
     // Lets go what was read of a compaction.
@@ -209,6 +226,7 @@ impl StayMachine {
 
     // Applies an entry.
     fn take_entry(&mut self, entry: &[u8], reply_queue: &mut ReplyQueue) -> Result<(), AllocError> {
+        self.note_terms(entry);
         match mark_of(entry) {
             Mark::Ordinary => self.take_if_known(entry, reply_queue),
             Mark::Begins => self.begin(entry, reply_queue),

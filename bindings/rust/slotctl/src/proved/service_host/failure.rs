@@ -1,10 +1,11 @@
-// Erased by bindings/rust/erase from crates/service_host/src/failure.rt, sha256 ce166eaa10a632a9f6ea0547bda52225a59b1188c2e01ff5b54cb2f040915f3c.
+// Erased by bindings/rust/erase from crates/service_host/src/failure.rt, sha256 19a50d9116e7cc093285f657ccf1123f2849f2938de00bc984723db14709ad5d.
 //! Why a hall is not hosted, or no more.
 
 use crate::kit::alloc::AllocError;
 use crate::kit::io::ErrorKind;
 use crate::kit::thiserror::Error;
 use crate::proved::model_steps::refusal::{NoMemory, Refusal};
+use crate::proved::service_follow::hall_terms::HallTerms;
 use crate::proved::service_follow::log_fault::LogFault;
 use crate::proved::service_journal::disk::{Disk, DiskFault};
 use crate::proved::service_journal::file_disk::FileFault;
@@ -77,6 +78,12 @@ pub enum HostFailure {
     /// The log is one of another config, or of another version.
     #[error("log of another config")]
     OtherLog,
+    /// The hall of the log has these terms, and the server was started with those.
+    #[error("this hall in etcd has {0}, and this server was started with {1}; change these options, or the hall by --change-terms")]
+    OtherTerms(HallTerms, HallTerms),
+    /// Numbers of the hall of the log are held forever, and somebody competes for them: its terms were not changed.
+    #[error("somebody competes for numbers of this hall, which are held forever, so that no server tells that he is there; change this once all have left")]
+    Competing,
     /// The log was put back to an older state under the server, which answers nothing more.
     #[error("the log went back")]
     WentBack,
@@ -186,6 +193,7 @@ impl From<LogFault> for HostFailure {
             LogFault::Memory => HostFailure::Memory,
             LogFault::NoNames => HostFailure::NoNames,
             LogFault::OtherConfig => HostFailure::OtherLog,
+            LogFault::OtherTerms(hall, own) => HostFailure::OtherTerms(hall, own),
             LogFault::WentBack => HostFailure::WentBack,
             other => HostFailure::Log(other),
         }

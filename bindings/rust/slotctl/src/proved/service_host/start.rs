@@ -1,4 +1,4 @@
-// Erased by bindings/rust/erase from crates/service_host/src/start.rt, sha256 271f121ade3e0bd3a21059c7234e1afb6c0203c0d5a87206f9ded4b2cfe89d0d.
+// Erased by bindings/rust/erase from crates/service_host/src/start.rt, sha256 48925b21e33d0daf1d422a23db47024240defde140f58e418d123e0de5522a80.
 //! A whole server of a hall, by its plan.
 
 use crate::kit::alloc::{AllocGlobal, Global};
@@ -11,6 +11,7 @@ use crate::kit::time::Duration;
 use crate::kit::String;
 use crate::proved::model_asked::config::Config;
 use crate::proved::model_pool::stays::stays::Stays;
+use crate::proved::service_follow::hall_terms::HallTerms;
 use crate::proved::service_follow::log_persister::LogPersister;
 use crate::proved::service_follow::pause::Pause;
 use crate::proved::service_follow::reply_queue::ReplyQueue;
@@ -26,6 +27,7 @@ use crate::proved::service_host::log_plan::{
 };
 use crate::proved::service_host::persisters::{Recorded, Unrecorded};
 use crate::proved::service_host::reading::Reading;
+use crate::proved::service_host::terms::{followed_any, terms_by, warn_of_none};
 use crate::proved::service_journal::disk::Disk;
 use crate::proved::service_journal::file_disk::FileDisk;
 use crate::proved::service_journal::journal::{Journal, Opened};
@@ -39,9 +41,6 @@ use crate::proved::service_loop::audit_log::AuditLog;
 use crate::proved::service_loop::hosting::{host, HostOptions, Hosted};
 use crate::proved::service_watch::listeners::listening::{listen, ListenPlan, Listening};
 use crate::proved::service_watch::listeners::socket_file::SocketFile;
-
-/// The most seconds of grace: a day.
-const MOST_GRACE: u64 = 86_400;
 
 /// Where the history of a hall is kept.
 #[derive(Clone, Copy, Debug)]
@@ -241,8 +240,12 @@ fn host_unrecorded<R: Net + Wait + Clock + Files, L: AuditLog, W: Write, E: Writ
     ended(rt, file, hosted.map_err(HostFailure::from))
 }
 
-// The store in which the log of a plan stands.
-fn store_of<'r, R: Net>(
+/// The store in which the log of a plan stands.
+///
+/// # Errors
+///
+/// Those of `members_of`.
+pub(crate) fn store_of<'r, R: Net>(
     rt: &'r R,
     alloc: Global,
     log: LogPlan<'_>,
@@ -255,16 +258,19 @@ fn store_of<'r, R: Net>(
     Ok(EtcdStore::new(alloc, dial, prefix))
 }
 
-// Opens the hall of a log, whatever that stands in: all that stands there is applied.
+// Opens the hall of a log to serve its clients by these terms, whatever it stands in: all that stands there is applied.
 fn followed<R: Files<File = File>, S: Store, P: Pause>(
     rt: &R,
     alloc: Global,
     config: Config,
     store: S,
     pause: P,
+    terms: HallTerms,
 ) -> Result<LogPersister<S, P>, HostFailure> {
     match fresh_token(rt) {
-        Ok(token) => Ok(LogPersister::open(alloc, store, pause, config, token)?),
+        Ok(token) => Ok(LogPersister::open(
+            alloc, store, pause, config, token, terms,
+        )?),
         Err(failure) => Err(failure),
     }
 }
@@ -303,17 +309,16 @@ fn host_followed<R, S: Store, P: Pause, L: AuditLog, W: Write, E: Write>(
 where
     R: Net + Wait + Clock + Files<File = File>,
 {
-    let mut persister = match followed(rt, alloc, plan.config, store, pause) {
+    let terms = terms_by(plan.grace);
+    let mut persister = match followed(rt, alloc, plan.config, store, pause, terms) {
         Ok(persister) => persister,
         Err(failure) => return Err(failure),
     };
+    warn_of_none(persister.told_terms(), errors);
     let Listening { listeners, file } = match listen(rt, alloc, plan.listen) {
         Ok(listening) => listening,
         Err(fault) => return Err(HostFailure::from(fault)),
     };
-    if let Some(grace) = plan.grace {
-        persister.grant_grace(grace.min(MOST_GRACE) as u32);
-    }
     persister.choose_reads(plan.reads);
     // Who kept the stays that are there at the start follows from the log.
     let reply_queue = ReplyQueue::new(alloc);
@@ -366,7 +371,8 @@ fn export_followed<R: Files<File = File>, S: Store, P: Pause, W: Write>(
     pause: P,
     output: &mut W,
 ) -> Result<(), HostFailure> {
-    match followed(rt, alloc, config, store, pause) {
+    // It ends no stays, so that it may be of any terms.
+    match followed_any(rt, alloc, config, store, pause, HallTerms::Forever) {
         Ok(persister) => write_events(alloc, persister.hall(), output),
         Err(failure) => Err(failure),
     }

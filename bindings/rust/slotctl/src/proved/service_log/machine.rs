@@ -1,7 +1,22 @@
-// Erased by bindings/rust/erase from crates/service_log/src/machine.rt, sha256 62776f46a08aabd9145f4b5d9f1933e327f26a09c0f8816d5ea1d8cc902bfdaf.
+// Erased by bindings/rust/erase from crates/service_log/src/machine.rt, sha256 528449d5c7f4cb5aaf30b3fd35f90e60559717aab79e6ef640190ca8a7008eb8.
 //! State machines.
 
 use crate::kit::alloc::AllocError;
+
+/// Why an entry was not applied.
+#[derive(Clone, Copy, Debug, PartialEq, Eq)]
+pub enum ApplyFault {
+    /// An allocation failed.
+    Memory,
+    /// The entry is damaged: it tells what no state can follow from.
+    Damaged,
+}
+
+impl From<AllocError> for ApplyFault {
+    fn from(_refused: AllocError) -> ApplyFault {
+        ApplyFault::Memory
+    }
+}
 
 /// A state machine that applies entries, each a list of bytes.
 pub trait Machine: Sized {
@@ -12,8 +27,11 @@ pub trait Machine: Sized {
     ///
     /// # Errors
     ///
-    /// `AllocError`: an allocation failed. Nothing is then known of the machine.
-    fn apply(&mut self, entry: &[u8], replies: &mut Self::Replies) -> Result<(), AllocError>;
+    /// Nothing is known of the machine after either:
+    ///
+    /// - `Memory`: an allocation failed.
+    /// - `Damaged`: the entry is damaged.
+    fn apply(&mut self, entry: &[u8], replies: &mut Self::Replies) -> Result<(), ApplyFault>;
 
     /// Replaces the replies by none.
     fn forget(replies: &mut Self::Replies);

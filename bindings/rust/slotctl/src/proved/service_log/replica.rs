@@ -1,4 +1,4 @@
-// Erased by bindings/rust/erase from crates/service_log/src/replica.rt, sha256 12a284aaf1a20e7244ccf876f92af25c7a7ed3cdecff1a779121d96c100afcb6.
+// Erased by bindings/rust/erase from crates/service_log/src/replica.rt, sha256 960aa8c9955cb66e981635f42b54ef0f923dfece17de0d9097b85bd7575d9d46.
 //! A machine that follows a log.
 
 use crate::kit::alloc::Global;
@@ -93,10 +93,10 @@ impl<M: Machine> Replica<M> {
             }
             Err(fault) => return Err(Cause::Store(fault)),
         }
-        let Ok(()) = self.machine.apply(&self.entry, replies) else {
+        if let Err(fault) = self.machine.apply(&self.entry, replies) {
             self.poisoned = true;
-            return Err(Cause::Memory);
-        };
+            return Err(Cause::of_apply(fault));
+        }
         self.place += 1;
         if self.entry.as_slice() == batch {
             Ok(Step::Answered)
@@ -118,10 +118,10 @@ impl<M: Machine> Replica<M> {
             Ok(Put::Taken) => return Ok(Step::Nothing),
             Err(fault) => return Err(Cause::Store(fault)),
         }
-        let Ok(()) = self.machine.apply(batch, replies) else {
+        if let Err(fault) = self.machine.apply(batch, replies) {
             self.poisoned = true;
-            return Err(Cause::Memory);
-        };
+            return Err(Cause::of_apply(fault));
+        }
         self.place += 1;
         self.behind = false;
         Ok(Step::Answered)
@@ -168,6 +168,7 @@ impl<M: Machine> Replica<M> {
     /// - `Full`: all 10^16 places of the log are used. Nothing has changed.
     /// - `Store`: the store failed. The replica is now behind.
     /// - `Memory`: an allocation failed while it applied an entry. The replica is now poisoned.
+    /// - `Damaged`: an entry of the log is damaged. The replica is now poisoned.
     pub fn step<S: Store>(
         &mut self,
         store: &mut S,
@@ -249,6 +250,7 @@ impl<M: Machine> Replica<M> {
     /// - `Poisoned`: the replica was poisoned before. Nothing of it has changed.
     /// - `Store`: the store failed.
     /// - `Memory`: an allocation failed while it applied an entry. The replica is now poisoned.
+    /// - `Damaged`: an entry of the log is damaged. The replica is now poisoned.
     pub fn catch_up<S: Store>(
         &mut self,
         store: &mut S,

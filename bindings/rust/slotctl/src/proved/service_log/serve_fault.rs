@@ -1,6 +1,7 @@
-// Erased by bindings/rust/erase from crates/service_log/src/serve_fault.rt, sha256 61697552836973a2ab3928fedd622e1fb9d2edb71e730f7921c8a3ab2bc2cc44.
+// Erased by bindings/rust/erase from crates/service_log/src/serve_fault.rt, sha256 3a2ad935b68e2d22cbb2e32d8087699c0fb52a9a23cd9d2270fc72d58c85da50.
 //! Why a replica does not answer a batch.
 
+use crate::proved::service_log::machine::ApplyFault;
 use crate::proved::service_log::store_fault::StoreFault;
 use std::error::Error;
 use std::fmt;
@@ -13,6 +14,8 @@ pub enum Cause {
     Store(StoreFault),
     /// An allocation failed while the replica applied an entry. This poisons the replica.
     Memory,
+    /// An entry of the log is damaged. This poisons the replica.
+    Damaged,
     /// The replica was poisoned before. Nothing is known of its machine, and it never goes on.
     Poisoned,
     /// The log has no place left.
@@ -21,12 +24,23 @@ pub enum Cause {
     Busy,
 }
 
+impl Cause {
+    /// The cause that is behind an entry which was not applied.
+    pub(crate) fn of_apply(fault: ApplyFault) -> Cause {
+        match fault {
+            ApplyFault::Memory => Cause::Memory,
+            ApplyFault::Damaged => Cause::Damaged,
+        }
+    }
+}
+
 impl fmt::Display for Cause {
     fn fmt(&self, f: &mut fmt::Formatter<'_>) -> fmt::Result {
         match self {
             Cause::Store(fault) => write!(f, "{fault}"),
             Cause::Memory => f.write_str("no memory to apply an entry"),
-            Cause::Poisoned => f.write_str("no memory was there to apply an earlier entry"),
+            Cause::Damaged => f.write_str("an entry of the log is damaged"),
+            Cause::Poisoned => f.write_str("an earlier entry was not applied"),
             Cause::Full => f.write_str("the log is full"),
             Cause::Busy => f.write_str("others came first"),
         }

@@ -1,4 +1,4 @@
-// Erased by bindings/rust/erase from crates/service_loop/src/connections.rt, sha256 fa9a214d100581b307019550b6d07673ce3f296b2b6081120dff19d110a540f1.
+// Erased by bindings/rust/erase from crates/service_loop/src/connections.rt, sha256 2fb92e68e27c0b7824e4730bf42df3aa1704d83e55849e5b6b2fdb830afc733b.
 //! The connections of a server, their seats, and who is to have a turn.
 
 use crate::kit::alloc::{AllocError, Global};
@@ -13,6 +13,7 @@ use crate::proved::service_loop::buffers::Buffers;
 use crate::proved::service_loop::connection::{Connection, ConnectionStage};
 use crate::proved::service_loop::failing::fail_keepers;
 use crate::proved::service_loop::persist::Persist;
+use crate::proved::service_loop::seat_numbers::SeatNumbers;
 use crate::proved::service_loop::socket::Socket;
 use crate::proved::service_loop::turns::number_at;
 use std::mem;
@@ -28,8 +29,8 @@ const FLUSH_TICKS: u64 = 10;
 pub struct ConnectionTable {
     /// The seats, some of them empty.
     pub seats: Vec<Option<Connection<Socket, Global>>>,
-    /// The number of the connection at each seat. No other connection ever has it.
-    pub numbers: Vec<u64>,
+    /// The number of the connection at each seat.
+    pub numbers: SeatNumbers,
     /// The seats whose connections are due, in the order in which they became so.
     pub ready: Vec<usize>,
     /// How many seats are taken.
@@ -40,8 +41,6 @@ pub struct ConnectionTable {
     pub faults: u64,
     /// The connections that have ended since this list was last emptied. One that said `quit` may stand in it twice.
     pub ended: Vec<Ending>,
-    /// The number of the next connection.
-    next: u64,
     /// How many lines were taken of those that have left.
     lines: u64,
     later: Vec<usize>,
@@ -86,13 +85,12 @@ impl ConnectionTable {
         let few = clients.min(MOST_RESERVED);
         Ok(ConnectionTable {
             seats: Vec::with_capacity(alloc, few)?,
-            numbers: Vec::with_capacity(alloc, few)?,
+            numbers: SeatNumbers::new(alloc, few)?,
             ready: Vec::with_capacity(alloc, few)?,
             open: 0,
             served: 0,
             faults: 0,
             ended: Vec::new(alloc),
-            next: 1,
             lines: 0,
             later: Vec::with_capacity(alloc, few)?,
             empty: Vec::with_capacity(alloc, few)?,
@@ -105,25 +103,18 @@ impl ConnectionTable {
             return Ok(key);
         }
         let key = self.seats.len();
-        self.numbers.push(0)?;
+        self.numbers.add_seat()?;
         if self.seats.push(None).is_err() {
             return Err(AllocError);
         }
         Ok(key)
     }
 
-    // The connection that is given this seat has the next number.
-    fn number_seat(&mut self, key: usize) {
-        if key < self.numbers.len() {
-            self.numbers[key] = self.next;
-            self.next = self.next.saturating_add(1);
-        }
-    }
-
     // Notes that the connection of a seat has ended.
     fn note_end(&mut self, key: usize, by_quit: bool) -> Result<(), AllocError> {
-        if key < self.numbers.len() {
-            let number = self.numbers[key];
+        let numbers = self.numbers.all();
+        if key < numbers.len() {
+            let number = numbers[key];
             self.ended.push(Ending { number, by_quit })?;
         }
         Ok(())
@@ -174,9 +165,8 @@ impl ConnectionTable {
         if !self.fill(key, Some(connection)) {
             return Ok(None);
         }
-        self.number_seat(key);
         self.open = self.open.saturating_add(1);
-        Ok(Some(number_at(&self.numbers, key)))
+        Ok(Some(self.numbers.number(key)))
     }
 
     /// Notes what the system tells of a connection, which is due then.
@@ -263,7 +253,7 @@ impl ConnectionTable {
         if persister.may_answer_stays() {
             return Ok(());
         }
-        fail_keepers(&mut self.seats, &self.numbers, stays, &mut self.ready)
+        fail_keepers(&mut self.seats, self.numbers.all(), stays, &mut self.ready)
     }
 
     /// After a turn in which the first `called` ready seats were called: those that have more to do are due again, behind the others.
@@ -325,7 +315,7 @@ impl ConnectionTable {
         match most {
             Some(most) if rests && most <= quiet => {
                 if !leaving {
-                    audit.note_idle(number_at(&self.numbers, key));
+                    audit.note_idle(number_at(self.numbers.all(), key));
                 }
                 self.leave(key)
             }

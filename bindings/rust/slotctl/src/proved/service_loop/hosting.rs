@@ -1,4 +1,4 @@
-// Erased by bindings/rust/erase from crates/service_loop/src/hosting.rt, sha256 03808630cc7cd1818e547490d2bfa8887fa9e4959c95c44a440cf13430002644.
+// Erased by bindings/rust/erase from crates/service_loop/src/hosting.rt, sha256 73316f1e19e067dc264436210aced2e73d35139f49494f92405107c5f5cc1686.
 //! A server in one thread, by the readiness of its sockets.
 
 use crate::kit::alloc::{AllocError, Global};
@@ -168,7 +168,15 @@ where
     hosting.tell_listening(output)?;
     hosting.tell_trouble(persister.trouble(), errors);
     for _ in rt.forever() {
-        hosting.go_round(rt, service, persister, &mut shared, log, errors)?;
+        hosting.go_round(
+            rt,
+            options.grace,
+            service,
+            persister,
+            &mut shared,
+            log,
+            errors,
+        )?;
         if hosting.is_over() {
             break;
         }
@@ -278,6 +286,7 @@ impl Hosting {
     fn go_round<R: Clock, D: Service<R>, K: Persist<D>, L: AuditLog, E: Write>(
         &mut self,
         rt: &R,
+        grace: Option<u64>,
         service: &mut Attended<D>,
         persister: &mut K,
         shared: &mut SharedBuffers<Global>,
@@ -288,7 +297,7 @@ impl Hosting {
         self.accept_all(&mut service.audit)?;
         self.tell_full(errors);
         self.tell_tick(&mut service.service, persister)?;
-        self.serve_all(rt, service, persister, shared)?;
+        self.serve_all(rt, grace, service, persister, shared)?;
         self.tell_trouble(persister.trouble(), errors);
         self.tell_room(persister.lasting_tenths(), errors);
         self.tell_lost(errors);
@@ -449,7 +458,7 @@ impl Hosting {
         Ok(())
     }
 
-    // Accepts who waits, as far as there is room.
+    // Accepts who waits, as far as there is room: never more are served at once than the options let.
     fn accept_all(&mut self, audit: &mut Audit) -> Result<(), AllocError> {
         for _ in 0..MOST_ACCEPTS {
             if !self.can_accept() {
@@ -465,11 +474,12 @@ impl Hosting {
     fn serve_all<R, D: Service<R>, K: Persist<D>>(
         &mut self,
         rt: &R,
+        grace: Option<u64>,
         service: &mut Attended<D>,
         persister: &mut K,
         shared: &mut SharedBuffers<Global>,
     ) -> Result<(), HostFault<K::Fault>> {
-        self.end_stays(rt, service, persister, shared)?;
+        self.end_stays(rt, grace, service, persister, shared)?;
         self.serve(rt, service, persister, shared)
     }
 
@@ -509,10 +519,12 @@ impl Hosting {
         shared.share_among(ready.len());
         match &mut self.batch {
             None => {
+                let numbers = numbers.all();
                 let called = iterate(rt, service, persister, shared, seats, numbers, ready)?;
                 Ok(Called::Served(called))
             }
             Some(batch) => {
+                let numbers = numbers.all();
                 iterate_prefetched(rt, service, persister, batch, shared, seats, numbers, ready)
             }
         }
@@ -558,6 +570,7 @@ impl Hosting {
             ..
         } = &mut self.connections;
         let first = &ready[..count.min(ready.len())];
+        let numbers = numbers.all();
         if !any_takes(seats, first) {
             return Ok(Called::Served(count));
         }
@@ -603,6 +616,7 @@ impl Hosting {
     fn end_stays<R, D: Service<R>, K: Persist<D>>(
         &mut self,
         rt: &R,
+        grace: Option<u64>,
         service: &mut Attended<D>,
         persister: &mut K,
         shared: &mut SharedBuffers<Global>,
@@ -610,19 +624,20 @@ impl Hosting {
         let ended = self.has_ended();
         self.connections.note_ended(service, self.lost, self.tick);
         self.connections.check_keepers(persister, &service.stays)?;
-        self.end_if_due(rt, service, persister, shared, ended)
+        self.end_if_due(rt, grace, service, persister, shared, ended)
     }
 
     // Ends the stays that are due, where a second has passed or connections have ended, and any are to end.
     fn end_if_due<R, D: Service<R>, K: Persist<D>>(
         &mut self,
         rt: &R,
+        grace: Option<u64>,
         service: &mut Attended<D>,
         persister: &mut K,
         shared: &mut SharedBuffers<Global>,
         ended: bool,
     ) -> Result<(), HostFault<K::Fault>> {
-        let Some(grace) = self.options.grace else {
+        let Some(grace) = grace else {
             return Ok(());
         };
         if service.lacks {

@@ -1,4 +1,4 @@
-// Erased by bindings/rust/erase from crates/text_records/src/seals.rt, sha256 9d09220cb61f8b3ba3cb4c8c1026e2c330a18bf24af065a8a38deddfd0a66499.
+// Erased by bindings/rust/erase from crates/text_records/src/seals.rt, sha256 d313e362bfd0ea003035c3e5c12adbea57a8ea1466dcdb3ae71224cf079ab728.
 //! Sealed lines: a line of a record beside its checksum.
 //!
 //! A sealed line is `{"crc32c":"HHHHHHHH","line":LINE}`, where the eight hex digits are the CRC-32C of `LINE`. A record of version 3 has such
@@ -95,7 +95,8 @@ fn held_line(line: &[u8]) -> &[u8] {
 /// Returns the line that a sealed line holds. Another line is returned as it is.
 #[inline(always)]
 pub fn opened_line(line: &[u8]) -> &[u8] {
-    match after_front(line, b"{\"crc32c\":\"") {
+    // Four bytes tell it apart from a line of a record, which is the common one.
+    match after_front(line, b"{\"cr") {
         Some(_) => held_line(line),
         None => line,
     }

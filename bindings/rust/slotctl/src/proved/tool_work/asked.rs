@@ -1,4 +1,4 @@
-// Erased by bindings/rust/erase from crates/tool_work/src/asked.rt, sha256 9e8dd0d3a2b2e7800925f39d19b35a688d703ce2463aa46211d1bdb505d505dd.
+// Erased by bindings/rust/erase from crates/tool_work/src/asked.rt, sha256 ed33075553dcac99ec2d42497e3b975bc73ad43eee997dbfd9abebe2d847934b.
 //! What the program can be asked for.
 
 use crate::kit::net::IpAddr;
@@ -176,6 +176,8 @@ pub struct LogWords<'a> {
     pub patience: u64,
     /// Whether its history is written out, and nobody served.
     pub exported: bool,
+    /// Whether how its stays are held is changed, and nobody served.
+    pub changes_terms: bool,
 }
 
 impl<'a> LogWords<'a> {
@@ -185,6 +187,7 @@ impl<'a> LogWords<'a> {
         prefix: &'a str,
         patience: u64,
         exported: bool,
+        changes_terms: bool,
     ) -> Option<LogWords<'a>> {
         if patience < 1 || 3_600 < patience {
             return None;
@@ -194,6 +197,7 @@ impl<'a> LogWords<'a> {
             prefix,
             patience,
             exported,
+            changes_terms,
         })
     }
 }

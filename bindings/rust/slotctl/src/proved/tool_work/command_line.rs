@@ -1,4 +1,4 @@
-// Erased by bindings/rust/erase from crates/tool_work/src/command_line.rt, sha256 4082f0200040044eac8647389408005d64724a8227c933d434d058ecbf89c8c3.
+// Erased by bindings/rust/erase from crates/tool_work/src/command_line.rt, sha256 a09f1410ca4697f6a2529b827963c80ce283647facf5b7b25ffb4cc66dd2456c.
 //! The command line of the program, for `clap`.
 
 use crate::kit::alloc::{AllocError, Global};
@@ -337,6 +337,11 @@ const HOST: Manual = Manual {
             name: "export",
             takes: Takes::Nothing,
             help: "writes the accepted events of the history in etcd as commands, and serves nobody",
+        },
+        Choice {
+            name: "change-terms",
+            takes: Takes::Nothing,
+            help: "makes --hold and --grace those of the hall in etcd, and serves nobody; its servers end, and start again with these",
         },
         Choice {
             name: "verbose",

@@ -1,4 +1,4 @@
-// Erased by bindings/rust/erase from crates/tool_work/src/words.rt, sha256 7a0b70eed99d11f6a5a853de4a3ae32501435728e813f0bbc4cf0d2da73c4669.
+// Erased by bindings/rust/erase from crates/tool_work/src/words.rt, sha256 e248545e5b6acd0a217095109beac0306c4c0900e83504b6deb476cbd2b1fe1b.
 //! What the words of a command line ask for.
 
 use crate::kit::alloc::Global;
@@ -119,6 +119,7 @@ fn log_asked(matches: &ArgMatches<'_>) -> bool {
     text_given(matches, "etcd").is_some()
         || text_given(matches, "prefix").is_some()
         || flag_given(matches, "export")
+        || flag_given(matches, "change-terms")
 }
 
 // The log that the options of `host` give, where they give one.
@@ -127,7 +128,8 @@ fn log_given<'a>(matches: &ArgMatches<'a>) -> Option<LogWords<'a>> {
     let prefix = text_given(matches, "prefix")?;
     let patience = number_given(matches, "patience")?;
     let exported = flag_given(matches, "export");
-    LogWords::new(members, prefix, patience, exported)
+    let changes_terms = flag_given(matches, "change-terms");
+    LogWords::new(members, prefix, patience, exported, changes_terms)
 }
 
 // The same, where an option is matched that only a log has.
@@ -284,12 +286,12 @@ fn why_nothing_in(world: WorldKind, options: &ArgMatches<'_>) -> &'static str {
         return "error: '--reads' wants plain or logged\n";
     }
     if text_given(options, "journal").is_some() {
-        return "error: '--journal' goes with none of '--etcd', '--prefix' and '--export'\n";
+        return "error: '--journal' goes with none of '--etcd', '--prefix', '--export' and '--change-terms'\n";
     }
     if flag_given(options, "new") {
         return "error: '--new' goes with '--journal' alone\n";
     }
-    "error: '--etcd' and '--prefix' go together, and '--export' wants both\n"
+    "error: '--etcd' and '--prefix' go together, and '--export' and '--change-terms' want both\n"
 }
 
 // Why what clap takes asks for nothing, as a text for people.

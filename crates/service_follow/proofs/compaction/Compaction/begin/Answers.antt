@@ -5,4 +5,4 @@ use Rattle.service_follow.proofs.Told.{first_told}
 use Rattle.service_follow.proofs.compaction.Compaction.begin.Goals as goal
 
 pub offer-requires : goal.offer-requires
-offer-requires g c = subst (IsTelling c.args.self.now.token) (sym c.in-Ok.ensures) (first_told c.args.self.now.token c.args.self.now.count (search rules))
+offer-requires g c = subst (IsTelling c.args.self.now.token) (sym c.in-Ok.ensures) (first_told c.args.self.now.token c.args.self.now.count (search rules) _)
