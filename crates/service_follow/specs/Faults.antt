@@ -24,6 +24,7 @@ fault_of_store store.NoSpace = None
 -- an allocation failure and of places, and a fault of the store of which nothing comes again
 abbrev pub fault_of_cause : Cause → Option LogFault
 fault_of_cause cause.Memory = Some fault.Memory
+fault_of_cause cause.Damaged = Some fault.Damaged
 fault_of_cause cause.Poisoned = Some fault.Memory
 fault_of_cause cause.Full = Some fault.Full
 fault_of_cause (cause.Store why) = fault_of_store why

@@ -10,7 +10,7 @@ use crate::machine::HallMachine;
 use crate::marks::head_at;
 use crate::reply_queue::ReplyQueue;
 use model_asked::Config;
-use service_log::Machine;
+use service_log::{ApplyFault, Machine};
 use std::alloc::{AllocError, Global};
 
 /// The hall to which the entries of a compaction that were read lead, and the token and the count of the last of them.
@@ -39,7 +39,7 @@ impl Gathering {
         &mut self,
         entry: &[u8],
         reply_queue: &mut ReplyQueue,
-    ) -> Result<(), AllocError>
+    ) -> Result<(), ApplyFault>
         ensures gathers { OnOk result (Gathers self.old.halls entry.now self.new) }
         ensures silent { OnOk result (reply_queue.new ≡ reply_queue_of []) }
     {

@@ -14,6 +14,8 @@ use std::fmt;
 pub enum LogFault {
     /// A growth was refused. Where that was while an entry was applied nothing more can be answered.
     Memory,
+    /// An entry of the log is damaged, or tells another history than those before it.
+    Damaged,
     /// Names are not given in the config's world.
     NoNames,
     /// The log is one of another config, or of another version.
@@ -51,6 +53,7 @@ impl LogFault {
     {
         match cause {
             Cause::Memory => Some(LogFault::Memory),
+            Cause::Damaged => Some(LogFault::Damaged),
             Cause::Poisoned => Some(LogFault::Memory),
             Cause::Full => Some(LogFault::Full),
             Cause::Store(fault) => LogFault::of_store(fault),
@@ -92,6 +95,7 @@ impl fmt::Display for LogFault {
     fn fmt<W: fmt::Write>(&self, f: &mut fmt::Formatter<W>) -> fmt::Result {
         f.write_str(match self {
             LogFault::Memory => "no memory",
+            LogFault::Damaged => "an entry of the log is damaged, or tells another history than those before it",
             LogFault::NoNames => "no names are given in this world",
             LogFault::OtherConfig => "log of another config",
             LogFault::OtherTerms(hall, own) => {

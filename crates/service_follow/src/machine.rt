@@ -12,7 +12,7 @@ use crate::reply_queue::ReplyQueue;
 use model_asked::Config;
 use model_steps::{Refusal, View};
 use service_hall::{Hall, Reads};
-use service_log::Machine;
+use service_log::{ApplyFault, Machine};
 use std::alloc::{AllocError, Global};
 use std::marker::Model;
 use text_player::{AsReplies, Replies, Responder};
@@ -149,8 +149,11 @@ impl Machine for HallMachine {
 
     ghost silent = { λ reply_queue. reply_queue ≡ reply_queue_of [] };
 
-    fn apply(&mut self, entry: &[u8], reply_queue: &mut ReplyQueue) -> Result<(), AllocError> {
-        self.play_entry(entry, reply_queue)
+    fn apply(&mut self, entry: &[u8], reply_queue: &mut ReplyQueue) -> Result<(), ApplyFault> {
+        match self.play_entry(entry, reply_queue) {
+            Ok(()) => Ok(()),
+            Err(_) => Err(ApplyFault::Memory),
+        }
     }
 
     fn forget(reply_queue: &mut ReplyQueue) {

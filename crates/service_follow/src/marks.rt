@@ -1,11 +1,12 @@
 //! The first lines of the entries of a compaction, as they are read.
 
-ghost use Rattle.std.specs.Prelude.{◌≡◌, ◌<◌, ◌++◌, drop, take, true, slice_get, IfOk, OnOk};
+ghost use Rattle.std.specs.Prelude.{◌≡◌, ◌<◌, ◌++◌, ◌∷◌, [], drop, take, true, slice_get, IfOk, OnOk};
 ghost use Rattle.service_follow.specs.Entries.{is_there};
 ghost use Rattle.service_follow.specs.Marks.{digit_value, entries_in, head_at, kept_in, kind_by, mark_of, number_of, stay_in, stays_in};
 ghost use Rattle.service_follow.specs.declared.marks.Mark.TheVariants.{Ordinary};
 
 use crate::front_end_stay::FrontEndStay;
+use service_log::ApplyFault;
 use std::alloc::{AllocError, Global};
 
 /// How many bytes a token, a space and a count have.
@@ -119,22 +120,22 @@ pub(crate) fn number_of(digits: &[u8]) -> u64
 }
 
 // The number of 16 digits at a place. An error where the entry is shorter.
-fn number_at(entry: &[u8], at: usize) -> Result<u64, AllocError>
+fn number_at(entry: &[u8], at: usize) -> Result<u64, ApplyFault>
     requires { at < 1000 }
     ensures { IfOk result (λ n. n ≡ number_of (take 16 (drop at entry.now))) }
 {
     if entry.len() < at + DIGITS {
-        return Err(AllocError);
+        return Err(ApplyFault::Damaged);
     }
     Ok(number_of(&entry[at..at + DIGITS]))
 }
 
 // The stay that 64 bytes say.
-fn stay_in(bytes: &[u8]) -> Result<FrontEndStay, AllocError>
+fn stay_in(bytes: &[u8]) -> Result<FrontEndStay, ApplyFault>
     ensures { IfOk result (λ stay. stay ≡ stay_in bytes.now) }
 {
     if bytes.len() < STAY {
-        return Err(AllocError);
+        return Err(ApplyFault::Damaged);
     }
     let mut token = [0u8; 32];
     token.copy_from_slice(&bytes[32..STAY]);
@@ -145,18 +146,26 @@ fn stay_in(bytes: &[u8]) -> Result<FrontEndStay, AllocError>
     })
 }
 
+// Appends a stay.
+fn push_stay(kept: &mut Vec<FrontEndStay>, stay: FrontEndStay) -> Result<(), AllocError>
+    ensures { OnOk result (kept.new.items ≡ kept.old.items ++ stay ∷ []) }
+{
+    kept.push(stay)?;
+    Ok(())
+}
+
 // Appends so many stays that bytes say.
-fn push_stays(kept: &mut Vec<FrontEndStay>, count: u64, bytes: &[u8]) -> Result<(), AllocError>
+fn push_stays(kept: &mut Vec<FrontEndStay>, count: u64, bytes: &[u8]) -> Result<(), ApplyFault>
     ensures { OnOk result (kept.new.items ≡ kept.old.items ++ stays_in count bytes.now) }
 {
     if count == 0 {
         return Ok(());
     }
     if bytes.len() < STAY {
-        return Err(AllocError);
+        return Err(ApplyFault::Damaged);
     }
     let (first, rest) = bytes.split_at(STAY);
-    kept.push(stay_in(first)?)?;
+    push_stay(kept, stay_in(first)?)?;
     push_stays(kept, count - 1, rest)
 }
 
@@ -164,13 +173,14 @@ fn push_stays(kept: &mut Vec<FrontEndStay>, count: u64, bytes: &[u8]) -> Result<
 ///
 /// # Errors
 ///
-/// `AllocError`: the entry is too short, or an allocation failed.
-pub(crate) fn kept_in(alloc: Global, entry: &[u8]) -> Result<Vec<FrontEndStay>, AllocError>
+/// - `Damaged`: the entry is too short.
+/// - `Memory`: an allocation failed.
+pub(crate) fn kept_in(alloc: Global, entry: &[u8]) -> Result<Vec<FrontEndStay>, ApplyFault>
     ensures { IfOk result (λ kept. kept.items ≡ kept_in entry.now) }
 {
     let count = number_at(entry, COUNT)?;
     if entry.len() < STAYS {
-        return Err(AllocError);
+        return Err(ApplyFault::Damaged);
     }
     let mut kept = Vec::new(alloc);
     push_stays(&mut kept, count, &entry[STAYS..])?;
@@ -181,8 +191,8 @@ pub(crate) fn kept_in(alloc: Global, entry: &[u8]) -> Result<Vec<FrontEndStay>, 
 ///
 /// # Errors
 ///
-/// `AllocError`: the entry is too short.
-pub(crate) fn entries_in(entry: &[u8]) -> Result<u64, AllocError>
+/// `Damaged`: the entry is too short.
+pub(crate) fn entries_in(entry: &[u8]) -> Result<u64, ApplyFault>
     ensures { IfOk result (λ n. n ≡ entries_in entry.now) }
 {
     number_at(entry, ENTRIES)

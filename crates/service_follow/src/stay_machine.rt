@@ -18,8 +18,8 @@ use crate::reply_queue::ReplyQueue;
 use model_asked::Config;
 use model_steps::Refusal;
 use service_hall::{Hall, is_compacted};
-use service_log::Machine;
-use std::alloc::{AllocError, Global};
+use service_log::{ApplyFault, Machine};
+use std::alloc::Global;
 use std::marker::Model;
 
 /// A hall to which the entries of a log are applied (`HallMachine`), and which front end keeps each stay in its pool: whose entry said `enter`
@@ -170,13 +170,16 @@ impl StayMachine {
     }
 
     // Plays the lines of an entry, and notes who keeps stays.
-    fn take_lines(&mut self, entry: &[u8], reply_queue: &mut ReplyQueue) -> Result<(), AllocError>
+    fn take_lines(&mut self, entry: &[u8], reply_queue: &mut ReplyQueue) -> Result<(), ApplyFault>
         requires { self.old.blind ≡ false }
         ensures { OnOk result (TakesLines self.old entry.now reply_queue.new self.new) }
     {
         let _ = self.gathered.take();
         self.halls.apply(entry, reply_queue)?;
-        self.keeping.learn(&token_of(entry), reply_queue.notes())
+        match self.keeping.learn(&token_of(entry), reply_queue.notes()) {
+            Ok(()) => Ok(()),
+            Err(_) => Err(ApplyFault::Memory),
+        }
     }
 
     // Takes an entry of lines, if anything is known.
@@ -184,7 +187,7 @@ impl StayMachine {
         &mut self,
         entry: &[u8],
         reply_queue: &mut ReplyQueue,
-    ) -> Result<(), AllocError>
+    ) -> Result<(), ApplyFault>
         ensures { OnOk result (TakesIfKnown self.old.blind self.old entry.now reply_queue.new self.new) }
     {
         if self.blind {
@@ -195,7 +198,7 @@ impl StayMachine {
     }
 
     // Reads the entry with which a compaction begins.
-    fn begin(&mut self, entry: &[u8], reply_queue: &mut ReplyQueue) -> Result<(), AllocError>
+    fn begin(&mut self, entry: &[u8], reply_queue: &mut ReplyQueue) -> Result<(), ApplyFault>
         ensures { OnOk result (ReadsPart (hall_of self.old.hall.config []) self.old entry.now reply_queue.new self.new) }
     {
         let mut part = Gathering::new(self.alloc, self.halls.hall().config(), entry)?;
@@ -217,7 +220,7 @@ impl StayMachine {
     }
 
     // Reads an entry with which a compaction goes on.
-    fn go_on(&mut self, entry: &[u8], reply_queue: &mut ReplyQueue) -> Result<(), AllocError>
+    fn go_on(&mut self, entry: &[u8], reply_queue: &mut ReplyQueue) -> Result<(), ApplyFault>
         ensures { OnOk result (GoesOnFrom (next_in self.old.gathered entry.now) self.old entry.now reply_queue.new self.new) }
     {
         let Some(mut part) = self.take_part(entry) else {
@@ -257,7 +260,7 @@ impl StayMachine {
     }
 
     // Has all be what a compaction tells, which is the same where anything was known.
-    fn end_with(&mut self, part: Gathering, entry: &[u8]) -> Result<(), AllocError>
+    fn end_with(&mut self, part: Gathering, entry: &[u8]) -> Result<(), ApplyFault>
         ensures state { OnOk result (self.new ≡ told_by part entry.now) }
         ensures same { OnOk result (self.old.blind ≡ false → TellsTheSame self.old self.new) }
     {
@@ -265,7 +268,7 @@ impl StayMachine {
         let entries = entries_in(entry)?;
         if !self.agrees(&part, &kept, entries) {
             self.differs = true;
-            return Err(AllocError);
+            return Err(ApplyFault::Damaged);
         }
         let Gathering { halls, head: _ } = part;
         self.halls = halls;
@@ -277,7 +280,7 @@ impl StayMachine {
     }
 
     // Reads the entry with which a compaction ends.
-    fn end(&mut self, entry: &[u8], reply_queue: &mut ReplyQueue) -> Result<(), AllocError>
+    fn end(&mut self, entry: &[u8], reply_queue: &mut ReplyQueue) -> Result<(), ApplyFault>
         ensures { OnOk result (EndsFrom (next_in self.old.gathered entry.now) self.old entry.now reply_queue.new self.new) }
     {
         let Some(mut part) = self.take_part(entry) else {
@@ -289,7 +292,7 @@ impl StayMachine {
     }
 
     // Applies an entry.
-    fn take_entry(&mut self, entry: &[u8], reply_queue: &mut ReplyQueue) -> Result<(), AllocError>
+    fn take_entry(&mut self, entry: &[u8], reply_queue: &mut ReplyQueue) -> Result<(), ApplyFault>
         ensures { OnOk result (StayApplies self.old entry.now reply_queue.new self.new) }
     {
         self.note_terms(entry);
@@ -313,7 +316,7 @@ impl Machine for StayMachine {
 
     ghost silent = { λ reply_queue. reply_queue ≡ reply_queue_of [] };
 
-    fn apply(&mut self, entry: &[u8], reply_queue: &mut ReplyQueue) -> Result<(), AllocError> {
+    fn apply(&mut self, entry: &[u8], reply_queue: &mut ReplyQueue) -> Result<(), ApplyFault> {
         self.take_entry(entry, reply_queue)
     }
 

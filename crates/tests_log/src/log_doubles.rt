@@ -4,7 +4,7 @@ ghost use Rattle.std.specs.Prelude.{◌≡◌, ◌%◌, ◌∷◌, length, OnOk}
 
 use service_follow::Pause;
 use service_log::etcd::Dial;
-use service_log::{Machine, MemoryStore, Put, Store, StoreFault};
+use service_log::{ApplyFault, Machine, MemoryStore, Put, Store, StoreFault};
 use std::alloc::{AllocError, Global};
 use std::cell::{Cell, RefCell};
 use std::io;
@@ -46,8 +46,11 @@ impl Machine for Notebook {
 
     ghost silent = { λ replies. replies.items ≡ [] };
 
-    fn apply(&mut self, entry: &[u8], replies: &mut Vec<u8>) -> Result<(), AllocError> {
-        self.write(entry, replies)
+    fn apply(&mut self, entry: &[u8], replies: &mut Vec<u8>) -> Result<(), ApplyFault> {
+        match self.write(entry, replies) {
+            Ok(()) => Ok(()),
+            Err(_) => Err(ApplyFault::Memory),
+        }
     }
 
     fn forget(replies: &mut Vec<u8>) {

@@ -20,7 +20,7 @@ returns t c =
     let rest = stays_in (c.args.count - 1) left in
     let some : 1 ≤ c.args.count = search rules in
     let is : s ≡ stay_in (take 64 c.args.bytes.now) = c.in_ok-stay_in.ensures ∙ ap stay_in c.split_at.ensures.front in
-    let whole : c.push.new.self.items ++ rest ≡ kept ++ stays_in c.args.count c.args.bytes.now =
-    ap (λ (l : List FrontEndStay). l ++ rest) c.in_ok-push.ensures.items
+    let whole : c.push_stay.new.kept.items ++ rest ≡ kept ++ stays_in c.args.count c.args.bytes.now =
+    ap (λ (l : List FrontEndStay). l ++ rest) c.in_ok-push_stay.ensures
     ∙ (append_assoc kept (s ∷ []) rest ∙ ap (λ (l : List FrontEndStay). kept ++ l) (stays_more c.args.count c.args.bytes.now left s some is c.split_at.ensures.back)) in
     on_ok_weaker c.push_stays.result (λ told. told ∙ whole) c.push_stays.ensures

@@ -1,4 +1,4 @@
-// Erased by bindings/rust/erase from crates/service_follow/src/gathering.rt, sha256 02e73f8570a06f7fa2812868ce2ed205f7cd026901d968ef4366838765a74a80.
+// Erased by bindings/rust/erase from crates/service_follow/src/gathering.rt, sha256 6586ddaaff33a1fb6d012f44b3a98e52dc2aec3a0f6e0a894f2c63e9fa1e1207.
 //! A compaction of which not all was read.
 
 use crate::kit::alloc::{AllocError, Global};
@@ -6,7 +6,7 @@ use crate::proved::model_asked::config::Config;
 use crate::proved::service_follow::machine::HallMachine;
 use crate::proved::service_follow::marks::head_at;
 use crate::proved::service_follow::reply_queue::ReplyQueue;
-use crate::proved::service_log::machine::Machine;
+use crate::proved::service_log::machine::{ApplyFault, Machine};
 
 /// The hall to which the entries of a compaction that were read lead, and the token and the count of the last of them.
 pub(crate) struct Gathering {
@@ -35,7 +35,7 @@ impl Gathering {
         &mut self,
         entry: &[u8],
         reply_queue: &mut ReplyQueue,
-    ) -> Result<(), AllocError> {
+    ) -> Result<(), ApplyFault> {
         self.halls.apply(entry, reply_queue)?;
         reply_queue.clear();
         self.head = head_at(entry, 0);

@@ -1,4 +1,4 @@
-// Erased by bindings/rust/erase from crates/service_follow/src/log_fault.rt, sha256 0d47fb26ed5c932f5093f57234db4c5782dd9642d225a1f3b7256bb880f448c4.
+// Erased by bindings/rust/erase from crates/service_follow/src/log_fault.rt, sha256 9c229106a8c6185534986d35d0dd651b64203f229e8e5bcf334ad4a7a9922605.
 //! Why a hall over a log is not served, or no more.
 
 use crate::proved::model_steps::refusal::Refusal;
@@ -13,6 +13,8 @@ use std::fmt;
 pub enum LogFault {
     /// A growth was refused. Where that was while an entry was applied nothing more can be answered.
     Memory,
+    /// An entry of the log is damaged, or tells another history than those before it.
+    Damaged,
     /// Names are not given in the config's world.
     NoNames,
     /// The log is one of another config, or of another version.
@@ -46,6 +48,7 @@ impl LogFault {
     pub fn of_cause(cause: Cause) -> Option<LogFault> {
         match cause {
             Cause::Memory => Some(LogFault::Memory),
+            Cause::Damaged => Some(LogFault::Damaged),
             Cause::Poisoned => Some(LogFault::Memory),
             Cause::Full => Some(LogFault::Full),
             Cause::Store(fault) => LogFault::of_store(fault),
@@ -78,6 +81,9 @@ impl fmt::Display for LogFault {
     fn fmt(&self, f: &mut fmt::Formatter<'_>) -> fmt::Result {
         f.write_str(match self {
             LogFault::Memory => "no memory",
+            LogFault::Damaged => {
+                "an entry of the log is damaged, or tells another history than those before it"
+            }
             LogFault::NoNames => "no names are given in this world",
             LogFault::OtherConfig => "log of another config",
             LogFault::OtherTerms(hall, own) => {

@@ -1,4 +1,4 @@
-// Erased by bindings/rust/erase from crates/service_follow/src/machine.rt, sha256 8b6882f3642f1aff304071d56b622e2c70e2be5d4d2a202dbd64c96f0218a632.
+// Erased by bindings/rust/erase from crates/service_follow/src/machine.rt, sha256 febb06c3932dc312af60378b918f6da87aeca662b5409caa2990efd8ce1db044.
 //! A hall to which the entries of a log are applied.
 
 use crate::kit::alloc::{AllocError, Global};
@@ -10,7 +10,7 @@ use crate::proved::service_follow::noting::Noting;
 use crate::proved::service_follow::reply_queue::ReplyQueue;
 use crate::proved::service_hall::hall::Hall;
 use crate::proved::service_hall::reads::Reads;
-use crate::proved::service_log::machine::Machine;
+use crate::proved::service_log::machine::{ApplyFault, Machine};
 use crate::proved::text_lines::replies::Replies;
 use crate::proved::text_player::as_replies::AsReplies;
 use crate::proved::text_player::responder::Responder;
@@ -115,8 +115,11 @@ impl HallMachine {
 impl Machine for HallMachine {
     type Replies = ReplyQueue;
 
-    fn apply(&mut self, entry: &[u8], reply_queue: &mut ReplyQueue) -> Result<(), AllocError> {
-        self.play_entry(entry, reply_queue)
+    fn apply(&mut self, entry: &[u8], reply_queue: &mut ReplyQueue) -> Result<(), ApplyFault> {
+        match self.play_entry(entry, reply_queue) {
+            Ok(()) => Ok(()),
+            Err(_) => Err(ApplyFault::Memory),
+        }
     }
 
     fn forget(reply_queue: &mut ReplyQueue) {

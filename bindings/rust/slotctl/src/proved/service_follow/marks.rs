@@ -1,9 +1,10 @@
-// Erased by bindings/rust/erase from crates/service_follow/src/marks.rt, sha256 b4aa8cf63bc698ca63288c4c4138d01da7948ac179440c50ecdf890f53a86dc5.
+// Erased by bindings/rust/erase from crates/service_follow/src/marks.rt, sha256 0377b62830df14334ba9836ca02b44ec82ffe1ac777513056212537caec51cb0.
 //! The first lines of the entries of a compaction, as they are read.
 
 use crate::kit::alloc::{AllocError, Global};
 use crate::kit::Vec;
 use crate::proved::service_follow::front_end_stay::FrontEndStay;
+use crate::proved::service_log::machine::ApplyFault;
 
 /// How many bytes a token, a space and a count have.
 pub(crate) const HEAD: usize = 49;
@@ -101,17 +102,17 @@ pub(crate) fn number_of(digits: &[u8]) -> u64 {
 }
 
 // The number of 16 digits at a place. An error where the entry is shorter.
-fn number_at(entry: &[u8], at: usize) -> Result<u64, AllocError> {
+fn number_at(entry: &[u8], at: usize) -> Result<u64, ApplyFault> {
     if entry.len() < at + DIGITS {
-        return Err(AllocError);
+        return Err(ApplyFault::Damaged);
     }
     Ok(number_of(&entry[at..at + DIGITS]))
 }
 
 // The stay that 64 bytes say.
-fn stay_in(bytes: &[u8]) -> Result<FrontEndStay, AllocError> {
+fn stay_in(bytes: &[u8]) -> Result<FrontEndStay, ApplyFault> {
     if bytes.len() < STAY {
-        return Err(AllocError);
+        return Err(ApplyFault::Damaged);
     }
     let mut token = [0u8; 32];
     token.copy_from_slice(&bytes[32..STAY]);
@@ -122,16 +123,22 @@ fn stay_in(bytes: &[u8]) -> Result<FrontEndStay, AllocError> {
     })
 }
 
+// Appends a stay.
+fn push_stay(kept: &mut Vec<FrontEndStay>, stay: FrontEndStay) -> Result<(), AllocError> {
+    kept.push(stay)?;
+    Ok(())
+}
+
 // Appends so many stays that bytes say.
-fn push_stays(kept: &mut Vec<FrontEndStay>, count: u64, bytes: &[u8]) -> Result<(), AllocError> {
+fn push_stays(kept: &mut Vec<FrontEndStay>, count: u64, bytes: &[u8]) -> Result<(), ApplyFault> {
     if count == 0 {
         return Ok(());
     }
     if bytes.len() < STAY {
-        return Err(AllocError);
+        return Err(ApplyFault::Damaged);
     }
     let (first, rest) = bytes.split_at(STAY);
-    kept.push(stay_in(first)?)?;
+    push_stay(kept, stay_in(first)?)?;
     push_stays(kept, count - 1, rest)
 }
 
@@ -139,11 +146,12 @@ fn push_stays(kept: &mut Vec<FrontEndStay>, count: u64, bytes: &[u8]) -> Result<
 ///
 /// # Errors
 ///
-/// `AllocError`: the entry is too short, or an allocation failed.
-pub(crate) fn kept_in(alloc: Global, entry: &[u8]) -> Result<Vec<FrontEndStay>, AllocError> {
+/// - `Damaged`: the entry is too short.
+/// - `Memory`: an allocation failed.
+pub(crate) fn kept_in(alloc: Global, entry: &[u8]) -> Result<Vec<FrontEndStay>, ApplyFault> {
     let count = number_at(entry, COUNT)?;
     if entry.len() < STAYS {
-        return Err(AllocError);
+        return Err(ApplyFault::Damaged);
     }
     let mut kept = Vec::new(alloc);
     push_stays(&mut kept, count, &entry[STAYS..])?;
@@ -154,7 +162,7 @@ pub(crate) fn kept_in(alloc: Global, entry: &[u8]) -> Result<Vec<FrontEndStay>, 
 ///
 /// # Errors
 ///
-/// `AllocError`: the entry is too short.
-pub(crate) fn entries_in(entry: &[u8]) -> Result<u64, AllocError> {
+/// `Damaged`: the entry is too short.
+pub(crate) fn entries_in(entry: &[u8]) -> Result<u64, ApplyFault> {
     number_at(entry, ENTRIES)
 }

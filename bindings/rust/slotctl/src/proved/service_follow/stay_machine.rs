@@ -1,7 +1,7 @@
-// Erased by bindings/rust/erase from crates/service_follow/src/stay_machine.rt, sha256 3e1acfc26f2d461ab1a0f398281d6db49bdb1097a7d969cf82b7cdde0706696a.
+// Erased by bindings/rust/erase from crates/service_follow/src/stay_machine.rt, sha256 86f31ab6e33188e75619f9159b1a3c08ab99f5a1e813e5f4388fd29943d37dc5.
 //! A hall to which the entries of a log are applied, and who keeps its stays.
 
-use crate::kit::alloc::{AllocError, Global};
+use crate::kit::alloc::Global;
 use crate::proved::model_asked::config::Config;
 use crate::proved::model_steps::refusal::Refusal;
 use crate::proved::service_follow::front_end_stay::{are_same, token_of, FrontEndStay};
@@ -13,7 +13,7 @@ use crate::proved::service_follow::marks::{entries_in, head_at, kept_in, mark_of
 use crate::proved::service_follow::reply_queue::ReplyQueue;
 use crate::proved::service_hall::compacting::is_compacted;
 use crate::proved::service_hall::hall::Hall;
-use crate::proved::service_log::machine::Machine;
+use crate::proved::service_log::machine::{ApplyFault, Machine};
 
 /// A hall to which the entries of a log are applied (`HallMachine`), and which front end keeps each stay in its pool: whose entry said `enter`
 /// of it last and was answered `ok` or `refused 9`. The first 32 bytes of an entry are the token of its front end.
@@ -131,10 +131,13 @@ impl StayMachine {
     }
 
     // Plays the lines of an entry, and notes who keeps stays.
-    fn take_lines(&mut self, entry: &[u8], reply_queue: &mut ReplyQueue) -> Result<(), AllocError> {
+    fn take_lines(&mut self, entry: &[u8], reply_queue: &mut ReplyQueue) -> Result<(), ApplyFault> {
         let _ = self.gathered.take();
         self.halls.apply(entry, reply_queue)?;
-        self.keeping.learn(&token_of(entry), reply_queue.notes())
+        match self.keeping.learn(&token_of(entry), reply_queue.notes()) {
+            Ok(()) => Ok(()),
+            Err(_) => Err(ApplyFault::Memory),
+        }
     }
 
     // Takes an entry of lines, if anything is known.
@@ -142,7 +145,7 @@ impl StayMachine {
         &mut self,
         entry: &[u8],
         reply_queue: &mut ReplyQueue,
-    ) -> Result<(), AllocError> {
+    ) -> Result<(), ApplyFault> {
         if self.blind {
             self.let_go(reply_queue);
             return Ok(());
@@ -151,7 +154,7 @@ impl StayMachine {
     }
 
     // Reads the entry with which a compaction begins.
-    fn begin(&mut self, entry: &[u8], reply_queue: &mut ReplyQueue) -> Result<(), AllocError> {
+    fn begin(&mut self, entry: &[u8], reply_queue: &mut ReplyQueue) -> Result<(), ApplyFault> {
         let mut part = Gathering::new(self.alloc, self.halls.hall().config(), entry)?;
         part.take(entry, reply_queue)?;
         self.gathered = Some(part);
@@ -168,7 +171,7 @@ impl StayMachine {
     }
 
     // Reads an entry with which a compaction goes on.
-    fn go_on(&mut self, entry: &[u8], reply_queue: &mut ReplyQueue) -> Result<(), AllocError> {
+    fn go_on(&mut self, entry: &[u8], reply_queue: &mut ReplyQueue) -> Result<(), ApplyFault> {
         let Some(mut part) = self.take_part(entry) else {
             self.let_go(reply_queue);
             return Ok(());
@@ -198,12 +201,12 @@ impl StayMachine {
     }
 
     // Has all be what a compaction tells, which is the same where anything was known.
-    fn end_with(&mut self, part: Gathering, entry: &[u8]) -> Result<(), AllocError> {
+    fn end_with(&mut self, part: Gathering, entry: &[u8]) -> Result<(), ApplyFault> {
         let kept = kept_in(self.alloc, entry)?;
         let entries = entries_in(entry)?;
         if !self.agrees(&part, &kept, entries) {
             self.differs = true;
-            return Err(AllocError);
+            return Err(ApplyFault::Damaged);
         }
         let Gathering { halls, head: _ } = part;
         self.halls = halls;
@@ -215,7 +218,7 @@ impl StayMachine {
     }
 
     // Reads the entry with which a compaction ends.
-    fn end(&mut self, entry: &[u8], reply_queue: &mut ReplyQueue) -> Result<(), AllocError> {
+    fn end(&mut self, entry: &[u8], reply_queue: &mut ReplyQueue) -> Result<(), ApplyFault> {
         let Some(mut part) = self.take_part(entry) else {
             self.let_go(reply_queue);
             return Ok(());
@@ -225,7 +228,7 @@ impl StayMachine {
     }
 
     // Applies an entry.
-    fn take_entry(&mut self, entry: &[u8], reply_queue: &mut ReplyQueue) -> Result<(), AllocError> {
+    fn take_entry(&mut self, entry: &[u8], reply_queue: &mut ReplyQueue) -> Result<(), ApplyFault> {
         self.note_terms(entry);
         match mark_of(entry) {
             Mark::Ordinary => self.take_if_known(entry, reply_queue),
@@ -239,7 +242,7 @@ impl StayMachine {
 impl Machine for StayMachine {
     type Replies = ReplyQueue;
 
-    fn apply(&mut self, entry: &[u8], reply_queue: &mut ReplyQueue) -> Result<(), AllocError> {
+    fn apply(&mut self, entry: &[u8], reply_queue: &mut ReplyQueue) -> Result<(), ApplyFault> {
         self.take_entry(entry, reply_queue)
     }
 
