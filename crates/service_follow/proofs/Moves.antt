@@ -6,8 +6,10 @@ use Rattle.service_follow.specs.FollowState.{FollowState}
 use Rattle.service_follow.specs.Hosted.{HasMovedOn}
 use Rattle.service_follow.specs.Stays.{blind_of, start_of, stays_of}
 use Rattle.service_follow.specs.Tellings.{HasToldAlone, IsTelling}
+use Rattle.service_follow.specs.Terms.{change_entry}
 use Rattle.service_follow.specs.TermsChanges.{HasChangedAlone, IsChange}
 use Rattle.service_follow.specs.declared.hall_terms.HallTerms.{HallTerms}
+use Rattle.service_follow.specs.declared.hall_terms.ToldTerms.{ToldTerms}
 
 pub moved_self : {S : Type 0} (stands : S → ℕ → List ℕ → Type 0) (a : FollowState S) → HasMovedOn stands a a
 moved_self stands a = record { keeps = λ place entry stood. stood; config = refl; from = refl; later = λ well. (well, omega arith) }
@@ -59,6 +61,9 @@ changed_self stands token token' terms terms' a is are = record { moved = moved_
 pub changed_same : {S : Type 0} (stands : S → ℕ → List ℕ → Type 0) (token token' : List ℕ) (terms terms' : HallTerms) (a b : FollowState S) → HasMovedOn stands a b →
     Same (stands a.store) (stands b.store) → token' ≡ token → terms' ≡ terms → HasChangedAlone stands token token' terms terms' a b
 changed_same stands token token' terms terms' a b moved same is are = record { moved = moved; alone = λ place entry stood. inl (same.only place entry stood); token_is = is; terms_are = are }
+
+pub is_change : (token entry : List ℕ) (count : ℕ) (told : ToldTerms) → entry ≡ change_entry token count told → IsChange token told.terms entry
+is_change token entry count told is = record { count = count; was = told.was; is = is }
 
 pub changed_one : {S : Type 0} (stands : S → ℕ → List ℕ → Type 0) (token : List ℕ) (terms : HallTerms) (a b : FollowState S) (at : ℕ) (written : List ℕ) → HasMovedOn stands a b →
     Adds (stands a.store) at written (stands b.store) → IsChange token terms written → HasChangedAlone stands token token terms terms a b

@@ -1,5 +1,5 @@
 -- terms, written and read back
-use Rattle.std.proofs.Common.{◌≡◌, ◌≢◌, ◌<◌, ◌≤◌, ◌+◌, ◌-◌, ◌^◌, ◌∷◌, ◌++◌, ℕ, suc, true, false, Option, Some, None, List, [], length, take, drop, inl, inr, refl, sym, ap, subst, ◌∙◌, arith, append_assoc, length-append}
+use Rattle.std.proofs.Common.{◌≡◌, ◌≢◌, ◌<◌, ◌≤◌, ◌+◌, ◌-◌, ◌^◌, ◌∷◌, ◌++◌, ℕ, suc, true, Option, Some, None, List, [], length, take, drop, inl, inr, refl, sym, ap, subst, ◌∙◌, arith, append_assoc, length-append}
 use Rattle.std.specs.List.{All}
 use Rattle.std.specs.Cmp.Lexicographic.{pointwise}
 use Rattle.std.specs.Prelude.{codes, min, nat_eq, slice_get}
@@ -8,9 +8,9 @@ use Rattle.service_hall.specs.declared.reads.Reads.{Reads}
 use Rattle.service_hall.specs.declared.reads.Reads.TheVariants.{Logged, Plain}
 use Rattle.service_follow.specs.Batches.{batch_by, head_of, hex_digits, told_of}
 use Rattle.service_follow.specs.Entries.{behind_first_line, is_there}
-use Rattle.service_follow.specs.Marks.{mark_of, number_of}
+use Rattle.service_follow.specs.Marks.{number_of}
 use Rattle.service_follow.specs.Tellings.{first_entry}
-use Rattle.service_follow.specs.Terms.{IsTerms, change_entry, first_long, terms_by, terms_number, terms_of, terms_text, text_tells, told_text}
+use Rattle.service_follow.specs.Terms.{IsTerms, change_entry, first_long, terms_by, terms_number, terms_of, terms_text, text_tells}
 use Rattle.service_follow.specs.TermsChanges.{AreTerms, IsTermsRead}
 use Rattle.service_follow.specs.declared.hall_terms.HallTerms.{HallTerms}
 use Rattle.service_follow.specs.declared.hall_terms.HallTerms.TheVariants.{Forever, Grace}

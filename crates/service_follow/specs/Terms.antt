@@ -1,5 +1,5 @@
 -- the terms of a hall in a log: for how long stays go on there, and where the entries tell it
-use Rattle.std.specs.Prelude.{◌≡◌, ◌==◌, ◌&&◌, ◌+◌, ◌-◌, ◌≤◌, ◌<◌, ◌^◌, codes, decimal, min, nat_eq, nat_le, if◌then◌else◌, ℕ, List, [], ◌∷◌, ◌++◌, length, take, drop, slice_get, Option, Some, None}
+use Rattle.std.specs.Prelude.{◌==◌, ◌&&◌, ◌+◌, ◌-◌, ◌<◌, ◌^◌, codes, decimal, min, nat_eq, nat_le, if◌then◌else◌, ℕ, List, [], ◌∷◌, ◌++◌, length, take, drop, slice_get, Option, Some, None}
 use Rattle.std.specs.Cmp.Lexicographic.{pointwise}
 use Rattle.model_asked.specs.Config.{world_name}
 use Rattle.model_asked.specs.declared.config.Config.{Config}

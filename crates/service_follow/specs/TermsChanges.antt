@@ -1,6 +1,5 @@
 -- changes of the terms of a hall in a log, and how terms are read back
 use Rattle.std.specs.Prelude.{◌≡◌, ◌≢◌, ◌⊎◌, ◌≤◌, ℕ, List, [], ◌∷◌, ◌++◌, All, length, Option, Some, None}
-use Rattle.model_asked.specs.declared.config.Config.{Config}
 use Rattle.service_hall.specs.declared.reads.Reads.{Reads}
 use Rattle.service_follow.specs.Batches.{batch_by}
 use Rattle.service_follow.specs.Entries.{behind_first_line}

@@ -1,7 +1,6 @@
 -- The parts of the text stand one behind the other.
-use Rattle.std.proofs.Common.{◌≡◌, ◌∙◌, ◌++◌, List, ℕ, ap, codes, append_assoc}
+use Rattle.std.proofs.Common.{◌∙◌, ◌++◌, ℕ, ap}
 use Rattle.service_follow.specs.Batches.{hex_digits}
-use Rattle.service_follow.specs.Terms.{terms_number}
 use Rattle.service_follow.proofs.TermsRead.{text_pushed}
 use Rattle.service_follow.proofs.hall_terms.push_terms.Goals as goal
 

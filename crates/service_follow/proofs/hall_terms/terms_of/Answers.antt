@@ -1,5 +1,5 @@
 -- What stands behind the first line is a part of the entry.
-use Rattle.std.proofs.Common.{◌≤◌, length, ap, subst, sym}
+use Rattle.std.proofs.Common.{◌≤◌, length, subst, sym}
 use Rattle.service_follow.proofs.TermsRead.{behind_short}
 use Rattle.service_follow.proofs.hall_terms.terms_of.Goals as goal
 

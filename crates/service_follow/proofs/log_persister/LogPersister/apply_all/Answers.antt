@@ -1,5 +1,5 @@
 -- Fewer entries were applied than there are places, or all places are used.
-use Rattle.std.proofs.Common.{◌≡◌, ◌<◌, ℕ, ◌+◌, inl, inr, arith}
+use Rattle.std.proofs.Common.{◌≡◌, ◌<◌, ℕ, ◌+◌, inl, inr, refl, arith}
 use Rattle.std.proofs.lemmas.Bool.{cases_lt}
 use Rattle.service_follow.specs.Hosted.{IsAtEnd}
 use Rattle.service_follow.proofs.Moves.{moved_self, moved_then}
@@ -17,7 +17,10 @@ returns-in_default-clause-all g c =
     at_end (g.S.Store.lacks c.catch_up.new.self.store) c.loop.self.log.replica.place c.in_default.field-0 c.catch_up.new.self.replica.place c.in_default.ensures.count c.in_default.ensures.stopped
 
 pub loop-init : goal.loop-init
-loop-init g c = moved_self g.S.Store.stands c.args.self.now.log
+loop-init g c = record { moved = moved_self g.S.Store.stands c.args.self.now.log; terms = refl }
 
 pub loop-preserved : goal.loop-preserved
-loop-preserved g c = moved_then g.S.Store.stands c.args.self.now.log c.loop.self.log c.catch_up.new.self c.loop.invariant c.catch_up.ensures.moved
+loop-preserved g c = record {
+  moved = moved_then g.S.Store.stands c.args.self.now.log c.loop.self.log c.catch_up.new.self c.loop.invariant.moved c.catch_up.ensures.moved;
+  terms = c.loop.invariant.terms;
+}

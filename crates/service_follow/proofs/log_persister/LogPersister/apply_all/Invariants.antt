@@ -1,5 +1,9 @@
+use Rattle.std.proofs.Common.{◌≡◌}
 use Rattle.service_follow.specs.Hosted.{HasMovedOn}
 use Rattle.service_follow.proofs.log_persister.LogPersister.apply_all.Given as goal
 
 abbrev pub invariant-loop : goal.invariant-loop
-invariant-loop g l = HasMovedOn g.S.Store.stands l.fn.self.log l.self.log
+invariant-loop g l = record {
+  moved : HasMovedOn g.S.Store.stands l.fn.self.log l.self.log;
+  terms : l.self.terms ≡ l.fn.self.terms;
+}
