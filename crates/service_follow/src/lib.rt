@@ -43,6 +43,7 @@
 mod compaction;
 pub mod front_end_stay;
 mod gathering;
+mod gone_stays;
 pub mod hall_terms;
 mod keeping;
 mod lasting;

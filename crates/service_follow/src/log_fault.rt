@@ -95,7 +95,8 @@ impl fmt::Display for LogFault {
     fn fmt<W: fmt::Write>(&self, f: &mut fmt::Formatter<W>) -> fmt::Result {
         f.write_str(match self {
             LogFault::Memory => "no memory",
-            LogFault::Damaged => "an entry of the log is damaged, or tells another history than those before it",
+            LogFault::Damaged =>
+                "an entry of the log is damaged, or tells another history than those before it",
             LogFault::NoNames => "no names are given in this world",
             LogFault::OtherConfig => "log of another config",
             LogFault::OtherTerms(hall, own) => {

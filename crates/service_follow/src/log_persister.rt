@@ -15,6 +15,7 @@ ghost use Rattle.service_follow.specs.TermsChanges.{HasChangedAlone};
 ghost use Rattle.service_follow.specs.Watched.{watched};
 
 use crate::compaction::Compaction;
+use crate::gone_stays::GoneStays;
 use crate::hall_terms::{HallTerms, ToldTerms, push_told, terms_of};
 use crate::lasting::Lasting;
 use crate::log_fault::LogFault;
@@ -84,6 +85,8 @@ pub struct LogPersister<S: Store, T: Pause> {
     longer_until: u64,
     /// Who keeps stays.
     sessions: Sessions,
+    /// The stays that it ended since their front ends are gone.
+    gone: GoneStays,
     /// The compactions that it offers.
     compaction: Compaction,
     /// How much of the history no compaction makes shorter.
@@ -107,6 +110,7 @@ impl<S: Store + Drop, T: Pause + Drop> Drop for LogPersister<S, T> {
             terms: _,
             longer_until: _,
             sessions: _,
+            gone: _,
             compaction: _,
             lasting: _,
         } = self;
@@ -304,6 +308,7 @@ impl<S: Store + Drop, T: Pause + Drop> LogPersister<S, T> {
             terms,
             longer_until: 0,
             sessions: Sessions::new(alloc),
+            gone: GoneStays::new(alloc),
             compaction: Compaction::new(alloc, token),
             lasting: Lasting::new(),
         };
@@ -664,6 +669,7 @@ impl<S: Store, T: Pause> LogPersister<S, T> {
         ensures same { (self.new.log ≡ self.old.log) × (self.new.count ≡ self.old.count) × (self.new.token ≡ self.old.token) }
     {
         let ended = self.sessions.ended(&self.token, self.log.kept(), left)?;
+        self.gone.note(&self.token, self.log.kept(), &ended);
         lines_of(self.alloc, self.log.hall(), &ended)
     }
 
@@ -686,6 +692,7 @@ impl<S: Store, T: Pause> LogPersister<S, T> {
         self.count = count;
         match self.log.offer(&self.batch, reply_queue) {
             Ok(Step::Answered) => {
+                self.gone.stand();
                 self.sessions.sent = now;
                 Ok(())
             }
@@ -756,6 +763,7 @@ impl<S: Store, T: Pause> LogPersister<S, T> {
             HasLooked S.lacks (S.stands self.old.log.store) self.new.log.config self.old.sessions.reads self.new.sessions.reads
             self.old.sessions.watches.watches.items self.new.sessions.watches.watches.items) }
     {
+        self.gone.clear();
         let read = self.log.read(TICK_ENTRIES, reply_queue);
         self.answers = read.is_ok();
         match read {
@@ -854,6 +862,10 @@ impl<S: Store, T: Pause> Persist<ReplyQueue> for LogPersister<S, T> {
 
     fn end_stays(&mut self, reply_queue: &mut ReplyQueue, due: &[u64]) -> Result<(), LogFault> {
         LogPersister::end_stays(self, reply_queue, due)
+    }
+
+    fn ended_of_gone(&self) -> &[u64] {
+        self.gone.ended()
     }
 
     fn has_stay(&self, _reply_queue: &ReplyQueue, identity: u64) -> bool {

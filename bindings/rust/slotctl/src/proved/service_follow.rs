@@ -1,4 +1,4 @@
-// Erased by bindings/rust/erase from crates/service_follow/src/lib.rt, sha256 85ef6bfae844ec3b02d76dc224c8abb6a0ef98b2f32f11d31c7620d60148eb21.
+// Erased by bindings/rust/erase from crates/service_follow/src/lib.rt, sha256 77ea8a367db4ed68fcdf413d9ea999549b909494e30c561c7c252bf94fb20a30.
 //! A hall whose history is a log that several machines share.
 //!
 //! `HallMachine` is a hall as the machine of a `service_log::Replica`: an entry of the log is a first line, a token of its own, and then lines
@@ -43,6 +43,7 @@
 mod compaction;
 pub mod front_end_stay;
 mod gathering;
+mod gone_stays;
 pub mod hall_terms;
 mod keeping;
 mod lasting;

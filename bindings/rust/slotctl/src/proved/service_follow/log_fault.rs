@@ -1,4 +1,4 @@
-// Erased by bindings/rust/erase from crates/service_follow/src/log_fault.rt, sha256 9c229106a8c6185534986d35d0dd651b64203f229e8e5bcf334ad4a7a9922605.
+// Erased by bindings/rust/erase from crates/service_follow/src/log_fault.rt, sha256 1b751f8cd3776f415e045345cc4987407757e5dd1e64bd230a9a46ba2810005e.
 //! Why a hall over a log is not served, or no more.
 
 use crate::proved::model_steps::refusal::Refusal;

@@ -1,4 +1,4 @@
-// Erased by bindings/rust/erase from crates/service_follow/src/log_persister.rt, sha256 5e6904f8651d337159315678836944c77fe7398c0ea86643ec8234c848e71d37.
+// Erased by bindings/rust/erase from crates/service_follow/src/log_persister.rt, sha256 a5929149db77d25550fa52e9153e16baaf469ce8442b06b126d9d1659c754189.
 //! Serves the clients of one front end over a log.
 
 use crate::kit::alloc::{AllocError, Allocator, Global};
@@ -7,6 +7,7 @@ use crate::kit::String;
 use crate::kit::Vec;
 use crate::proved::model_asked::config::Config;
 use crate::proved::service_follow::compaction::Compaction;
+use crate::proved::service_follow::gone_stays::GoneStays;
 use crate::proved::service_follow::hall_terms::{push_told, terms_of, HallTerms, ToldTerms};
 use crate::proved::service_follow::lasting::Lasting;
 use crate::proved::service_follow::log_fault::LogFault;
@@ -79,6 +80,8 @@ pub struct LogPersister<S: Store, T: Pause> {
     longer_until: u64,
     /// Who keeps stays.
     sessions: Sessions,
+    /// The stays that it ended since their front ends are gone.
+    gone: GoneStays,
     /// The compactions that it offers.
     compaction: Compaction,
     /// How much of the history no compaction makes shorter.
@@ -244,6 +247,7 @@ impl<S: Store, T: Pause> LogPersister<S, T> {
             terms,
             longer_until: 0,
             sessions: Sessions::new(alloc),
+            gone: GoneStays::new(alloc),
             compaction: Compaction::new(alloc, token),
             lasting: Lasting::new(),
         };
@@ -515,6 +519,7 @@ impl<S: Store, T: Pause> LogPersister<S, T> {
     // The lines by which the stays end that are to end now, where all of the log was read.
     fn decide(&mut self, left: &[u64]) -> Result<Vec<u8>, AllocError> {
         let ended = self.sessions.ended(&self.token, self.log.kept(), left)?;
+        self.gone.note(&self.token, self.log.kept(), &ended);
         lines_of(self.alloc, self.log.hall(), &ended)
     }
 
@@ -528,6 +533,7 @@ impl<S: Store, T: Pause> LogPersister<S, T> {
         self.count = count;
         match self.log.offer(&self.batch, reply_queue) {
             Ok(Step::Answered) => {
+                self.gone.stand();
                 self.sessions.sent = now;
                 Ok(())
             }
@@ -574,6 +580,7 @@ impl<S: Store, T: Pause> LogPersister<S, T> {
         reply_queue: &mut ReplyQueue,
         left: &[u64],
     ) -> Result<(), LogFault> {
+        self.gone.clear();
         let read = self.log.read(TICK_ENTRIES, reply_queue);
         self.answers = read.is_ok();
         match read {
@@ -648,6 +655,10 @@ impl<S: Store, T: Pause> Persist<ReplyQueue> for LogPersister<S, T> {
 
     fn end_stays(&mut self, reply_queue: &mut ReplyQueue, due: &[u64]) -> Result<(), LogFault> {
         LogPersister::end_stays(self, reply_queue, due)
+    }
+
+    fn ended_of_gone(&self) -> &[u64] {
+        self.gone.ended()
     }
 
     fn has_stay(&self, _reply_queue: &ReplyQueue, identity: u64) -> bool {
