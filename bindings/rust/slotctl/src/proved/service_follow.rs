@@ -1,4 +1,4 @@
-// Erased by bindings/rust/erase from crates/service_follow/src/lib.rt, sha256 770b6991f84a16e51a5707c06d2ae2673bbe99a5fb585797f031ba21766712a6.
+// Erased by bindings/rust/erase from crates/service_follow/src/lib.rt, sha256 85ef6bfae844ec3b02d76dc224c8abb6a0ef98b2f32f11d31c7620d60148eb21.
 //! A hall whose history is a log that several machines share.
 //!
 //! `HallMachine` is a hall as the machine of a `service_log::Replica`: an entry of the log is a first line, a token of its own, and then lines
@@ -7,7 +7,8 @@
 //!
 //! `LogPersister` serves the clients of one front end: before a turn of the loop (`service_loop`) takes the lines that came, they come to stand
 //! in the log as one entry (`prefetch`), and the answers are those due at its place. The turn takes them from the queue of replies, and sends nothing
-//! unless all of the queue of replies was said again (`persister`). The first entry of a log is a line of its config: a front end of another refuses to start.
+//! unless all of the queue of replies was said again (`persister`). The first entry of a log is a line of its config and of its terms (`HallTerms`): a
+//! front end with others refuses to start.
 //!
 //! The theorem (`law_of_log_hosting`): a turn of the loop over a queue of replies that was prefetched and used up is a turn over the hall of the log: all
 //! turns of all connections, in one order, are a run of the hall to which just the entries before this turn's were applied. Halls of one

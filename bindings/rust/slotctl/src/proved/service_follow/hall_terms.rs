@@ -1,12 +1,15 @@
-// Erased by bindings/rust/erase from crates/service_follow/src/hall_terms.rt, sha256 089808798f20eaa1480e52ac3ddc0ee693d80933874918f36f0403f2da41ef62.
+// Erased by bindings/rust/erase from crates/service_follow/src/hall_terms.rt, sha256 f00740557cc1d9d273b305e030a4ce4b67213a55f05b0a7ac83a9dc9934a3341.
 //! For how long stays go on in the pool of a hall in a log, as its entries tell.
 
 use crate::kit::alloc::AllocError;
 use crate::kit::Vec;
 use crate::proved::service_follow::log_persister::push_count;
 use crate::proved::service_follow::machine::behind_first_line;
-use crate::proved::service_follow::marks::number_of;
+use crate::proved::service_follow::marks::{is_there, number_of};
 use std::fmt;
+
+/// What ends a line.
+const LF: u8 = 10;
 
 /// How many bytes the text of terms has, with the LF behind it.
 const TEXT: usize = 45;
@@ -91,13 +94,13 @@ pub(crate) fn push_told(line: &mut Vec<u8>, told: Option<ToldTerms>) -> Result<(
 
 // What 45 bytes tell, if they are the text of terms with an LF behind it.
 fn text_tells(text: &[u8; 45]) -> Option<ToldTerms> {
-    if text[..7] != *b" terms ".as_slice() {
+    if &text[..7] != b" terms ".as_slice() {
         return None;
     }
-    if text[23..28] != *b" was ".as_slice() {
+    if &text[23..28] != b" was ".as_slice() {
         return None;
     }
-    if text[44] != 10 {
+    if !is_there(text, 44, LF) {
         return None;
     }
     Some(ToldTerms {

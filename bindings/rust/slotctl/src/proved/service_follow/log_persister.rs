@@ -1,8 +1,9 @@
-// Erased by bindings/rust/erase from crates/service_follow/src/log_persister.rt, sha256 99e5b6a1e5fadcaa452906e4642b1946d14177d6a13b851adf6d6eb08311edbb.
+// Erased by bindings/rust/erase from crates/service_follow/src/log_persister.rt, sha256 5e6904f8651d337159315678836944c77fe7398c0ea86643ec8234c848e71d37.
 //! Serves the clients of one front end over a log.
 
 use crate::kit::alloc::{AllocError, Allocator, Global};
 use crate::kit::format;
+use crate::kit::String;
 use crate::kit::Vec;
 use crate::proved::model_asked::config::Config;
 use crate::proved::service_follow::compaction::Compaction;
@@ -133,17 +134,22 @@ fn put_batch(
     Ok(())
 }
 
+// The version of the texts, and this config.
+fn config_text(alloc: Global, config: Config) -> Result<String, AllocError> {
+    let world = config.world.name();
+    let m = config.m;
+    let k = config.k;
+    let limit = config.limit;
+    format!(in alloc; "beglushan hall 1 world {world} m {m} k {k} limit {limit}")
+}
+
 // The first entry of a log of halls of this config, with these terms.
 fn first_line(
     alloc: Global,
     config: Config,
     told: Option<ToldTerms>,
 ) -> Result<Vec<u8>, AllocError> {
-    let world = config.world.name();
-    let m = config.m;
-    let k = config.k;
-    let limit = config.limit;
-    let text = format!(in alloc; "beglushan hall 1 world {world} m {m} k {k} limit {limit}")?;
+    let text = config_text(alloc, config)?;
     let mut line = Vec::new(alloc);
     line.extend_from_slice(text.as_bytes())?;
     push_told(&mut line, told)?;

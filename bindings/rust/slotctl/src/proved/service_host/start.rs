@@ -1,4 +1,4 @@
-// Erased by bindings/rust/erase from crates/service_host/src/start.rt, sha256 63165d95d73424676c863b051deaa97c57ee1dbb57a4b1c697f3c1f6c97ab5b3.
+// Erased by bindings/rust/erase from crates/service_host/src/start.rt, sha256 589e1252a493697c1e02ebbea935c3c190784d329f58e9671704a880521d744b.
 //! A whole server of a hall, by its plan.
 
 use crate::kit::alloc::{AllocGlobal, Global};

@@ -1,4 +1,4 @@
-// Erased by bindings/rust/erase from crates/service_host/src/terms.rt, sha256 fd8dbc7e6b52dd0936bf1613116a9cf3d06a893eeb7baa52b545c2320b534865.
+// Erased by bindings/rust/erase from crates/service_host/src/terms.rt, sha256 1d39d1c5d7d813627b72bed71e21850e5527c70e798415b60f57af422b269a27.
 //! For how long stays go on in a hall over a log, and how an operator changes that.
 
 use crate::kit::alloc::Global;
@@ -20,7 +20,8 @@ use crate::proved::service_log::store::Store;
 const MOST_GRACE: u64 = 86_400;
 
 /// What is said where a hall has no terms.
-const NO_TERMS: &str = "slotctl: this hall in etcd was made by an older version, and does not tell how its stays are held; give it --hold and --grace by --change-terms\n";
+const NO_TERMS: &str =
+    "slotctl: this hall in etcd was made by an older version, and does not tell how its stays are held; give it --hold and --grace by --change-terms\n";
 
 /// Returns the terms of a hall whose stays end so many seconds after their connection, or never where no number is given.
 pub(crate) fn terms_by(grace: Option<u64>) -> HallTerms {
