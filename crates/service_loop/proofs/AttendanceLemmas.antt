@@ -3,7 +3,7 @@ use Rattle.std.proofs.Common.{◌≡◌, ◌⊎◌, ◌∙◌, inl, inr, ℕ, Bo
 use Rattle.std.proofs.lemmas.List.{append_assoc}
 use Rattle.model_asked.specs.declared.event.Event.{Event}
 use Rattle.model_asked.specs.declared.event.Event.TheVariants as event
-use Rattle.service_loop.proofs.Common.{Request, ShownReply, Runs, Turn, WorldKind, TurnLog, Peek}
+use Rattle.service_loop.proofs.Common.{Request, ShownReply, Turn, WorldKind, Peek}
 use Rattle.text_player.specs.Turns.Turn.{Answered, Reported, Ended, Misread}
 use Rattle.text_lines.specs.Meaning.{meaning}
 use Rattle.model_pool.specs.slots.SlotsState.{SlotsState}
@@ -19,7 +19,7 @@ use Rattle.service_loop.specs.Attendance.{AllAttended, AreHeard, AreLeft, AreLos
 use Rattle.service_loop.specs.Attendance.AttendedDeed.{Waits, Prefetches, Serves, Takes, Loses, Ends}
 use Rattle.service_loop.specs.Attending.{Hears, acts_in, acts_of_endings, number_at}
 use Rattle.service_loop.specs.Gathering.{PrefetchedIteration}
-use Rattle.service_loop.specs.Keepers.{EndsAtTick, HearsAndEnds}
+use Rattle.service_loop.specs.Keepers.{HearsAndEnds}
 use Rattle.service_loop.specs.Losing.{entered_by, lost_act, lost_acts}
 use Rattle.service_loop.specs.Releasing.{EndsDue, competes_for, freed_by, freed_in, freed_of, is_freed}
 use Rattle.service_loop.specs.Rounds.{Deed, WasServed}

@@ -1,13 +1,8 @@
 -- what a server does, one thing after another
-use Rattle.std.proofs.Common.{◌≡◌, ◌⊎◌, inl, inr, ℕ, List, [], ◌∷◌, ◌++◌, Option, Result, Ok, Err, IsErr, IfOk, OnErr, OnOk, is_ok, true, take, refl, subst}
-use Rattle.service_loop.proofs.Common.{Request, ShownReply, Peek, WorldKind}
-use Rattle.text_player.specs.Shared.{all_turns}
-use Rattle.service_loop.specs.Gathering.{PrefetchedIteration}
-use Rattle.service_loop.specs.declared.gathering.Called.{Called}
-use Rattle.service_loop.specs.declared.gathering.Called.TheVariants as called
+use Rattle.std.proofs.Common.{◌≡◌, ℕ, List, [], ◌∷◌, ◌++◌, Result, Ok, Err, IsErr, IfOk, OnErr, OnOk, refl, subst}
+use Rattle.service_loop.proofs.Common.{Request, ShownReply}
 use Rattle.service_loop.specs.Rounds.{AllDone, Deed, WasServed}
-use Rattle.service_loop.specs.Rounds.Deed.{Waits, Prefetches, Serves}
-use Rattle.service_loop.specs.Seats.{LoopIteration, Seating, ServedIteration}
+use Rattle.service_loop.specs.Rounds.Deed.{Waits}
 
 -- what is so is so where a call went well
 pub always : {T E : Type 0} (result : Result T E) (P : Type 0) → P → OnOk result P

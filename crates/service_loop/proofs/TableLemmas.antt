@@ -1,5 +1,5 @@
 -- a connection is given the next number
-use Rattle.std.proofs.Common.{◌≡◌, ◌⊎◌, inl, inr, ℕ, zero, suc, ◌<◌, ◌≤◌, ◌+◌, List, [], ◌∷◌, ◌++◌, length, get_or, set, refl, sym, subst, ◌∙◌, arith}
+use Rattle.std.proofs.Common.{◌≡◌, ◌⊎◌, inl, inr, ℕ, zero, suc, ◌<◌, ◌≤◌, ◌+◌, List, [], ◌∷◌, ◌++◌, length, set, refl, sym, subst, ◌∙◌, arith}
 use Rattle.service_loop.proofs.Common.{cases_eq, get_or-set_same, get_or-set_other}
 use Rattle.service_loop.specs.Attending.{number_at}
 use Rattle.service_loop.specs.Table.{AreNumbered}

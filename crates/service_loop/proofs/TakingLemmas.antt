@@ -1,5 +1,5 @@
 -- numbers that are taken, one connection after another
-use Rattle.std.proofs.Common.{◌≡◌, ◌⊎◌, ◌≤◌, ◌<◌, ◌+◌, ◌-◌, ◌∙◌, inl, inr, arith, ℕ, Bool, true, false, set, List, [], ◌∷◌, ◌++◌, length, length-append, map, replicate, take, append_assoc, get_or, Option, Some, None, Result, Ok, Err, IfOk, OnOk, is_err, refl, sym, ap, subst}
+use Rattle.std.proofs.Common.{◌≡◌, ◌⊎◌, ◌≤◌, ◌<◌, ◌+◌, ◌-◌, ◌∙◌, inl, inr, arith, ℕ, Bool, true, false, set, List, [], ◌∷◌, ◌++◌, length, length-append, map, replicate, take, append_assoc, get_or, Option, Some, None, Result, Ok, Err, IfOk, is_err, refl, sym, ap, subst}
 use Rattle.model_pool.specs.declared.pool.TheConstants.{MOST_NUMBERS}
 use Rattle.std.proofs.lemmas.List.{replicate_more, take_more}
 use Rattle.model_asked.specs.declared.event.Event.{Event}
@@ -10,14 +10,9 @@ use Rattle.model_asked.specs.Replies.{with_view}
 use Rattle.model_asked.specs.Requests.Request.{Take}
 use Rattle.service_loop.proofs.Common.{append-nil, get_or-set_same, get_or-set_other, length-set, cases_eq, eq-eqb, ne_eqb, ShownReply, Request, Runs, runs-append, all-append, all-tagged, of-append, of-same, of-other, Turn}
 use Rattle.text_player.specs.Shared.{TurnLog, turns_of, all_turns, tagged}
-use Rattle.service_loop.specs.Rounds.{WasServed}
-use Rattle.service_loop.specs.Rounds.Deed.{Prefetches, Serves}
-use Rattle.service_loop.specs.declared.gathering.Called.{Called}
-use Rattle.service_loop.specs.declared.gathering.Called.TheVariants as called
 use Rattle.service_loop.specs.Seats.{Seating}
 use Rattle.service_loop.proofs.AttendedLemmas.{Tells, shown}
-use Rattle.service_loop.proofs.RoundLemmas.{served_waits}
-use Rattle.service_loop.specs.Taking.{IsTaking, LeadTo, MayTakeNumber, NumbersTaken, SaysTaking, SeatTakesNumber, SeatTook, TakingsKept, TakingsPrefetched, entered, events_for, events_of, probed, seat_taken_for, wants_probe}
+use Rattle.service_loop.specs.Taking.{IsTaking, LeadTo, MayTakeNumber, NumbersTaken, SaysTaking, SeatTakesNumber, SeatTook, entered, events_for, events_of, probed, seat_taken_for, wants_probe}
 
 -- whether `probe` is said behind a reply is the same whatever view it shows
 pub wants_shown : {V W : Type 0} (r : Reply V) (v : W) → wants_probe (with_view r v) ≡ wants_probe r

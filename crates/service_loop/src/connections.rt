@@ -1,9 +1,9 @@
 //! The connections of a server, their seats, and who is to have a turn.
 
-ghost use Rattle.std.specs.Prelude.{◌≡◌, ◌≤◌, ◌<◌, ◌+◌, ◌^◌, ◌++◌, ◌∷◌, [], length, drop, get_or, None, IfOk, OnOk};
+ghost use Rattle.std.specs.Prelude.{◌≡◌, ◌≤◌, ◌+◌, ◌++◌, ◌<◌, ◌∷◌, [], false, length, drop, get_or, None, IfOk, OnOk};
 ghost use Rattle.service_loop.specs.Attending.{Hears, acts_of_endings, number_at};
 ghost use Rattle.service_loop.specs.Keepers.{MayServe};
-ghost use Rattle.service_loop.specs.Table.{ending_at, seat_over};
+ghost use Rattle.service_loop.specs.Table.{ending_at, is_swept, most_rest, seat_over};
 ghost use Rattle.service_loop.specs.Sendings.{Unsent, sockets};
 
 use crate::attended::{Attended, Ending};
@@ -70,6 +70,48 @@ fn is_over_at(seats: &[Option<Connection<Socket, Global>>], key: usize) -> bool
         }
     }
     false
+}
+
+// For how many ticks a connection may rest before it is closed; for ever, where that is not told.
+fn most_rest(connection: &Connection<Socket, Global>, idle: Option<u64>) -> Option<u64>
+    ensures { result ≡ most_rest idle connection.now }
+{
+    if connection.buffers.is_over() || connection.buffers.is_ended() {
+        Some(FLUSH_TICKS)
+    } else {
+        idle
+    }
+}
+
+// Whether whoever sits there rests for as long.
+fn is_swept_at(
+    seats: &[Option<Connection<Socket, Global>>],
+    key: usize,
+    tick: u64,
+    idle: Option<u64>,
+) -> bool
+    ensures { result ≡ is_swept tick idle (get_or seats.now key None) }
+{
+    if key < seats.len() {
+        if let Some(connection) = &seats[key] {
+            return match most_rest(connection, idle) {
+                Some(most) => {
+                    matches!(connection.stage, ConnectionStage::Idle)
+                        && most <= tick.saturating_sub(connection.since)
+                }
+                None => false,
+            };
+        }
+    }
+    false
+}
+
+// Whether whoever sits there is at its end, or said `quit`.
+fn is_leaving_at(seats: &[Option<Connection<Socket, Global>>], key: usize) -> bool {
+    match seats.get(key) {
+        Some(Some(connection)) => connection.buffers.is_over() || connection.buffers.is_ended(),
+        _ => false,
+    }
 }
 
 // How many lines whoever sits there sent, and whether it is at fault.
@@ -340,23 +382,16 @@ impl ConnectionTable {
         tick: u64,
         idle: Option<u64>,
         audit: &mut Audit,
-    ) -> Result<(), AllocError> {
-        let Some(connection) = self.seated(key) else {
+    ) -> Result<(), AllocError>
+        ensures { is_swept tick idle (get_or self.old.seats.items key None) ≡ false → (self.new.seats ≡ self.old.seats) × (self.new.ended ≡ self.old.ended) }
+    {
+        if !is_swept_at(&self.seats, key, tick, idle) {
             return Ok(());
-        };
-        let quiet = tick.saturating_sub(connection.since);
-        let leaving = connection.buffers.is_over() || connection.buffers.is_ended();
-        let most = if leaving { Some(FLUSH_TICKS) } else { idle };
-        let rests = connection.stage == ConnectionStage::Idle;
-        match most {
-            Some(most) if rests && most <= quiet => {
-                if !leaving {
-                    audit.note_idle(number_at(self.numbers.all(), key));
-                }
-                self.leave(key)
-            }
-            _ => Ok(()),
         }
+        if !is_leaving_at(&self.seats, key) {
+            audit.note_idle(number_at(self.numbers.all(), key));
+        }
+        self.leave(key)
     }
 
     /// How many lines were taken of all connections. It takes time as there are seats.

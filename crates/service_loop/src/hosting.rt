@@ -206,7 +206,8 @@ where
     R: Net + Wait + Clock,
     requires { (q : Request) → D.knows q ≡ true }
     ensures served { OnOk result (WasServed D.may K.prefetches K.persists K.waits persister.old service.old.service persister.new service.new.service) }
-    ensures attended { OnOk result (WasAttended hosted D.may K.prefetches K.persists K.waits K.shares K.holds options.grace persister.old service.old persister.new service.new) }
+    ensures attended { OnOk result (WasAttended hosted D.may K.prefetches K.persists K.waits K.shares K.holds options.grace
+        persister.old service.old persister.new service.new) }
 {
     let mut shared = SharedBuffers::new(alloc)?;
     let mut hosting = Hosting::new(rt, alloc, options, listeners, persister.most_prefetched())?;
@@ -341,7 +342,8 @@ impl Hosting {
         requires knows { (q : Request) → D.knows q ≡ true }
         requires room { AreShared shared.old }
         ensures room { AreShared shared.new }
-        ensures attended { OnOk result (WasAttended hosted D.may K.prefetches K.persists K.waits K.shares K.holds grace persister.old service.old persister.new service.new) }
+        ensures attended { OnOk result (WasAttended hosted D.may K.prefetches K.persists K.waits K.shares K.holds grace
+            persister.old service.old persister.new service.new) }
     {
         self.wait(rt, &mut service.audit)?;
         self.accept_all(&mut service.audit)?;
@@ -536,7 +538,8 @@ impl Hosting {
         requires knows { (q : Request) → D.knows q ≡ true }
         requires room { AreShared shared.old }
         ensures room { AreShared shared.new }
-        ensures attended { OnOk result (WasAttended hosted D.may K.prefetches K.persists K.waits K.shares K.holds grace persister.old service.old persister.new service.new) }
+        ensures attended { OnOk result (WasAttended hosted D.may K.prefetches K.persists K.waits K.shares K.holds grace
+            persister.old service.old persister.new service.new) }
         ensures keepers { OnOk result ((heard : Attended D) × (seats : List (Option (Connection Socket Global))) ×
             Hears (acts_of_endings self.old.tick self.old.lost self.old.connections.ended.items) service.old heard ×
             SendsToKeepers sockets (K.may_answer persister.old) heard.stays self.old.connections.numbers.items self.old.connections.seats.items seats) }
@@ -556,7 +559,8 @@ impl Hosting {
         requires knows { (q : Request) → D.knows q ≡ true }
         requires room { AreShared shared.old }
         ensures room { AreShared shared.new }
-        ensures attended { (grace : Option ℕ) → OnOk result (WasAttended hosted D.may K.prefetches K.persists K.waits K.shares K.holds grace persister.old service.old persister.new service.new) }
+        ensures attended { (grace : Option ℕ) → OnOk result (WasAttended hosted D.may K.prefetches K.persists K.waits K.shares K.holds grace
+            persister.old service.old persister.new service.new) }
         ensures sent { OnOk result ((seats : List (Option (Connection Socket Global))) × HasSent sockets self.old.connections.seats.items seats) }
     {
         match self.iterate_all(rt, service, persister, shared) {
@@ -581,7 +585,8 @@ impl Hosting {
         requires knows { (q : Request) → D.knows q ≡ true }
         requires room { AreShared shared.old }
         ensures room { AreShared shared.new }
-        ensures attended { (grace : Option ℕ) → OnOk result (WasAttended hosted D.may K.prefetches K.persists K.waits K.shares K.holds grace persister.old service.old persister.new service.new) }
+        ensures attended { (grace : Option ℕ) → OnOk result (WasAttended hosted D.may K.prefetches K.persists K.waits K.shares K.holds grace
+            persister.old service.old persister.new service.new) }
         ensures sent { OnOk result (HasSent sockets self.old.connections.seats.items self.new.connections.seats.items) }
     {
         let ConnectionTable {
@@ -616,7 +621,8 @@ impl Hosting {
         requires knows { (q : Request) → D.knows q ≡ true }
         requires room { AreShared shared.old }
         ensures room { AreShared shared.new }
-        ensures attended { (grace : Option ℕ) → OnOk result (WasAttended hosted D.may K.prefetches K.persists K.waits K.shares K.holds grace persister.old service.old persister.new service.new) }
+        ensures attended { (grace : Option ℕ) → OnOk result (WasAttended hosted D.may K.prefetches K.persists K.waits K.shares K.holds grace
+            persister.old service.old persister.new service.new) }
         ensures sent { OnOk result (HasSent sockets self.old.connections.seats.items self.new.connections.seats.items) }
     {
         let Called::Served(count) = called else {
@@ -646,7 +652,8 @@ impl Hosting {
         requires knows { (q : Request) → D.knows q ≡ true }
         requires room { AreShared shared.old }
         ensures room { AreShared shared.new }
-        ensures attended { (grace : Option ℕ) → OnOk result (WasAttended hosted D.may K.prefetches K.persists K.waits K.shares K.holds grace persister.old service.old persister.new service.new) }
+        ensures attended { (grace : Option ℕ) → OnOk result (WasAttended hosted D.may K.prefetches K.persists K.waits K.shares K.holds grace
+            persister.old service.old persister.new service.new) }
         ensures sent { OnOk result (HasSent sockets self.old.connections.seats.items self.new.connections.seats.items) }
     {
         let ConnectionTable {
@@ -714,7 +721,8 @@ impl Hosting {
         requires knows { (q : Request) → D.knows q ≡ true }
         requires room { AreShared shared.old }
         ensures room { AreShared shared.new }
-        ensures attended { OnOk result (WasAttended hosted D.may K.prefetches K.persists K.waits K.shares K.holds grace persister.old service.old persister.new service.new) }
+        ensures attended { OnOk result (WasAttended hosted D.may K.prefetches K.persists K.waits K.shares K.holds grace
+            persister.old service.old persister.new service.new) }
         ensures ends { OnOk result (HearsAndEnds K.may_answer (EndsDue D.may K.persists K.waits K.shares K.holds) grace self.old.looks self.old.tick
             (acts_of_endings self.old.tick self.old.lost self.old.connections.ended.items) self.old.connections.numbers.items self.new.connections.seats.items
             persister.old service.old persister.new service.new) }

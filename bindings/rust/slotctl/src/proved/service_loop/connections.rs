@@ -1,4 +1,4 @@
-// Erased by bindings/rust/erase from crates/service_loop/src/connections.rt, sha256 2fb92e68e27c0b7824e4730bf42df3aa1704d83e55849e5b6b2fdb830afc733b.
+// Erased by bindings/rust/erase from crates/service_loop/src/connections.rt, sha256 052f97bdb712595d367f697777130a64fb83dfc38e54ba405bd6e8a058efabcb.
 //! The connections of a server, their seats, and who is to have a turn.
 
 use crate::kit::alloc::{AllocError, Global};
@@ -63,6 +63,44 @@ fn is_over_at(seats: &[Option<Connection<Socket, Global>>], key: usize) -> bool 
         }
     }
     false
+}
+
+// For how many ticks a connection may rest before it is closed; for ever, where that is not told.
+fn most_rest(connection: &Connection<Socket, Global>, idle: Option<u64>) -> Option<u64> {
+    if connection.buffers.is_over() || connection.buffers.is_ended() {
+        Some(FLUSH_TICKS)
+    } else {
+        idle
+    }
+}
+
+// Whether whoever sits there rests for as long.
+fn is_swept_at(
+    seats: &[Option<Connection<Socket, Global>>],
+    key: usize,
+    tick: u64,
+    idle: Option<u64>,
+) -> bool {
+    if key < seats.len() {
+        if let Some(connection) = &seats[key] {
+            return match most_rest(connection, idle) {
+                Some(most) => {
+                    matches!(connection.stage, ConnectionStage::Idle)
+                        && most <= tick.saturating_sub(connection.since)
+                }
+                None => false,
+            };
+        }
+    }
+    false
+}
+
+// Whether whoever sits there is at its end, or said `quit`.
+fn is_leaving_at(seats: &[Option<Connection<Socket, Global>>], key: usize) -> bool {
+    match seats.get(key) {
+        Some(Some(connection)) => connection.buffers.is_over() || connection.buffers.is_ended(),
+        _ => false,
+    }
 }
 
 // How many lines whoever sits there sent, and whether it is at fault.
@@ -305,22 +343,13 @@ impl ConnectionTable {
         idle: Option<u64>,
         audit: &mut Audit,
     ) -> Result<(), AllocError> {
-        let Some(connection) = self.seated(key) else {
+        if !is_swept_at(&self.seats, key, tick, idle) {
             return Ok(());
-        };
-        let quiet = tick.saturating_sub(connection.since);
-        let leaving = connection.buffers.is_over() || connection.buffers.is_ended();
-        let most = if leaving { Some(FLUSH_TICKS) } else { idle };
-        let rests = connection.stage == ConnectionStage::Idle;
-        match most {
-            Some(most) if rests && most <= quiet => {
-                if !leaving {
-                    audit.note_idle(number_at(self.numbers.all(), key));
-                }
-                self.leave(key)
-            }
-            _ => Ok(()),
         }
+        if !is_leaving_at(&self.seats, key) {
+            audit.note_idle(number_at(self.numbers.all(), key));
+        }
+        self.leave(key)
     }
 
     /// How many lines were taken of all connections. It takes time as there are seats.

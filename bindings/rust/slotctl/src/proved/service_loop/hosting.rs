@@ -1,4 +1,4 @@
-// Erased by bindings/rust/erase from crates/service_loop/src/hosting.rt, sha256 73316f1e19e067dc264436210aced2e73d35139f49494f92405107c5f5cc1686.
+// Erased by bindings/rust/erase from crates/service_loop/src/hosting.rt, sha256 23bf01017ccc3dd3a2966aac9e2b0472c8aeb8e6885941f4933527608073424b.
 //! A server in one thread, by the readiness of its sockets.
 
 use crate::kit::alloc::{AllocError, Global};

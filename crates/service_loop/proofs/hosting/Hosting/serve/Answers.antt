@@ -1,5 +1,5 @@
 -- A turn of the loop is what was done to the service, and then numbers may be taken.
-use Rattle.std.proofs.Common.{◌∙◌, List, Option, ap, sym, subst}
+use Rattle.std.proofs.Common.{ap, subst}
 use Rattle.service_loop.specs.Sendings.{HasSent, hosted, sockets}
 use Rattle.service_loop.proofs.AttendanceLemmas.{attended_then}
 use Rattle.service_loop.proofs.RoundLemmas.{always, ok_holds}
