@@ -6,7 +6,6 @@ pub mod Invariant
 pub mod CollectWalk
 pub mod Ahead
 pub mod TreeSteps
-pub mod Nodes
 pub mod Laws
 pub mod Law
 pub mod Collect

@@ -38,7 +38,6 @@ pub mod collect;
 pub mod collect_walk;
 pub mod kept_segment;
 pub mod laws;
-pub mod node;
 pub mod node_registers;
 pub mod register;
 pub mod tree;
@@ -53,7 +52,6 @@ pub use kept_segment::KeptSegment;
 pub use laws::{
     law_of_collects, law_of_collects_at_places, law_of_nodes_and_walks, law_of_tree_memory,
 };
-pub use node::{Link, Node};
 pub use node_registers::NodeRegisters;
 pub use register::{TreeRegister, TreeValue, WrittenValue};
 pub use tree::Tree;

@@ -83,20 +83,10 @@ names_go_on (OverGrid w) (OverTree u) e h a = absurd a
 names_go_on (OverTree w) (OverGrid u) e h a = absurd a
 names_go_on (OverGrid w) (OverGrid u) (Begin p) h a = rw a refl
 names_go_on (OverGrid w) (OverGrid u) (Step p) h a = rw a refl
-names_go_on (OverGrid w) (OverGrid u) (Enter p) h a = absurd (cc)
-names_go_on (OverGrid w) (OverGrid u) (Probe p) h a = absurd (cc)
-names_go_on (OverGrid w) (OverGrid u) (Leave p) h a = absurd (cc)
-names_go_on (OverGrid w) (OverGrid u) (Put p value) h a = absurd (cc)
-names_go_on (OverGrid w) (OverGrid u) (Get p) h a = absurd (cc)
-names_go_on (OverGrid w) (OverGrid u) (Widen more) h a = absurd (cc)
+names_go_on (OverGrid w) (OverGrid u) e h a = absurd (cc)
 names_go_on (OverTree w) (OverTree u) (Begin p) h a = rw a refl
 names_go_on (OverTree w) (OverTree u) (Step p) h a = rw a refl
-names_go_on (OverTree w) (OverTree u) (Enter p) h a = absurd (cc)
-names_go_on (OverTree w) (OverTree u) (Probe p) h a = absurd (cc)
-names_go_on (OverTree w) (OverTree u) (Leave p) h a = absurd (cc)
-names_go_on (OverTree w) (OverTree u) (Put p value) h a = absurd (cc)
-names_go_on (OverTree w) (OverTree u) (Get p) h a = absurd (cc)
-names_go_on (OverTree w) (OverTree u) (Widen more) h a = absurd (cc)
+names_go_on (OverTree w) (OverTree u) e h a = absurd (cc)
 
 -- and is answered alike
 pub answered_alike : (w u : DeskValue) (e : Event) → is_renaming e ≡ true → NamesAlike w u → desk_reply w e ≡ desk_reply u e
@@ -104,20 +94,10 @@ answered_alike (OverGrid w) (OverTree u) e h a = absurd a
 answered_alike (OverTree w) (OverGrid u) e h a = absurd a
 answered_alike (OverGrid w) (OverGrid u) (Begin p) h a = rw a refl
 answered_alike (OverGrid w) (OverGrid u) (Step p) h a = rw a refl
-answered_alike (OverGrid w) (OverGrid u) (Enter p) h a = absurd (cc)
-answered_alike (OverGrid w) (OverGrid u) (Probe p) h a = absurd (cc)
-answered_alike (OverGrid w) (OverGrid u) (Leave p) h a = absurd (cc)
-answered_alike (OverGrid w) (OverGrid u) (Put p value) h a = absurd (cc)
-answered_alike (OverGrid w) (OverGrid u) (Get p) h a = absurd (cc)
-answered_alike (OverGrid w) (OverGrid u) (Widen more) h a = absurd (cc)
+answered_alike (OverGrid w) (OverGrid u) e h a = absurd (cc)
 answered_alike (OverTree w) (OverTree u) (Begin p) h a = rw a refl
 answered_alike (OverTree w) (OverTree u) (Step p) h a = rw a refl
-answered_alike (OverTree w) (OverTree u) (Enter p) h a = absurd (cc)
-answered_alike (OverTree w) (OverTree u) (Probe p) h a = absurd (cc)
-answered_alike (OverTree w) (OverTree u) (Leave p) h a = absurd (cc)
-answered_alike (OverTree w) (OverTree u) (Put p value) h a = absurd (cc)
-answered_alike (OverTree w) (OverTree u) (Get p) h a = absurd (cc)
-answered_alike (OverTree w) (OverTree u) (Widen more) h a = absurd (cc)
+answered_alike (OverTree w) (OverTree u) e h a = absurd (cc)
 
 -- an event that is accepted is one that the pool lets in
 pub lets_in : (w : DeskValue) (e : Event) → desk_refusal w e ≡ None → LetsIn (slots_of w) e

@@ -1,5 +1,4 @@
 pub mod HallLaws
 pub mod Histories
 pub mod ReadingLemmas
-pub mod Sent
 pub mod Serves

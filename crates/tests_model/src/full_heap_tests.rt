@@ -1,4 +1,5 @@
-//! Trees whose heap is full when a node is to be made: the growth is refused, and the same step is served later.
+//! Trees whose heap is full when a node is to be made: the growth is refused, and the same step is served later. The nodes of a tree lie in a
+//! table that grows for the first node and for the fourth.
 
 use crate::common::holds;
 use linked_list_allocator::LocalHeap;
@@ -20,61 +21,110 @@ fn filling(alloc: Global, heap: &LocalHeap) -> Result<Vec<Box<[u64; 2], &LocalHe
     Ok(boxes)
 }
 
-/// Takes so many steps of a walk: what the last answers.
-fn walked<'a>(
-    world: &mut TreeWorld<&'a LocalHeap>,
+/// A walk behind those of others: to the right at so many nodes, and then to this place.
+#[derive(Clone, Copy)]
+struct Walk {
     id: u64,
-    steps: u64,
-) -> Result<Option<Place>, Refusal> {
-    for _ in 1..steps {
-        let _ = world.step(id);
-    }
-    world.step(id)
+    rights: u64,
+    place: Place,
 }
 
-/// Whether 20 is refused a node twice while the heap is full, and the node is not there.
-fn node_is_refused<'a>(
+/// The walks of four that come one after the other.
+const WALKS: [Walk; 4] = [
+    Walk {
+        id: 10,
+        rights: 0,
+        place: 1,
+    },
+    Walk {
+        id: 20,
+        rights: 1,
+        place: 3,
+    },
+    Walk {
+        id: 30,
+        rights: 2,
+        place: 7,
+    },
+    Walk {
+        id: 40,
+        rights: 3,
+        place: 15,
+    },
+];
+
+/// How many of so many steps end no walk.
+fn quiet<'a>(world: &mut TreeWorld<&'a LocalHeap>, id: u64, steps: u64) -> u64 {
+    let mut quiet = 0u64;
+    for _ in 0..steps {
+        quiet = quiet.saturating_add(u64::from(world.step(id) == Ok(None)));
+    }
+    quiet
+}
+
+/// Whether a walk goes right where it does, in three steps a node.
+fn goes_right<'a>(world: &mut TreeWorld<&'a LocalHeap>, walk: Walk) -> bool {
+    let steps = walk.rights.saturating_mul(3);
+    quiet(world, walk.id, steps) == steps
+}
+
+/// Whether a walk that has gone right marks its place and ends there.
+fn ends<'a>(world: &mut TreeWorld<&'a LocalHeap>, walk: Walk) -> bool {
+    quiet(world, walk.id, 4) == 4
+        && world.step(walk.id) == Ok(Some(walk.place))
+        && world.tree().registers_at(walk.place).is_some()
+}
+
+/// Whether a walk is refused its node twice while the heap is full, and ends there once there is room.
+fn waits<'a>(
     alloc: Global,
     heap: &'a LocalHeap,
     world: &mut TreeWorld<&'a LocalHeap>,
+    walk: Walk,
 ) -> Result<bool, AllocError> {
     let boxes = filling(alloc, heap)?;
-    let quiet = walked(world, 20, 3);
-    let refused = [world.step(20), world.step(20)];
-    let is_there = world.tree().registers_at(3).is_some();
+    let has_gone = goes_right(world, walk);
+    let refused = [world.step(walk.id), world.step(walk.id)];
+    let is_there = world.tree().registers_at(walk.place).is_some();
     drop(boxes);
     Ok(
-        quiet == Ok(None)
+        has_gone
             && refused == [Err(Refusal::NoMemory), Err(Refusal::NoMemory)]
-            && !is_there,
+            && !is_there
+            && ends(world, walk),
     )
 }
 
-/// Whether two walk down a tree whose heap is full while the second is to make node 3.
-fn two_walk<'a>(
+/// Whether four walk down a tree whose heap is full while the first and the last are to make their nodes.
+fn four_walk<'a>(
     alloc: Global,
     heap: &'a LocalHeap,
     world: &mut TreeWorld<&'a LocalHeap>,
 ) -> Result<bool, AllocError> {
-    let begun = [world.begin(10), world.begin(20)];
-    let first = walked(world, 10, 5);
-    let is_refused = node_is_refused(alloc, heap, world)?;
-    let made = world.step(20);
-    let is_there = world.tree().registers_at(3).is_some();
-    let placed = walked(world, 20, 4);
+    let [first, second, third, last] = WALKS;
+    let begun = [
+        world.begin(first.id),
+        world.begin(second.id),
+        world.begin(third.id),
+        world.begin(last.id),
+    ];
+    let has_waited = waits(alloc, heap, world, first)?;
+    let second_ends = goes_right(world, second) && ends(world, second);
+    let third_ends = goes_right(world, third) && ends(world, third);
     Ok(
-        begun == [Ok(()), Ok(())]
-            && (first, made, placed) == (Ok(Some(1)), Ok(None), Ok(Some(3)))
-            && is_refused
-            && is_there,
+        begun == [Ok(()), Ok(()), Ok(()), Ok(())]
+            && has_waited
+            && second_ends
+            && third_ends
+            && waits(alloc, heap, world, last)?,
     )
 }
 
 #[test]
 fn a_node_of_a_tree_that_was_refused_is_made_later(rt: HostRuntime) -> Result<(), Refusal> {
-    let heap = LocalHeap::new(rt.alloc(), 8_192)?;
-    let mut world = TreeWorld::new(&heap, 2)?;
-    holds(&rt, 2, two_walk(rt.alloc(), &heap, &mut world) == Ok(true));
+    let heap = LocalHeap::new(rt.alloc(), 65_536)?;
+    let mut world = TreeWorld::new(&heap, 4)?;
+    holds(&rt, 4, four_walk(rt.alloc(), &heap, &mut world) == Ok(true));
     Ok(())
 }
 
@@ -90,48 +140,68 @@ fn accepted<'a>(world: &mut Names<'a>, id: u64, steps: u64) -> u64 {
     accepted
 }
 
-/// Whether 20 is refused a node twice while the heap is full.
+/// Whether `id` goes right in so many steps and is refused its node twice while the heap is full.
 fn step_is_refused<'a>(
     alloc: Global,
     heap: &'a LocalHeap,
     world: &mut Names<'a>,
+    id: u64,
+    steps: u64,
 ) -> Result<bool, AllocError> {
     let boxes = filling(alloc, heap)?;
-    let quiet = accepted(world, 20, 3);
-    let refused = [world.step(20).err(), world.step(20).err()];
+    let quiet = accepted(world, id, steps);
+    let refused = [world.step(id).err(), world.step(id).err()];
     drop(boxes);
-    Ok(quiet == 3 && refused == [Some(Refusal::NoMemory), Some(Refusal::NoMemory)])
+    Ok(quiet == steps && refused == [Some(Refusal::NoMemory), Some(Refusal::NoMemory)])
 }
 
-/// Whether two are named, by 22 steps of the first and 66 of the second, between which the heap was full.
-fn two_are_named<'a>(
+/// The name that `id` has by so many steps and one more, or `None` if it is named sooner or refused one.
+fn named<'a>(world: &mut Names<'a>, id: u64, steps: u64) -> Option<u64> {
+    let before = (accepted(world, id, steps), world.name_of(id));
+    let last = accepted(world, id, 1);
+    if before != (steps, None) || last != 1 {
+        return None;
+    }
+    world.name_of(id)
+}
+
+/// Whether four are named one after the other, over a tree whose heap is full while the first and the last are to make their nodes.
+fn four_are_named<'a>(
     alloc: Global,
     heap: &'a LocalHeap,
     world: &mut Names<'a>,
 ) -> Result<bool, AllocError> {
-    let begun = [world.begin(10), world.begin(20)];
-    let first = (accepted(world, 10, 21), world.name_of(10));
-    let last = (accepted(world, 10, 1), world.name_of(10));
-    let is_refused = step_is_refused(alloc, heap, world)?;
-    let second = (accepted(world, 20, 62), world.name_of(20));
-    let named = (accepted(world, 20, 1), world.name_of(20));
+    let begun = [
+        world.begin(10),
+        world.begin(20),
+        world.begin(30),
+        world.begin(40),
+    ];
+    let first_waits = step_is_refused(alloc, heap, world, 10, 0)?;
+    let names = [
+        named(world, 10, 21),
+        named(world, 20, 65),
+        named(world, 30, 92),
+    ];
+    let last_waits = step_is_refused(alloc, heap, world, 40, 9)?;
     Ok(
-        begun == [Ok(()), Ok(())]
-            && (first, last) == ((21, None), (1, Some(1)))
-            && (second, named) == ((62, None), (1, Some(3)))
-            && is_refused,
+        begun == [Ok(()), Ok(()), Ok(()), Ok(())]
+            && first_waits
+            && names == [Some(1), Some(3), Some(5)]
+            && last_waits
+            && named(world, 40, 110) == Some(7),
     )
 }
 
 #[test]
 fn names_over_a_tree_wait_for_a_node(rt: HostRuntime) -> Result<(), Refusal> {
-    let heap = LocalHeap::new(rt.alloc(), 65_536)?;
-    let config = Config::new(WorldKind::Tree, 2, 4, 1000)?;
+    let heap = LocalHeap::new(rt.alloc(), 131_072)?;
+    let config = Config::new(WorldKind::Tree, 4, 4, 1000)?;
     let mut world = Names::new(&heap, config)?;
     holds(
         &rt,
-        2,
-        two_are_named(rt.alloc(), &heap, &mut world) == Ok(true),
+        4,
+        four_are_named(rt.alloc(), &heap, &mut world) == Ok(true),
     );
     Ok(())
 }

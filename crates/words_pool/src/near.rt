@@ -159,7 +159,8 @@ impl<A: Allocator> PoolOver<Pooling, A> {
         requires ours { (seat.table_id ≡ self.now.table) × (seat.me.1 ≡ []) }
         requires range { (0 < end) × (end < self.now.numbers) }
         requires here { IsAside end (self.now.numbers - end) seat.me.0 }
-        requires accesses { ((call_of seat.me.0).accesses + end ≤ self.now.numbers + 1) × ((call_of seat.me.0).lost ≡ 0 → (call_of seat.me.0).accesses + end ≤ self.now.numbers) }
+        requires accesses { ((call_of seat.me.0).accesses + end ≤ self.now.numbers + 1) ×
+            ((call_of seat.me.0).lost ≡ 0 → (call_of seat.me.0).accesses + end ≤ self.now.numbers) }
         ensures ours { IfOk result (λ h. h.pool ≡ self.now.table) }
         ensures range { IfOk result (λ h. (1 ≤ h.number) × (h.number ≤ self.now.numbers) × (h.call.hinted ≡ false)) }
         ensures wrapped { IfOk result (λ h. HasWrapped self.now (end + 1) h) }

@@ -3,7 +3,7 @@ pub use Rattle.std.proofs.lemmas.Bool.{cases_Bool}
 pub use Rattle.std.proofs.lemmas.Bool.Decides.{eqb_tells, Decides-eqb, nat_tests, leb_tells}
 pub use Rattle.std.specs.Ordering.{nat_cmp}
 pub use Rattle.std.proofs.Math.Path.{fun_ext}
-pub use Rattle.std.proofs.lemmas.Nat.{pow_pos, shr-shr, shr_le}
+pub use Rattle.std.proofs.lemmas.Nat.{pow_pos}
 pub use Rattle.model_steps.specs.declared.access.Access.TheVariants.{Write}
 pub use Rattle.model_steps.specs.declared.access.Answer.{Answer}
 pub use Rattle.model_steps.specs.SetAt.{set_at}
@@ -33,6 +33,4 @@ pub use Rattle.model_splitter.specs.tree.Ahead.{HasRead, HasGrown, open_at, Sees
 pub use Rattle.model_splitter.specs.tree.Invariant.{IsTree, IsConsistent, was_made, NodesAgree}
 pub use Rattle.model_splitter.specs.tree.NodeOrder.{above, IsUnder, IsRightOf, IsFrom}
 pub use Rattle.model_splitter.specs.declared.tree.collect_walk.CollectWalk.{CollectWalk}
-pub use Rattle.model_splitter.specs.tree.Nodes.{is_right, registers_below, entries_in, is_lacking, grown}
-pub use Rattle.model_splitter.specs.declared.tree.node.Node.{out-Node, Node, roll-Node}
 pub use Rattle.model_splitter.specs.tree.Depth.{depth_of, IsNodeWithin}

@@ -1,9 +1,6 @@
 -- walks from node to node, and the nodes that they made
 pub mod Numbers
-pub mod Ways
-pub mod Below
-pub mod Steps
-pub mod Roots
+pub mod Kept
 pub mod VisitsKept
 pub mod AgreeKept
 pub mod DepthBound

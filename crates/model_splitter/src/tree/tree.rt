@@ -1,27 +1,27 @@
 //! A tree of nodes as a memory.
 
-ghost use Rattle.std.specs.Prelude.{◌≡◌, OnOk, OnErr, IfOk, IfSome, None, true, false, option_copied};
+ghost use Rattle.std.specs.Prelude.{◌≡◌, ◌||◌, ◌==◌, ◌/◌, OnOk, OnErr, IfOk, IfSome, None, true, false, is_some, option_copied};
 ghost use Rattle.std.specs.FinMap as map;
-ghost use Rattle.model_splitter.specs.tree.TreeSteps.{tree_steps, empty_tree, value_in, answer_of, after_access, may_refuse, number_in};
+ghost use Rattle.model_splitter.specs.tree.TreeSteps.{tree_steps, empty_tree, value_in, value_of, answer_of, after_access, after_write, fresh_registers, makes_node, may_refuse, number_in};
 ghost use Rattle.model_splitter.specs.lemmas.tree.TreeProofs.{others_kept};
 ghost use Rattle.model_steps.specs.declared.access.Access.TheVariants.{Read};
 ghost use Rattle.model_steps.specs.Taken.{reported_in};
 ghost use Rattle.model_splitter.specs.declared.tree.register.TreeValue.TheVariants as value;
 ghost use Rattle.model_splitter.specs.tree.Walk.{next_access, walker_after, walker_note};
 
-use crate::tree::node::{Link, find_from, write_from};
 use crate::tree::node_registers::NodeRegisters;
-use crate::tree::register::{MARKED, TreeRegister, TreeValue, WrittenValue};
+use crate::tree::register::{MARKED, ROOT, TreeRegister, TreeValue, WrittenValue};
 use crate::tree::walker::Walker;
 use model_steps::{Access, Answer, NoMemory, Note, Place, StepMemory, StepProgram};
 use std::alloc::Allocator;
+use std::collections::HashMap;
+use std::hash::{BuildHasherDefault, FoldHasher};
 use std::marker::Model;
 
-/// A tree of splitters as a memory. Each node is allocated when it is made. Contracts see a map from numbers to nodes.
+/// A tree of splitters as a memory: the nodes that were made, by their numbers. Contracts see a map from numbers to nodes.
 #[derive(Drop)]
 pub struct Tree<A: Allocator> {
-    root: Link<A>,
-    alloc: A,
+    nodes: HashMap<Place, NodeRegisters, BuildHasherDefault<FoldHasher>, A>,
     /// The value of a mark that is set, to be lent.
     set: TreeValue,
     /// The value of a mark that is not set.
@@ -40,9 +40,7 @@ impl<A: Allocator> Model for Tree<A> {
 
     ghost coded = { map.code coded_ℕ registers.the_row.coded };
 
-    ghost use Rattle.model_splitter.specs.tree.Nodes.{nodes_of};
-
-    ghost view = { λ t. nodes_of t.root };
+    ghost view = { λ t. map.from_entries t.nodes.entries };
 
     ghost invariant = { λ t. (t.set ≡ value.Word 1) × (t.clear ≡ value.Word 0) };
 }
@@ -53,8 +51,7 @@ impl<A: Allocator> Tree<A> {
         ensures { result ≡ empty_tree }
     {
         Tree {
-            root: None,
-            alloc,
+            nodes: HashMap::new(alloc),
             set: TreeValue::Word(MARKED),
             clear: TreeValue::Word(0),
         }
@@ -65,7 +62,7 @@ impl<A: Allocator> Tree<A> {
     pub fn registers_at(&self, place: Place) -> Option<&NodeRegisters>
         ensures { option_copied result ≡ map.get self.now place }
     {
-        find_from(&self.root, place)
+        self.nodes.get(&place)
     }
 
     /// Returns the value of a register. This is no access: it is for observers.
@@ -85,6 +82,49 @@ impl<A: Allocator> Tree<A> {
 }
 
 impl<A: Allocator + Clone> Tree<A> {
+    /// Whether a node may exist: it is the root, or its parent exists.
+    fn may_have(&self, place: Place) -> bool
+        ensures { result ≡ ((place == 1) || is_some (map.get self.now (place / 2))) }
+    {
+        place == ROOT || self.registers_at(place / 2).is_some()
+    }
+
+    /// Makes a node that does not exist.
+    ///
+    /// # Errors
+    ///
+    /// `NoMemory`: the allocation failed. Nothing has changed.
+    fn make(&mut self, place: Place) -> Result<(), NoMemory>
+        ensures after { OnOk result (self.new ≡ map.insert self.old place fresh_registers) }
+        ensures unchanged_on_error { OnErr result (self.new ≡ self.old) }
+    {
+        match self.nodes.insert(place, NodeRegisters::new()) {
+            Ok(_) => Ok(()),
+            Err(_) => Err(NoMemory),
+        }
+    }
+
+    /// Writes into a register. A write that sets the mark of a node makes the node, if it is the root or its parent exists.
+    ///
+    /// # Errors
+    ///
+    /// `NoMemory`: the node would be made and the allocation failed. Nothing has changed.
+    fn write(&mut self, register: TreeRegister, value: WrittenValue) -> Result<(), NoMemory>
+        ensures after { OnOk result (self.new ≡ after_write self.old register (value_of value.entry)) }
+        ensures unchanged_on_error { OnErr result (self.new ≡ self.old) }
+        ensures no_memory { OnErr result (makes_node self.old register (value_of value.entry) ≡ true) }
+    {
+        let place = register.node();
+        if let Some(registers) = self.nodes.get_mut(&place) {
+            registers.write(register, value);
+            return Ok(());
+        }
+        if !register.is_set_by(value) || !self.may_have(place) {
+            return Ok(());
+        }
+        self.make(place)
+    }
+
     /// Returns the word in a register of a node that exists.
     fn word(&self, register: TreeRegister) -> Option<u64>
         ensures { IfSome result (λ word. value_in register (map.get self.now (number_in register)) ≡ value.Word word) }
@@ -112,7 +152,7 @@ impl<A: Allocator + Clone> Tree<A> {
             },
             Access::Write(register, word) => {
                 let written = WrittenValue::Word(word);
-                match write_from(&mut self.root, &self.alloc, register, written) {
+                match self.write(register, written) {
                     Ok(()) => Ok(Some(walker.resume_visit(Answer::Done))),
                     Err(refused) => Err(refused),
                 }
@@ -142,7 +182,7 @@ impl<A: Allocator + Clone> Tree<A> {
         }
         let mark = TreeRegister::Mark(walker.place);
         let marked = WrittenValue::Word(MARKED);
-        match write_from(&mut self.root, &self.alloc, mark, marked) {
+        match self.write(mark, marked) {
             Ok(()) => {
                 walker.is_marking = false;
                 Ok(Some(Note::Quiet))
@@ -168,7 +208,7 @@ impl<A: Allocator + Clone> StepMemory for Tree<A> {
         Ok(match a {
             Access::Read(register) => Answer::Value(self.read(register)),
             Access::Write(register, value) => {
-                write_from(&mut self.root, &self.alloc, register, value.to_write())?;
+                self.write(register, value.to_write())?;
                 Answer::Done
             }
             Access::TestAndSet(_) => Answer::WasSet(false),

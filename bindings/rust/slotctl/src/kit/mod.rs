@@ -14,6 +14,7 @@ pub mod collections;
 pub mod convert;
 pub mod env;
 pub mod fs;
+pub mod hash;
 pub mod http1;
 pub mod httparse;
 pub mod io;

@@ -1,4 +1,4 @@
-// Erased by bindings/rust/erase from crates/words_pool/src/near.rt, sha256 bfb164d98db12917ebd32548ff83d7a695377b6893ef2934cd1fc5848978916f.
+// Erased by bindings/rust/erase from crates/words_pool/src/near.rt, sha256 f188eedc84fdde0a9fded5dea013c595ac3b03faacb3ad3719ce59802fd4efa2.
 //! A walk over a pool that begins at a hint.
 
 use crate::kit::alloc::Allocator;

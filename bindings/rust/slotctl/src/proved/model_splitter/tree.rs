@@ -1,4 +1,4 @@
-// Erased by bindings/rust/erase from crates/model_splitter/src/tree.rt, sha256 d9cd563c94875bbfcd6a466d6cc4b2be1f9036eb9290e206d2de3c236b2f9ee2.
+// Erased by bindings/rust/erase from crates/model_splitter/src/tree.rt, sha256 803887c2b639a012b3f9c18d0f056010c9819d9ec41cfe2f9a8dcdd8e2a2597b.
 //! A tree of splitters that grows one node at a time, in which each participant gets a place of its own, with a
 //! segment.
 //!
@@ -36,7 +36,6 @@
 //! ```
 pub mod collect_walk;
 pub mod kept_segment;
-pub mod node;
 pub mod node_registers;
 pub mod register;
 pub mod tree;

@@ -1,12 +1,13 @@
-// Erased by bindings/rust/erase from crates/model_splitter/src/tree/tree.rt, sha256 bc353d8e358d291803942651be294a5a4f44f735b2f1e27df56c69ee16de4e59.
+// Erased by bindings/rust/erase from crates/model_splitter/src/tree/tree.rt, sha256 300f19b2fb1d8fa70e3e569a54b415a395e5e2c52625831c5dfff3ace5356fa0.
 //! A tree of nodes as a memory.
 
 use crate::kit::alloc::Allocator;
+use crate::kit::collections::HashMap;
+use crate::kit::hash::{BuildHasherDefault, FoldHasher};
 use crate::kit::Clone;
-use crate::proved::model_splitter::tree::node::{find_from, write_from, Link};
 use crate::proved::model_splitter::tree::node_registers::NodeRegisters;
 use crate::proved::model_splitter::tree::register::{
-    TreeRegister, TreeValue, WrittenValue, MARKED,
+    TreeRegister, TreeValue, WrittenValue, MARKED, ROOT,
 };
 use crate::proved::model_splitter::tree::walker::Walker;
 use crate::proved::model_steps::access::{Access, Answer};
@@ -16,10 +17,9 @@ use crate::proved::model_steps::place::Place;
 use crate::proved::model_steps::program::StepProgram;
 use crate::proved::model_steps::refusal::NoMemory;
 
-/// A tree of splitters as a memory. Each node is allocated when it is made. Contracts see a map from numbers to nodes.
+/// A tree of splitters as a memory: the nodes that were made, by their numbers. Contracts see a map from numbers to nodes.
 pub struct Tree<A: Allocator> {
-    root: Link<A>,
-    alloc: A,
+    nodes: HashMap<Place, NodeRegisters, BuildHasherDefault<FoldHasher>, A>,
     /// The value of a mark that is set, to be lent.
     set: TreeValue,
     /// The value of a mark that is not set.
@@ -30,8 +30,7 @@ impl<A: Allocator> Tree<A> {
     /// Makes a tree with no node. This allocates nothing.
     pub fn new(alloc: A) -> Tree<A> {
         Tree {
-            root: None,
-            alloc,
+            nodes: HashMap::new(alloc),
             set: TreeValue::Word(MARKED),
             clear: TreeValue::Word(0),
         }
@@ -40,7 +39,7 @@ impl<A: Allocator> Tree<A> {
     /// Returns the registers of the node with this number, or `None` if it does not exist. This is no access: it is for
     /// observers.
     pub fn registers_at(&self, place: Place) -> Option<&NodeRegisters> {
-        find_from(&self.root, place)
+        self.nodes.get(&place)
     }
 
     /// Returns the value of a register. This is no access: it is for observers.
@@ -58,6 +57,40 @@ impl<A: Allocator> Tree<A> {
 }
 
 impl<A: Allocator + Clone> Tree<A> {
+    /// Whether a node may exist: it is the root, or its parent exists.
+    fn may_have(&self, place: Place) -> bool {
+        place == ROOT || self.registers_at(place / 2).is_some()
+    }
+
+    /// Makes a node that does not exist.
+    ///
+    /// # Errors
+    ///
+    /// `NoMemory`: the allocation failed. Nothing has changed.
+    fn make(&mut self, place: Place) -> Result<(), NoMemory> {
+        match self.nodes.insert(place, NodeRegisters::new()) {
+            Ok(_) => Ok(()),
+            Err(_) => Err(NoMemory),
+        }
+    }
+
+    /// Writes into a register. A write that sets the mark of a node makes the node, if it is the root or its parent exists.
+    ///
+    /// # Errors
+    ///
+    /// `NoMemory`: the node would be made and the allocation failed. Nothing has changed.
+    fn write(&mut self, register: TreeRegister, value: WrittenValue) -> Result<(), NoMemory> {
+        let place = register.node();
+        if let Some(registers) = self.nodes.get_mut(&place) {
+            registers.write(register, value);
+            return Ok(());
+        }
+        if !register.is_set_by(value) || !self.may_have(place) {
+            return Ok(());
+        }
+        self.make(place)
+    }
+
     /// Returns the word in a register of a node that exists.
     fn word(&self, register: TreeRegister) -> Option<u64> {
         match self.registers_at(register.node()) {
@@ -75,7 +108,7 @@ impl<A: Allocator + Clone> Tree<A> {
             },
             Access::Write(register, word) => {
                 let written = WrittenValue::Word(word);
-                match write_from(&mut self.root, &self.alloc, register, written) {
+                match self.write(register, written) {
                     Ok(()) => Ok(Some(walker.resume_visit(Answer::Done))),
                     Err(refused) => Err(refused),
                 }
@@ -98,7 +131,7 @@ impl<A: Allocator + Clone> Tree<A> {
         }
         let mark = TreeRegister::Mark(walker.place);
         let marked = WrittenValue::Word(MARKED);
-        match write_from(&mut self.root, &self.alloc, mark, marked) {
+        match self.write(mark, marked) {
             Ok(()) => {
                 walker.is_marking = false;
                 Ok(Some(Note::Quiet))
@@ -120,7 +153,7 @@ impl<A: Allocator + Clone> StepMemory for Tree<A> {
         Ok(match a {
             Access::Read(register) => Answer::Value(self.read(register)),
             Access::Write(register, value) => {
-                write_from(&mut self.root, &self.alloc, register, value.to_write())?;
+                self.write(register, value.to_write())?;
                 Answer::Done
             }
             Access::TestAndSet(_) => Answer::WasSet(false),
