@@ -149,9 +149,9 @@ module _ {C D K : Type 0} (on : Seating C) (may : D → Request → ShownReply �
       let after = record w { service = ready } in
       attended_then k mid l w after u (Prefetches lines ∷ [], (mid, after, (done, inside w ready), (refl, refl))) later
 
-  pub attended_prefetched : (peek : C → Option Peek) (Due : C → Type 0) (kind : WorldKind) (numbers : List ℕ) (next : ℕ) → AreNumbered numbers next → (k l : K) (w u : Attended D) (lines : List ℕ) (seats seats' : List (Option C)) →
-      (t : PrefetchedIteration on peek Due may prefetches persists kind k w.service seats lines l u.service seats') → Hears (acts_in (number_at numbers) t.turn.log) w u → Was k w l u
-  attended_prefetched peek Due kind numbers next numbered k l w u lines seats seats' t hears =
+  pub attended_prefetched : (peek : C → Option Peek) (Due : C → Type 0) (kind : WorldKind) (keys numbers : List ℕ) (next : ℕ) → AreNumbered numbers next → (k l : K) (w u : Attended D) (lines : List ℕ) (seats seats' : List (Option C)) →
+      (t : PrefetchedIteration on peek Due may prefetches persists kind keys k w.service seats lines l u.service seats') → Hears (acts_in (number_at numbers) t.turn.log) w u → Was k w l u
+  attended_prefetched peek Due kind keys numbers next numbered k l w u lines seats seats' t hears =
       prefetched_then lines k t.prefetched_by l w u t.ready t.prefetched
       (attended_turn numbers next numbered t.prefetched_by l (record w { service = t.ready }) u t.gathered_seats seats' t.turn (outside w t.ready u hears))
 

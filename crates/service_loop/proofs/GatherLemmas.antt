@@ -1,5 +1,5 @@
 -- what is gathered of connections before their lines are taken
-use Rattle.std.proofs.Common.{◌≡◌, inl, inr, ℕ, ◌<◌, if◌then◌else◌, Bool, true, false, set, take, List, [], ◌++◌, length, get_or, Option, Some, None, refl, sym, ap, subst, ◌∙◌, append_assoc}
+use Rattle.std.proofs.Common.{◌≡◌, ◌⊎◌, inl, inr, ℕ, ◌<◌, if◌then◌else◌, Bool, true, false, set, take, List, [], ◌++◌, length, get_or, Option, Some, None, refl, sym, ap, subst, ◌∙◌, append_assoc}
 use Rattle.service_loop.proofs.Common.{append-nil, get_or-set_same, get_or-set_other, length-set, cases_eq, Consumes, Peek, Turn, TurnLog, BuffersState, WorldKind, requests_seen, turns_of}
 use Rattle.text_lines.specs.Lines.{whole_lines}
 use Rattle.service_loop.specs.Asking.{none_own}
@@ -133,3 +133,13 @@ own_seen s peek own = by s.responder.over own
     by : (over : Bool) → (over ≡ false → none_own (behind (long_of peek) (whole_lines (take (bytes_of peek) s.inbox))) ≡ true) → none_own (if over then [] else behind (long_of peek) (whole_lines (take (bytes_of peek) s.inbox))) ≡ true
     by true h = refl
     by false h = h refl
+
+-- what is known of a batch, whether or not it was asked who holds numbers
+pub unheld : {A B C P : Type 0} {holds : Bool} → (A × (holds ≡ false) × B × C) ⊎ P → (A × B × C) ⊎ P
+unheld (inl none) = inl (none.0, none.2, none.3)
+unheld (inr done) = inr done
+
+-- where that was asked, the answers were prefetched
+pub was_prefetched : {A B C P : Type 0} {holds : Bool} → holds ≡ true → (A × (holds ≡ false) × B × C) ⊎ P → P
+was_prefetched asks (inl none) = absurd (let bad : true ≡ false = sym asks ∙ none.1 in cc)
+was_prefetched asks (inr done) = done

@@ -1,15 +1,15 @@
 -- replies that are sent, one thing after another, and none to whoever is at fault
-use Rattle.std.proofs.Common.{◌≡◌, ◌⊎◌, inl, inr, ℕ, zero, suc, ◌+◌, Bool, true, false, List, [], get_or, Option, Some, None, OnOk, Result, Ok, Err, refl, sym, ap, subst, ◌∙◌, ◌++◌, ◌<◌, length, set, take, drop}
+use Rattle.std.proofs.Common.{◌≡◌, ◌⊎◌, inl, inr, ℕ, zero, suc, Bool, true, false, List, get_or, Option, Some, None, OnOk, Result, Ok, Err, refl, sym, ap, subst, ◌∙◌, ◌++◌, ◌<◌, length, set, take, drop}
 use Rattle.std.proofs.Math.Seq.{take-append_seam}
 use Rattle.model_pool.specs.declared.stays.kept_stay.KeptStay.{KeptStay}
 use Rattle.model_pool.specs.stays.Stays.{keeps_any}
-use Rattle.service_loop.proofs.Common.{ShownReply, Request, Turn, TurnLog, turns_of, Peek, WorldKind, cases_eq, get_or-set_same, get_or-set_other}
+use Rattle.service_loop.proofs.Common.{ShownReply, Request, Turn, turns_of, Peek, WorldKind, cases_eq, get_or-set_same, get_or-set_other}
 use Rattle.service_loop.specs.Answering.{AnsweredAndSent, SeatAnswers}
 use Rattle.service_loop.specs.Attending.{number_at}
 use Rattle.service_loop.specs.Gathering.{Gathered, PrefetchedIteration, SeatGathers}
-use Rattle.service_loop.specs.Seats.{LoopIteration, RepliesSent, Seating, SeatIs, SeatSends, SeatTakes, TurnsTaken}
+use Rattle.service_loop.specs.Seats.{LoopIteration, RepliesSent, Seating, SeatIs, SeatSends, SeatTakes}
 use Rattle.service_loop.specs.Sendings.{Fails, HasSent, IsSilent, SeatUnsent, SendsBut, SendsToKeepers, Unsent}
-use Rattle.service_loop.specs.Taking.{NumbersTaken, SeatTakesNumber, TakingsKept}
+use Rattle.service_loop.specs.Taking.{SeatTakesNumber, TakingsKept}
 use Rattle.service_loop.specs.declared.gathering.Called.{Called}
 use Rattle.service_loop.specs.declared.gathering.Called.TheVariants as called
 use Rattle.service_loop.specs.declared.terms.Query.{Query}
@@ -165,9 +165,9 @@ module _ {C : Type 0} (on : Seating C) where
     has_sent_takings ahead k l w u xs zs t =
         has_sent xs t.between zs (λ i. unsent_number ahead (turns_of i t.log) (get_or xs i None) (get_or t.between i None) (t.taken.each i)) t.sent
 
-    pub has_sent_prefetched : (prefetches : K → T → List ℕ → K → T → Type 0) (peek : C → Option Peek) (Due : C → Type 0) (kind : WorldKind) (k l : K) (w u : T) (xs zs : List (Option C)) (lines : List ℕ) →
-        PrefetchedIteration on peek Due may prefetches persists kind k w xs lines l u zs → HasSent on xs zs
-    has_sent_prefetched prefetches peek Due kind k l w u xs zs lines t =
+    pub has_sent_prefetched : (prefetches : K → T → List ℕ → K → T → Type 0) (peek : C → Option Peek) (Due : C → Type 0) (kind : WorldKind) (keys : List ℕ) (k l : K) (w u : T) (xs zs : List (Option C)) (lines : List ℕ) →
+        PrefetchedIteration on peek Due may prefetches persists kind keys k w xs lines l u zs → HasSent on xs zs
+    has_sent_prefetched prefetches peek Due kind keys k l w u xs zs lines t =
         has_sent_then xs t.gathered_seats zs (has_sent_gathered xs t.gathered_seats t.gathered) (has_sent_turn t.prefetched_by l t.ready u t.gathered_seats zs t.turn)
 
   -- the seats are written back

@@ -1,5 +1,5 @@
 -- what is heard of stays in the turns of connections
-use Rattle.std.specs.Prelude.{◌≡◌, ◌⊎◌, if◌then◌else◌, ℕ, Bool, true, false, List, [], ◌∷◌, ◌++◌, get_or, map}
+use Rattle.std.specs.Prelude.{◌≡◌, if◌then◌else◌, ℕ, Bool, true, false, List, [], ◌∷◌, ◌++◌, get_or, map}
 use Rattle.model_steps.specs.declared.refusal.Refusal.{Refusal}
 use Rattle.model_steps.specs.declared.refusal.Refusal.TheVariants as refusal
 use Rattle.model_asked.specs.declared.event.Event.{Event}

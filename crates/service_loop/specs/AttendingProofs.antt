@@ -1,9 +1,9 @@
 -- what an attended service may answer
-use Rattle.std.specs.Prelude.{◌≡◌, true, refl}
+use Rattle.std.specs.Prelude.{true, refl}
 use Rattle.model_asked.specs.Replies.{ShownReply}
 use Rattle.model_asked.specs.Requests.{Request}
 use Rattle.service_loop.specs.declared.attended.Attended.{Attended}
-use Rattle.service_loop.specs.Attending.{AttendedMay, Hears}
+use Rattle.service_loop.specs.Attending.{AttendedMay}
 
 module _ {D : Type 0} (may : D → Request → ShownReply → D → Type 0) where
   -- as the service does, where an allocation failed

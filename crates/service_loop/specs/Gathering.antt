@@ -1,5 +1,6 @@
 -- what a connection has of its stream before its lines are taken, and a turn of the loop whose answers were prefetched before
-use Rattle.std.specs.Prelude.{◌≡◌, ◌⊎◌, ℕ, ◌++◌, List, [], length, get_or, true, false, Option, Some, None}
+use Rattle.std.specs.Prelude.{◌≡◌, ◌⊎◌, ℕ, ◌++◌, Bool, List, [], length, get_or, true, false, Option, Some, None}
+use Rattle.std.specs.List.{list_any}
 use Rattle.std.specs.Io.KnownBytes.{Consumes}
 use Rattle.model_asked.specs.Replies.{ShownReply}
 use Rattle.model_asked.specs.Requests.{Request}
@@ -7,7 +8,7 @@ use Rattle.model_asked.specs.declared.kind.WorldKind.{WorldKind}
 use Rattle.text_lines.specs.Lines.{with_ends}
 use Rattle.text_player.specs.Shared.{TurnLog, turns_of}
 use Rattle.text_player.specs.Turns.{Turn}
-use Rattle.service_loop.specs.Reported.{SeatLines, EndsWith, IsAmong, all_lines, asks_of, lines_of, requests_seen}
+use Rattle.service_loop.specs.Reported.{SeatLines, EndsWith, IsAmong, all_lines, asks_of, holds_of, lines_of, requests_seen}
 use Rattle.service_loop.specs.BuffersState.{BuffersState}
 use Rattle.service_loop.specs.ConnectionBuffers.{TakesPeeked}
 use Rattle.service_loop.specs.Seats.{Seating, SeatTurn, LoopIteration}
@@ -34,6 +35,14 @@ count_of (called.Unserved count) = count
 abbrev pub SeatAsks : {C : Type 0} → (C → Option Peek) → Option C → Type 0
 SeatAsks peek None = ⊥
 SeatAsks peek (Some c) = asks_of (peek c) ≡ true
+
+-- the connection at a seat asks who holds numbers, and one at any of these seats does
+abbrev pub asks_holders : {C : Type 0} → (C → Option Peek) → Option C → Bool
+asks_holders peek None = false
+asks_holders peek (Some c) = holds_of (peek c)
+
+abbrev pub any_asks_holders : {C : Type 0} → (C → Option Peek) → List ℕ → List (Option C) → Bool
+any_asks_holders peek keys seats = list_any (λ i. asks_holders peek (get_or seats i None)) keys
 
 -- it is at fault
 abbrev pub SeatBroken : {C : Type 0} → Seating C → Option C → Type 0
@@ -106,14 +115,15 @@ module _ {C : Type 0} (on : Seating C) where
         EndsWith ls (requests_seen kind (on.buffers c) (peek c)) × TakesPeeked turns (peek c) (on.left c) (on.buffers c) (on.left d) (on.buffers d)
 
     -- A turn of the loop, before which its answers were prefetched: what came was gathered, and nothing sent; the answers to these lines were
-    -- prefetched, where there were any; and then all took their turns over a service that knows the answers, and only then was anything sent.
-    -- The lines are the requests among what was looked at of each connection, and no connection took anything else
-    pub record PrefetchedIteration {T K : Type 0} (may : T → Request → ShownReply → T → Type 0) (prefetches : K → T → List ℕ → K → T → Type 0) (persists : K → T → K → T → Type 0) (kind : WorldKind) (k : K) (w : T) (seats : List (Option C)) (lines : List ℕ) (k' : K) (u : T) (seats' : List (Option C)) : Type 0 where
+    -- prefetched, where there were any, and in any case where a connection at one of these seats asks who holds numbers; and then all took their
+    -- turns over a service that knows the answers, and only then was anything sent. The lines are the requests among what was looked at of each connection, and no connection took anything else
+    pub record PrefetchedIteration {T K : Type 0} (may : T → Request → ShownReply → T → Type 0) (prefetches : K → T → List ℕ → K → T → Type 0) (persists : K → T → K → T → Type 0) (kind : WorldKind) (keys : List ℕ) (k : K) (w : T) (seats : List (Option C)) (lines : List ℕ) (k' : K) (u : T) (seats' : List (Option C)) : Type 0 where
       pub gathered_seats : List (Option C)
       pub prefetched_by : K
       pub ready : T
       pub gathered : Gathered seats gathered_seats
       pub prefetched : ((lines ≡ []) × (prefetched_by ≡ k) × (ready ≡ w)) ⊎ prefetches k w lines prefetched_by ready
+      pub asked : any_asks_holders peek keys gathered_seats ≡ true → prefetches k w lines prefetched_by ready
       pub turn : LoopIteration on may persists prefetched_by ready gathered_seats k' u seats'
       pub reported : SeatLines
       pub reported_is : lines ≡ with_ends (all_lines reported)

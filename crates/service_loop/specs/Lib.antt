@@ -18,3 +18,4 @@ pub mod Keepers
 pub mod Attendance
 pub mod Sendings
 pub mod Table
+pub mod Watching

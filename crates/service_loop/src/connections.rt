@@ -1,6 +1,7 @@
 //! The connections of a server, their seats, and who is to have a turn.
 
 ghost use Rattle.std.specs.Prelude.{◌≡◌, ◌≤◌, ◌+◌, ◌++◌, ◌<◌, ◌∷◌, [], false, length, drop, get_or, None, IfOk, OnOk};
+ghost use Rattle.service_watch.specs.durations.Histogram.{capped};
 ghost use Rattle.service_loop.specs.Attending.{Hears, acts_of_endings, number_at};
 ghost use Rattle.service_loop.specs.Keepers.{MayServe};
 ghost use Rattle.service_loop.specs.Table.{ending_at, is_swept, most_rest, seat_over};
@@ -406,7 +407,9 @@ impl ConnectionTable {
     }
 
     /// How many connections were accepted: those that have left, and those that are there.
-    pub fn accepted(&self) -> u64 {
+    pub fn accepted(&self) -> u64
+        ensures { result ≡ capped (self.now.served + self.now.«open») }
+    {
         self.served.saturating_add(self.open as u64)
     }
 

@@ -8,7 +8,7 @@ ghost use Rattle.service_loop.specs.Attending.{Hears, acts_in, acts_of, number_a
 ghost use Rattle.service_loop.specs.Losing.{lost_acts};
 ghost use Rattle.service_loop.specs.SharedBuffers.{AreShared};
 ghost use Rattle.service_loop.specs.Seats.{seats_of, CallsSome, EachIs, NoneSent, SeatIdle, SeatIs, TurnsTaken};
-ghost use Rattle.service_loop.specs.Gathering.{Gathered, SeatPeeked, SeatAsks, SeatBroken, SeatTurnPeeked, TakenPeeked, Reported, PrefetchedIteration, NotPrefetched, count_of};
+ghost use Rattle.service_loop.specs.Gathering.{any_asks_holders, asks_holders, Gathered, SeatPeeked, SeatAsks, SeatBroken, SeatTurnPeeked, TakenPeeked, Reported, PrefetchedIteration, NotPrefetched, count_of};
 ghost use Rattle.service_loop.specs.Reported.{SeatLines, all_lines, IsAmong};
 
 use crate::attended::Attended;
@@ -199,18 +199,28 @@ fn take_peeked<R, D: Service<R>, S: Stream, A: Allocator, B: Allocator>(
     }
 }
 
-// Whether a connection of these seats asks who holds numbers, as it was looked at.
+// Whether the connection of a seat asks who holds numbers, as it was looked at.
+fn asks_holders_at<S: Stream, A: Allocator>(seats: &[Option<Connection<S, A>>], key: usize) -> bool
+    ensures { result ≡ asks_holders (λ c. c.peek) (get_or seats.now key None) }
+{
+    if key < seats.len() {
+        if let Some(connection) = &seats[key] {
+            return connection.asks_holders();
+        }
+    }
+    false
+}
+
+// Whether a connection of these seats does.
 fn any_asks_holders<S: Stream, A: Allocator>(
     seats: &[Option<Connection<S, A>>],
     called: &[usize],
-) -> bool {
+) -> bool
+    ensures { result ≡ any_asks_holders (λ c. c.peek) called.now seats.now }
+{
     for key in called {
-        if *key < seats.len() {
-            if let Some(connection) = &seats[*key] {
-                if connection.asks_holders() {
-                    return true;
-                }
-            }
+        if asks_holders_at(seats, *key) {
+            return true;
         }
     }
     false
@@ -222,7 +232,8 @@ pub(crate) fn prefetch<D, K: Persist<D>, B: Allocator>(
     persister: &mut K,
     batch: &Batch<B>,
 ) -> Result<Prefetch, K::Fault>
-    ensures known { result ≡ Ok Prefetch.Known → ((batch.now.lines.items ≡ []) × (persister.new ≡ persister.old) × (service.new ≡ service.old)) ⊎
+    ensures known { result ≡ Ok Prefetch.Known →
+        ((batch.now.lines.items ≡ []) × (batch.now.holds ≡ false) × (persister.new ≡ persister.old) × (service.new ≡ service.old)) ⊎
         K.prefetches persister.old service.old batch.now.lines.items persister.new service.new }
     ensures lost { result ≡ Ok Prefetch.Lost → K.waits persister.old service.old persister.new service.new }
 {
@@ -255,7 +266,7 @@ pub fn iterate_prefetched<R, D: Service<R>, K: Persist<D>, S: Stream, A: Allocat
     requires room { AreShared shared.old }
     ensures served { (called : ℕ) → result ≡ Ok (Called.Served called) →
         (turned : PrefetchedIteration (seats_of S.left S.gone) (λ c. c.peek) (λ c. c.stage ≡ ConnectionStage.Queued) D.may K.prefetches K.persists batch.old.kind
-        persister.old service.old.service seats.old batch.new.lines.items persister.new service.new.service seats.new) ×
+        (take called ready.now) persister.old service.old.service seats.old batch.new.lines.items persister.new service.new.service seats.new) ×
         Hears (acts_in (number_at numbers.now) turned.turn.log) service.old service.new }
     ensures unserved { (called : ℕ) → result ≡ Ok (Called.Unserved called) →
         NotPrefetched (seats_of S.left S.gone) (λ c. c.peek) (λ c. c.stage ≡ ConnectionStage.Queued) batch.old.kind (take called ready.now)

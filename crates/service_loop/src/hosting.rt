@@ -1,7 +1,8 @@
 //! A server in one thread, by the readiness of its sockets.
 
-ghost use Rattle.std.specs.Prelude.{◌≡◌, ◌⊎◌, ◌<◌, ◌≤◌, ◌+◌, ℕ, List, Option, true, OnOk};
+ghost use Rattle.std.specs.Prelude.{◌≡◌, ◌⊎◌, ◌<◌, ◌≤◌, ◌+◌, ℕ, List, Option, true, not, OnOk};
 ghost use Rattle.model_asked.specs.Requests.{Request};
+ghost use Rattle.service_watch.specs.durations.Histogram.{capped};
 ghost use Rattle.service_loop.specs.Attendance.{WasAttended};
 ghost use Rattle.service_loop.specs.Attending.{Hears, acts_of_endings};
 ghost use Rattle.service_loop.specs.Keepers.{EndsAtTick, HearsAndEnds};
@@ -921,7 +922,12 @@ impl Hosting {
     }
 
     // What the loop itself knows.
-    fn numbers(&self, audit: &Audit) -> LoopNumbers {
+    fn numbers(&self, audit: &Audit) -> LoopNumbers
+        ensures clients { (result.clients ≡ self.now.connections.«open») × (result.accepted ≡ capped (self.now.connections.served + self.now.connections.«open»)) }
+        ensures faults { result.faults ≡ self.now.connections.faults }
+        ensures ticks { result.ticks ≡ self.now.tick }
+        ensures ready { result.learnt ≡ not self.now.lost }
+    {
         LoopNumbers {
             clients: self.connections.open as u64,
             accepted: self.connections.accepted(),

@@ -33,6 +33,8 @@ pub struct Tally {
     pub syncs: Option<DurationHistogram>,
     /// How many entries of a log are applied.
     pub log_place: Option<u64>,
+    /// How many of them since the last compaction.
+    pub log_since_compaction: Option<u64>,
     /// Whether the log answered when it was last asked.
     pub log_answers: Option<bool>,
 }
@@ -50,6 +52,7 @@ impl Tally {
           journal_bytes = None;
           syncs = None;
           log_place = None;
+          log_since_compaction = None;
           log_answers = None;
         } }
     {
@@ -63,6 +66,7 @@ impl Tally {
             journal_bytes: None,
             syncs: None,
             log_place: None,
+            log_since_compaction: None,
             log_answers: None,
         }
     }

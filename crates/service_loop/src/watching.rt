@@ -1,5 +1,8 @@
 //! Those who watch a server.
 
+ghost use Rattle.std.specs.Prelude.{◌≡◌};
+ghost use Rattle.service_loop.specs.Watching.{age_of, may_answer, numbers_of};
+
 use crate::persist::Tally;
 use service_watch::{Numbers, REFUSALS, Releases, Scrapers};
 use std::io;
@@ -50,6 +53,26 @@ pub struct LoopNumbers {
     pub learnt: bool,
 }
 
+// Whether clients are answered, as far as it is by the log.
+fn may_answer(answers: Option<bool>) -> bool
+    ensures { result ≡ may_answer answers }
+{
+    match answers {
+        Some(answers) => answers,
+        None => true,
+    }
+}
+
+// How long ago a place of the log came, where there is one.
+fn age_of(place: Option<u64>, tick: u64, placed: u64) -> Option<u64>
+    ensures { result ≡ age_of place tick placed }
+{
+    match place {
+        Some(_) => Some(tick.saturating_sub(placed)),
+        None => None,
+    }
+}
+
 impl Watch {
     /// By those who ask.
     pub fn new(scrapers: Scrapers) -> Watch {
@@ -98,7 +121,9 @@ impl Watch {
     }
 
     /// What those who ask get.
-    pub fn numbers(&self, loops: &LoopNumbers, tally: &Tally) -> Numbers {
+    pub fn numbers(&self, loops: &LoopNumbers, tally: &Tally) -> Numbers
+        ensures { result ≡ numbers_of loops.now tally.now self.now.placed }
+    {
         Numbers {
             clients: loops.clients,
             accepted: loops.accepted,
@@ -108,7 +133,7 @@ impl Watch {
             releases: loops.releases,
             refusals: loops.refusals,
             audit_lines_lost: loops.audit_lines_lost,
-            ready: loops.learnt && tally.log_answers != Some(false),
+            ready: loops.learnt && may_answer(tally.log_answers),
             events: tally.events,
             events_left: tally.events_left,
             compactions: tally.compactions,
@@ -118,9 +143,8 @@ impl Watch {
             journal_bytes: tally.journal_bytes,
             syncs: tally.syncs,
             log_place: tally.log_place,
-            log_age: tally
-                .log_place
-                .map(|_| loops.ticks.saturating_sub(self.placed)),
+            log_since_compaction: tally.log_since_compaction,
+            log_age: age_of(tally.log_place, loops.ticks, self.placed),
         }
     }
 }

@@ -1,1 +1,3 @@
 pub mod durations
+pub mod Page
+pub mod Answer

@@ -1,5 +1,8 @@
 //! What a request is answered.
 
+ghost use Rattle.std.specs.Prelude.{◌≡◌, ◌++◌, OnOk};
+ghost use Rattle.service_watch.specs.Answer.{allow_text, answer_text, body_text, form_text, head_text, status_text, word_text};
+
 use crate::numbers::Numbers;
 use crate::page::put_page;
 use crate::request::Asked;
@@ -13,7 +16,9 @@ const PAGE_TYPE: &str = "text/plain; version=0.0.4; charset=utf-8";
 const TEXT_TYPE: &str = "text/plain; charset=utf-8";
 
 // The status and its words.
-fn status_of(asked: Asked, ready: bool) -> &'static str {
+fn status_of(asked: Asked, ready: bool) -> &'static str
+    ensures { result.now ≡ status_text asked ready }
+{
     match asked {
         Asked::Page | Asked::Alive => "200 OK",
         Asked::Ready => {
@@ -30,7 +35,9 @@ fn status_of(asked: Asked, ready: bool) -> &'static str {
 }
 
 // The text of an answer that is no page of metrics.
-fn text_of(asked: Asked, ready: bool) -> &'static str {
+fn text_of(asked: Asked, ready: bool) -> &'static str
+    ensures { result.now ≡ word_text asked ready }
+{
     match asked {
         Asked::Page => "",
         Asked::Alive => "ok\n",
@@ -47,28 +54,58 @@ fn text_of(asked: Asked, ready: bool) -> &'static str {
     }
 }
 
+// What the text of an answer is called.
+fn form_of(asked: Asked) -> &'static str
+    ensures { result.now ≡ form_text asked }
+{
+    match asked {
+        Asked::Page => PAGE_TYPE,
+        Asked::Alive | Asked::Ready | Asked::Nowhere | Asked::OtherMethod | Asked::Unreadable =>
+            TEXT_TYPE,
+    }
+}
+
+// The field that says which methods are answered, for who asked by another.
+fn allow_of(asked: Asked) -> &'static str
+    ensures { result.now ≡ allow_text asked }
+{
+    match asked {
+        Asked::OtherMethod => "\r\nAllow: GET",
+        Asked::Page | Asked::Alive | Asked::Ready | Asked::Nowhere | Asked::Unreadable => "",
+    }
+}
+
 // Appends a text.
-fn put(text: &str, answer: &mut Vec<u8>) -> Result<(), AllocError> {
+fn put(text: &str, answer: &mut Vec<u8>) -> Result<(), AllocError>
+    ensures { OnOk result (answer.new.items ≡ answer.old.items ++ text.now) }
+{
     answer.extend_from_slice(text.as_bytes())
 }
 
 // Appends the head of an answer with a body of so many bytes.
-fn put_head(asked: Asked, ready: bool, len: usize, answer: &mut Vec<u8>) -> Result<(), AllocError> {
+#[tactic(auto, unfolding(crate::specs::Answer::head_text))]
+fn put_head(asked: Asked, ready: bool, len: usize, answer: &mut Vec<u8>) -> Result<(), AllocError>
+    ensures { OnOk result (answer.new.items ≡ answer.old.items ++ head_text asked ready len) }
+{
     put("HTTP/1.1 ", answer)?;
     put(status_of(asked, ready), answer)?;
     put("\r\nContent-Type: ", answer)?;
-    let form = if asked == Asked::Page {
-        PAGE_TYPE
-    } else {
-        TEXT_TYPE
-    };
-    put(form, answer)?;
-    if asked == Asked::OtherMethod {
-        put("\r\nAllow: GET", answer)?;
-    }
+    put(form_of(asked), answer)?;
+    put(allow_of(asked), answer)?;
     put("\r\nContent-Length: ", answer)?;
     put(Buffer::new().format(len), answer)?;
     put("\r\nConnection: close\r\n\r\n", answer)
+}
+
+// Appends the body of an answer: a page of metrics, or a text.
+fn put_body(asked: Asked, numbers: &Numbers, body: &mut Vec<u8>) -> Result<(), AllocError>
+    ensures { OnOk result (body.new.items ≡ body.old.items ++ body_text asked numbers.now) }
+{
+    match asked {
+        Asked::Page => put_page(numbers, body),
+        Asked::Alive | Asked::Ready | Asked::Nowhere | Asked::OtherMethod | Asked::Unreadable =>
+            put(text_of(asked, numbers.ready), body),
+    }
 }
 
 /// Appends what is answered to a request: a head with its status, and a page or a text.
@@ -76,18 +113,17 @@ fn put_head(asked: Asked, ready: bool, len: usize, answer: &mut Vec<u8>) -> Resu
 /// # Errors
 ///
 /// `AllocError`: an allocation failed. A part of the answer may stand there.
+#[tactic(auto, unfolding(crate::specs::Answer::answer_text))]
 pub fn put_answer(
     alloc: Global,
     asked: Asked,
     numbers: &Numbers,
     answer: &mut Vec<u8>,
-) -> Result<(), AllocError> {
+) -> Result<(), AllocError>
+    ensures { OnOk result (answer.new.items ≡ answer.old.items ++ answer_text asked numbers.now) }
+{
     let mut body = Vec::new(alloc);
-    if asked == Asked::Page {
-        put_page(numbers, &mut body)?;
-    } else {
-        put(text_of(asked, numbers.ready), &mut body)?;
-    }
+    put_body(asked, numbers, &mut body)?;
     put_head(asked, numbers.ready, body.len(), answer)?;
     answer.extend_from_slice(&body)
 }

@@ -3,18 +3,18 @@
 //! `put_page` writes the page of `Numbers`, `asked_by` says what a request asks for, and `put_answer` writes what is answered. `Scrapers` are those
 //! who ask, at most eight at once: none of their calls waits, each asks once, and each is closed after its answer or ten seconds.
 //!
-//! Promised is that a line of a number is its name, a blank and the number in decimal digits (`put_value`). That the page has each number under its
-//! name, and what sockets carry, is only tested.
+//! Promised is the text of the page (`put_page`), which has each number under its name, and the text of each answer (`put_answer`). What a request
+//! asks for, and what sockets carry, is only tested.
 //!
 //! From `service_loop/src/watching.rt`:
 //!
 //! ```text
-//! pub fn numbers(&self, loops: &LoopNumbers, tally: &Tally) -> Numbers {
-//!     Numbers {
-//!         clients: loops.clients,
-//!         accepted: loops.accepted,
-//! ..
-//!         log_place: tally.log_place,
+//! Numbers {
+//!     clients: loops.clients,
+//!     accepted: loops.accepted,
+//!     ..
+//!     log_place: tally.log_place,
+//!     log_since_compaction: tally.log_since_compaction,
 //! ```
 #![tactic(auto)]
 

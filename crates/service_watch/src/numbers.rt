@@ -55,6 +55,8 @@ pub struct Numbers {
     pub syncs: Option<DurationHistogram>,
     /// How many entries of the log are applied.
     pub log_place: Option<u64>,
+    /// How many of them since the last compaction.
+    pub log_since_compaction: Option<u64>,
     /// How many seconds ago an entry was last applied, or the server started.
     pub log_age: Option<u64>,
 }

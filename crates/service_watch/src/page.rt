@@ -1,6 +1,7 @@
 //! The page of metrics.
 
-ghost use Rattle.std.specs.Prelude.{◌≡◌, ◌++◌, codes, decimal, OnOk};
+ghost use Rattle.std.specs.Prelude.{◌≡◌, ◌++◌, codes, decimal, Some, OnOk};
+ghost use Rattle.service_watch.specs.Page.{audit_page, bucket_text, clients_page, flag_text, hall_page, head_text, histogram_text, keeping_page, kind_word, known_text, metric_text, page_of, refusals_page, refusals_text, releases_page, seconds_text, syncs_page, value_text};
 
 use crate::durations::{Bucket, DurationHistogram};
 use crate::numbers::{Numbers, REFUSALS, Releases};
@@ -18,34 +19,10 @@ enum Kind {
     Histogram,
 }
 
-/// A metric.
-#[derive(Clone, Copy, Drop)]
-struct Metric {
-    name: &'static str,
-    kind: Kind,
-    help: &'static str,
-}
-
-// A metric that rises and falls.
-fn gauge(name: &'static str, help: &'static str) -> Metric {
-    Metric {
-        name,
-        kind: Kind::Gauge,
-        help,
-    }
-}
-
-// A metric that only rises.
-fn counter(name: &'static str, help: &'static str) -> Metric {
-    Metric {
-        name,
-        kind: Kind::Counter,
-        help,
-    }
-}
-
 // The word for a kind.
-fn word_of(kind: Kind) -> &'static str {
+fn word_of(kind: Kind) -> &'static str
+    ensures { result.now ≡ kind_word kind }
+{
     match kind {
         Kind::Gauge => "gauge",
         Kind::Counter => "counter",
@@ -68,8 +45,9 @@ fn put_digits(number: u64, page: &mut Vec<u8>) -> Result<(), AllocError>
 }
 
 // Appends the line of a number: its name, a blank, and its decimal digits.
+#[tactic(auto, unfolding(crate::specs::Page::value_text))]
 fn put_value(name: &str, number: u64, page: &mut Vec<u8>) -> Result<(), AllocError>
-    ensures { OnOk result (page.new.items ≡ page.old.items ++ (name.now ++ codes " " ++ decimal number ++ codes "\n")) }
+    ensures { OnOk result (page.new.items ≡ page.old.items ++ value_text name.now number) }
 {
     put(name, page)?;
     put(" ", page)?;
@@ -78,34 +56,67 @@ fn put_value(name: &str, number: u64, page: &mut Vec<u8>) -> Result<(), AllocErr
 }
 
 // Appends what a metric is.
-fn put_head(metric: Metric, page: &mut Vec<u8>) -> Result<(), AllocError> {
+#[tactic(auto, unfolding(crate::specs::Page::head_text))]
+fn put_head(kind: Kind, name: &str, help: &str, page: &mut Vec<u8>) -> Result<(), AllocError>
+    ensures { OnOk result (page.new.items ≡ page.old.items ++ head_text kind name.now help.now) }
+{
     put("# HELP ", page)?;
-    put(metric.name, page)?;
+    put(name, page)?;
     put(" ", page)?;
-    put(metric.help, page)?;
+    put(help, page)?;
     put("\n# TYPE ", page)?;
-    put(metric.name, page)?;
+    put(name, page)?;
     put(" ", page)?;
-    put(word_of(metric.kind), page)?;
+    put(word_of(kind), page)?;
     put("\n", page)
 }
 
 // Appends a metric with its number.
-fn put_number(metric: Metric, number: u64, page: &mut Vec<u8>) -> Result<(), AllocError> {
-    put_head(metric, page)?;
-    put_value(metric.name, number, page)
+#[tactic(auto, unfolding(crate::specs::Page::metric_text))]
+fn put_number(
+    kind: Kind,
+    name: &str,
+    help: &str,
+    number: u64,
+    page: &mut Vec<u8>,
+) -> Result<(), AllocError>
+    ensures { OnOk result (page.new.items ≡ page.old.items ++ metric_text kind name.now help.now number) }
+{
+    put_head(kind, name, help, page)?;
+    put_value(name, number, page)
+}
+
+// Appends a metric that is 1 or 0.
+#[tactic(auto, unfolding(crate::specs::Page::flag_text))]
+fn put_flag(name: &str, help: &str, flag: bool, page: &mut Vec<u8>) -> Result<(), AllocError>
+    ensures { OnOk result (page.new.items ≡ page.old.items ++ flag_text name.now help.now flag) }
+{
+    let number = if flag { 1 } else { 0 };
+    put_number(Kind::Gauge, name, help, number, page)
 }
 
 // Appends a metric with its number, where there is one.
-fn put_known(metric: Metric, number: Option<u64>, page: &mut Vec<u8>) -> Result<(), AllocError> {
+#[tactic(auto, unfolding(crate::specs::Page::known_text))]
+fn put_known(
+    kind: Kind,
+    name: &str,
+    help: &str,
+    number: Option<u64>,
+    page: &mut Vec<u8>,
+) -> Result<(), AllocError>
+    ensures { OnOk result (page.new.items ≡ page.old.items ++ known_text kind name.now help.now number) }
+{
     match number {
-        Some(number) => put_number(metric, number, page),
+        Some(number) => put_number(kind, name, help, number, page),
         None => Ok(()),
     }
 }
 
 // Appends so many microseconds as seconds, with six digits behind the point.
-fn put_seconds(micros: u64, page: &mut Vec<u8>) -> Result<(), AllocError> {
+#[tactic(auto, unfolding(crate::specs::Page::seconds_text))]
+fn put_seconds(micros: u64, page: &mut Vec<u8>) -> Result<(), AllocError>
+    ensures { OnOk result (page.new.items ≡ page.old.items ++ seconds_text micros) }
+{
     put_digits(micros / 1_000_000, page)?;
     put(".", page)?;
     for unit in [100_000, 10_000, 1_000, 100, 10, 1] {
@@ -115,7 +126,10 @@ fn put_seconds(micros: u64, page: &mut Vec<u8>) -> Result<(), AllocError> {
 }
 
 // Appends a bucket of a histogram.
-fn put_bucket(name: &str, bucket: Bucket, page: &mut Vec<u8>) -> Result<(), AllocError> {
+#[tactic(auto, unfolding(crate::specs::Page::bucket_text))]
+fn put_bucket(name: &str, bucket: Bucket, page: &mut Vec<u8>) -> Result<(), AllocError>
+    ensures { OnOk result (page.new.items ≡ page.old.items ++ bucket_text name.now bucket) }
+{
     put(name, page)?;
     put("_bucket{le=\"", page)?;
     put_seconds(bucket.bound, page)?;
@@ -125,85 +139,113 @@ fn put_bucket(name: &str, bucket: Bucket, page: &mut Vec<u8>) -> Result<(), Allo
 }
 
 // Appends the bucket of all calls.
-fn put_last_bucket(name: &str, count: u64, page: &mut Vec<u8>) -> Result<(), AllocError> {
+fn put_last_bucket(name: &str, count: u64, page: &mut Vec<u8>) -> Result<(), AllocError>
+    ensures { OnOk result (page.new.items ≡ page.old.items ++ (name.now ++ value_text (codes "_bucket{le=\"+Inf\"}") count)) }
+{
     put(name, page)?;
     put_value("_bucket{le=\"+Inf\"}", count, page)
 }
 
 // Appends the metrics of how long calls took.
+#[tactic(auto, unfolding(crate::specs::Page::histogram_text))]
 fn put_histogram(
-    metric: Metric,
+    name: &str,
     histogram: &DurationHistogram,
     page: &mut Vec<u8>,
-) -> Result<(), AllocError> {
-    put_head(metric, page)?;
+) -> Result<(), AllocError>
+    ensures { OnOk result (page.new.items ≡ page.old.items ++ histogram_text name.now histogram.now) }
+{
     for bucket in &histogram.buckets {
-        put_bucket(metric.name, *bucket, page)?;
+        put_bucket(name, *bucket, page)?;
     }
-    put_last_bucket(metric.name, histogram.count, page)?;
-    put(metric.name, page)?;
+    put_last_bucket(name, histogram.count, page)?;
+    put(name, page)?;
     put("_sum ", page)?;
     put_seconds(histogram.total, page)?;
     put("\n", page)?;
-    put(metric.name, page)?;
+    put(name, page)?;
     put_value("_count", histogram.count, page)
 }
 
 // Appends what concerns the clients.
-fn put_clients(numbers: &Numbers, page: &mut Vec<u8>) -> Result<(), AllocError> {
-    let clients = gauge("slotctl_clients", "Clients that are connected.");
-    put_number(clients, numbers.clients, page)?;
-    let accepted = counter(
+fn put_clients(numbers: &Numbers, page: &mut Vec<u8>) -> Result<(), AllocError>
+    ensures { OnOk result (page.new.items ≡ page.old.items ++ clients_page numbers.now) }
+{
+    put_number(
+        Kind::Gauge,
+        "slotctl_clients",
+        "Clients that are connected.",
+        numbers.clients,
+        page,
+    )?;
+    put_number(
+        Kind::Counter,
         "slotctl_connections_total",
         "Connections that were accepted since the start.",
-    );
-    put_number(accepted, numbers.accepted, page)?;
-    let faults = counter(
+        numbers.accepted,
+        page,
+    )?;
+    put_number(
+        Kind::Counter,
         "slotctl_connection_faults_total",
         "Connections that ended by a fault since the start: a reset, a log that was lost, or memory that was refused.",
-    );
-    put_number(faults, numbers.faults, page)?;
-    let lines = counter(
+        numbers.faults,
+        page,
+    )?;
+    put_number(
+        Kind::Counter,
         "slotctl_lines_total",
         "Lines of clients that were taken since the start.",
-    );
-    put_number(lines, numbers.lines, page)?;
-    let ticks = counter(
+        numbers.lines,
+        page,
+    )?;
+    put_number(
+        Kind::Counter,
         "slotctl_ticks_total",
         "Seconds that the loop counted since the start; it counts one a turn at most.",
-    );
-    put_number(ticks, numbers.ticks, page)?;
-    let ready = gauge(
+        numbers.ticks,
+        page,
+    )?;
+    put_flag(
         "slotctl_ready",
         "1 where clients are answered, 0 while the log does not answer.",
-    );
-    put_number(ready, u64::from(numbers.ready), page)
+        numbers.ready,
+        page,
+    )
 }
 
 // Appends how many numbers were given back, by the cause.
-fn put_releases(releases: Releases, page: &mut Vec<u8>) -> Result<(), AllocError> {
-    let metric = counter(
-        "slotctl_releases_total",
+fn put_releases(releases: Releases, page: &mut Vec<u8>) -> Result<(), AllocError>
+    ensures { OnOk result (page.new.items ≡ page.old.items ++ releases_page releases) }
+{
+    let name = "slotctl_releases_total";
+    put_head(
+        Kind::Counter,
+        name,
         "Numbers that were given back since the start, by the cause.",
-    );
-    put_head(metric, page)?;
-    put(metric.name, page)?;
+        page,
+    )?;
+    put(name, page)?;
     put_value("{cause=\"client\"}", releases.client, page)?;
-    put(metric.name, page)?;
+    put(name, page)?;
     put_value("{cause=\"grace\"}", releases.grace, page)?;
-    put(metric.name, page)?;
+    put(name, page)?;
     put_value("{cause=\"front_end\"}", releases.front_end, page)
 }
 
 // Appends how many lines were answered by each refusal.
-fn put_refusals(refusals: &[u64; REFUSALS], page: &mut Vec<u8>) -> Result<(), AllocError> {
-    let metric = counter(
-        "slotctl_refusals_total",
+fn put_refusals(refusals: &[u64; REFUSALS], page: &mut Vec<u8>) -> Result<(), AllocError>
+    ensures { OnOk result (page.new.items ≡ page.old.items ++ refusals_page refusals.now) }
+{
+    let name = "slotctl_refusals_total";
+    put_head(
+        Kind::Counter,
+        name,
         "Lines that were refused since the start, by the number of the refusal.",
-    );
-    put_head(metric, page)?;
+        page,
+    )?;
     for at in 0..REFUSALS {
-        put(metric.name, page)?;
+        put(name, page)?;
         put("{refusal=\"", page)?;
         put_digits(at as u64 + 1, page)?;
         put_value("\"}", refusals[at], page)?;
@@ -212,77 +254,137 @@ fn put_refusals(refusals: &[u64; REFUSALS], page: &mut Vec<u8>) -> Result<(), Al
 }
 
 // Appends what was refused to clients, and what was given back.
-fn put_audit(numbers: &Numbers, page: &mut Vec<u8>) -> Result<(), AllocError> {
+fn put_audit(numbers: &Numbers, page: &mut Vec<u8>) -> Result<(), AllocError>
+    ensures { OnOk result (page.new.items ≡ page.old.items ++ audit_page numbers.now) }
+{
     put_releases(numbers.releases, page)?;
     put_refusals(&numbers.refusals, page)?;
-    let lost = counter(
+    put_known(
+        Kind::Counter,
         "slotctl_audit_lines_lost_total",
         "Lines of the audit log that were not written since the start.",
-    );
-    put_known(lost, numbers.audit_lines_lost, page)
+        numbers.audit_lines_lost,
+        page,
+    )
 }
 
 // Appends what concerns the history and what it leads to.
-fn put_hall(numbers: &Numbers, page: &mut Vec<u8>) -> Result<(), AllocError> {
-    let events = gauge("slotctl_history_events", "Events of the history.");
-    put_number(events, numbers.events, page)?;
-    let left = gauge(
+fn put_hall(numbers: &Numbers, page: &mut Vec<u8>) -> Result<(), AllocError>
+    ensures { OnOk result (page.new.items ≡ page.old.items ++ hall_page numbers.now) }
+{
+    put_number(
+        Kind::Gauge,
+        "slotctl_history_events",
+        "Events of the history.",
+        numbers.events,
+        page,
+    )?;
+    put_known(
+        Kind::Gauge,
         "slotctl_history_events_left",
         "Events that the history takes yet, of 1000000; at 0 each event is refused.",
-    );
-    put_known(left, numbers.events_left, page)?;
-    let compactions = counter(
+        numbers.events_left,
+        page,
+    )?;
+    put_known(
+        Kind::Counter,
         "slotctl_compactions_total",
         "Compactions of the history since the start.",
-    );
-    put_known(compactions, numbers.compactions, page)?;
-    let competitors = gauge(
+        numbers.compactions,
+        page,
+    )?;
+    put_known(
+        Kind::Gauge,
         "slotctl_competitors",
         "Identities that compete for numbers, those that hold one among them.",
-    );
-    put_known(competitors, numbers.competitors, page)?;
-    let free = gauge(
+        numbers.competitors,
+        page,
+    )?;
+    put_known(
+        Kind::Gauge,
         "slotctl_numbers_free",
         "Numbers of the pool that nobody holds.",
-    );
-    put_known(free, numbers.numbers_free, page)?;
-    let names = gauge("slotctl_names_given", "Names that are given.");
-    put_known(names, numbers.names_given, page)
+        numbers.numbers_free,
+        page,
+    )?;
+    put_known(
+        Kind::Gauge,
+        "slotctl_names_given",
+        "Names that are given.",
+        numbers.names_given,
+        page,
+    )
 }
 
 // Appends how long the syncs of a journal took.
-fn put_syncs(syncs: &DurationHistogram, page: &mut Vec<u8>) -> Result<(), AllocError> {
-    let last = gauge(
-        "slotctl_journal_sync_last_seconds",
+fn put_syncs(syncs: &DurationHistogram, page: &mut Vec<u8>) -> Result<(), AllocError>
+    ensures { OnOk result (page.new.items ≡ page.old.items ++ syncs_page (Some syncs.now)) }
+{
+    let last = "slotctl_journal_sync_last_seconds";
+    put_head(
+        Kind::Gauge,
+        last,
         "Seconds that the last sync of the journal took, from the call to the system until the file was looked at.",
-    );
-    put_head(last, page)?;
-    put(last.name, page)?;
+        page,
+    )?;
+    put(last, page)?;
     put(" ", page)?;
     put_seconds(syncs.last, page)?;
     put("\n", page)?;
-    let all = Metric {
-        name: "slotctl_journal_sync_seconds",
-        kind: Kind::Histogram,
-        help: "Seconds that the syncs of the journal took since the start; a compaction is none of them.",
-    };
+    let all = "slotctl_journal_sync_seconds";
+    put_head(
+        Kind::Histogram,
+        all,
+        "Seconds that the syncs of the journal took since the start; a compaction is none of them.",
+        page,
+    )?;
     put_histogram(all, syncs, page)
 }
 
-// Appends what concerns a journal or a log.
-fn put_keeping(numbers: &Numbers, page: &mut Vec<u8>) -> Result<(), AllocError> {
-    let bytes = gauge("slotctl_journal_bytes", "Bytes of the journal.");
-    put_known(bytes, numbers.journal_bytes, page)?;
-    if let Some(syncs) = numbers.syncs {
-        put_syncs(&syncs, page)?;
+// Appends how long the syncs of a journal took, where there is one.
+#[tactic(auto, unfolding(crate::specs::Page::syncs_page))]
+fn put_known_syncs(syncs: Option<DurationHistogram>, page: &mut Vec<u8>) -> Result<(), AllocError>
+    ensures { OnOk result (page.new.items ≡ page.old.items ++ syncs_page syncs) }
+{
+    match syncs {
+        Some(syncs) => put_syncs(&syncs, page),
+        None => Ok(()),
     }
-    let place = gauge("slotctl_log_place", "Entries of the log that are applied.");
-    put_known(place, numbers.log_place, page)?;
-    let age = gauge(
+}
+
+// Appends what concerns a journal or a log.
+fn put_keeping(numbers: &Numbers, page: &mut Vec<u8>) -> Result<(), AllocError>
+    ensures { OnOk result (page.new.items ≡ page.old.items ++ keeping_page numbers.now) }
+{
+    put_known(
+        Kind::Gauge,
+        "slotctl_journal_bytes",
+        "Bytes of the journal.",
+        numbers.journal_bytes,
+        page,
+    )?;
+    put_known_syncs(numbers.syncs, page)?;
+    put_known(
+        Kind::Gauge,
+        "slotctl_log_place",
+        "Entries of the log that are applied.",
+        numbers.log_place,
+        page,
+    )?;
+    put_known(
+        Kind::Gauge,
+        "slotctl_log_entries_since_compaction",
+        "Entries of the log that are applied since the last compaction; at 10000 the next is due.",
+        numbers.log_since_compaction,
+        page,
+    )?;
+    put_known(
+        Kind::Gauge,
         "slotctl_log_append_age_seconds",
         "Seconds since an entry of the log was last applied, or since the start.",
-    );
-    put_known(age, numbers.log_age, page)
+        numbers.log_age,
+        page,
+    )
 }
 
 /// Appends the page of these numbers.
@@ -290,7 +392,9 @@ fn put_keeping(numbers: &Numbers, page: &mut Vec<u8>) -> Result<(), AllocError> 
 /// # Errors
 ///
 /// `AllocError`: an allocation failed. A part of the page may stand there.
-pub fn put_page(numbers: &Numbers, page: &mut Vec<u8>) -> Result<(), AllocError> {
+pub fn put_page(numbers: &Numbers, page: &mut Vec<u8>) -> Result<(), AllocError>
+    ensures { OnOk result (page.new.items ≡ page.old.items ++ page_of numbers.now) }
+{
     put_clients(numbers, page)?;
     put_audit(numbers, page)?;
     put_hall(numbers, page)?;

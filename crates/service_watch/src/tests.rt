@@ -27,6 +27,7 @@ fn few() -> Numbers {
         journal_bytes: None,
         syncs: None,
         log_place: None,
+        log_since_compaction: None,
         log_age: None,
     }
 }
@@ -105,6 +106,7 @@ fn each_number_has_its_line(rt: HostRuntime) {
         audit_lines_lost: Some(12),
         syncs: Some(syncs),
         log_place: Some(10),
+        log_since_compaction: Some(13),
         log_age: Some(11),
         ..few()
     };
@@ -127,6 +129,7 @@ fn each_number_has_its_line(rt: HostRuntime) {
         "slotctl_journal_sync_seconds_sum 2.000157",
         "slotctl_journal_sync_seconds_count 2",
         "slotctl_log_place 10",
+        "slotctl_log_entries_since_compaction 13",
         "slotctl_log_append_age_seconds 11",
     ] {
         assert_eq!(rt; (line, has_line(&page, line)), (line, true));

@@ -172,7 +172,8 @@ impl<A: Allocator, F: Form> Responder<A, F> {
         requires knows { D.knows (OwnerOf n) ≡ true }
         requires room { length out.old + TURN_ROOM ≤ HELD_REPLIES }
         requires count { self.old.summary.lines + 1 < 2 ^ 64 }
-        ensures reported { (reply : ShownReply) × D.may service.old (OwnerOf n) reply service.new × IsHeld F.text self.old out.old (Reported n reply) self.new out.new }
+        ensures reported { (reply : ShownReply) × D.may service.old (OwnerOf n) reply service.new ×
+            IsHeld F.text self.old out.old (Reported n reply) self.new out.new }
         ensures longer { length out.new ≤ length out.old + TURN_ROOM }
     {
         let reply = service.owner(rt, n).shorten(view);

@@ -65,74 +65,32 @@ apart name other differ same = let no : false ≡ true = sym differ ∙ (bytes_e
 -- nothing of the name `play`, where its options give nothing
 pub nothing_played : (rows : List Row) → ((p : Playing) → IsPlayingOf rows p → ⊥) → (a : Ask) → subcommand_name a ≡ codes "play" → GiveAsked rows a → ⊥
 nothing_played rows none (Play p) same h = none p h
-nothing_played rows none Check same h = apart (codes "check") (codes "play") refl same
-nothing_played rows none Migrate same h = apart (codes "migrate") (codes "play") refl same
-nothing_played rows none (Show s) same h = apart (codes "show") (codes "play") refl same
-nothing_played rows none (Draw d) same h = apart (codes "draw") (codes "play") refl same
-nothing_played rows none (Race r) same h = apart (codes "race") (codes "play") refl same
-nothing_played rows none (Serve s) same h = apart (codes "serve") (codes "play") refl same
-nothing_played rows none (Host x) same h = apart (codes "host") (codes "play") refl same
-nothing_played rows none Held same h = apart (codes "held") (codes "play") refl same
+nothing_played rows none a same h = apart (subcommand_name a) (codes "play") refl same
 
 -- nothing of the name `show`, where its options give nothing
 pub nothing_shown : (rows : List Row) → ((s : Showing) → IsShowingOf rows s → ⊥) → (a : Ask) → subcommand_name a ≡ codes "show" → GiveAsked rows a → ⊥
-nothing_shown rows none (Play p) same h = apart (codes "play") (codes "show") refl same
-nothing_shown rows none Check same h = apart (codes "check") (codes "show") refl same
-nothing_shown rows none Migrate same h = apart (codes "migrate") (codes "show") refl same
 nothing_shown rows none (Show s) same h = none s h
-nothing_shown rows none (Draw d) same h = apart (codes "draw") (codes "show") refl same
-nothing_shown rows none (Race r) same h = apart (codes "race") (codes "show") refl same
-nothing_shown rows none (Serve s) same h = apart (codes "serve") (codes "show") refl same
-nothing_shown rows none (Host x) same h = apart (codes "host") (codes "show") refl same
-nothing_shown rows none Held same h = apart (codes "held") (codes "show") refl same
+nothing_shown rows none a same h = apart (subcommand_name a) (codes "show") refl same
 
 -- nothing of the name `draw`, where its options give nothing
 pub nothing_drawn : (rows : List Row) → ((d : Drawing) → IsDrawingOf rows d → ⊥) → (a : Ask) → subcommand_name a ≡ codes "draw" → GiveAsked rows a → ⊥
-nothing_drawn rows none (Play p) same h = apart (codes "play") (codes "draw") refl same
-nothing_drawn rows none Check same h = apart (codes "check") (codes "draw") refl same
-nothing_drawn rows none Migrate same h = apart (codes "migrate") (codes "draw") refl same
-nothing_drawn rows none (Show s) same h = apart (codes "show") (codes "draw") refl same
 nothing_drawn rows none (Draw d) same h = none d h
-nothing_drawn rows none (Race r) same h = apart (codes "race") (codes "draw") refl same
-nothing_drawn rows none (Serve s) same h = apart (codes "serve") (codes "draw") refl same
-nothing_drawn rows none (Host x) same h = apart (codes "host") (codes "draw") refl same
-nothing_drawn rows none Held same h = apart (codes "held") (codes "draw") refl same
+nothing_drawn rows none a same h = apart (subcommand_name a) (codes "draw") refl same
 
 -- nothing of the name `race`, where its options give nothing
 pub nothing_raced : (rows : List Row) → ((r : Racing) → IsRacingOf rows r → ⊥) → (a : Ask) → subcommand_name a ≡ codes "race" → GiveAsked rows a → ⊥
-nothing_raced rows none (Play p) same h = apart (codes "play") (codes "race") refl same
-nothing_raced rows none Check same h = apart (codes "check") (codes "race") refl same
-nothing_raced rows none Migrate same h = apart (codes "migrate") (codes "race") refl same
-nothing_raced rows none (Show s) same h = apart (codes "show") (codes "race") refl same
-nothing_raced rows none (Draw d) same h = apart (codes "draw") (codes "race") refl same
 nothing_raced rows none (Race r) same h = none r h
-nothing_raced rows none (Serve s) same h = apart (codes "serve") (codes "race") refl same
-nothing_raced rows none (Host x) same h = apart (codes "host") (codes "race") refl same
-nothing_raced rows none Held same h = apart (codes "held") (codes "race") refl same
+nothing_raced rows none a same h = apart (subcommand_name a) (codes "race") refl same
 
 -- nothing of the name `serve`, where its options give nothing
 pub nothing_served : (rows : List Row) → ((s : Serving) → IsServingOf rows s → ⊥) → (a : Ask) → subcommand_name a ≡ codes "serve" → GiveAsked rows a → ⊥
-nothing_served rows none (Play p) same h = apart (codes "play") (codes "serve") refl same
-nothing_served rows none Check same h = apart (codes "check") (codes "serve") refl same
-nothing_served rows none Migrate same h = apart (codes "migrate") (codes "serve") refl same
-nothing_served rows none (Show s) same h = apart (codes "show") (codes "serve") refl same
-nothing_served rows none (Draw d) same h = apart (codes "draw") (codes "serve") refl same
-nothing_served rows none (Race r) same h = apart (codes "race") (codes "serve") refl same
 nothing_served rows none (Serve s) same h = none s h
-nothing_served rows none (Host x) same h = apart (codes "host") (codes "serve") refl same
-nothing_served rows none Held same h = apart (codes "held") (codes "serve") refl same
+nothing_served rows none a same h = apart (subcommand_name a) (codes "serve") refl same
 
 -- nothing of the name `host`, where its options give nothing
 pub nothing_hosted : (rows : List Row) → ((x : Hosting) → IsHostingOf rows x → ⊥) → (a : Ask) → subcommand_name a ≡ codes "host" → GiveAsked rows a → ⊥
-nothing_hosted rows none (Play p) same h = apart (codes "play") (codes "host") refl same
-nothing_hosted rows none Check same h = apart (codes "check") (codes "host") refl same
-nothing_hosted rows none Migrate same h = apart (codes "migrate") (codes "host") refl same
-nothing_hosted rows none (Show s) same h = apart (codes "show") (codes "host") refl same
-nothing_hosted rows none (Draw d) same h = apart (codes "draw") (codes "host") refl same
-nothing_hosted rows none (Race r) same h = apart (codes "race") (codes "host") refl same
-nothing_hosted rows none (Serve s) same h = apart (codes "serve") (codes "host") refl same
 nothing_hosted rows none (Host x) same h = none x h
-nothing_hosted rows none Held same h = apart (codes "held") (codes "host") refl same
+nothing_hosted rows none a same h = apart (subcommand_name a) (codes "host") refl same
 
 -- what was met, from its name and its rows
 pub both_met : {X A B : Type 0} (f : X → A) (g : X → B) (o : Option X) (a : A) (b : B) → Some a ≡ option_map f o →

@@ -7,7 +7,6 @@ use Rattle.std.proofs.lemmas.List.Elements.{filter-append}
 use Rattle.std.proofs.lemmas.Grind.{replicate_next}
 use Rattle.model_pool.specs.declared.pool.TheConstants.{MOST_NUMBERS}
 use Rattle.model_pool.specs.slots.SlotsState.{SlotsState}
-use Rattle.model_steps.specs.declared.refusal.Refusal.TheVariants as refusal
 use Rattle.model_asked.specs.Replies.{with_view}
 use Rattle.model_asked.specs.Requests.Request.{Take}
 use Rattle.model_asked.specs.declared.event.Event.TheVariants as event

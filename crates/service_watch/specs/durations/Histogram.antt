@@ -1,5 +1,5 @@
 -- how long calls took (this project's profile; buckets that add up: the histograms of Prometheus)
-use Rattle.std.specs.Prelude.{ℕ, List, [], ◌∷◌, ◌+◌, ◌/◌, ◌^◌, ◌-◌, min, map, nat_le, if◌then◌else◌}
+use Rattle.std.specs.Prelude.{ℕ, [], ◌∷◌, ◌+◌, ◌/◌, ◌^◌, ◌-◌, min, map, nat_le, if◌then◌else◌}
 use Rattle.service_watch.specs.declared.durations.Bucket.{Bucket}
 use Rattle.service_watch.specs.declared.durations.DurationHistogram.{DurationHistogram}
 

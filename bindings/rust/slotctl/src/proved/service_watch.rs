@@ -1,21 +1,21 @@
-// Erased by bindings/rust/erase from crates/service_watch/src/lib.rt, sha256 c6b6bb23f4e1eede165811da997be36ab8a17f71ba4ca1bbb8b0f19e95d1d4dc.
+// Erased by bindings/rust/erase from crates/service_watch/src/lib.rt, sha256 3ab9ed5deda51fba8ec9e16061f81535ee4d4690af6ee3b62f6f94b434fdbdaa.
 //! What a server shows those who watch it: a page of metrics in the text form of Prometheus, version 0.0.4, over HTTP/1.1.
 //!
 //! `put_page` writes the page of `Numbers`, `asked_by` says what a request asks for, and `put_answer` writes what is answered. `Scrapers` are those
 //! who ask, at most eight at once: none of their calls waits, each asks once, and each is closed after its answer or ten seconds.
 //!
-//! Promised is that a line of a number is its name, a blank and the number in decimal digits (`put_value`). That the page has each number under its
-//! name, and what sockets carry, is only tested.
+//! Promised is the text of the page (`put_page`), which has each number under its name, and the text of each answer (`put_answer`). What a request
+//! asks for, and what sockets carry, is only tested.
 //!
 //! From `service_loop/src/watching.rt`:
 //!
 //! ```text
-//! pub fn numbers(&self, loops: &LoopNumbers, tally: &Tally) -> Numbers {
-//!     Numbers {
-//!         clients: loops.clients,
-//!         accepted: loops.accepted,
-//! ..
-//!         log_place: tally.log_place,
+//! Numbers {
+//!     clients: loops.clients,
+//!     accepted: loops.accepted,
+//!     ..
+//!     log_place: tally.log_place,
+//!     log_since_compaction: tally.log_since_compaction,
 //! ```
 
 pub mod answer;

@@ -1,6 +1,6 @@
 use borrow.Author.Rules.{scaled_Fits}
 use Rattle.std.proofs.lemmas.List.{set-get_or, get_or_past}
-use Rattle.std.proofs.Common.{◌≡◌, ◌∙◌, Some, None, ap, subst, sym, get_or, length, refl}
+use Rattle.std.proofs.Common.{◌∙◌, Some, None, ap, subst, sym, get_or, length, refl}
 use Rattle.service_loop.proofs.Common.{get_or_default, get_or-set_same, get_or-set_other, length-set, seats_of, BuffersState}
 use Rattle.service_loop.proofs.SendingLemmas.{unsent_at, unsent_none}
 use Rattle.service_loop.specs.Keepers.{SeatFails}

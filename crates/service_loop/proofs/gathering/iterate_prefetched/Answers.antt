@@ -1,11 +1,11 @@
 use Rattle.std.proofs.lemmas.List.{length-take-le}
-use Rattle.std.proofs.Common.{◌≡◌, ℕ, [], None, Ok, ap, get_or, subst, sym, take}
+use Rattle.std.proofs.Common.{◌≡◌, ◌∙◌, ℕ, true, [], None, Ok, ap, get_or, subst, sym, take}
 use Rattle.service_loop.specs.declared.connection.ConnectionStage.TheVariants as stage
-use Rattle.service_loop.specs.Gathering.{NotPrefetched}
+use Rattle.service_loop.specs.Gathering.{NotPrefetched, any_asks_holders}
 use Rattle.service_loop.specs.Seats.{NoneSent, seats_of}
 use Rattle.service_loop.proofs.RoundLemmas.{always_wrong, gave_none, owes_none}
 use Rattle.service_loop.proofs.SeatLemmas.{seat_rests}
-use Rattle.service_loop.proofs.GatherLemmas.{none_sent_peeked}
+use Rattle.service_loop.proofs.GatherLemmas.{none_sent_peeked, unheld, was_prefetched}
 use Rattle.service_loop.proofs.ReportedLemmas.{reported_broken, taken_reported}
 use Rattle.service_loop.proofs.AttendedLemmas.{hears_about}
 use Rattle.service_loop.proofs.LosingLemmas.{lost_whole}
@@ -16,13 +16,17 @@ returns-in_ok-persist-in-Known-clause-served g c =
     let on = seats_of g.S.Stream.left g.S.Stream.gone in
     let t = c.gather-peeked.ensures.reported in
     let k = c.take_peeked.ensures.taken in
-    λ called same. (
+    let holds : c.any_asks_holders-batch.result ≡ any_asks_holders (λ x. x.peek) (take c.gather-peeked.result c.args.ready.now) c.gather-peeked.new.seats = c.any_asks_holders-batch.ensures in
+    let known = c.in_ok-prefetch.ensures.known (ap Ok c.in-Known.is) in
+    λ called same.
+    let n : c.gather-peeked.result ≡ called = cc in (
       record {
         gathered_seats = c.gather-peeked.new.seats;
         prefetched_by = c.prefetch.new.persister;
         ready = c.prefetch.new.service;
         gathered = c.gather-peeked.ensures.gathered;
-        prefetched = c.in_ok-prefetch.ensures.known (ap Ok c.in-Known.is);
+        prefetched = unheld known;
+        asked = λ asks. was_prefetched (holds ∙ subst (λ (k : ℕ). any_asks_holders (λ x. x.peek) (take k c.args.ready.now) c.gather-peeked.new.seats ≡ true) (sym n) asks) known;
         turn = record { log = k.0; reported = c.take_peeked.new.service.service; between = c.take_peeked.new.seats; taken = k.1; kept = c.in_ok-persist-in-Known.ensures; sent = c.send_replies.ensures.sent };
         reported = t.0;
         reported_is = t.1;

@@ -1,5 +1,6 @@
 use Rattle.std.proofs.lemmas.List.{length-take-le}
 use Rattle.std.proofs.Common.{◌≡◌, ℕ, Ok, ap, refl, subst, sym, take}
+use Rattle.service_loop.proofs.GatherLemmas.{unheld}
 use Rattle.service_loop.proofs.Common.{seats_of}
 use Rattle.service_loop.specs.Taking.{TakingsGivenUp}
 use Rattle.service_loop.proofs.AttendedLemmas.{hears_about}
@@ -9,7 +10,7 @@ use Rattle.service_loop.proofs.taking.prefetch_takings.Goals as goal
 pub returns-in_ok-serve_takings-in-Known-clause-served : goal.returns-in_ok-serve_takings-in-Known-clause-served
 returns-in_ok-serve_takings-in-Known-clause-served g c = λ count same.
     let t = c.in_ok-serve_takings-in-Known.ensures.turned in (
-      record { prefetched_by = c.prefetch.new.persister; ready = c.prefetch.new.service; prefetched = c.in_ok-prefetch.ensures.known (ap Ok c.in-Known.is); turn = t.0 },
+      record { prefetched_by = c.prefetch.new.persister; ready = c.prefetch.new.service; prefetched = unheld (c.in_ok-prefetch.ensures.known (ap Ok c.in-Known.is)); turn = t.0 },
       hears_about c.args.service.now c.prefetch.new.service c.serve_takings.new.service _ t.1,
     )
 

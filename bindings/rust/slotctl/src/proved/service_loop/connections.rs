@@ -1,4 +1,4 @@
-// Erased by bindings/rust/erase from crates/service_loop/src/connections.rt, sha256 052f97bdb712595d367f697777130a64fb83dfc38e54ba405bd6e8a058efabcb.
+// Erased by bindings/rust/erase from crates/service_loop/src/connections.rt, sha256 04dc47051a8183d15f2e8e8c2b8565309fb9df8f520a4097c45bf8e67344568e.
 //! The connections of a server, their seats, and who is to have a turn.
 
 use crate::kit::alloc::{AllocError, Global};

@@ -1,4 +1,4 @@
-// Erased by bindings/rust/erase from crates/service_loop/src/gathering.rt, sha256 9793c4d70755ae7582eb628dca4882f4fb14602d9595b7c8a8d9ac0a7c2bf005.
+// Erased by bindings/rust/erase from crates/service_loop/src/gathering.rt, sha256 cec57cbac1c388235c35ff48e9ca8a3f16a41575342bab889d6eb7a1960f7d0e.
 //! One turn of the loop over a service that learns its answers before.
 
 use crate::kit::alloc::Allocator;
@@ -140,18 +140,27 @@ fn take_peeked<R, D: Service<R>, S: Stream, A: Allocator, B: Allocator>(
     }
 }
 
-// Whether a connection of these seats asks who holds numbers, as it was looked at.
+// Whether the connection of a seat asks who holds numbers, as it was looked at.
+fn asks_holders_at<S: Stream, A: Allocator>(
+    seats: &[Option<Connection<S, A>>],
+    key: usize,
+) -> bool {
+    if key < seats.len() {
+        if let Some(connection) = &seats[key] {
+            return connection.asks_holders();
+        }
+    }
+    false
+}
+
+// Whether a connection of these seats does.
 fn any_asks_holders<S: Stream, A: Allocator>(
     seats: &[Option<Connection<S, A>>],
     called: &[usize],
 ) -> bool {
     for key in called {
-        if *key < seats.len() {
-            if let Some(connection) = &seats[*key] {
-                if connection.asks_holders() {
-                    return true;
-                }
-            }
+        if asks_holders_at(seats, *key) {
+            return true;
         }
     }
     false

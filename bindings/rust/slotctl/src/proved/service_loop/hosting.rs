@@ -1,4 +1,4 @@
-// Erased by bindings/rust/erase from crates/service_loop/src/hosting.rt, sha256 23bf01017ccc3dd3a2966aac9e2b0472c8aeb8e6885941f4933527608073424b.
+// Erased by bindings/rust/erase from crates/service_loop/src/hosting.rt, sha256 306d56959ecfa597bf62226f4a1464a03e49da3bd19303103515bc7f2e589d46.
 //! A server in one thread, by the readiness of its sockets.
 
 use crate::kit::alloc::{AllocError, Global};

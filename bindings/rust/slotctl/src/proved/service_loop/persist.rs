@@ -1,4 +1,4 @@
-// Erased by bindings/rust/erase from crates/service_loop/src/persist.rt, sha256 da829c48383b24852a35f33cd81145e86e30bb521f6836abede749458bd38c97.
+// Erased by bindings/rust/erase from crates/service_loop/src/persist.rt, sha256 7957b621a1e408fbd36f79b8781dd13a3da7fb3d9fec7ea7eb76126fe585926d.
 //! What is kept of a turn before its replies go out.
 
 use crate::kit::alloc::Allocator;
@@ -27,6 +27,8 @@ pub struct Tally {
     pub syncs: Option<DurationHistogram>,
     /// How many entries of a log are applied.
     pub log_place: Option<u64>,
+    /// How many of them since the last compaction.
+    pub log_since_compaction: Option<u64>,
     /// Whether the log answered when it was last asked.
     pub log_answers: Option<bool>,
 }
@@ -44,6 +46,7 @@ impl Tally {
             journal_bytes: None,
             syncs: None,
             log_place: None,
+            log_since_compaction: None,
             log_answers: None,
         }
     }

@@ -1,4 +1,4 @@
-// Erased by bindings/rust/erase from crates/service_loop/src/watching.rt, sha256 c77eb29562f235f2ddd97f07a35bcde758900fbe8d2c73aaa6bee6f05da6813e.
+// Erased by bindings/rust/erase from crates/service_loop/src/watching.rt, sha256 094844995e0f6057ccc347b8cf9cc08b11350fc02629df6c2f5d179f6a449997.
 //! Those who watch a server.
 
 use crate::kit::io;
@@ -38,6 +38,22 @@ pub struct LoopNumbers {
     pub audit_lines_lost: Option<u64>,
     /// Whether the answers that clients wanted last were prefetched.
     pub learnt: bool,
+}
+
+// Whether clients are answered, as far as it is by the log.
+fn may_answer(answers: Option<bool>) -> bool {
+    match answers {
+        Some(answers) => answers,
+        None => true,
+    }
+}
+
+// How long ago a place of the log came, where there is one.
+fn age_of(place: Option<u64>, tick: u64, placed: u64) -> Option<u64> {
+    match place {
+        Some(_) => Some(tick.saturating_sub(placed)),
+        None => None,
+    }
 }
 
 impl Watch {
@@ -98,7 +114,7 @@ impl Watch {
             releases: loops.releases,
             refusals: loops.refusals,
             audit_lines_lost: loops.audit_lines_lost,
-            ready: loops.learnt && tally.log_answers != Some(false),
+            ready: loops.learnt && may_answer(tally.log_answers),
             events: tally.events,
             events_left: tally.events_left,
             compactions: tally.compactions,
@@ -108,9 +124,8 @@ impl Watch {
             journal_bytes: tally.journal_bytes,
             syncs: tally.syncs,
             log_place: tally.log_place,
-            log_age: tally
-                .log_place
-                .map(|_| loops.ticks.saturating_sub(self.placed)),
+            log_since_compaction: tally.log_since_compaction,
+            log_age: age_of(tally.log_place, loops.ticks, self.placed),
         }
     }
 }

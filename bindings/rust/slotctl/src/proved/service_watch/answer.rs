@@ -1,4 +1,4 @@
-// Erased by bindings/rust/erase from crates/service_watch/src/answer.rt, sha256 10596f45b8b12ee7266f574b1063f81b57a79c062c7977736424f63897de9b8d.
+// Erased by bindings/rust/erase from crates/service_watch/src/answer.rt, sha256 6466b52210ade58d80006004af20a1d0f8182bb3b2d1659b69c14a16e9e5e86b.
 //! What a request is answered.
 
 use crate::kit::alloc::{AllocError, Global};
@@ -49,6 +49,24 @@ fn text_of(asked: Asked, ready: bool) -> &'static str {
     }
 }
 
+// What the text of an answer is called.
+fn form_of(asked: Asked) -> &'static str {
+    match asked {
+        Asked::Page => PAGE_TYPE,
+        Asked::Alive | Asked::Ready | Asked::Nowhere | Asked::OtherMethod | Asked::Unreadable => {
+            TEXT_TYPE
+        }
+    }
+}
+
+// The field that says which methods are answered, for who asked by another.
+fn allow_of(asked: Asked) -> &'static str {
+    match asked {
+        Asked::OtherMethod => "\r\nAllow: GET",
+        Asked::Page | Asked::Alive | Asked::Ready | Asked::Nowhere | Asked::Unreadable => "",
+    }
+}
+
 // Appends a text.
 fn put(text: &str, answer: &mut Vec<u8>) -> Result<(), AllocError> {
     answer.extend_from_slice(text.as_bytes())
@@ -59,18 +77,21 @@ fn put_head(asked: Asked, ready: bool, len: usize, answer: &mut Vec<u8>) -> Resu
     put("HTTP/1.1 ", answer)?;
     put(status_of(asked, ready), answer)?;
     put("\r\nContent-Type: ", answer)?;
-    let form = if asked == Asked::Page {
-        PAGE_TYPE
-    } else {
-        TEXT_TYPE
-    };
-    put(form, answer)?;
-    if asked == Asked::OtherMethod {
-        put("\r\nAllow: GET", answer)?;
-    }
+    put(form_of(asked), answer)?;
+    put(allow_of(asked), answer)?;
     put("\r\nContent-Length: ", answer)?;
     put(Buffer::new().format(len), answer)?;
     put("\r\nConnection: close\r\n\r\n", answer)
+}
+
+// Appends the body of an answer: a page of metrics, or a text.
+fn put_body(asked: Asked, numbers: &Numbers, body: &mut Vec<u8>) -> Result<(), AllocError> {
+    match asked {
+        Asked::Page => put_page(numbers, body),
+        Asked::Alive | Asked::Ready | Asked::Nowhere | Asked::OtherMethod | Asked::Unreadable => {
+            put(text_of(asked, numbers.ready), body)
+        }
+    }
 }
 
 /// Appends what is answered to a request: a head with its status, and a page or a text.
@@ -85,11 +106,7 @@ pub fn put_answer(
     answer: &mut Vec<u8>,
 ) -> Result<(), AllocError> {
     let mut body = Vec::new(alloc);
-    if asked == Asked::Page {
-        put_page(numbers, &mut body)?;
-    } else {
-        put(text_of(asked, numbers.ready), &mut body)?;
-    }
+    put_body(asked, numbers, &mut body)?;
     put_head(asked, numbers.ready, body.len(), answer)?;
     answer.extend_from_slice(&body)
 }

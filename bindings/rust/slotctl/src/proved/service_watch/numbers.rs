@@ -1,4 +1,4 @@
-// Erased by bindings/rust/erase from crates/service_watch/src/numbers.rt, sha256 487c04124be7b03d63de9ad3e800c309d13f97472f460534aff32280d76577da.
+// Erased by bindings/rust/erase from crates/service_watch/src/numbers.rt, sha256 7d05d0c26d689393c34a1a11b7a13afac8494b25a8ccf8fe8b7797b1ea8934ce.
 //! What a page tells.
 
 use crate::proved::service_watch::durations::DurationHistogram;
@@ -56,6 +56,8 @@ pub struct Numbers {
     pub syncs: Option<DurationHistogram>,
     /// How many entries of the log are applied.
     pub log_place: Option<u64>,
+    /// How many of them since the last compaction.
+    pub log_since_compaction: Option<u64>,
     /// How many seconds ago an entry was last applied, or the server started.
     pub log_age: Option<u64>,
 }

@@ -1,4 +1,4 @@
-// Erased by bindings/rust/erase from crates/service_watch/src/tests.rt, sha256 9bd5ba479f7e920a12eb81e096ca3d81b89b982e7c9b644d2fe64084f52d808d.
+// Erased by bindings/rust/erase from crates/service_watch/src/tests.rt, sha256 02d894b5e73155961e80000d07b0b8ec22d29ddf888054339fd35d0021b5ab31.
 use crate::kit::Vec;
 use crate::kit::HostRuntime;
 use crate::proved::service_watch::durations::DurationHistogram;
@@ -33,6 +33,7 @@ fn few() -> Numbers {
         journal_bytes: None,
         syncs: None,
         log_place: None,
+        log_since_compaction: None,
         log_age: None,
     }
 }
@@ -111,6 +112,7 @@ fn each_number_has_its_line(rt: HostRuntime) {
         audit_lines_lost: Some(12),
         syncs: Some(syncs),
         log_place: Some(10),
+        log_since_compaction: Some(13),
         log_age: Some(11),
         ..few()
     };
@@ -133,6 +135,7 @@ fn each_number_has_its_line(rt: HostRuntime) {
         "slotctl_journal_sync_seconds_sum 2.000157",
         "slotctl_journal_sync_seconds_count 2",
         "slotctl_log_place 10",
+        "slotctl_log_entries_since_compaction 13",
         "slotctl_log_append_age_seconds 11",
     ] {
         assert_eq!(rt; (line, has_line(&page, line)), (line, true));

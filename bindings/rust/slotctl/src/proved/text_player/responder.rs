@@ -1,4 +1,4 @@
-// Erased by bindings/rust/erase from crates/text_player/src/responder.rt, sha256 3a6440fbdb33ad5e8093595577777c3ac36b4e257eb9e1e7c09e18a911c37d84.
+// Erased by bindings/rust/erase from crates/text_player/src/responder.rt, sha256 ab3d3a135bef907f40ebeed8c4cbe02ab861ba67b20560519f1ed61c1564f744.
 //! One side of a transcript: it takes bytes, makes requests of a service that others may share, and appends replies to
 //! a buffer.
 

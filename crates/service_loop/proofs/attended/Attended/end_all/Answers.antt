@@ -1,4 +1,4 @@
-use Rattle.std.proofs.Common.{◌∙◌, ◌+◌, List, ap, map, take, sym, subst}
+use Rattle.std.proofs.Common.{◌∙◌, List, ap, map, take, sym, subst}
 use Rattle.std.proofs.lemmas.List.{take_more}
 use Rattle.service_loop.specs.Attending.{Hears, act_of_ending}
 use Rattle.service_loop.specs.declared.attended.Ending.{Ending}

@@ -1,4 +1,4 @@
-use Rattle.std.proofs.Common.{rules, ◌≤◌, [], length, take, refl}
+use Rattle.std.proofs.Common.{rules, ◌≤◌, [], length, take}
 use Rattle.std.specs.Io.KnownBytes.{Consumes, IsAtEnd}
 use Rattle.service_loop.proofs.BuffersLemmas.{takes_the_end, takes_no_end, takes_fault, consumes_kept}
 use Rattle.service_loop.proofs.connection.Connection.take_end.Goals as goal

@@ -1,4 +1,4 @@
-use Rattle.std.proofs.Common.{◌≡◌, ◌∙◌, true, false, [], inl, inr, sym, ◌||◌, Bool, refl}
+use Rattle.std.proofs.Common.{◌≡◌, ◌∙◌, true, false, [], inl, inr, sym, refl}
 use Rattle.service_loop.proofs.BuffersLemmas.{full_or_asks, or_true}
 use Rattle.service_loop.proofs.connection.Connection.take_last.Goals as goal
 

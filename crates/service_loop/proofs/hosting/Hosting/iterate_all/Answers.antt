@@ -25,7 +25,7 @@ returns-in-Some-clause-attended g c = λ grace.
     let e = c.iterate_prefetched.ensures in
     sent_called c.iterate_prefetched.result _
     (λ n is. let t = e.served n is in
-    attended_prefetched hosted may prefetches persists waits g.K.Persist.shares g.K.Persist.holds grace (λ x. x.peek) (λ x. x.stage ≡ stage.Queued) _ _ _ c.all-numbers-in-Some.ensures.own _ _ _ _ _ _ _ t.0 t.1)
+    attended_prefetched hosted may prefetches persists waits g.K.Persist.shares g.K.Persist.holds grace (λ x. x.peek) (λ x. x.stage ≡ stage.Queued) _ _ _ _ c.all-numbers-in-Some.ensures.own _ _ _ _ _ _ _ t.0 t.1)
     (λ n is. attended_lost hosted may prefetches persists waits g.K.Persist.shares g.K.Persist.holds grace c.in-Some.batch.kind c.iterate_prefetched.new.batch.lines.items _ _ _ _ (e.lost n is))
 
 pub returns-in-Some-clause-sent : goal.returns-in-Some-clause-sent
@@ -34,7 +34,7 @@ returns-in-Some-clause-sent g c =
     sent_called c.iterate_prefetched.result _
     (λ n is. let t = (e.served n is).0 in
     has_sent_back sockets _ _ _ c.iterate_prefetched.new.seats c.deref_mut-in-Some.ensures.value (sym c.deref_mut-in-Some.ensures.len) (t.turn.sent.many ∙ t.turn.taken.many ∙ t.gathered.many)
-    (has_sent_prefetched sockets g.D.Service.may g.K.Persist.persists g.K.Persist.prefetches (λ x. x.peek) (λ x. x.stage ≡ stage.Queued) _ _ _ _ _ _ _ _ t))
+    (has_sent_prefetched sockets g.D.Service.may g.K.Persist.persists g.K.Persist.prefetches (λ x. x.peek) (λ x. x.stage ≡ stage.Queued) _ _ _ _ _ _ _ _ _ t))
     (λ n is. let t = e.unserved n is in
     has_sent_back sockets _ _ _ c.iterate_prefetched.new.seats c.deref_mut-in-Some.ensures.value (sym c.deref_mut-in-Some.ensures.len) (t.given_up.many ∙ t.gathered.many)
     (has_sent_then sockets _ _ _ (has_sent_gathered sockets _ _ t.gathered) (has_sent_gathered sockets _ _ t.given_up)))

@@ -1,5 +1,5 @@
 use Rattle.std.proofs.Common.{arith}
-use Rattle.service_loop.proofs.gathering.any_asks_holders.Goals as goal
+use Rattle.service_loop.proofs.gathering.asks_holders_at.Goals as goal
 
 pub bounds-seats-key : goal.bounds-seats-key
 bounds-seats-key g c = c.if-key-seats.true

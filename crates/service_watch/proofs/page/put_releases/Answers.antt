@@ -1,0 +1,12 @@
+use Rattle.service_watch.specs.Page.{releases_page}
+use Rattle.service_watch.proofs.PageLemmas.{appended, then_appended}
+use Rattle.service_watch.proofs.page.put_releases.Goals as goal
+
+pub returns : goal.returns
+unfolding releases_page
+returns c = then_appended _ c.args.page.now.items c.put-3.new.page.items _ _ _ (appended c.args.page.now.items c.put_value-2.new.page.items c.put-3.new.page.items _ _
+    (appended c.args.page.now.items c.put-2.new.page.items c.put_value-2.new.page.items _ _
+    (appended c.args.page.now.items c.put_value.new.page.items c.put-2.new.page.items _ _
+    (appended c.args.page.now.items c.put.new.page.items c.put_value.new.page.items _ _
+    (appended c.args.page.now.items c.put_head.new.page.items c.put.new.page.items _ _
+    c.in_ok-put_head.ensures c.in_ok-put.ensures) c.in_ok-put_value.ensures) c.in_ok-put-2.ensures) c.in_ok-put_value-2.ensures) c.in_ok-put-3.ensures) c.put_value-3.ensures
