@@ -1,12 +1,13 @@
 -- a hall that a log leads, with who keeps its stays: what it comes to is determined, and a compaction leaves its desk
-use Rattle.std.proofs.Common.{◌≡◌, ℕ, Bool, true, false, Option, Some, None, List, [], refl, sym, ap, subst, ◌∙◌, arith}
+use Rattle.std.proofs.Common.{◌≡◌, ◌≤◌, ℕ, Bool, true, false, Option, Some, None, List, [], length, inl, inr, refl, sym, ap, subst, ◌∙◌, arith}
 use Rattle.service_follow.proofs.Common.{HallState, ReplyQueueState, reply_queue_of}
-use Rattle.service_hall.specs.Halls.{hall_of}
+use Rattle.service_hall.specs.Compactions.{renaming_of}
+use Rattle.service_hall.specs.Halls.{desk_of, hall_of}
 use Rattle.service_log.specs.Groups.{IsDetermined}
 use Rattle.service_follow.specs.Desks.{ByDesk, LeavesDesk}
 use Rattle.service_follow.specs.Kept.{kept_behind, token_of}
 use Rattle.service_follow.specs.Marks.{mark_of, next_in}
-use Rattle.service_follow.specs.Stays.{AppliesBy, EndsFrom, Gathers, GoesOnFrom, LetsGo, ReadsLast, ReadsPart, StayApplies, TakesIfKnown, TakesLines, told_by}
+use Rattle.service_follow.specs.Stays.{AppliesBy, EndsFrom, Gathers, GoesOnFrom, IsRetold, LetsGo, ReadsLast, ReadsPart, StayApplies, TakesIfKnown, TakesLines, told_by}
 use Rattle.service_follow.specs.StayState.{StayState}
 use Rattle.service_follow.specs.declared.gathering.Gathering.{Gathering}
 use Rattle.service_follow.specs.declared.front_end_stay.FrontEndStay.{FrontEndStay}
@@ -14,13 +15,15 @@ use Rattle.service_follow.specs.declared.marks.Mark.{Mark}
 use Rattle.service_follow.specs.declared.marks.Mark.TheVariants.{Ordinary, Begins, GoesOn, Ends}
 use Rattle.service_follow.proofs.Agrees.{determined}
 
-same_state : (n k : StayState) → n.hall ≡ k.hall → n.kept ≡ k.kept → n.entries ≡ k.entries → n.gathered ≡ k.gathered → n.blind ≡ k.blind → n ≡ k
-same_state n k hall kept entries gathered blind =
-    ap (λ (h : HallState). let s : StayState = record { hall = h; kept = n.kept; entries = n.entries; gathered = n.gathered; blind = n.blind } in s) hall ∙
-    (ap (λ (l : List FrontEndStay). let s : StayState = record { hall = k.hall; kept = l; entries = n.entries; gathered = n.gathered; blind = n.blind } in s) kept ∙
-    (ap (λ (e : ℕ). let s : StayState = record { hall = k.hall; kept = k.kept; entries = e; gathered = n.gathered; blind = n.blind } in s) entries ∙
-    (ap (λ (g : Option Gathering). let s : StayState = record { hall = k.hall; kept = k.kept; entries = k.entries; gathered = g; blind = n.blind } in s) gathered ∙
-    ap (λ (b : Bool). let s : StayState = record { hall = k.hall; kept = k.kept; entries = k.entries; gathered = k.gathered; blind = b } in s) blind)))
+same_state : (n k : StayState) → n.hall ≡ k.hall → n.kept ≡ k.kept → n.entries ≡ k.entries → n.compacted ≡ k.compacted → n.gathered ≡ k.gathered → n.blind ≡ k.blind → n ≡ k
+same_state n k hall kept entries compacted gathered blind = λ i. record {
+  hall = hall i;
+  kept = kept i;
+  entries = entries i;
+  compacted = compacted i;
+  gathered = gathered i;
+  blind = blind i;
+}
 
 same_gathering : (g k : Gathering) → g.halls ≡ k.halls → g.head ≡ k.head → g ≡ k
 same_gathering g k halls head =
@@ -36,7 +39,7 @@ lines_same : (w : StayState) (entry : List ℕ) (said other : ReplyQueueState) (
 lines_same w entry said other n k a b =
     let one = determined w.hall entry said other n.hall k.hall a.hall b.hall in
     let kept_of = λ (q : ReplyQueueState). kept_behind (token_of entry) w.entries w.kept q.left in
-    (one.0, same_state n k one.1 (a.kept ∙ (ap kept_of one.0 ∙ sym b.kept)) (a.entries ∙ sym b.entries) (a.gathered ∙ sym b.gathered) (a.blind ∙ sym b.blind))
+    (one.0, same_state n k one.1 (a.kept ∙ (ap kept_of one.0 ∙ sym b.kept)) (a.entries ∙ sym b.entries) (a.compacted ∙ sym b.compacted) (a.gathered ∙ sym b.gathered) (a.blind ∙ sym b.blind))
 
 gone_same : (w : StayState) (said other : ReplyQueueState) (n k : StayState) → LetsGo w said n → LetsGo w other k → (said ≡ other) × (n ≡ k)
 gone_same w said other n k a b = (a.silent ∙ sym b.silent, a.state ∙ sym b.state)
@@ -87,16 +90,31 @@ gone_leaves w said u a = subst (LeavesDesk w said) (sym a.state) (stays_there w 
 part_leaves : (from : HallState) (w : StayState) (entry : List ℕ) (said : ReplyQueueState) (u : StayState) → ReadsPart from w entry said u → LeavesDesk w said u
 part_leaves from w entry said u a = subst (LeavesDesk w said) (sym a.state) (stays_there w said (Some a.part) a.silent)
 
+-- a hall that is told by no more events has the same desk
+record HasDesk (h new : HallState) : Type 0 where
+  config : new.config ≡ h.config
+  desk : desk_of new ≡ desk_of h
+  renaming : renaming_of new.history ≡ renaming_of h.history
+  room : length new.history ≤ length h.history
+
+retold_desk : (h new : HallState) → IsRetold h new → HasDesk h new
+retold_desk h new (inl so) = record { config = so.config; desk = so.desk; renaming = so.renaming; room = (let fewer = so.fewer in omega (arith, fewer)) }
+retold_desk h new (inr same) = subst (HasDesk h) (sym same) (record { config = refl; desk = refl; renaming = refl; room = omega arith })
+
+pub retold_config : (h new : HallState) → IsRetold h new → new.config ≡ h.config
+retold_config h new so = (retold_desk h new so).config
+
 last_leaves : (from : HallState) (w : StayState) (entry : List ℕ) (said : ReplyQueueState) (u : StayState) → w.blind ≡ false → ReadsLast from w entry said u → LeavesDesk w said u
 last_leaves from w entry said u known a =
     let same = a.same known in
+    let hall = retold_desk w.hall u.hall same.hall in
     record {
       silent = a.silent;
       same = record {
-        config = same.hall.config;
-        desk = same.hall.desk;
-        renaming = same.hall.renaming;
-        room = (let fewer = same.hall.fewer in omega (arith, fewer));
+        config = hall.config;
+        desk = hall.desk;
+        renaming = hall.renaming;
+        room = hall.room;
         kept = same.kept;
         entries = same.entries;
         blind = ap (λ (s : StayState). s.blind) a.state ∙ sym known;

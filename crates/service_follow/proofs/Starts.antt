@@ -19,7 +19,7 @@ use Rattle.service_follow.specs.StayState.{StayState}
 use Rattle.service_follow.specs.declared.gathering.Gathering.{Gathering}
 use Rattle.service_follow.specs.declared.marks.Mark.{Mark}
 use Rattle.service_follow.specs.declared.marks.Mark.TheVariants.{Ordinary, Begins, GoesOn, Ends}
-use Rattle.service_follow.proofs.Keepers.{same_part, stays_determined}
+use Rattle.service_follow.proofs.Keepers.{retold_config, same_part, stays_determined}
 
 -- a hall answers, and is of the config that it was
 after_config : (o : Option Refusal) (h : HallState) (e : Event) → (after_unless o h e).config ≡ h.config
@@ -57,7 +57,7 @@ on_known (Some part) w entry said u known a = gathered_known w u (Some a.part) k
 
 end_known : (o : Option Gathering) (w : StayState) (entry : List ℕ) (said : ReplyQueueState) (u : StayState) → w.blind ≡ false → EndsFrom o w entry said u → IsKnown w u
 end_known None w entry said u known a = gathered_known w u None known a.state
-end_known (Some part) w entry said u known a = record { blind = ap (λ (s : StayState). s.blind) a.state; config = (a.same known).hall.config }
+end_known (Some part) w entry said u known a = record { blind = ap (λ (s : StayState). s.blind) a.state; config = retold_config w.hall u.hall (a.same known).hall }
 
 mark_known : (mark : Mark) (w : StayState) (entry : List ℕ) (said : ReplyQueueState) (u : StayState) → w.blind ≡ false → AppliesBy mark w entry said u → IsKnown w u
 mark_known Ordinary w entry said u known a =

@@ -9,8 +9,11 @@ use Rattle.service_follow.specs.Desks.{is_lines}
 use Rattle.service_follow.specs.Entries.{is_there}
 use Rattle.service_follow.specs.Kept.{token_of}
 use Rattle.service_follow.specs.Marks.{entries_in, head_at, is_head, kept_in, kind_by, mark_of, next_in, number_of, stay_in, stays_in}
-use Rattle.service_follow.specs.Tellings.{AreStays, IsReadBack, IsStay, IsTelling, first_entry, last_entry, more_entry, number_then, stay_text, stay_texts}
+use Rattle.service_follow.specs.Tellings.{AreStays, IsReadBack, IsStay, IsTelling, IsTold, first_entry, last_entry, more_entry, number_then, stay_text, stay_texts}
 use Rattle.service_follow.specs.Terms.{told_text}
+use Rattle.service_follow.specs.Stays.{under_way}
+use Rattle.service_follow.specs.StayState.{StayState}
+use Rattle.service_follow.specs.declared.compaction.Due.{Due}
 use Rattle.service_follow.specs.declared.gathering.Gathering.{Gathering}
 use Rattle.service_follow.specs.declared.hall_terms.ToldTerms.{ToldTerms}
 use Rattle.service_follow.specs.declared.front_end_stay.FrontEndStay.{FrontEndStay}
@@ -146,6 +149,22 @@ module _ (token : List ℕ) (count : ℕ) (long : length token ≡ 32) where
         ∙ (further word (before ++ behind) 13 (50 + n) thirteen
         ∙ (ap (λ (j : ℕ). drop j (before ++ behind)) three
         ∙ (further before behind 49 (suc n) fits ∙ ap (drop (suc n)) is)))))
+
+-- whichever is told
+pub is_telling : (due : Due) (token : List ℕ) (w : StayState) (entry : List ℕ) → length token ≡ 32 → IsTold due token w entry → IsTelling token entry
+is_telling due token w entry long (inl b) = subst (IsTelling token) (sym b.is) (first_told token b.count long b.terms)
+is_telling due token w entry long (inr (inl m)) = subst (IsTelling token) (sym m.is) (more_told token m.count long m.before m.lines)
+is_telling due token w entry long (inr (inr l)) = subst (IsTelling token) (sym l.is) (last_told token l.count long l.before w.entries w.kept)
+
+-- an entry that ends, and tells what is there
+pub ends_so : (due : Due) (token : List ℕ) (w : StayState) (count : ℕ) (before : List ℕ) (entries : ℕ) (kept : List FrontEndStay) (entry : List ℕ) →
+    entry ≡ last_entry token count before entries kept → entries ≡ w.entries → kept ≡ w.kept → under_way w.gathered ≡ Some before → IsTold due token w entry
+ends_so due token w count before entries kept entry is many keeps behind = inr (inr (record {
+  count = count;
+  before = before;
+  is = is ∙ (ap (λ (n : ℕ). last_entry token count before n kept) many ∙ ap (λ (l : List FrontEndStay). last_entry token count before w.entries l) keeps);
+  behind = behind;
+}))
 
 number_past : (n k : ℕ) (rest : List ℕ) → drop (16 + suc k) (number_then n rest) ≡ drop k rest
 number_past n k rest = further (hex_digits 16 n) (32 ∷ rest) 16 (suc k) (digits_many 16 n)

@@ -2,7 +2,7 @@
 use Rattle.std.specs.Prelude.{◌≡◌, ◌+◌, ◌≤◌, ◌<◌, ◌⊎◌, ℕ, List, [], ◌∷◌, ◌++◌, length, false, Option}
 use Rattle.model_asked.specs.declared.config.Config.{Config}
 use Rattle.service_log.specs.Places.{Keeps}
-use Rattle.service_log.specs.Replicas.{IsDueFrom, Leads, StandsFrom}
+use Rattle.service_log.specs.Replicas.{HasAppliedFrom, IsDueFrom, Leads, StandsFrom}
 use Rattle.service_log.specs.ReplicaState.{ReplicaState}
 use Rattle.service_log.specs.declared.store.TheConstants.{MOST_PLACES}
 use Rattle.text_player.specs.Shared.{TurnLog}
@@ -59,6 +59,11 @@ module _ {S : Type 0} (stands : S → ℕ → List ℕ → Type 0) where
     pub config : new.config ≡ old.config
     pub from : new.from ≡ old.from
     pub later : IsNoEarlier old.replica new.replica
+
+  -- what stands new in a log is this entry, at the place of a hall to which all entries before it were applied, and no others
+  abbrev pub AddsWhereApplied : FollowState S → FollowState S → List ℕ → Type 0
+  AddsWhereApplied old new entry = (place : ℕ) (written : List ℕ) → stands new.store place written → stands old.store place written ⊎ ((old.stays.place ≡ place) ×
+      (written ≡ entry) × HasAppliedFrom StayApplies (stands new.store) new.from (start_of new.config new.from) old.stays)
 
   -- A front end went on by itself, or waited in vain: its hall moved on, and its queue of replies tells nothing. Its count is that of one batch more,
   -- where one may stand in the log

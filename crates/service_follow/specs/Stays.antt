@@ -1,5 +1,5 @@
 -- a hall that a log leads, and who keeps its stays
-use Rattle.std.specs.Prelude.{◌≡◌, ◌==◌, ℕ, List, [], Bool, true, false, if◌then◌else◌, Option, Some, None}
+use Rattle.std.specs.Prelude.{◌≡◌, ◌==◌, ◌-◌, ◌⊎◌, ℕ, List, [], Bool, true, false, if◌then◌else◌, Option, Some, None}
 use Rattle.model_asked.specs.declared.config.Config.{Config}
 use Rattle.service_log.specs.ReplicaState.{ReplicaState}
 use Rattle.service_hall.specs.Compactions.{IsCompacted}
@@ -18,21 +18,31 @@ use Rattle.service_follow.specs.declared.marks.Mark.TheVariants.{Ordinary, Begin
 
 -- a hall of a config with no event
 abbrev pub stays_of : Config → StayState
-stays_of config = record { hall = hall_of config []; kept = []; entries = 0; gathered = None; blind = false }
+stays_of config = record { hall = hall_of config []; kept = []; entries = 0; compacted = 0; gathered = None; blind = false }
 
 -- of a hall of a config nothing is known
 abbrev pub blind_of : Config → StayState
-blind_of config = record { hall = hall_of config []; kept = []; entries = 0; gathered = None; blind = true }
+blind_of config = record { hall = hall_of config []; kept = []; entries = 0; compacted = 0; gathered = None; blind = true }
 
 -- from the first place of a log a hall with no event starts, and from others one of which nothing is known
 abbrev pub start_of : Config → ℕ → StayState
 start_of config from = if from == 0 then stays_of config else blind_of config
+
+-- how many entries were applied since the compaction that was read last, or from the first one on
+abbrev pub since_compaction : StayState → ℕ
+since_compaction w = w.entries - w.compacted
+
+-- the token and the count of the entry that was read last, where it is one of a compaction that goes on
+abbrev pub under_way : Option Gathering → Option (List ℕ)
+under_way None = None
+under_way (Some part) = Some part.head
 
 -- The hall answered the lines of the entry. The front end of the entry's token was heard of, and keeps the stays that the lines entered
 pub record TakesLines (w : StayState) (entry : List ℕ) (reply_queue : ReplyQueueState) (u : StayState) : Type 0 where
   pub hall : HallApplies w.hall entry reply_queue u.hall
   pub kept : u.kept ≡ kept_behind (token_of entry) w.entries w.kept reply_queue.left
   pub entries : u.entries ≡ next_count w.entries
+  pub compacted : u.compacted ≡ w.compacted
   pub gathered : u.gathered ≡ None
   pub blind : u.blind ≡ false
 
@@ -56,11 +66,15 @@ pub record ReadsPart (from : HallState) (w : StayState) (entry : List ℕ) (repl
 
 -- a hall is what a compaction tells, with who keeps its stays
 abbrev pub told_by : Gathering → List ℕ → StayState
-told_by part entry = record { hall = part.halls; kept = kept_in entry; entries = entries_in entry; gathered = None; blind = false }
+told_by part entry = record { hall = part.halls; kept = kept_in entry; entries = entries_in entry; compacted = entries_in entry; gathered = None; blind = false }
 
--- a compaction tells the same of a hall by fewer events, and the very same of who keeps its stays
+-- a hall is told by fewer events, or by the very same
+abbrev pub IsRetold : HallState → HallState → Type 0
+IsRetold h new = IsCompacted h new ⊎ (new ≡ h)
+
+-- a compaction tells the same of a hall by no more events, and the very same of who keeps its stays
 pub record TellsTheSame (w u : StayState) : Type 0 where
-  pub hall : IsCompacted w.hall u.hall
+  pub hall : IsRetold w.hall u.hall
   pub kept : u.kept ≡ w.kept
   pub entries : u.entries ≡ w.entries
 

@@ -1,7 +1,8 @@
 //! Compactions that a front end offers.
 
-ghost use Rattle.std.specs.Prelude.{◌≡◌, ◌++◌, IfOk, IfSome, OnOk};
-ghost use Rattle.service_follow.specs.Tellings.{HasToldAlone, IsTelling, first_entry, last_entry, more_entry, stay_text, stay_texts};
+ghost use Rattle.std.specs.Prelude.{◌≡◌, ◌≤◌, ◌++◌, true, length, IfOk, IfSome, OnOk};
+ghost use Rattle.service_follow.specs.Stays.{since_compaction};
+ghost use Rattle.service_follow.specs.Tellings.{HasToldAlone, IsDue, IsTold, first_entry, last_entry, more_entry, stay_text, stay_texts};
 
 use crate::front_end_stay::{FrontEndStay, token_of};
 use crate::hall_terms::{ToldTerms, push_told};
@@ -15,8 +16,20 @@ use service_hall::{Compactor, Hall};
 use service_log::{MOST_BATCH, Step, Store};
 use std::alloc::{AllocError, Global};
 
-/// The length of a history, in events, from which on a front end minds the compactions of others.
-pub const MINDFUL_EVENTS: usize = 450_001;
+/// When a compaction is due, and those of others are minded.
+#[derive(Clone, Copy, Debug, Drop)]
+pub(crate) struct Due {
+    /// The length of the history, in events.
+    pub(crate) events: usize,
+    /// How many entries were applied since the last compaction.
+    pub(crate) entries: u64,
+}
+
+/// Where nothing else is said.
+const DUE: Due = Due {
+    events: 450_001,
+    entries: 10_000,
+};
 
 /// How many bytes the first line of an entry of a compaction has at most, with no stay, and one more line.
 const ROOM: usize = 256;
@@ -38,7 +51,7 @@ const READ_ENTRIES: u64 = 10_000;
 enum CompactionStage {
     /// To read the log to its end, and to wait for the compaction of another.
     Read,
-    /// To offer the entry that begins.
+    /// To offer the entry that begins, if a compaction is due.
     Begin,
     /// To offer an entry of the events of the new hall.
     Tell,
@@ -69,8 +82,9 @@ pub(crate) struct Compaction {
     alloc: Global,
     token: [u8; 32],
     compactor: Compactor,
-    /// From which length on it minds the compactions of others.
-    mindful: usize,
+    due: Due,
+    /// How many entries more are to be applied, where a compaction that was due by entries was put off.
+    delay: u64,
     /// How many entries of compactions it offered. No two have one count.
     count: u64,
     entry: Vec<u8>,
@@ -211,7 +225,8 @@ impl Compaction {
             alloc,
             token,
             compactor: Compactor::new(),
-            mindful: MINDFUL_EVENTS,
+            due: DUE,
+            delay: 0,
             count: 0,
             entry: Vec::new(alloc),
             lines: Vec::new(alloc),
@@ -221,7 +236,13 @@ impl Compaction {
     /// Has the next compaction be due at so many events, and those of others be minded from there on.
     pub(crate) fn be_due_at(&mut self, events: usize) {
         self.compactor = Compactor::at(events);
-        self.mindful = events;
+        self.due.events = events;
+    }
+
+    /// Has a compaction be due at so many entries since the last one, too.
+    pub(crate) fn be_due_at_entries(&mut self, entries: u64) {
+        self.due.entries = entries;
+        self.delay = 0;
     }
 
     // Whether the compaction of another front end is under way.
@@ -232,21 +253,56 @@ impl Compaction {
         }
     }
 
-    // Puts the next stage: to begin, if a compaction is due.
-    fn begin_if_due(&mut self, work: &mut Work, hall: &Hall)
-        ensures { self.new.token ≡ self.old.token }
+    // Whether a compaction is due by the events of the history.
+    fn is_due_by_events(&self, hall: &Hall) -> bool
+        ensures { result ≡ true → (self.now.due.events ≤ length hall.now.history) × (self.now.compactor.due ≤ length hall.now.history) }
     {
-        if !self.compactor.is_due(hall) {
-            work.stage = CompactionStage::Rest;
-            return;
+        self.due.events <= hall.len() && self.compactor.is_due(hall)
+    }
+
+    // Whether one is due by the entries since the last.
+    fn is_due_by_entries<S: Store>(&self, log: &LogHall<S>) -> bool
+        ensures { result ≡ true → self.now.due.entries ≤ since_compaction log.now.stays.machine }
+    {
+        self.due.entries.saturating_add(self.delay) <= log.entries_since_compaction()
+    }
+
+    // Whether one may be due once all is read. Where another one was read, nothing is put off any more.
+    fn is_mindful<S: Store>(&mut self, log: &LogHall<S>) -> bool
+        ensures same { (self.new.token ≡ self.old.token) × (self.new.due ≡ self.old.due) }
+    {
+        let since = log.entries_since_compaction();
+        if since < self.due.entries {
+            self.delay = 0;
+        }
+        self.due.events <= log.hall().len() || self.due.entries <= since
+    }
+
+    // Puts the compaction off that is due.
+    fn put_off<S: Store>(&mut self, log: &LogHall<S>)
+        ensures same { (self.new.token ≡ self.old.token) × (self.new.due ≡ self.old.due) }
+    {
+        self.compactor.put_off(log.hall());
+        let more = log
+            .entries_since_compaction()
+            .saturating_sub(self.due.entries);
+        self.delay = more.saturating_add(self.due.entries / 10 + 1);
+    }
+
+    // Whether to begin: a compaction is due, and was not begun too often.
+    fn is_to_begin<S: Store>(&mut self, work: &mut Work, log: &LogHall<S>) -> bool
+        ensures due { result ≡ true → IsDue self.old.due log.now.stays.machine }
+        ensures same { (self.new.token ≡ self.old.token) × (self.new.due ≡ self.old.due) }
+    {
+        if !self.is_due_by_events(log.hall()) && !self.is_due_by_entries(log) {
+            return false;
         }
         if MOST_BEGINNINGS <= work.beginnings {
-            self.compactor.put_off(hall);
-            work.stage = CompactionStage::Rest;
-            return;
+            self.put_off(log);
+            return false;
         }
         work.beginnings += 1;
-        work.stage = CompactionStage::Begin;
+        true
     }
 
     // Reads the log to its end.
@@ -258,7 +314,7 @@ impl Compaction {
         pause: &mut T,
         reply_queue: &mut ReplyQueue,
     ) -> Result<(), LogFault>
-        ensures told { HasToldAlone S.stands self.old.token self.new.token log.old log.new }
+        ensures told { HasToldAlone S.stands self.old.due self.new.due self.old.token self.new.token log.old log.new }
     {
         match log.read(READ_ENTRIES, reply_queue) {
             Ok(true) => {}
@@ -275,7 +331,7 @@ impl Compaction {
             work.waits += 1;
             return Ok(());
         }
-        self.begin_if_due(work, log.hall());
+        work.stage = CompactionStage::Begin;
         Ok(())
     }
 
@@ -286,8 +342,8 @@ impl Compaction {
         log: &mut LogHall<S>,
         reply_queue: &mut ReplyQueue,
     ) -> Result<bool, LogFault>
-        requires { IsTelling self.old.token self.old.entry.items }
-        ensures told { HasToldAlone S.stands self.old.token self.new.token log.old log.new }
+        requires { IsTold self.old.due self.old.token log.old.stays.machine self.old.entry.items }
+        ensures told { HasToldAlone S.stands self.old.due self.new.due self.old.token self.new.token log.old log.new }
     {
         self.count = self.count.wrapping_add(1);
         match log.offer(&self.entry, reply_queue) {
@@ -300,16 +356,21 @@ impl Compaction {
         }
     }
 
-    // Begins, and builds the hall with the shorter history.
-    #[tactic(auto, using(crate::proofs::Moves::told_self))]
+    // Begins if a compaction is due, and builds the hall with the shorter history. Where none is shorter, it tells the same: who starts passes over the
+    // entries before it.
+    #[tactic(auto, using(crate::proofs::Moves::told_self, crate::proofs::Moves::told_by))]
     fn begin<S: Store>(
         &mut self,
         work: &mut Work,
         log: &mut LogHall<S>,
         reply_queue: &mut ReplyQueue,
     ) -> Result<(), LogFault>
-        ensures told { HasToldAlone S.stands self.old.token self.new.token log.old log.new }
+        ensures told { HasToldAlone S.stands self.old.due self.new.due self.old.token self.new.token log.old log.new }
     {
+        work.stage = CompactionStage::Rest;
+        if !self.is_to_begin(work, log) {
+            return Ok(());
+        }
         let Ok(()) = put_first(&mut self.entry, &self.token, self.count, log.terms()) else {
             return Err(LogFault::Memory);
         };
@@ -318,9 +379,10 @@ impl Compaction {
         work.stage = CompactionStage::Read;
         if self.offer(log, reply_queue)? {
             work.new = self.compactor.compacted(self.alloc, log.hall());
-            work.stage = match work.new {
-                Some(_) => CompactionStage::Tell,
-                None => CompactionStage::Rest,
+            work.stage = if work.new.is_some() || self.is_due_by_entries(log) {
+                CompactionStage::Tell
+            } else {
+                CompactionStage::Rest
             };
         }
         Ok(())
@@ -332,12 +394,13 @@ impl Compaction {
         work: &Work,
         log: &LogHall<S>,
     ) -> Result<Option<usize>, AllocError>
-        ensures told { IfOk result (λ told. IfSome told (λ n. IsTelling self.old.token self.new.entry.items)) }
-        ensures token { self.new.token ≡ self.old.token }
+        ensures told { IfOk result (λ told. IfSome told (λ n. IsTold self.new.due self.new.token log.now.stays.machine self.new.entry.items)) }
+        ensures same { (self.new.token ≡ self.old.token) × (self.new.due ≡ self.old.due) }
     {
-        let (Some(new), Some(before)) = (&work.new, log.under_way()) else {
+        let Some(before) = log.under_way() else {
             return Ok(None);
         };
+        let new = work.new.as_ref().unwrap_or(log.hall());
         let told = put_lines(self.alloc, &mut self.lines, new, work.told)?;
         put_more(
             &mut self.entry,
@@ -357,7 +420,7 @@ impl Compaction {
         log: &mut LogHall<S>,
         reply_queue: &mut ReplyQueue,
     ) -> Result<(), LogFault>
-        ensures told { HasToldAlone S.stands self.old.token self.new.token log.old log.new }
+        ensures told { HasToldAlone S.stands self.old.due self.new.due self.old.token self.new.token log.old log.new }
     {
         work.stage = CompactionStage::Read;
         let told = match self.put_told(work, log) {
@@ -367,9 +430,11 @@ impl Compaction {
         };
         if self.offer(log, reply_queue)? {
             work.told = told;
-            work.stage = match &work.new {
-                Some(new) if new.len() <= told => CompactionStage::End,
-                _ => CompactionStage::Tell,
+            let new = work.new.as_ref().unwrap_or(log.hall());
+            work.stage = if new.len() <= told {
+                CompactionStage::End
+            } else {
+                CompactionStage::Tell
             };
         }
         Ok(())
@@ -383,7 +448,7 @@ impl Compaction {
         log: &mut LogHall<S>,
         reply_queue: &mut ReplyQueue,
     ) -> Result<(), LogFault>
-        ensures told { HasToldAlone S.stands self.old.token self.new.token log.old log.new }
+        ensures told { HasToldAlone S.stands self.old.due self.new.due self.old.token self.new.token log.old log.new }
     {
         work.stage = CompactionStage::Read;
         let Some(before) = log.under_way() else {
@@ -414,7 +479,7 @@ impl Compaction {
         pause: &mut T,
         reply_queue: &mut ReplyQueue,
     ) -> Result<(), LogFault>
-        ensures told { HasToldAlone S.stands self.old.token self.new.token log.old log.new }
+        ensures told { HasToldAlone S.stands self.old.due self.new.due self.old.token self.new.token log.old log.new }
     {
         match work.stage {
             CompactionStage::Read => self.read(work, log, pause, reply_queue),
@@ -432,7 +497,7 @@ impl Compaction {
 
     /// Offers a compaction if one is due, and waits a little for one that another front end has under way.
     ///
-    /// It does nothing while the history is short. Else it reads the log to its end. A compaction is offered again from its
+    /// It does nothing while the history is short and few entries were applied since the last one. Else it reads the log to its end. A compaction is offered again from its
     /// beginning if another entry came between, and then put off.
     ///
     /// # Errors
@@ -445,9 +510,9 @@ impl Compaction {
         pause: &mut T,
         reply_queue: &mut ReplyQueue,
     ) -> Result<(), LogFault>
-        ensures told { HasToldAlone S.stands self.old.token self.new.token log.old log.new }
+        ensures told { HasToldAlone S.stands self.old.due self.new.due self.old.token self.new.token log.old log.new }
     {
-        if log.hall().len() < self.mindful {
+        if !self.is_mindful(log) {
             return Ok(());
         }
         pause.begin();

@@ -58,6 +58,7 @@ mod noting;
 pub mod pause;
 mod release_lines;
 pub mod reply_queue;
+mod retelling;
 mod sessions;
 pub mod stay_machine;
 pub mod tallying;

@@ -8,9 +8,9 @@ ghost use Rattle.service_log.specs.declared.replica.Step.TheVariants.{Answered};
 ghost use Rattle.service_log.specs.declared.serve_fault.Cause.TheVariants.{Busy};
 ghost use Rattle.service_log.specs.declared.serve_fault.ServeFault.TheVariants.{Unknown};
 ghost use Rattle.service_follow.specs.Decided.{HasRead};
-ghost use Rattle.service_follow.specs.Hosted.{HasMovedOn, IsAtEnd};
+ghost use Rattle.service_follow.specs.Hosted.{AddsWhereApplied, HasMovedOn, IsAtEnd};
 ghost use Rattle.service_follow.specs.Said.{reply_queue_of};
-ghost use Rattle.service_follow.specs.Stays.{StayApplies, hall_part, start_of};
+ghost use Rattle.service_follow.specs.Stays.{StayApplies, hall_part, since_compaction, start_of, under_way};
 
 use crate::front_end_stay::FrontEndStay;
 use crate::hall_terms::ToldTerms;
@@ -131,8 +131,17 @@ impl<S: Store> LogHall<S> {
         self.replica.machine().entries()
     }
 
+    /// Returns how many entries were applied since the compaction that was read last, or from the first one on.
+    pub(crate) fn entries_since_compaction(&self) -> u64
+        ensures { result ≡ since_compaction self.now.stays.machine }
+    {
+        self.replica.machine().entries_since_compaction()
+    }
+
     /// Returns the token and the count of the entry that was read last, if it is one of a compaction that goes on.
-    pub(crate) fn under_way(&self) -> Option<[u8; 49]> {
+    pub(crate) fn under_way(&self) -> Option<[u8; 49]>
+        ensures { result ≡ under_way self.now.stays.machine.gathered }
+    {
         self.replica.machine().under_way()
     }
 
@@ -254,6 +263,7 @@ impl<S: Store> LogHall<S> {
         reply_queue: &mut ReplyQueue,
     ) -> Result<Step, Cause>
         ensures adds { Adds (S.stands self.old.store) self.old.stays.place batch.now (S.stands self.new.store) }
+        ensures placed { AddsWhereApplied S.stands self.old self.new batch.now }
         ensures moved { HasMovedOn S.stands self.old self.new }
         ensures stood { result ≡ Ok Answered → S.stands self.new.store self.old.stays.place batch.now }
     {

@@ -10,6 +10,7 @@ ghost use Rattle.service_follow.specs.Decided.{AddsBatch, HasLooked, IsDecided, 
 ghost use Rattle.service_follow.specs.Hosted.{HasGoneOn, HasMovedOn, IsAtEnd, IsPrefetchedBy, IsServed};
 ghost use Rattle.service_follow.specs.Pauses.{IsSpent};
 ghost use Rattle.service_follow.specs.Said.{reply_queue_of};
+ghost use Rattle.service_follow.specs.Stays.{since_compaction};
 ghost use Rattle.service_follow.specs.Terms.{HasFirstLine, change_entry, config_text, first_line_of, grace_of, terms_of};
 ghost use Rattle.service_follow.specs.TermsChanges.{HasChangedAlone};
 ghost use Rattle.service_follow.specs.Watched.{watched};
@@ -550,6 +551,20 @@ impl<S: Store, T: Pause> LogPersister<S, T> {
         self.compaction.be_due_at(events);
     }
 
+    /// Has a compaction be due at so many entries since the last one, too. It is due at 10,000 until this is called.
+    pub fn compact_at_entries(&mut self, entries: u64)
+        ensures { (self.new.log ≡ self.old.log) × (self.new.count ≡ self.old.count) × (self.new.token ≡ self.old.token) × (self.new.reads ≡ self.old.reads) }
+    {
+        self.compaction.be_due_at_entries(entries);
+    }
+
+    /// Returns how many entries were applied since the last compaction that was read.
+    pub fn entries_since_compaction(&self) -> u64
+        ensures { result ≡ since_compaction self.now.log.stays.machine }
+    {
+        self.log.entries_since_compaction()
+    }
+
     /// Returns true: other front ends share the stays in the pool, so that this persister ends them itself.
     pub fn shares_stays(&self) -> bool
         ensures { result ≡ true }
@@ -563,6 +578,21 @@ impl<S: Store, T: Pause> LogPersister<S, T> {
         ensures { (now : ℕ) × T.tells self.now.pause now × (result ≡ ltb (now - self.now.sessions.sent) 20) }
     {
         self.sessions.may_answer(self.pause.seconds())
+    }
+
+    // Offers a compaction if one is due, where the log tells no other terms, and answers nothing.
+    fn compact_at_rest(&mut self, reply_queue: &mut ReplyQueue) -> Result<(), LogFault>
+        ensures moved { HasMovedOn S.stands self.old.log self.new.log }
+        ensures same { (self.new.count ≡ self.old.count) × (self.new.token ≡ self.old.token) }
+        ensures unreported { reply_queue.new ≡ reply_queue_of [] }
+    {
+        reply_queue.clear();
+        self.check_terms()?;
+        let compacted = self
+            .compaction
+            .compact(&mut self.log, &mut self.pause, reply_queue);
+        reply_queue.clear();
+        compacted
     }
 
     // Whether the log tells its own terms.
@@ -848,7 +878,7 @@ impl<S: Store, T: Pause> Persist<ReplyQueue> for LogPersister<S, T> {
         self.answers = caught_up.is_ok();
         self.shorten_grace();
         let Err(cause) = caught_up else {
-            return self.check_terms();
+            return self.compact_at_rest(reply_queue);
         };
         match LogFault::of_cause(cause) {
             Some(fault) => Err(fault),
@@ -890,6 +920,7 @@ impl<S: Store, T: Pause> Persist<ReplyQueue> for LogPersister<S, T> {
     fn tally(&self, _reply_queue: &ReplyQueue) -> Tally {
         Tally {
             log_place: Some(self.log.place()),
+            log_since_compaction: Some(self.log.entries_since_compaction()),
             log_answers: Some(self.answers),
             compactions: Some(self.log.compactions()),
             ..tally_of(self.log.hall())

@@ -2,11 +2,24 @@
 
 ghost use Rattle.std.specs.Prelude.{◌≡◌, ◌⊎◌, ◌↔◌, Err, IfErr, IfOk, OnOk, [], false, true, None};
 ghost use Rattle.model_asked.specs.Config.{gives_names};
-ghost use Rattle.service_hall.specs.Compactions.{IsCompacted};
 ghost use Rattle.service_hall.specs.Halls.{hall_of};
 ghost use Rattle.service_follow.specs.Marks.{mark_of, next_in};
 ghost use Rattle.service_follow.specs.Said.{reply_queue_of};
-ghost use Rattle.service_follow.specs.Stays.{EndsFrom, GoesOnFrom, ReadsPart, StayApplies, TakesIfKnown, TakesLines, TellsTheSame, blind_of, stays_of, told_by};
+ghost use Rattle.service_follow.specs.Stays.{
+  EndsFrom,
+  GoesOnFrom,
+  IsRetold,
+  ReadsPart,
+  StayApplies,
+  TakesIfKnown,
+  TakesLines,
+  TellsTheSame,
+  blind_of,
+  since_compaction,
+  stays_of,
+  told_by,
+  under_way,
+};
 
 use crate::front_end_stay::{FrontEndStay, are_same, token_of};
 use crate::gathering::Gathering;
@@ -15,9 +28,10 @@ use crate::keeping::Keeping;
 use crate::machine::HallMachine;
 use crate::marks::{BEFORE, Mark, entries_in, head_at, kept_in, mark_of};
 use crate::reply_queue::ReplyQueue;
+use crate::retelling::is_retold;
 use model_asked::Config;
 use model_steps::Refusal;
-use service_hall::{Hall, is_compacted};
+use service_hall::Hall;
 use service_log::{ApplyFault, Machine};
 use std::alloc::Global;
 use std::marker::Model;
@@ -26,7 +40,7 @@ use std::marker::Model;
 /// of it last and was answered `ok` or `refused 9`. The first 32 bytes of an entry are the token of its front end.
 ///
 /// A compaction is a run of entries of one front end, each right behind the other (`mark_of`). They tell a shorter history
-/// with the same desk, and who keeps each stay. Behind the last of them the hall has that history, if it is the same: else
+/// with the same desk, or the same history, and who keeps each stay. Behind the last of them the hall has that history, if it is the same: else
 /// nothing is known of the machine. Any other entry between them lets the compaction go.
 ///
 /// A machine that is *blind* began at a later place of the log than the first. It answers nothing before it has read a
@@ -42,6 +56,8 @@ pub struct StayMachine {
     differs: bool,
     /// How many compactions were read to their end.
     compactions: u64,
+    /// How many entries were applied before the last of them.
+    compacted: u64,
     /// The terms of the hall, as the entry told that told some last.
     terms: Option<ToldTerms>,
 }
@@ -51,7 +67,14 @@ impl Model for StayMachine {
 
     ghost Value = { StayState };
 
-    ghost view = { λ m. record { hall = m.halls; kept = m.keeping.kept.items; entries = m.keeping.entries; gathered = m.gathered; blind = m.blind } };
+    ghost view = { λ m. record {
+      hall = m.halls;
+      kept = m.keeping.kept.items;
+      entries = m.keeping.entries;
+      compacted = m.compacted;
+      gathered = m.gathered;
+      blind = m.blind;
+    } };
 }
 
 impl StayMachine {
@@ -70,6 +93,7 @@ impl StayMachine {
             blind,
             differs: false,
             compactions: 0,
+            compacted: 0,
             terms: None,
         })
     }
@@ -119,6 +143,13 @@ impl StayMachine {
         self.keeping.entries
     }
 
+    /// Returns how many entries were applied since the compaction that was read last, or from the first one on.
+    pub fn entries_since_compaction(&self) -> u64
+        ensures { result ≡ since_compaction self.now }
+    {
+        self.keeping.entries.saturating_sub(self.compacted)
+    }
+
     /// Returns true if and only if it began at a later place than the first, and has read no compaction whole.
     pub fn is_blind(&self) -> bool
         ensures { result ≡ self.now.blind }
@@ -127,7 +158,9 @@ impl StayMachine {
     }
 
     /// Returns the token and the count of the entry that was read last, if it is one of a compaction that goes on.
-    pub(crate) fn under_way(&self) -> Option<[u8; 49]> {
+    pub(crate) fn under_way(&self) -> Option<[u8; 49]>
+        ensures { result ≡ under_way self.now.gathered }
+    {
         match &self.gathered {
             Some(part) => Some(part.head),
             None => None,
@@ -234,11 +267,11 @@ impl StayMachine {
 
     // Returns true only if a compaction tells the same hall, the same stays and the same count.
     fn tells_the_same(&self, part: &Gathering, kept: &[FrontEndStay], entries: u64) -> bool
-        ensures hall { result ≡ true → IsCompacted self.now.hall part.now.halls }
+        ensures hall { result ≡ true → IsRetold self.now.hall part.now.halls }
         ensures kept { result ≡ true → kept.now ≡ self.now.kept }
         ensures entries { result ≡ true → entries ≡ self.now.entries }
     {
-        if !is_compacted(self.alloc, self.halls.hall(), part.halls.hall()) {
+        if !is_retold(self.alloc, self.halls.hall(), part.halls.hall()) {
             return false;
         }
         if !are_same(kept, &self.keeping.kept) {
@@ -249,7 +282,7 @@ impl StayMachine {
 
     // Returns true only if a compaction tells the same, or nothing is known with which to compare it.
     fn agrees(&self, part: &Gathering, kept: &[FrontEndStay], entries: u64) -> bool
-        ensures hall { result ≡ true → self.now.blind ≡ false → IsCompacted self.now.hall part.now.halls }
+        ensures hall { result ≡ true → self.now.blind ≡ false → IsRetold self.now.hall part.now.halls }
         ensures kept { result ≡ true → self.now.blind ≡ false → kept.now ≡ self.now.kept }
         ensures entries { result ≡ true → self.now.blind ≡ false → entries ≡ self.now.entries }
     {
@@ -273,6 +306,7 @@ impl StayMachine {
         let Gathering { halls, head: _ } = part;
         self.halls = halls;
         self.keeping = Keeping { kept, entries };
+        self.compacted = entries;
         self.gathered = None;
         self.blind = false;
         self.compactions = self.compactions.saturating_add(1);

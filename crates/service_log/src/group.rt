@@ -93,14 +93,18 @@ impl<M: Machine + Drop> Group<M> {
         ensures unanswered { result ≢ Ok Answered → M.silent replies.new }
         ensures answered { result ≡ Ok Answered → (start : M) → TellsOneMore M.applies start self.old self.new batch.now replies.new }
         ensures history { (start : M) → StaysOneHistory M.applies start self.old self.new }
-        ensures leaves { (r s : ReplicaState M) → slice_get self.old.replicas at ≡ Some r → slice_get self.new.replicas at ≡ Some s → IfErr result (λ cause. FaultLeaves r cause s) }
+        ensures leaves { (r s : ReplicaState M) → slice_get self.old.replicas at ≡ Some r → slice_get self.new.replicas at ≡ Some s →
+            IfErr result (λ cause. FaultLeaves r cause s) }
         ensures passed { (r s : ReplicaState M) → slice_get self.old.replicas at ≡ Some r → slice_get self.new.replicas at ≡ Some s →
             result ≡ Ok Passed → OneMore M.applies (stands_in self.new.log) r s }
         ensures nothing { (r s : ReplicaState M) → slice_get self.old.replicas at ≡ Some r → slice_get self.new.replicas at ≡ Some s →
             result ≡ Ok Nothing → (s ≡ record r { behind = not r.behind }) × (r.poisoned ≡ false) }
-        ensures missed { (r : ReplicaState M) → slice_get self.old.replicas at ≡ Some r → result ≡ Ok Nothing → r.behind ≡ true → length self.new.log ≤ r.place }
-        ensures stood { (r : ReplicaState M) → slice_get self.old.replicas at ≡ Some r → result ≡ Ok Nothing → r.behind ≡ false → IsTaken (stands_in self.new.log) r.place }
-        ensures lost { (s : ReplicaState M) → slice_get self.new.replicas at ≡ Some s → (fault : StoreFault) → result ≡ Err (cause.Store fault) → s.behind ≡ true }
+        ensures missed { (r : ReplicaState M) → slice_get self.old.replicas at ≡ Some r → result ≡ Ok Nothing → r.behind ≡ true →
+            length self.new.log ≤ r.place }
+        ensures stood { (r : ReplicaState M) → slice_get self.old.replicas at ≡ Some r → result ≡ Ok Nothing → r.behind ≡ false →
+            IsTaken (stands_in self.new.log) r.place }
+        ensures lost { (s : ReplicaState M) → slice_get self.new.replicas at ≡ Some s → (fault : StoreFault) → result ≡ Err (cause.Store fault) →
+            s.behind ≡ true }
         ensures fault { IfErr result (MayCause FailsInMemory) }
     {
         self.replicas[at].step(&mut self.store, batch, replies)
@@ -125,7 +129,8 @@ impl<M: Machine + Drop> Group<M> {
         ensures history { (start : M) → StaysOneHistory M.applies start self.old self.new }
         ensures too_long { 65536 < length batch.now → result ≡ Err TooLong }
         ensures refused { result ≡ Err TooLong → 65536 < length batch.now }
-        ensures leaves { (r s : ReplicaState M) → slice_get self.old.replicas at ≡ Some r → slice_get self.new.replicas at ≡ Some s → IfErr result (λ fault. ServeLeaves r fault s) }
+        ensures leaves { (r s : ReplicaState M) → slice_get self.old.replicas at ≡ Some r → slice_get self.new.replicas at ≡ Some s →
+            IfErr result (λ fault. ServeLeaves r fault s) }
         ensures busy { (r s : ReplicaState M) → slice_get self.old.replicas at ≡ Some r → slice_get self.new.replicas at ≡ Some s →
             result ≡ Err (Unknown Busy) → r.place + 333333 ≤ s.place }
         ensures fault { IfErr result (MayFail FailsInMemory) }

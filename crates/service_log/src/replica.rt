@@ -265,7 +265,8 @@ impl<M: Machine> Replica<M> {
         ensures cause { IfErr result (MayCause S.fails) }
         ensures poisoned { self.old.poisoned ≡ true → (result ≡ Err Poisoned) × (store.new ≡ store.old) }
         ensures goes_on { self.new.poisoned ≡ false → GoesOn M.applies (S.stands store.new) self.old self.new }
-        ensures follows { (from : ℕ) (start : M) → IsReplicaFrom M.applies (S.stands store.old) from start self.old → IsReplicaFrom M.applies (S.stands store.new) from start self.new }
+        ensures follows { (from : ℕ) (start : M) → IsReplicaFrom M.applies (S.stands store.old) from start self.old →
+            IsReplicaFrom M.applies (S.stands store.new) from start self.new }
         ensures adds { Adds (S.stands store.old) self.old.place batch.now (S.stands store.new) }
     {
         let result = self.advance(store, batch, replies);
@@ -304,7 +305,8 @@ impl<M: Machine> Replica<M> {
         ensures poisoned { self.old.poisoned ≡ true → length batch.now ≤ 65536 →
             (result ≡ Err (Unknown Poisoned)) × (self.new ≡ self.old) × (store.new ≡ store.old) }
         ensures goes_on { self.new.poisoned ≡ false → GoesOn M.applies (S.stands store.new) self.old self.new }
-        ensures follows { (from : ℕ) (start : M) → IsReplicaFrom M.applies (S.stands store.old) from start self.old → IsReplicaFrom M.applies (S.stands store.new) from start self.new }
+        ensures follows { (from : ℕ) (start : M) → IsReplicaFrom M.applies (S.stands store.old) from start self.old →
+            IsReplicaFrom M.applies (S.stands store.new) from start self.new }
         ensures once { AddsOnce (S.stands store.old) batch.now (S.stands store.new) }
     {
         if batch.len() > MOST_BATCH {
@@ -383,7 +385,8 @@ impl<M: Machine> Replica<M> {
         ensures poisoned { self.old.poisoned ≡ true → (result ≡ Err Poisoned) × (self.new ≡ self.old) }
         ensures not_busy { result ≢ Err Busy }
         ensures goes_on { self.new.poisoned ≡ false → GoesOn M.applies (S.stands store.new) self.old self.new }
-        ensures follows { (from : ℕ) (start : M) → IsReplicaFrom M.applies (S.stands store.old) from start self.old → IsReplicaFrom M.applies (S.stands store.new) from start self.new }
+        ensures follows { (from : ℕ) (start : M) → IsReplicaFrom M.applies (S.stands store.old) from start self.old →
+            IsReplicaFrom M.applies (S.stands store.new) from start self.new }
         ensures same { Same (S.stands store.old) (S.stands store.new) }
         ensures cause { IfErr result (MayCause S.fails) }
     {

@@ -2,12 +2,17 @@
 
 use crate::front_tests::{draw_lines, drawn};
 use crate::persister_tests::reported;
-use crate::stay_doubles::{FrontEnd, Site, front_end};
-use service_hall::{Hall, is_same};
+use crate::stay_doubles::{self, FrontEnd, Site, front_end};
+use service_follow::ReplyQueue;
+use service_hall::{Hall, Reads, is_same};
+use service_loop::Persist;
 use std::alloc::Global;
 
 /// At how many events a compaction is due.
 const DUE: usize = 60;
+
+/// At how many entries since the last.
+const DUE_ENTRIES: u64 = 20;
 
 /// How many batches are served.
 const BATCHES: usize = 150;
@@ -127,4 +132,95 @@ fn a_compaction_that_stops_in_its_midst_holds_nobody_up(rt: HostRuntime) {
     for entries in 1..site.entries() {
         assert!(rt; outlast(&site, entries) == Some(true), "{entries} entries");
     }
+}
+
+/// A front end whose reads are no events.
+fn reading(site: &Site, letter: u8) -> Option<FrontEnd<'_>> {
+    let mut front = front_end(site, letter)?;
+    front.choose_reads(Reads::Plain);
+    Some(front)
+}
+
+/// One that compacts at few entries, too.
+fn resting(site: &Site, letter: u8) -> Option<FrontEnd<'_>> {
+    let mut front = reading(site, letter)?;
+    front.compact_at_entries(DUE_ENTRIES);
+    Some(front)
+}
+
+/// A front end is asked so often for what is no event, and answers.
+fn asks(site: &Site, front: &mut FrontEnd<'_>, times: u64) -> Option<()> {
+    for _ in 0..times {
+        if !stay_doubles::says(site, front, b"get 1\nowner 1\n", b"value 7\nowner none\n") {
+            return None;
+        }
+    }
+    Some(())
+}
+
+/// It is so that a front end has something to tell.
+fn begins(site: &Site, front: &mut FrontEnd<'_>) -> Option<()> {
+    let lines = b"enter 1\nprobe 1\nput 1 7\n";
+    if stay_doubles::says(site, front, lines, b"ok\ngot 1\nok\n") {
+        Some(())
+    } else {
+        None
+    }
+}
+
+/// A second passes for a front end for which no client is there.
+fn ticks(site: &Site, front: &mut FrontEnd<'_>) -> Option<()> {
+    let mut reply_queue = ReplyQueue::new(site.alloc);
+    front.tick(&mut reply_queue).ok()
+}
+
+/// How many compactions a front end has read.
+fn compactions(site: &Site, front: &FrontEnd<'_>) -> Option<u64> {
+    front.tally(&ReplyQueue::new(site.alloc)).compactions
+}
+
+/// Requests that are no events lead to compactions, each of the very same history, and to one who starts behind the last of them.
+fn compact_reads(site: &Site) -> Option<bool> {
+    let mut front = resting(site, b'a')?;
+    begins(site, &mut front)?;
+    asks(site, &mut front, 5 * DUE_ENTRIES)?;
+    let mut later = front_end(site, b'b')?;
+    later.choose_reads(Reads::Plain);
+    let since = front.entries_since_compaction();
+    let is_compacted = 4 <= compactions(site, &front)? && since <= DUE_ENTRIES;
+    let is_alike = are_one(front.hall(), later.hall()) && front.hall().len() == 3;
+    let starts_behind = compactions(site, &later)? == 1
+        && later.entries_since_compaction() == since;
+    asks(site, &mut later, 1)?;
+    Some(is_compacted && is_alike && starts_behind)
+}
+
+/// Front ends that nobody asks for anything compact what others made, once in all. Tells how many compactions each of two read, and how many entries they
+/// have applied since.
+fn compact_at_rest(site: &Site) -> Option<[u64; 4]> {
+    let mut asked = reading(site, b'a')?;
+    let mut one = resting(site, b'b')?;
+    let mut other = resting(site, b'c')?;
+    begins(site, &mut asked)?;
+    asks(site, &mut asked, 3 * DUE_ENTRIES)?;
+    ticks(site, &mut one)?;
+    ticks(site, &mut other)?;
+    ticks(site, &mut one)?;
+    Some([
+        compactions(site, &one)?,
+        compactions(site, &other)?,
+        one.entries_since_compaction(),
+        other.entries_since_compaction(),
+    ])
+}
+
+#[test]
+fn entries_without_events_lead_to_compactions(rt: HostRuntime) {
+    assert!(rt; compact_reads(&Site::new(rt.alloc())) == Some(true));
+}
+
+#[test]
+fn a_hall_at_rest_is_compacted_once(rt: HostRuntime) {
+    let told = compact_at_rest(&Site::new(rt.alloc()));
+    assert!(rt; told == Some([1, 1, 0, 0]), "{told:?}");
 }

@@ -1,4 +1,4 @@
-// Erased by bindings/rust/erase from crates/service_follow/src/lib.rt, sha256 77ea8a367db4ed68fcdf413d9ea999549b909494e30c561c7c252bf94fb20a30.
+// Erased by bindings/rust/erase from crates/service_follow/src/lib.rt, sha256 73ee61267235afbf2e3a5ad418450b8f351c5f40f8fc8e46710d3963357b0951.
 //! A hall whose history is a log that several machines share.
 //!
 //! `HallMachine` is a hall as the machine of a `service_log::Replica`: an entry of the log is a first line, a token of its own, and then lines
@@ -57,6 +57,7 @@ mod noting;
 pub mod pause;
 mod release_lines;
 pub mod reply_queue;
+mod retelling;
 mod sessions;
 pub mod stay_machine;
 pub mod tallying;

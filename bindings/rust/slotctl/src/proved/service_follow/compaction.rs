@@ -1,4 +1,4 @@
-// Erased by bindings/rust/erase from crates/service_follow/src/compaction.rt, sha256 763142825828ed0e7ebc5a338487cc8f9f7ab71c16e02109c7dbd640074bb678.
+// Erased by bindings/rust/erase from crates/service_follow/src/compaction.rt, sha256 22755e58c4fd791e35c26574b771030765c2c9661cb3484af7f3b333cf9a6f76.
 //! Compactions that a front end offers.
 
 use crate::kit::alloc::{AllocError, Global};
@@ -18,8 +18,20 @@ use crate::proved::service_hall::hall::Hall;
 use crate::proved::service_log::replica::{Step, MOST_BATCH};
 use crate::proved::service_log::store::Store;
 
-/// The length of a history, in events, from which on a front end minds the compactions of others.
-pub const MINDFUL_EVENTS: usize = 450_001;
+/// When a compaction is due, and those of others are minded.
+#[derive(Clone, Copy, Debug)]
+pub(crate) struct Due {
+    /// The length of the history, in events.
+    pub(crate) events: usize,
+    /// How many entries were applied since the last compaction.
+    pub(crate) entries: u64,
+}
+
+/// Where nothing else is said.
+const DUE: Due = Due {
+    events: 450_001,
+    entries: 10_000,
+};
 
 /// How many bytes the first line of an entry of a compaction has at most, with no stay, and one more line.
 const ROOM: usize = 256;
@@ -41,7 +53,7 @@ const READ_ENTRIES: u64 = 10_000;
 enum CompactionStage {
     /// To read the log to its end, and to wait for the compaction of another.
     Read,
-    /// To offer the entry that begins.
+    /// To offer the entry that begins, if a compaction is due.
     Begin,
     /// To offer an entry of the events of the new hall.
     Tell,
@@ -70,8 +82,9 @@ pub(crate) struct Compaction {
     alloc: Global,
     token: [u8; 32],
     compactor: Compactor,
-    /// From which length on it minds the compactions of others.
-    mindful: usize,
+    due: Due,
+    /// How many entries more are to be applied, where a compaction that was due by entries was put off.
+    delay: u64,
     /// How many entries of compactions it offered. No two have one count.
     count: u64,
     entry: Vec<u8>,
@@ -202,11 +215,18 @@ impl Compaction {
             alloc,
             token,
             compactor: Compactor::new(),
-            mindful: MINDFUL_EVENTS,
+            due: DUE,
+            delay: 0,
             count: 0,
             entry: Vec::new(alloc),
             lines: Vec::new(alloc),
         }
+    }
+
+    /// Has a compaction be due at so many entries since the last one, too.
+    pub(crate) fn be_due_at_entries(&mut self, entries: u64) {
+        self.due.entries = entries;
+        self.delay = 0;
     }
 
     // Whether the compaction of another front end is under way.
@@ -217,19 +237,45 @@ impl Compaction {
         }
     }
 
-    // Puts the next stage: to begin, if a compaction is due.
-    fn begin_if_due(&mut self, work: &mut Work, hall: &Hall) {
-        if !self.compactor.is_due(hall) {
-            work.stage = CompactionStage::Rest;
-            return;
+    // Whether a compaction is due by the events of the history.
+    fn is_due_by_events(&self, hall: &Hall) -> bool {
+        self.due.events <= hall.len() && self.compactor.is_due(hall)
+    }
+
+    // Whether one is due by the entries since the last.
+    fn is_due_by_entries<S: Store>(&self, log: &LogHall<S>) -> bool {
+        self.due.entries.saturating_add(self.delay) <= log.entries_since_compaction()
+    }
+
+    // Whether one may be due once all is read. Where another one was read, nothing is put off any more.
+    fn is_mindful<S: Store>(&mut self, log: &LogHall<S>) -> bool {
+        let since = log.entries_since_compaction();
+        if since < self.due.entries {
+            self.delay = 0;
+        }
+        self.due.events <= log.hall().len() || self.due.entries <= since
+    }
+
+    // Puts the compaction off that is due.
+    fn put_off<S: Store>(&mut self, log: &LogHall<S>) {
+        self.compactor.put_off(log.hall());
+        let more = log
+            .entries_since_compaction()
+            .saturating_sub(self.due.entries);
+        self.delay = more.saturating_add(self.due.entries / 10 + 1);
+    }
+
+    // Whether to begin: a compaction is due, and was not begun too often.
+    fn is_to_begin<S: Store>(&mut self, work: &mut Work, log: &LogHall<S>) -> bool {
+        if !self.is_due_by_events(log.hall()) && !self.is_due_by_entries(log) {
+            return false;
         }
         if MOST_BEGINNINGS <= work.beginnings {
-            self.compactor.put_off(hall);
-            work.stage = CompactionStage::Rest;
-            return;
+            self.put_off(log);
+            return false;
         }
         work.beginnings += 1;
-        work.stage = CompactionStage::Begin;
+        true
     }
 
     // Reads the log to its end.
@@ -255,7 +301,7 @@ impl Compaction {
             work.waits += 1;
             return Ok(());
         }
-        self.begin_if_due(work, log.hall());
+        work.stage = CompactionStage::Begin;
         Ok(())
     }
 
@@ -276,13 +322,18 @@ impl Compaction {
         }
     }
 
-    // Begins, and builds the hall with the shorter history.
+    // Begins if a compaction is due, and builds the hall with the shorter history. Where none is shorter, it tells the same: who starts passes over the
+    // entries before it.
     fn begin<S: Store>(
         &mut self,
         work: &mut Work,
         log: &mut LogHall<S>,
         reply_queue: &mut ReplyQueue,
     ) -> Result<(), LogFault> {
+        work.stage = CompactionStage::Rest;
+        if !self.is_to_begin(work, log) {
+            return Ok(());
+        }
         let Ok(()) = put_first(&mut self.entry, &self.token, self.count, log.terms()) else {
             return Err(LogFault::Memory);
         };
@@ -291,9 +342,10 @@ impl Compaction {
         work.stage = CompactionStage::Read;
         if self.offer(log, reply_queue)? {
             work.new = self.compactor.compacted(self.alloc, log.hall());
-            work.stage = match work.new {
-                Some(_) => CompactionStage::Tell,
-                None => CompactionStage::Rest,
+            work.stage = if work.new.is_some() || self.is_due_by_entries(log) {
+                CompactionStage::Tell
+            } else {
+                CompactionStage::Rest
             };
         }
         Ok(())
@@ -305,9 +357,10 @@ impl Compaction {
         work: &Work,
         log: &LogHall<S>,
     ) -> Result<Option<usize>, AllocError> {
-        let (Some(new), Some(before)) = (&work.new, log.under_way()) else {
+        let Some(before) = log.under_way() else {
             return Ok(None);
         };
+        let new = work.new.as_ref().unwrap_or(log.hall());
         let told = put_lines(self.alloc, &mut self.lines, new, work.told)?;
         put_more(
             &mut self.entry,
@@ -334,9 +387,11 @@ impl Compaction {
         };
         if self.offer(log, reply_queue)? {
             work.told = told;
-            work.stage = match &work.new {
-                Some(new) if new.len() <= told => CompactionStage::End,
-                _ => CompactionStage::Tell,
+            let new = work.new.as_ref().unwrap_or(log.hall());
+            work.stage = if new.len() <= told {
+                CompactionStage::End
+            } else {
+                CompactionStage::Tell
             };
         }
         Ok(())
@@ -393,7 +448,7 @@ impl Compaction {
 
     /// Offers a compaction if one is due, and waits a little for one that another front end has under way.
     ///
-    /// It does nothing while the history is short. Else it reads the log to its end. A compaction is offered again from its
+    /// It does nothing while the history is short and few entries were applied since the last one. Else it reads the log to its end. A compaction is offered again from its
     /// beginning if another entry came between, and then put off.
     ///
     /// # Errors
@@ -405,7 +460,7 @@ impl Compaction {
         pause: &mut T,
         reply_queue: &mut ReplyQueue,
     ) -> Result<(), LogFault> {
-        if log.hall().len() < self.mindful {
+        if !self.is_mindful(log) {
             return Ok(());
         }
         pause.begin();

@@ -1,4 +1,4 @@
-// Erased by bindings/rust/erase from crates/service_follow/src/log_hall.rt, sha256 66f868c1aec337f0daf8d3d85998000afd48ae3f748a0026f6af9f15d284474a.
+// Erased by bindings/rust/erase from crates/service_follow/src/log_hall.rt, sha256 b5a7c4a48eba037c18da89c0abfcbd40e6c9fb84667917168683b582d9167122.
 //! A hall that follows a log.
 
 use crate::kit::alloc::Global;
@@ -87,6 +87,11 @@ impl<S: Store> LogHall<S> {
     /// How many entries were applied, those of compactions aside, in 64 bits.
     pub(crate) fn entries(&self) -> u64 {
         self.replica.machine().entries()
+    }
+
+    /// Returns how many entries were applied since the compaction that was read last, or from the first one on.
+    pub(crate) fn entries_since_compaction(&self) -> u64 {
+        self.replica.machine().entries_since_compaction()
     }
 
     /// Returns the token and the count of the entry that was read last, if it is one of a compaction that goes on.

@@ -1,4 +1,4 @@
-// Erased by bindings/rust/erase from crates/service_follow/src/log_persister.rt, sha256 a5929149db77d25550fa52e9153e16baaf469ce8442b06b126d9d1659c754189.
+// Erased by bindings/rust/erase from crates/service_follow/src/log_persister.rt, sha256 f905fcc092720492d96e0d6957bedb7004fc6a15ba979b63f9e9c677eb1a3d1d.
 //! Serves the clients of one front end over a log.
 
 use crate::kit::alloc::{AllocError, Allocator, Global};
@@ -417,6 +417,16 @@ impl<S: Store, T: Pause> LogPersister<S, T> {
         self.reads = reads;
     }
 
+    /// Has a compaction be due at so many entries since the last one, too. It is due at 10,000 until this is called.
+    pub fn compact_at_entries(&mut self, entries: u64) {
+        self.compaction.be_due_at_entries(entries);
+    }
+
+    /// Returns how many entries were applied since the last compaction that was read.
+    pub fn entries_since_compaction(&self) -> u64 {
+        self.log.entries_since_compaction()
+    }
+
     /// Returns true: other front ends share the stays in the pool, so that this persister ends them itself.
     pub fn shares_stays(&self) -> bool {
         true
@@ -426,6 +436,17 @@ impl<S: Store, T: Pause> LogPersister<S, T> {
     /// seconds ago. Others end its stays only later than that and the grace time.
     pub fn may_answer_stays(&self) -> bool {
         self.sessions.may_answer(self.pause.seconds())
+    }
+
+    // Offers a compaction if one is due, where the log tells no other terms, and answers nothing.
+    fn compact_at_rest(&mut self, reply_queue: &mut ReplyQueue) -> Result<(), LogFault> {
+        reply_queue.clear();
+        self.check_terms()?;
+        let compacted = self
+            .compaction
+            .compact(&mut self.log, &mut self.pause, reply_queue);
+        reply_queue.clear();
+        compacted
     }
 
     // Whether the log tells its own terms.
@@ -641,7 +662,7 @@ impl<S: Store, T: Pause> Persist<ReplyQueue> for LogPersister<S, T> {
         self.answers = caught_up.is_ok();
         self.shorten_grace();
         let Err(cause) = caught_up else {
-            return self.check_terms();
+            return self.compact_at_rest(reply_queue);
         };
         match LogFault::of_cause(cause) {
             Some(fault) => Err(fault),
@@ -687,6 +708,7 @@ impl<S: Store, T: Pause> Persist<ReplyQueue> for LogPersister<S, T> {
     fn tally(&self, _reply_queue: &ReplyQueue) -> Tally {
         Tally {
             log_place: Some(self.log.place()),
+            log_since_compaction: Some(self.log.entries_since_compaction()),
             log_answers: Some(self.answers),
             compactions: Some(self.log.compactions()),
             ..tally_of(self.log.hall())

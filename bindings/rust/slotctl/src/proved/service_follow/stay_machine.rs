@@ -1,4 +1,4 @@
-// Erased by bindings/rust/erase from crates/service_follow/src/stay_machine.rt, sha256 86f31ab6e33188e75619f9159b1a3c08ab99f5a1e813e5f4388fd29943d37dc5.
+// Erased by bindings/rust/erase from crates/service_follow/src/stay_machine.rt, sha256 66e6c925f14ee95641cbe47fd5b892b2bb0ae18f402afe912ddb2afd425c13a0.
 //! A hall to which the entries of a log are applied, and who keeps its stays.
 
 use crate::kit::alloc::Global;
@@ -11,7 +11,7 @@ use crate::proved::service_follow::keeping::Keeping;
 use crate::proved::service_follow::machine::HallMachine;
 use crate::proved::service_follow::marks::{entries_in, head_at, kept_in, mark_of, Mark, BEFORE};
 use crate::proved::service_follow::reply_queue::ReplyQueue;
-use crate::proved::service_hall::compacting::is_compacted;
+use crate::proved::service_follow::retelling::is_retold;
 use crate::proved::service_hall::hall::Hall;
 use crate::proved::service_log::machine::{ApplyFault, Machine};
 
@@ -19,7 +19,7 @@ use crate::proved::service_log::machine::{ApplyFault, Machine};
 /// of it last and was answered `ok` or `refused 9`. The first 32 bytes of an entry are the token of its front end.
 ///
 /// A compaction is a run of entries of one front end, each right behind the other (`mark_of`). They tell a shorter history
-/// with the same desk, and who keeps each stay. Behind the last of them the hall has that history, if it is the same: else
+/// with the same desk, or the same history, and who keeps each stay. Behind the last of them the hall has that history, if it is the same: else
 /// nothing is known of the machine. Any other entry between them lets the compaction go.
 ///
 /// A machine that is *blind* began at a later place of the log than the first. It answers nothing before it has read a
@@ -34,6 +34,8 @@ pub struct StayMachine {
     differs: bool,
     /// How many compactions were read to their end.
     compactions: u64,
+    /// How many entries were applied before the last of them.
+    compacted: u64,
     /// The terms of the hall, as the entry told that told some last.
     terms: Option<ToldTerms>,
 }
@@ -50,6 +52,7 @@ impl StayMachine {
             blind,
             differs: false,
             compactions: 0,
+            compacted: 0,
             terms: None,
         })
     }
@@ -85,6 +88,11 @@ impl StayMachine {
     /// Returns how many entries were applied, those of compactions aside, in 64 bits.
     pub fn entries(&self) -> u64 {
         self.keeping.entries
+    }
+
+    /// Returns how many entries were applied since the compaction that was read last, or from the first one on.
+    pub fn entries_since_compaction(&self) -> u64 {
+        self.keeping.entries.saturating_sub(self.compacted)
     }
 
     /// Returns true if and only if it began at a later place than the first, and has read no compaction whole.
@@ -183,7 +191,7 @@ impl StayMachine {
 
     // Returns true only if a compaction tells the same hall, the same stays and the same count.
     fn tells_the_same(&self, part: &Gathering, kept: &[FrontEndStay], entries: u64) -> bool {
-        if !is_compacted(self.alloc, self.halls.hall(), part.halls.hall()) {
+        if !is_retold(self.alloc, self.halls.hall(), part.halls.hall()) {
             return false;
         }
         if !are_same(kept, &self.keeping.kept) {
@@ -211,6 +219,7 @@ impl StayMachine {
         let Gathering { halls, head: _ } = part;
         self.halls = halls;
         self.keeping = Keeping { kept, entries };
+        self.compacted = entries;
         self.gathered = None;
         self.blind = false;
         self.compactions = self.compactions.saturating_add(1);

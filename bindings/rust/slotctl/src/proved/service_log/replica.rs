@@ -1,4 +1,4 @@
-// Erased by bindings/rust/erase from crates/service_log/src/replica.rt, sha256 960aa8c9955cb66e981635f42b54ef0f923dfece17de0d9097b85bd7575d9d46.
+// Erased by bindings/rust/erase from crates/service_log/src/replica.rt, sha256 58b451a81f4c30eeb34adbb27056cb5e4ab8404dc25bd663007619518d655b84.
 //! A machine that follows a log.
 
 use crate::kit::alloc::Global;

@@ -1,8 +1,8 @@
--- The entry that ends is one of a compaction.
-use Rattle.std.proofs.Common.{rules, sym, subst}
-use Rattle.service_follow.specs.Tellings.{IsTelling}
-use Rattle.service_follow.proofs.Told.{last_told}
+-- The entry that ends tells what the log does.
+use Rattle.std.proofs.Common.{sym, ◌∙◌}
+use Rattle.service_follow.proofs.Told.{ends_so}
 use Rattle.service_follow.proofs.compaction.Compaction.end.Goals as goal
 
 pub offer-requires : goal.offer-requires
-offer-requires g c = subst (IsTelling c.args.self.now.token) (sym c.in-Ok.ensures) (last_told c.args.self.now.token c.args.self.now.count (search rules) _ _ _)
+offer-requires g c =
+    ends_so c.args.self.now.due c.args.self.now.token c.args.log.now.stays.machine _ _ _ _ _ c.in-Ok.ensures c.entries.ensures c.kept.ensures (sym c.under_way.ensures ∙ c.in-Some.is)
