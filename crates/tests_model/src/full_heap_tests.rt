@@ -1,5 +1,5 @@
 //! Trees whose heap is full when a node is to be made: the growth is refused, and the same step is served later. The nodes of a tree lie in a
-//! table that grows for the first node and for the fourth.
+//! table that grows for the first node and for the tenth.
 
 use crate::common::holds;
 use linked_list_allocator::LocalHeap;
@@ -13,7 +13,7 @@ use std::alloc::{AllocError, Global};
 /// Boxes of 16 bytes that take what a heap has left.
 fn filling(alloc: Global, heap: &LocalHeap) -> Result<Vec<Box<[u64; 2], &LocalHeap>>, AllocError> {
     let mut boxes = Vec::new(alloc);
-    for _ in 0..4_096 {
+    for _ in 0..8_192 {
         if let Ok(filled) = Box::new(heap, [0u64; 2]) {
             boxes.push(filled)?;
         }
@@ -29,29 +29,17 @@ struct Walk {
     place: Place,
 }
 
-/// The walks of four that come one after the other.
-const WALKS: [Walk; 4] = [
-    Walk {
-        id: 10,
-        rights: 0,
-        place: 1,
-    },
-    Walk {
-        id: 20,
-        rights: 1,
-        place: 3,
-    },
-    Walk {
-        id: 30,
-        rights: 2,
-        place: 7,
-    },
-    Walk {
-        id: 40,
-        rights: 3,
-        place: 15,
-    },
-];
+impl Walk {
+    /// How many steps it takes to the right: three a node.
+    fn steps_right(self) -> u64 {
+        self.rights.saturating_mul(3)
+    }
+
+    /// Whether the table grows for its node.
+    fn grows(self) -> bool {
+        self.rights == 0 || self.rights == 9
+    }
+}
 
 /// How many of so many steps end no walk.
 fn quiet<'a>(world: &mut TreeWorld<&'a LocalHeap>, id: u64, steps: u64) -> u64 {
@@ -62,74 +50,79 @@ fn quiet<'a>(world: &mut TreeWorld<&'a LocalHeap>, id: u64, steps: u64) -> u64 {
     quiet
 }
 
-/// Whether a walk goes right where it does, in three steps a node.
-fn goes_right<'a>(world: &mut TreeWorld<&'a LocalHeap>, walk: Walk) -> bool {
-    let steps = walk.rights.saturating_mul(3);
-    quiet(world, walk.id, steps) == steps
-}
-
-/// Whether a walk that has gone right marks its place and ends there.
-fn ends<'a>(world: &mut TreeWorld<&'a LocalHeap>, walk: Walk) -> bool {
-    quiet(world, walk.id, 4) == 4
-        && world.step(walk.id) == Ok(Some(walk.place))
-        && world.tree().registers_at(walk.place).is_some()
-}
-
-/// Whether a walk is refused its node twice while the heap is full, and ends there once there is room.
-fn waits<'a>(
+/// Whether a walk goes right, and is refused its node twice while the heap is full.
+fn is_refused<'a>(
     alloc: Global,
     heap: &'a LocalHeap,
     world: &mut TreeWorld<&'a LocalHeap>,
     walk: Walk,
 ) -> Result<bool, AllocError> {
     let boxes = filling(alloc, heap)?;
-    let has_gone = goes_right(world, walk);
+    let has_gone = quiet(world, walk.id, walk.steps_right()) == walk.steps_right();
     let refused = [world.step(walk.id), world.step(walk.id)];
     let is_there = world.tree().registers_at(walk.place).is_some();
     drop(boxes);
-    Ok(
-        has_gone
-            && refused == [Err(Refusal::NoMemory), Err(Refusal::NoMemory)]
-            && !is_there
-            && ends(world, walk),
-    )
+    Ok(has_gone && refused == [Err(Refusal::NoMemory), Err(Refusal::NoMemory)] && !is_there)
 }
 
-/// Whether four walk down a tree whose heap is full while the first and the last are to make their nodes.
-fn four_walk<'a>(
+/// Whether a walk goes to its place, and is refused its node before where the table grows.
+fn goes<'a>(
     alloc: Global,
     heap: &'a LocalHeap,
     world: &mut TreeWorld<&'a LocalHeap>,
+    walk: Walk,
 ) -> Result<bool, AllocError> {
-    let [first, second, third, last] = WALKS;
-    let begun = [
-        world.begin(first.id),
-        world.begin(second.id),
-        world.begin(third.id),
-        world.begin(last.id),
-    ];
-    let has_waited = waits(alloc, heap, world, first)?;
-    let second_ends = goes_right(world, second) && ends(world, second);
-    let third_ends = goes_right(world, third) && ends(world, third);
+    let has_gone = if walk.grows() {
+        is_refused(alloc, heap, world, walk)?
+    } else {
+        quiet(world, walk.id, walk.steps_right()) == walk.steps_right()
+    };
     Ok(
-        begun == [Ok(()), Ok(()), Ok(()), Ok(())]
-            && has_waited
-            && second_ends
-            && third_ends
-            && waits(alloc, heap, world, last)?,
+        has_gone
+            && quiet(world, walk.id, 4) == 4
+            && world.step(walk.id) == Ok(Some(walk.place))
+            && world.tree().registers_at(walk.place).is_some(),
     )
 }
 
 #[test]
 fn a_node_of_a_tree_that_was_refused_is_made_later(rt: HostRuntime) -> Result<(), Refusal> {
-    let heap = LocalHeap::new(rt.alloc(), 65_536)?;
-    let mut world = TreeWorld::new(&heap, 4)?;
-    holds(&rt, 4, four_walk(rt.alloc(), &heap, &mut world) == Ok(true));
+    let heap = LocalHeap::new(rt.alloc(), 131_072)?;
+    let mut world = TreeWorld::new(&heap, 10)?;
+    let mut place: Place = 1;
+    for rights in 0..10u64 {
+        let walk = Walk {
+            id: rights.saturating_add(1),
+            rights,
+            place,
+        };
+        world.begin(walk.id)?;
+        holds(
+            &rt,
+            place as usize,
+            goes(rt.alloc(), &heap, &mut world, walk) == Ok(true),
+        );
+        place = place.saturating_mul(2).saturating_add(1);
+    }
     Ok(())
 }
 
 /// Names over a tree whose nodes are in a heap.
 type Names<'a> = RenameWorld<TreePlaces<&'a LocalHeap>, &'a LocalHeap>;
+
+/// Those who are named one after the other: the identity, how many steps it takes, and its name.
+const NAMED: [(u64, u64, u64); 10] = [
+    (1, 22, 1),
+    (2, 66, 3),
+    (3, 93, 5),
+    (4, 120, 7),
+    (5, 147, 9),
+    (6, 174, 11),
+    (7, 201, 13),
+    (8, 228, 15),
+    (9, 255, 17),
+    (10, 282, 19),
+];
 
 /// How many of so many steps are accepted.
 fn accepted<'a>(world: &mut Names<'a>, id: u64, steps: u64) -> u64 {
@@ -140,7 +133,7 @@ fn accepted<'a>(world: &mut Names<'a>, id: u64, steps: u64) -> u64 {
     accepted
 }
 
-/// Whether `id` goes right in so many steps and is refused its node twice while the heap is full.
+/// Whether `id` takes so many steps, and is refused a node twice while the heap is full.
 fn step_is_refused<'a>(
     alloc: Global,
     heap: &'a LocalHeap,
@@ -155,53 +148,35 @@ fn step_is_refused<'a>(
     Ok(quiet == steps && refused == [Some(Refusal::NoMemory), Some(Refusal::NoMemory)])
 }
 
-/// The name that `id` has by so many steps and one more, or `None` if it is named sooner or refused one.
+/// The name that `id` has by so many steps, or `None` if it is named sooner or is refused one.
 fn named<'a>(world: &mut Names<'a>, id: u64, steps: u64) -> Option<u64> {
-    let before = (accepted(world, id, steps), world.name_of(id));
-    let last = accepted(world, id, 1);
-    if before != (steps, None) || last != 1 {
+    let before = steps.saturating_sub(1);
+    if accepted(world, id, before) != before || world.name_of(id).is_some() {
         return None;
     }
-    world.name_of(id)
-}
-
-/// Whether four are named one after the other, over a tree whose heap is full while the first and the last are to make their nodes.
-fn four_are_named<'a>(
-    alloc: Global,
-    heap: &'a LocalHeap,
-    world: &mut Names<'a>,
-) -> Result<bool, AllocError> {
-    let begun = [
-        world.begin(10),
-        world.begin(20),
-        world.begin(30),
-        world.begin(40),
-    ];
-    let first_waits = step_is_refused(alloc, heap, world, 10, 0)?;
-    let names = [
-        named(world, 10, 21),
-        named(world, 20, 65),
-        named(world, 30, 92),
-    ];
-    let last_waits = step_is_refused(alloc, heap, world, 40, 9)?;
-    Ok(
-        begun == [Ok(()), Ok(()), Ok(()), Ok(())]
-            && first_waits
-            && names == [Some(1), Some(3), Some(5)]
-            && last_waits
-            && named(world, 40, 110) == Some(7),
-    )
+    match world.step(id) {
+        Ok(_) => world.name_of(id),
+        Err(_) => None,
+    }
 }
 
 #[test]
 fn names_over_a_tree_wait_for_a_node(rt: HostRuntime) -> Result<(), Refusal> {
     let heap = LocalHeap::new(rt.alloc(), 131_072)?;
-    let config = Config::new(WorldKind::Tree, 4, 4, 1000)?;
+    let config = Config::new(WorldKind::Tree, 10, 4, 1000)?;
     let mut world = Names::new(&heap, config)?;
-    holds(
-        &rt,
-        4,
-        four_are_named(rt.alloc(), &heap, &mut world) == Ok(true),
-    );
+    for (id, steps, name) in NAMED.iter().copied() {
+        world.begin(id)?;
+        let walk = Walk {
+            id,
+            rights: id.saturating_sub(1),
+            place: 0,
+        };
+        let taken = if walk.grows() { walk.steps_right() } else { 0 };
+        let has_waited = !walk.grows()
+            || step_is_refused(rt.alloc(), &heap, &mut world, id, taken) == Ok(true);
+        let is_named = named(&mut world, id, steps.saturating_sub(taken)) == Some(name);
+        holds(&rt, id as usize, has_waited && is_named);
+    }
     Ok(())
 }
