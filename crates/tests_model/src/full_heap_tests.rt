@@ -99,7 +99,7 @@ fn a_node_of_a_tree_that_was_refused_is_made_later(rt: HostRuntime) -> Result<()
         world.begin(walk.id)?;
         holds(
             &rt,
-            place as usize,
+            rights as usize,
             goes(rt.alloc(), &heap, &mut world, walk) == Ok(true),
         );
         place = place.saturating_mul(2).saturating_add(1);

@@ -1,7 +1,7 @@
 //! A hasher with a fixed seed, in the place of the kit's `std::hash`.
 
-use std::hash::Hasher;
 pub use std::hash::BuildHasherDefault;
+use std::hash::Hasher;
 
 /// Digits of the golden ratio: an odd number whose bits are mixed.
 const MULTIPLIER: u64 = 0x9e37_79b9_7f4a_7c15;
