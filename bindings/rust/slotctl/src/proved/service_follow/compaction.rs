@@ -223,12 +223,6 @@ impl Compaction {
         }
     }
 
-    /// Has a compaction be due at so many entries since the last one, too.
-    pub(crate) fn be_due_at_entries(&mut self, entries: u64) {
-        self.due.entries = entries;
-        self.delay = 0;
-    }
-
     // Whether the compaction of another front end is under way.
     fn is_others<S: Store>(&self, log: &LogHall<S>) -> bool {
         match log.under_way() {

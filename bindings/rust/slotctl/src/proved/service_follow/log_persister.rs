@@ -417,16 +417,6 @@ impl<S: Store, T: Pause> LogPersister<S, T> {
         self.reads = reads;
     }
 
-    /// Has a compaction be due at so many entries since the last one, too. It is due at 10,000 until this is called.
-    pub fn compact_at_entries(&mut self, entries: u64) {
-        self.compaction.be_due_at_entries(entries);
-    }
-
-    /// Returns how many entries were applied since the last compaction that was read.
-    pub fn entries_since_compaction(&self) -> u64 {
-        self.log.entries_since_compaction()
-    }
-
     /// Returns true: other front ends share the stays in the pool, so that this persister ends them itself.
     pub fn shares_stays(&self) -> bool {
         true
