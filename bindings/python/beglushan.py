@@ -53,7 +53,7 @@ REFUSALS = {
     13: "HistoryFull: the history is full",
     14: "OutOfRange: a parameter is outside its range",
 }
-_ALREADY_BEGUN, _FINISHED, _CROWDED, _NOT_COMPETING, _ALREADY_COMPETING, _NO_MEMORY = 2, 5, 7, 8, 9, 12
+_ALREADY_BEGUN, _FINISHED, _CROWDED, _NOT_COMPETING, _ALREADY_COMPETING, _NO_MEMORY, _OUT_OF_RANGE = 2, 5, 7, 8, 9, 12, 14
 
 # The replies that a line may have, by its first word. N is a decimal of 64 bits.
 _FORMS = {
@@ -114,7 +114,7 @@ class LostNumber(BeglushanError):
 
 
 class NoNames(BeglushanError):
-    """`rename` was called where the front end's world gives no names: it knows no `owner`."""
+    """`rename` was called where the front end gives no names: its world has none, or it was started without `--world`."""
 
 
 class _Fault(Exception):
@@ -713,7 +713,10 @@ class Hall:
         """An attempt to be named, which goes on where an earlier one has ended."""
         if connection.exchange("owner 1")[0] == "bad 3":
             raise NoNames("the world gives no names")
-        _raise_refusal(connection.exchange(f"begin {self.identity}")[0], _ALREADY_BEGUN)
+        begun = connection.exchange(f"begin {self.identity}")[0]
+        if begun == f"refused {_OUT_OF_RANGE}":
+            raise NoNames("the front end gives no names")
+        _raise_refusal(begun, _ALREADY_BEGUN)
         while True:
             for reply in connection.exchange(*[f"step {self.identity}"] * _STEPS):
                 if reply.startswith("named "):

@@ -1,13 +1,14 @@
 -- first lines of batches
-use Rattle.std.proofs.Common.{◌≡◌, ◌≢◌, ◌&&◌, ◌≤◌, ◌<◌, ◌+◌, ◌-◌, ◌*◌, ◌/◌, ◌%◌, ◌^◌, ℕ, zero, suc, cond, Bool, if◌then◌else◌, inl, inr, subst, length, List, [], ◌∷◌, ◌++◌, refl, ap, sym, ◌∙◌, arith, append_assoc, length-append, add-one}
+use Rattle.std.proofs.Common.{◌≡◌, ◌≢◌, ◌&&◌, ◌≤◌, ◌<◌, ◌+◌, ◌-◌, ◌*◌, ◌/◌, ◌%◌, ◌^◌, ℕ, zero, suc, cond, Bool, true, false, ◌==◌, if◌then◌else◌, inl, inr, subst, length, List, [], ◌∷◌, ◌++◌, refl, ap, sym, ◌∙◌, arith, append_assoc, length-append, add-one}
 use Rattle.std.specs.List.{All}
 use Rattle.std.proofs.lemmas.Bool.Decides.{eqb_tells, leb_tells}
 use Rattle.std.proofs.lemmas.List.Elements.{All-append, All-cons, All-nil}
-use Rattle.std.specs.Prelude.{slice_get}
+use Rattle.std.specs.Prelude.{not, slice_get}
 use Rattle.service_hall.specs.declared.reads.Reads.{Reads}
 use Rattle.service_hall.specs.declared.reads.Reads.TheVariants.{Logged, Plain}
-use Rattle.service_follow.specs.Batches.{batch_by, head_of, hex_digit, hex_digits, told_of}
-use Rattle.service_follow.specs.Entries.{behind_first_line, is_there, reads_of}
+use Rattle.service_hall.specs.declared.rules.Rules.{Rules}
+use Rattle.service_follow.specs.Batches.{batch_by, head_of, hex_digit, hex_digits, told_by, told_of}
+use Rattle.service_follow.specs.Entries.{behind_first_line, is_there, rules_of}
 use Rattle.service_follow.specs.Marks.{digit_value, number_of}
 use Rattle.service_follow.specs.Pauses.{HasWaited}
 
@@ -34,21 +35,38 @@ behind_head (b ∷ head) lines h =
     let P : Bool → Type 0 = λ t. cond t (head ++ 10 ∷ lines) (behind_first_line (head ++ 10 ∷ lines)) ≡ lines in
     elim (eqb_tells b 10) [ inl e ↦ absurd (differ e.1) | inr e ↦ subst P (sym e.0) rest ]
 
--- nor does what tells of reads
-told_plain : (reads : Reads) → All (λ b. b ≢ 10) (told_of reads)
-told_plain Logged = let P : ℕ → Type 0 = λ b. b ≢ 10 in All-nil P
-told_plain Plain =
-    let P : ℕ → Type 0 = λ b. b ≢ 10 in
-    let last : All P (110 ∷ []) = All-cons P 110 [] (λ e. omega (arith, e)) (All-nil P) in
-    let four : All P (97 ∷ 105 ∷ 110 ∷ []) = All-cons P 97 (105 ∷ 110 ∷ []) (λ e. omega (arith, e)) (All-cons P 105 (110 ∷ []) (λ e. omega (arith, e)) last) in
-    let two : All P (112 ∷ 108 ∷ 97 ∷ 105 ∷ 110 ∷ []) = All-cons P 112 (108 ∷ 97 ∷ 105 ∷ 110 ∷ []) (λ e. omega (arith, e)) (All-cons P 108 (97 ∷ 105 ∷ 110 ∷ []) (λ e. omega (arith, e)) four) in
-    All-cons P 32 (112 ∷ 108 ∷ 97 ∷ 105 ∷ 110 ∷ []) (λ e. omega (arith, e)) two
+-- bytes of which a test tells that none ends a line
+abbrev ends_none : List ℕ → Bool
+ends_none [] = true
+ends_none (b ∷ bs) = if b == 10 then false else ends_none bs
 
-pub behind_batch : (reads : Reads) (token : List ℕ) (count : ℕ) (lines : List ℕ) → All (λ b. b ≢ 10) token → behind_first_line (batch_by reads token count lines) ≡ lines
-behind_batch reads token count lines plain =
+none_ends : (bs : List ℕ) → ends_none bs ≡ true → All (λ b. b ≢ 10) bs
+none_ends [] h = let P : ℕ → Type 0 = λ b. b ≢ 10 in All-nil P
+none_ends (b ∷ bs) h =
     let P : ℕ → Type 0 = λ b. b ≢ 10 in
-    ap behind_first_line (sym (append_assoc (head_of token count) (told_of reads) (10 ∷ lines)))
-    ∙ behind_head (head_of token count ++ told_of reads) lines (All-append P (head_of token count) (told_of reads) (head_plain token count plain) (told_plain reads))
+    elim (eqb_tells b 10) [
+      | inl e ↦ absurd (let no : false ≡ true = rw e.0 at h in cc)
+      | inr e ↦ let rest : ends_none bs ≡ true = rw e.0 at h in All-cons P b bs e.1 (none_ends bs rest)
+    ]
+
+-- nor does what tells of the rules
+told_plain : (rules : Rules) → All (λ b. b ≢ 10) (told_of rules)
+told_plain rules = none_ends (told_of rules) (by_kind rules.reads rules.widening rules.naming) where
+  by_kind : (reads : Reads) (widening naming : Bool) → ends_none (told_by reads widening naming) ≡ true
+  by_kind Logged true true = refl
+  by_kind Logged true false = refl
+  by_kind Logged false true = refl
+  by_kind Logged false false = refl
+  by_kind Plain true true = refl
+  by_kind Plain true false = refl
+  by_kind Plain false true = refl
+  by_kind Plain false false = refl
+
+pub behind_batch : (rules : Rules) (token : List ℕ) (count : ℕ) (lines : List ℕ) → All (λ b. b ≢ 10) token → behind_first_line (batch_by rules token count lines) ≡ lines
+behind_batch rules token count lines plain =
+    let P : ℕ → Type 0 = λ b. b ≢ 10 in
+    ap behind_first_line (sym (append_assoc (head_of token count) (told_of rules) (10 ∷ lines)))
+    ∙ behind_head (head_of token count ++ told_of rules) lines (All-append P (head_of token count) (told_of rules) (head_plain token count plain) (told_plain rules))
 
 -- ---- batches of two counts differ
 
@@ -94,22 +112,46 @@ fronts (x ∷ xs) (u ∷ us) ys vs long e =
 pub head_long : (token : List ℕ) (count : ℕ) → length (head_of token count) ≡ length token + 17
 head_long token count = let a = length-append token (32 ∷ hex_digits 16 count) in let b = digits_many 16 count in omega (arith, a, b)
 
--- what stands behind the count tells of the reads, and ends there
-same_told : (reads kind : Reads) (lines more : List ℕ) → told_of reads ++ 10 ∷ lines ≡ told_of kind ++ 10 ∷ more → (reads ≡ kind) × (lines ≡ more)
-same_told Logged Logged lines more e = (refl, cc e)
-same_told Plain Plain lines more e = (refl, cc e)
-same_told Logged Plain lines more e = absurd (let bad : ◌≡◌ {A = ℕ} 10 32 = cc e in omega (arith, bad))
-same_told Plain Logged lines more e = absurd (let bad : ◌≡◌ {A = ℕ} 32 10 = cc e in omega (arith, bad))
+-- the rules that bytes tell which stand behind a token and a count
+abbrev bars_in : ℕ → List ℕ → Bool
+bars_in place behind = is_there (slice_get behind 0) 32 && (is_there (slice_get behind 6) 32 && is_there (slice_get behind place) 45)
 
-pub same_batch : (reads kind : Reads) (token other : List ℕ) (c d : ℕ) (lines more : List ℕ) → length token ≡ length other → c < 2 ^ 64 → d < 2 ^ 64 →
-    batch_by reads token c lines ≡ batch_by kind other d more → (reads ≡ kind) × (token ≡ other) × (c ≡ d) × (lines ≡ more)
-same_batch reads kind token other c d lines more long first second e =
+abbrev rules_in : List ℕ → Rules
+rules_in behind = record {
+  reads = if is_there (slice_get behind 0) 32 && is_there (slice_get behind 1) 112 then Plain else Logged;
+  widening = not (bars_in 7 behind);
+  naming = not (bars_in 8 behind);
+}
+
+rules_back : (rules : Rules) (lines : List ℕ) → rules_in (told_of rules ++ 10 ∷ lines) ≡ rules
+rules_back rules lines = by_kind rules.reads rules.widening rules.naming where
+  by_kind : (reads : Reads) (widening naming : Bool) → rules_in (told_by reads widening naming ++ 10 ∷ lines) ≡ record { reads = reads; widening = widening; naming = naming }
+  by_kind Logged true true = refl
+  by_kind Logged true false = refl
+  by_kind Logged false true = refl
+  by_kind Logged false false = refl
+  by_kind Plain true true = refl
+  by_kind Plain true false = refl
+  by_kind Plain false true = refl
+  by_kind Plain false false = refl
+
+-- what stands behind the count tells of the rules, and ends there
+same_told : (rules others : Rules) (lines more : List ℕ) → told_of rules ++ 10 ∷ lines ≡ told_of others ++ 10 ∷ more → (rules ≡ others) × (lines ≡ more)
+same_told rules others lines more e =
+    let same : rules ≡ others = sym (rules_back rules lines) ∙ (ap rules_in e ∙ rules_back others more) in
+    let one : told_of rules ++ 10 ∷ lines ≡ told_of rules ++ 10 ∷ more = e ∙ ap (λ (r : Rules). told_of r ++ 10 ∷ more) (sym same) in
+    let ends = (fronts (told_of rules) (told_of rules) (10 ∷ lines) (10 ∷ more) refl one).1 in
+    (same, cc ends)
+
+pub same_batch : (rules others : Rules) (token other : List ℕ) (c d : ℕ) (lines more : List ℕ) → length token ≡ length other → c < 2 ^ 64 → d < 2 ^ 64 →
+    batch_by rules token c lines ≡ batch_by others other d more → (rules ≡ others) × (token ≡ other) × (c ≡ d) × (lines ≡ more)
+same_batch rules others token other c d lines more long first second e =
     let a = head_long token c in
     let b = head_long other d in
-    let parts = fronts (head_of token c) (head_of other d) (told_of reads ++ 10 ∷ lines) (told_of kind ++ 10 ∷ more) (omega (arith, a, b, long)) e in
+    let parts = fronts (head_of token c) (head_of other d) (told_of rules ++ 10 ∷ lines) (told_of others ++ 10 ∷ more) (omega (arith, a, b, long)) e in
     let heads = fronts token other (32 ∷ hex_digits 16 c) (32 ∷ hex_digits 16 d) long parts.0 in
     let digits : hex_digits 16 c ≡ hex_digits 16 d = cc (heads.1) in
-    let told = same_told reads kind lines more parts.1 in
+    let told = same_told rules others lines more parts.1 in
     (told.0, heads.0, sym (digits_read 16 c first first) ∙ (ap number_of digits ∙ digits_read 16 d second second), told.1)
 
 -- the byte at a place behind the first bytes of a list
@@ -119,17 +161,14 @@ byte_behind (x ∷ xs) ys n =
     let same : length (x ∷ xs) + n ≡ suc (length xs + n) = omega arith in
     ap (slice_get (x ∷ (xs ++ ys))) same ∙ byte_behind xs ys n
 
--- an entry tells whether its reads are plain
-pub told_reads : (reads : Reads) (token : List ℕ) (count : ℕ) (lines : List ℕ) → length token ≡ 32 → reads_of (batch_by reads token count lines) ≡ reads
-told_reads reads token count lines long =
+-- an entry tells its rules
+pub told_rules : (rules : Rules) (token : List ℕ) (count : ℕ) (lines : List ℕ) → length token ≡ 32 → rules_of (batch_by rules token count lines) ≡ rules
+told_rules rules token count lines long =
     let head = head_of token count in
-    let behind = told_of reads ++ 10 ∷ lines in
+    let behind = told_of rules ++ 10 ∷ lines in
     let many : length head ≡ 49 = (let a = head_long token count in omega (arith, a, long)) in
     let at : (n : ℕ) → slice_get (head ++ behind) (49 + n) ≡ slice_get behind n = subst (λ (k : ℕ). (n : ℕ) → slice_get (head ++ behind) (k + n) ≡ slice_get behind n) many (byte_behind head behind) in
-    rw (at 0, at 1) (by_kind reads) where
-      by_kind : (kind : Reads) → (if is_there (slice_get (told_of kind ++ 10 ∷ lines) 0) 32 && is_there (slice_get (told_of kind ++ 10 ∷ lines) 1) 112 then Plain else Logged) ≡ kind
-      by_kind Logged = refl
-      by_kind Plain = refl
+    rw (at 0, at 1, at 6, at 7, at 8) (rules_back rules lines)
 
 -- one digit more
 pub digits_more : (k n : ℕ) → 1 ≤ k → hex_digits k n ≡ hex_digit (n % 16) ∷ hex_digits (k - 1) (n / 16)

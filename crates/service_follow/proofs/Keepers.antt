@@ -10,7 +10,6 @@ use Rattle.service_follow.specs.Marks.{mark_of, next_in}
 use Rattle.service_follow.specs.Stays.{AppliesBy, EndsFrom, Gathers, GoesOnFrom, IsRetold, LetsGo, ReadsLast, ReadsPart, StayApplies, TakesIfKnown, TakesLines, told_by}
 use Rattle.service_follow.specs.StayState.{StayState}
 use Rattle.service_follow.specs.declared.gathering.Gathering.{Gathering}
-use Rattle.service_follow.specs.declared.front_end_stay.FrontEndStay.{FrontEndStay}
 use Rattle.service_follow.specs.declared.marks.Mark.{Mark}
 use Rattle.service_follow.specs.declared.marks.Mark.TheVariants.{Ordinary, Begins, GoesOn, Ends}
 use Rattle.service_follow.proofs.Agrees.{determined}

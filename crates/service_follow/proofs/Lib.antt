@@ -13,3 +13,4 @@ mod Silences
 mod Releasing
 mod Moves
 mod Refusals
+mod Readings

@@ -7,8 +7,8 @@ use Rattle.text_player.specs.lemmas.RunProofs.{runs-append}
 use Rattle.text_player.specs.Says.{IsSilent, Says, Spoke}
 use Rattle.text_player.specs.ResponderState.{ResponderState}
 use Rattle.service_hall.specs.Reading.{Serves}
-use Rattle.service_hall.specs.declared.reads.Reads.{Reads}
-use Rattle.service_follow.specs.Entries.{reads_of}
+use Rattle.service_hall.specs.declared.rules.Rules.{Rules}
+use Rattle.service_follow.specs.Entries.{rules_of}
 use Rattle.service_follow.specs.Said.{IsNoted, NotingSays, said, reply_queue_of}
 
 -- bytes after bytes
@@ -47,7 +47,7 @@ take_pieces bs i n =
 -- what a run with notes is
 pub record Ran (w : NotingState) (ts : List Turn) (u : NotingState) : Type 0 where
   pub was_well : w.lost ≡ false
-  pub run : Runs (Serves w.reads) w.hall ts u.hall
+  pub run : Runs (Serves w.rules) w.hall ts u.hall
   pub granted : NoneRefusedGrowth ts
   pub said_is : u.said ≡ w.said ++ said ts
 
@@ -67,7 +67,7 @@ ran w u (Answered x ∷ ts) run well =
     let one = run.1 rest.was_well in
     record {
       was_well = one.was_well;
-      run = (run.0.hall, one.serves, subst (λ (k : Reads). Runs (Serves k) run.0.hall ts u.hall) one.reads rest.run);
+      run = (run.0.hall, one.serves, subst (λ (k : Rules). Runs (Serves k) run.0.hall ts u.hall) one.rules rest.run);
       granted = (one.granted, rest.granted);
       said_is = ran_behind w run.0 u (Take x.event) x.reply ts one rest;
     }
@@ -76,7 +76,7 @@ ran w u (Reported n r ∷ ts) run well =
     let one = run.1 rest.was_well in
     record {
       was_well = one.was_well;
-      run = (run.0.hall, one.serves, subst (λ (k : Reads). Runs (Serves k) run.0.hall ts u.hall) one.reads rest.run);
+      run = (run.0.hall, one.serves, subst (λ (k : Rules). Runs (Serves k) run.0.hall ts u.hall) one.rules rest.run);
       granted = (one.granted, rest.granted);
       said_is = ran_behind w run.0 u (OwnerOf n) r ts one rest;
     }
@@ -86,7 +86,7 @@ ran w u (Misread bad ∷ ts) run well = let rest = ran w u ts run well in
     record { was_well = rest.was_well; run = rest.run; granted = rest.granted; said_is = rest.said_is }
 
 -- so the lines of an entry are applied
-pub applied : (h : HallState) (entry : List ℕ) (s s' : ResponderState) (w u : NotingState) → w ≡ record { hall = h; said = []; lost = false; reads = reads_of entry } → IsSilent h.config.world s →
+pub applied : (h : HallState) (entry : List ℕ) (s s' : ResponderState) (w u : NotingState) → w ≡ record { hall = h; said = []; lost = false; rules = rules_of entry } → IsSilent h.config.world s →
     TakesBytes NotingSays w s (behind_first_line entry) u s' → u.lost ≡ false → HallApplies h entry (reply_queue_of u.said) u.hall
 applied h entry s s' w u is silent takes well =
     let all = ran w u takes.more takes.run well in
@@ -94,7 +94,7 @@ applied h entry s s' w u is silent takes well =
     record {
       turns = takes.more;
       asked_is = spoke.asked_is ∙ ap (λ (k : WorldKind). (after_bytes k at_start (behind_first_line entry)).asked) silent.0;
-      run = subst (λ (n : NotingState). Runs (Serves n.reads) n.hall takes.more u.hall) is all.run;
+      run = subst (λ (n : NotingState). Runs (Serves n.rules) n.hall takes.more u.hall) is all.run;
       granted = all.granted;
       reply_queue_is = ap reply_queue_of (all.said_is ∙ ap (λ (n : NotingState). n.said ++ said takes.more) is);
     }

@@ -44,3 +44,7 @@ looked_after lacks stood config config' r tick tick' watches watches' read confi
   counted = looked.0;
   looked = looked.1;
 }
+
+-- nothing was added
+pub same_self : (stands : ℕ → List ℕ → Type 0) → Same stands stands
+same_self stands = record { keeps = λ place entry stood. stood; only = λ place entry stood. stood }

@@ -5,7 +5,7 @@ use Rattle.service_log.specs.ReplicaState.{ReplicaState}
 use Rattle.text_player.specs.Shared.{all_turns}
 use Rattle.service_loop.specs.Seats.{LoopIteration, Seating}
 use Rattle.service_hall.specs.Reading.{Serves}
-use Rattle.service_follow.specs.Entries.{reads_of}
+use Rattle.service_follow.specs.Entries.{rules_of}
 use Rattle.service_follow.specs.Hosted.{IsHostedOverLog, IsPrefetched, IsUsedUp}
 use Rattle.service_follow.specs.Stays.{AppliesBy, TakesIfKnown, TakesLines}
 use Rattle.service_follow.specs.StayState.{StayState}
@@ -80,6 +80,6 @@ hosted on stands config from place lines reply_queue u r k l seats after prefetc
       known = known.0;
       later = (let n = due.count in let p = prefetched.later in omega (arith, n, p));
       between = t.between;
-      taken = record { run = same_said (Serves (reads_of prefetched.batch)) due.was.hall r.machine.hall entry.turns (all_turns t.log) same entry.run; each = t.taken.each; many = t.taken.many };
+      taken = record { run = same_said (Serves (rules_of prefetched.batch)) due.was.hall r.machine.hall entry.turns (all_turns t.log) same entry.run; each = t.taken.each; many = t.taken.many };
       sent = t.sent;
     }

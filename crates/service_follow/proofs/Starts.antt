@@ -12,7 +12,7 @@ use Rattle.service_log.specs.Places.{stands_in}
 use Rattle.service_log.specs.Replicas.{IsReplica, IsReplicaFrom, Leads}
 use Rattle.service_log.specs.ReplicaState.{ReplicaState}
 use Rattle.service_log.proofs.cited.Late.{late_alike}
-use Rattle.service_follow.specs.Entries.{reads_of}
+use Rattle.service_follow.specs.Entries.{rules_of}
 use Rattle.service_follow.specs.Marks.{mark_of, next_in}
 use Rattle.service_follow.specs.Stays.{AppliesBy, EndsFrom, GoesOnFrom, LetsGo, ReadsPart, StayApplies, TakesIfKnown, TakesLines, blind_of, start_of, stays_of, told_by}
 use Rattle.service_follow.specs.StayState.{StayState}
@@ -38,7 +38,7 @@ runs_config h u (Ended ∷ ts) run = runs_config h u ts run
 runs_config h u (Misread bad ∷ ts) run = runs_config h u ts run
 
 hall_config : (h : HallState) (entry : List ℕ) (said : ReplyQueueState) (u : HallState) → HallApplies h entry said u → u.config ≡ h.config
-hall_config h entry said u a = runs_config h u (stored (reads_of entry) a.turns) (stored_run (reads_of entry) h u a.turns a.run)
+hall_config h entry said u a = runs_config h u (stored (rules_of entry) a.turns) (stored_run (rules_of entry) h u a.turns a.run)
 
 -- all is known still, of a hall of the same config
 pub record IsKnown (w u : StayState) : Type 0 where

@@ -1,12 +1,13 @@
 -- terms, written and read back
-use Rattle.std.proofs.Common.{◌≡◌, ◌≢◌, ◌<◌, ◌≤◌, ◌+◌, ◌-◌, ◌^◌, ◌∷◌, ◌++◌, ℕ, suc, true, Option, Some, None, List, [], length, take, drop, inl, inr, refl, sym, ap, subst, ◌∙◌, arith, append_assoc, length-append}
+use Rattle.std.proofs.Common.{◌≡◌, ◌≢◌, ◌<◌, ◌≤◌, ◌+◌, ◌-◌, ◌^◌, ◌∷◌, ◌++◌, ℕ, suc, Bool, true, false, Option, Some, None, List, [], length, take, drop, inl, inr, refl, sym, ap, subst, ◌∙◌, arith, append_assoc, length-append}
 use Rattle.std.specs.List.{All}
 use Rattle.std.specs.Cmp.Lexicographic.{pointwise}
 use Rattle.std.specs.Prelude.{codes, min, nat_eq, slice_get}
 use Rattle.std.proofs.lemmas.Bool.Decides.{eqb_tells, leb_tells}
 use Rattle.service_hall.specs.declared.reads.Reads.{Reads}
+use Rattle.service_hall.specs.declared.rules.Rules.{Rules}
 use Rattle.service_hall.specs.declared.reads.Reads.TheVariants.{Logged, Plain}
-use Rattle.service_follow.specs.Batches.{batch_by, head_of, hex_digits, told_of}
+use Rattle.service_follow.specs.Batches.{batch_by, head_of, hex_digits, told_by, told_of}
 use Rattle.service_follow.specs.Entries.{behind_first_line, is_there}
 use Rattle.service_follow.specs.Marks.{number_of}
 use Rattle.service_follow.specs.Tellings.{first_entry}
@@ -182,17 +183,23 @@ module _ (token : List ℕ) (count : ℕ) (told : ToldTerms) (plain : All (λ b.
       let b = length-append head (codes " compaction" ++ 10 ∷ []) in
       untold entry (omega (arith, a, b))
 
-  batch_untold : (reads : Reads) (lines : List ℕ) → terms_of (batch_by reads token count lines) ≡ None
-  batch_untold reads lines =
+  batch_untold : (rules : Rules) (lines : List ℕ) → terms_of (batch_by rules token count lines) ≡ None
+  batch_untold rules lines =
       let a = head_is in
-      let b = length-append head (told_of reads ++ 10 ∷ lines) in
-      let c = length-append (told_of reads) (10 ∷ lines) in
-      let d = ap length (behind_batch reads token count lines plain) in
-      let e = few reads in
-      untold (batch_by reads token count lines) (omega (arith, a, b, c, d, e)) where
-        few : (kind : Reads) → length (told_of kind) < 7
-        few Logged = omega arith
-        few Plain = omega arith
+      let b = length-append head (told_of rules ++ 10 ∷ lines) in
+      let c = length-append (told_of rules) (10 ∷ lines) in
+      let d = ap length (behind_batch rules token count lines plain) in
+      let e = few rules.reads rules.widening rules.naming in
+      untold (batch_by rules token count lines) (omega (arith, a, b, c, d, e)) where
+        few : (reads : Reads) (widening naming : Bool) → length (told_by reads widening naming) < 10
+        few Logged true true = omega arith
+        few Logged true false = omega arith
+        few Logged false true = omega arith
+        few Logged false false = omega arith
+        few Plain true true = omega arith
+        few Plain true false = omega arith
+        few Plain false true = omega arith
+        few Plain false false = omega arith
 
   pub terms_read : IsTermsRead token count told
   terms_read = record {

@@ -1,11 +1,12 @@
 -- a hall that takes compactions answers as one that passes over them
-use Rattle.std.proofs.Common.{◌≡◌, ◌≢◌, ◌≤◌, ◌<◌, ◌+◌, ◌++◌, ◌∷◌, ℕ, Bool, true, false, cond, Option, Some, None, List, [], length, map, filter, inl, inr, refl, sym, ap, subst, ◌∙◌, arith, length-append}
+use Rattle.std.proofs.Common.{◌≡◌, ◌≢◌, ◌≤◌, ◌<◌, ◌+◌, ◌++◌, ◌∷◌, ℕ, false, cond, Option, Some, None, List, [], length, map, inl, inr, refl, sym, ap, subst, ◌∙◌, arith, length-append}
 use Rattle.std.proofs.lemmas.Bool.Decides.{leb_tells}
 use Rattle.std.proofs.lemmas.List.Elements.{filter-append}
 use Rattle.service_follow.proofs.Common.{Config, HallState, HallApplies, NoneRefusedGrowth, Runs, Turn, Answered, Reported, Ended, Misread, ReplyQueueState, reply_queue_of, said, ShownReply}
 use Rattle.model_steps.specs.declared.refusal.Refusal.{Refusal}
 use Rattle.model_steps.specs.declared.refusal.Refusal.TheVariants as refusal
 use Rattle.model_asked.specs.declared.event.Event.{Event}
+use Rattle.model_asked.specs.declared.event.Event.TheVariants.{Get}
 use Rattle.model_asked.specs.declared.exchange.Exchange.{Exchange}
 use Rattle.model_asked.specs.declared.reply.Reply.TheVariants as reply
 use Rattle.text_worlds.specs.desk.Desk.{desk_after, desk_refusal, desk_reply, fresh_desk, owner_reply}
@@ -15,13 +16,15 @@ use Rattle.text_player.specs.Turns.{asked}
 use Rattle.service_hall.specs.Compactions.{renaming_of}
 use Rattle.service_hall.specs.DeskParts.{is_renaming}
 use Rattle.service_hall.specs.Halls.{after_unless, desk_of, full_unless, hall_refusal, longer, reply_unless}
-use Rattle.service_hall.specs.Reading.{Serves, TakesPlainly, is_plain}
-use Rattle.service_hall.specs.declared.reads.Reads.{Reads}
+use Rattle.service_hall.specs.Reading.{Serves, TakesBy, way_of}
+use Rattle.service_hall.specs.declared.rules.Rules.{Rules}
+use Rattle.service_hall.specs.declared.rules.Way.{Way}
+use Rattle.service_hall.specs.declared.rules.Way.TheVariants.{Applied, Read, Barred}
 use Rattle.service_hall.proofs.cited.Histories.{replay_push}
 use Rattle.service_log.specs.Replicas.{Leads}
 use Rattle.service_follow.specs.Batches.{next_count}
 use Rattle.service_follow.specs.Desks.{HasItsDesk, ByDesk, is_lines, lines_in}
-use Rattle.service_follow.specs.Entries.{asked_in, reads_of}
+use Rattle.service_follow.specs.Entries.{asked_in, rules_of}
 use Rattle.service_follow.specs.Kept.{kept_behind, token_of}
 use Rattle.service_follow.specs.Marks.{mark_of}
 use Rattle.service_follow.specs.Stays.{StayApplies, TakesLines, stays_of}
@@ -41,23 +44,24 @@ unless_grows : (o : Option Refusal) (h : HallState) (e : Event) → length h.his
 unless_grows None h e = let more = longer_by h e in omega (arith, more)
 unless_grows (Some why) h e = omega arith
 
-grows : (plain : Bool) (h : HallState) (e : Event) (r : ShownReply) (u : HallState) → TakesPlainly plain h e r u → length h.history ≤ length u.history
-grows true h e r u may = let same = ap (λ (s : HallState). length s.history) may.1 in omega (arith, same)
-grows false h e r u (inl m) = let same = ap (λ (s : HallState). length s.history) m.1 in let more = unless_grows (hall_refusal h e) h e in omega (arith, same, more)
-grows false h e r u (inr m) = let same = ap (λ (s : HallState). length s.history) m.1 in omega (arith, same)
+grows : (way : Way) (h : HallState) (e : Event) (r : ShownReply) (u : HallState) → TakesBy way h e r u → length h.history ≤ length u.history
+grows (Read p) h e r u may = let same = ap (λ (s : HallState). length s.history) may.1 in omega (arith, same)
+grows Barred h e r u may = let same = ap (λ (s : HallState). length s.history) may.1 in omega (arith, same)
+grows Applied h e r u (inl m) = let same = ap (λ (s : HallState). length s.history) m.1 in let more = unless_grows (hall_refusal h e) h e in omega (arith, same, more)
+grows Applied h e r u (inr m) = let same = ap (λ (s : HallState). length s.history) m.1 in omega (arith, same)
 
-runs_grow : (reads : Reads) (h u : HallState) (ts : List Turn) → Runs (Serves reads) h ts u → length h.history ≤ length u.history
-runs_grow reads h u [] run = let same = ap (λ (s : HallState). length s.history) run in omega (arith, same)
-runs_grow reads h u (Answered x ∷ ts) run =
-    let one = grows (is_plain reads x.event) h x.event x.reply run.0 run.1 in
-    let rest = runs_grow reads run.0 u ts run.2 in
+runs_grow : (rules : Rules) (h u : HallState) (ts : List Turn) → Runs (Serves rules) h ts u → length h.history ≤ length u.history
+runs_grow rules h u [] run = let same = ap (λ (s : HallState). length s.history) run in omega (arith, same)
+runs_grow rules h u (Answered x ∷ ts) run =
+    let one = grows (way_of rules x.event) h x.event x.reply run.0 run.1 in
+    let rest = runs_grow rules run.0 u ts run.2 in
     omega (arith, one, rest)
-runs_grow reads h u (Reported n r ∷ ts) run =
+runs_grow rules h u (Reported n r ∷ ts) run =
     let same = ap (λ (s : HallState). length s.history) run.1.1 in
-    let rest = runs_grow reads run.0 u ts run.2 in
+    let rest = runs_grow rules run.0 u ts run.2 in
     omega (arith, same, rest)
-runs_grow reads h u (Ended ∷ ts) run = runs_grow reads h u ts run
-runs_grow reads h u (Misread bad ∷ ts) run = runs_grow reads h u ts run
+runs_grow rules h u (Ended ∷ ts) run = runs_grow rules h u ts run
+runs_grow rules h u (Misread bad ∷ ts) run = runs_grow rules h u ts run
 
 -- ---- halls with one desk, of which the second has no less room
 
@@ -114,61 +118,62 @@ module _ (v h : HallState) (e : Event) (s r : ShownReply) (v' h' : HallState) (s
   by_refusal (Some why) sv av sh ah = (sh ∙ sym sv, subst (λ (w : HallState). IsRoomier w h') (sym av) (subst (λ (w : HallState). IsRoomier v w) (sym ah) so))
   by_refusal None sv av sh ah = by_room sv av sh ah
 
-  taken_so : (plain : Bool) → TakesPlainly plain v e s v' → TakesPlainly plain h e r h' → s ≢ reply.Refused refusal.NoMemory → r ≢ reply.Refused refusal.NoMemory → (r ≡ s) × IsRoomier v' h'
-  taken_so true a b g g' =
-      (b.0 ∙ (ap (λ (d : DeskValue). desk_reply d e) so.desk ∙ sym a.0), subst (λ (w : HallState). IsRoomier w h') (sym a.1) (subst (λ (w : HallState). IsRoomier v w) (sym b.1) so))
-  taken_so false (inl a) (inl b) g g' =
+  taken_so : (way : Way) → TakesBy way v e s v' → TakesBy way h e r h' → s ≢ reply.Refused refusal.NoMemory → r ≢ reply.Refused refusal.NoMemory → (r ≡ s) × IsRoomier v' h'
+  taken_so Barred a b g g' = (b.0 ∙ sym a.0, subst (λ (w : HallState). IsRoomier w h') (sym a.1) (subst (λ (w : HallState). IsRoomier v w) (sym b.1) so))
+  taken_so (Read p) a b g g' =
+      (b.0 ∙ (ap (λ (d : DeskValue). desk_reply d (Get p)) so.desk ∙ sym a.0), subst (λ (w : HallState). IsRoomier w h') (sym a.1) (subst (λ (w : HallState). IsRoomier v w) (sym b.1) so))
+  taken_so Applied (inl a) (inl b) g g' =
       let same : desk_refusal (desk_of h) e ≡ desk_refusal (desk_of v) e = ap (λ (d : DeskValue). desk_refusal d e) so.desk in
       by_refusal (desk_refusal (desk_of v) e) a.0 a.1
       (subst (λ (o : Option Refusal). r ≡ reply_unless (full_unless o (length h.history)) h e) same b.0) (subst (λ (o : Option Refusal). h' ≡ after_unless (full_unless o (length h.history)) h e) same b.1)
-  taken_so false (inl a) (inr b) g g' = absurd (g' b.0)
-  taken_so false (inr a) b g g' = absurd (g a.0)
+  taken_so Applied (inl a) (inr b) g g' = absurd (g' b.0)
+  taken_so Applied (inr a) b g g' = absurd (g a.0)
 
 -- the same of runs by the same requests
 record AnswerAlike (us ts : List Turn) (v h : HallState) : Type 0 where
   said_is : said ts ≡ said us
   roomier : IsRoomier v h
 
-answer_so : (reads : Reads) (v h v' h' : HallState) (us ts : List Turn) → map asked ts ≡ map asked us → IsRoomier v h → Runs (Serves reads) v us v' → Runs (Serves reads) h ts h' →
+answer_so : (rules : Rules) (v h v' h' : HallState) (us ts : List Turn) → map asked ts ≡ map asked us → IsRoomier v h → Runs (Serves rules) v us v' → Runs (Serves rules) h ts h' →
     NoneRefusedGrowth us → NoneRefusedGrowth ts → length v'.history < 1000000 → AnswerAlike us ts v' h'
-answer_so reads v h v' h' [] [] same so a b g g' free = record { said_is = refl; roomier = subst (λ (w : HallState). IsRoomier w h') a (subst (λ (w : HallState). IsRoomier v w) b so) }
-answer_so reads v h v' h' [] (x ∷ ts) same so a b g g' free = absurd (cc same)
-answer_so reads v h v' h' (y ∷ us) [] same so a b g g' free = absurd (cc same)
-answer_so reads v h v' h' (Answered y ∷ us) (Answered x ∷ ts) same so a b g g' free =
+answer_so rules v h v' h' [] [] same so a b g g' free = record { said_is = refl; roomier = subst (λ (w : HallState). IsRoomier w h') a (subst (λ (w : HallState). IsRoomier v w) b so) }
+answer_so rules v h v' h' [] (x ∷ ts) same so a b g g' free = absurd (cc same)
+answer_so rules v h v' h' (y ∷ us) [] same so a b g g' free = absurd (cc same)
+answer_so rules v h v' h' (Answered y ∷ us) (Answered x ∷ ts) same so a b g g' free =
     let event : x.event ≡ y.event = cc same in
-    let may = subst (λ (e : Event). TakesPlainly (is_plain reads e) h e x.reply b.0) event b.1 in
-    let there : length a.0.history < 1000000 = (let more = runs_grow reads a.0 v' us a.2 in omega (arith, more, free)) in
-    let one = taken_so v h y.event y.reply x.reply a.0 b.0 so there (is_plain reads y.event) a.1 may g.0 g'.0 in
-    let rest = answer_so reads a.0 b.0 v' h' us ts (cc same) one.1 a.2 b.2 g.1 g'.1 free in
+    let may = subst (λ (e : Event). TakesBy (way_of rules e) h e x.reply b.0) event b.1 in
+    let there : length a.0.history < 1000000 = (let more = runs_grow rules a.0 v' us a.2 in omega (arith, more, free)) in
+    let one = taken_so v h y.event y.reply x.reply a.0 b.0 so there (way_of rules y.event) a.1 may g.0 g'.0 in
+    let rest = answer_so rules a.0 b.0 v' h' us ts (cc same) one.1 a.2 b.2 g.1 g'.1 free in
     record { said_is = (let e = one.0 in let s = rest.said_is in cc (event, e, s)); roomier = rest.roomier }
-answer_so reads v h v' h' (Reported q s ∷ us) (Reported p r ∷ ts) same so a b g g' free =
+answer_so rules v h v' h' (Reported q s ∷ us) (Reported p r ∷ ts) same so a b g g' free =
     let name : p ≡ q = cc same in
     let one : r ≡ s = b.1.0 ∙ (ap (λ (d : DeskValue). owner_reply d p) so.desk ∙ (ap (owner_reply (desk_of v)) name ∙ sym a.1.0)) in
     let mid : IsRoomier a.0 b.0 = subst (λ (w : HallState). IsRoomier w b.0) (sym a.1.1) (subst (λ (w : HallState). IsRoomier v w) (sym b.1.1) so) in
-    let rest = answer_so reads a.0 b.0 v' h' us ts (cc same) mid a.2 b.2 g.1 g'.1 free in
+    let rest = answer_so rules a.0 b.0 v' h' us ts (cc same) mid a.2 b.2 g.1 g'.1 free in
     record { said_is = (let w = rest.said_is in cc (name, one, w)); roomier = rest.roomier }
-answer_so reads v h v' h' (Ended ∷ us) (Ended ∷ ts) same so a b g g' free =
-    let rest = answer_so reads v h v' h' us ts (cc same) so a b g g' free in record { said_is = rest.said_is; roomier = rest.roomier }
-answer_so reads v h v' h' (Misread worse ∷ us) (Misread bad ∷ ts) same so a b g g' free =
-    let rest = answer_so reads v h v' h' us ts (cc same) so a b g g' free in record { said_is = rest.said_is; roomier = rest.roomier }
-answer_so reads v h v' h' (Answered y ∷ us) (Reported p r ∷ ts) same so a b g g' free = absurd (cc same)
-answer_so reads v h v' h' (Answered y ∷ us) (Ended ∷ ts) same so a b g g' free = absurd (cc same)
-answer_so reads v h v' h' (Answered y ∷ us) (Misread bad ∷ ts) same so a b g g' free = absurd (cc same)
-answer_so reads v h v' h' (Reported q s ∷ us) (Answered x ∷ ts) same so a b g g' free = absurd (cc same)
-answer_so reads v h v' h' (Reported q s ∷ us) (Ended ∷ ts) same so a b g g' free = absurd (cc same)
-answer_so reads v h v' h' (Reported q s ∷ us) (Misread bad ∷ ts) same so a b g g' free = absurd (cc same)
-answer_so reads v h v' h' (Ended ∷ us) (Answered x ∷ ts) same so a b g g' free = absurd (cc same)
-answer_so reads v h v' h' (Ended ∷ us) (Reported p r ∷ ts) same so a b g g' free = absurd (cc same)
-answer_so reads v h v' h' (Ended ∷ us) (Misread bad ∷ ts) same so a b g g' free = absurd (cc same)
-answer_so reads v h v' h' (Misread worse ∷ us) (Answered x ∷ ts) same so a b g g' free = absurd (cc same)
-answer_so reads v h v' h' (Misread worse ∷ us) (Reported p r ∷ ts) same so a b g g' free = absurd (cc same)
-answer_so reads v h v' h' (Misread worse ∷ us) (Ended ∷ ts) same so a b g g' free = absurd (cc same)
+answer_so rules v h v' h' (Ended ∷ us) (Ended ∷ ts) same so a b g g' free =
+    let rest = answer_so rules v h v' h' us ts (cc same) so a b g g' free in record { said_is = rest.said_is; roomier = rest.roomier }
+answer_so rules v h v' h' (Misread worse ∷ us) (Misread bad ∷ ts) same so a b g g' free =
+    let rest = answer_so rules v h v' h' us ts (cc same) so a b g g' free in record { said_is = rest.said_is; roomier = rest.roomier }
+answer_so rules v h v' h' (Answered y ∷ us) (Reported p r ∷ ts) same so a b g g' free = absurd (cc same)
+answer_so rules v h v' h' (Answered y ∷ us) (Ended ∷ ts) same so a b g g' free = absurd (cc same)
+answer_so rules v h v' h' (Answered y ∷ us) (Misread bad ∷ ts) same so a b g g' free = absurd (cc same)
+answer_so rules v h v' h' (Reported q s ∷ us) (Answered x ∷ ts) same so a b g g' free = absurd (cc same)
+answer_so rules v h v' h' (Reported q s ∷ us) (Ended ∷ ts) same so a b g g' free = absurd (cc same)
+answer_so rules v h v' h' (Reported q s ∷ us) (Misread bad ∷ ts) same so a b g g' free = absurd (cc same)
+answer_so rules v h v' h' (Ended ∷ us) (Answered x ∷ ts) same so a b g g' free = absurd (cc same)
+answer_so rules v h v' h' (Ended ∷ us) (Reported p r ∷ ts) same so a b g g' free = absurd (cc same)
+answer_so rules v h v' h' (Ended ∷ us) (Misread bad ∷ ts) same so a b g g' free = absurd (cc same)
+answer_so rules v h v' h' (Misread worse ∷ us) (Answered x ∷ ts) same so a b g g' free = absurd (cc same)
+answer_so rules v h v' h' (Misread worse ∷ us) (Reported p r ∷ ts) same so a b g g' free = absurd (cc same)
+answer_so rules v h v' h' (Misread worse ∷ us) (Ended ∷ ts) same so a b g g' free = absurd (cc same)
 
 entry_so : (v h v' h' : HallState) (entry : List ℕ) (other reported : ReplyQueueState) → IsRoomier v h → HallApplies v entry other v' → HallApplies h entry reported h' →
     length v'.history < 1000000 → (reported ≡ other) × IsRoomier v' h'
 entry_so v h v' h' entry other reported so a b free =
     let asks = ap (λ (c : Config). asked_in c.world entry) so.config in
-    let one = answer_so (reads_of entry) v h v' h' a.turns b.turns (b.asked_is ∙ (asks ∙ sym a.asked_is)) so a.run b.run a.granted b.granted free in
+    let one = answer_so (rules_of entry) v h v' h' a.turns b.turns (b.asked_is ∙ (asks ∙ sym a.asked_is)) so a.run b.run a.granted b.granted free in
     (b.reply_queue_is ∙ (ap reply_queue_of one.said_is ∙ sym a.reply_queue_is), one.roomier)
 
 -- ---- and of what keeps its stays
@@ -210,7 +215,7 @@ still_its v h k a b = record {
 
 -- lines alone make a history no shorter
 takes_grow : (v v' : StayState) (entry : List ℕ) (other : ReplyQueueState) → TakesLines v entry other v' → length v.hall.history ≤ length v'.hall.history
-takes_grow v v' entry other a = runs_grow (reads_of entry) v.hall v'.hall a.hall.turns a.hall.run
+takes_grow v v' entry other a = runs_grow (rules_of entry) v.hall v'.hall a.hall.turns a.hall.run
 
 led_grows : (v v' : StayState) (es : List (List ℕ)) → v.blind ≡ false → Leads StayApplies v (lines_in es) v' → length v.hall.history ≤ length v'.hall.history
 led_grows v v' [] known led = let same = ap (λ (s : StayState). length s.hall.history) led in omega (arith, same)

@@ -1,7 +1,8 @@
 -- the batches that a front end puts into a log
-use Rattle.std.specs.Prelude.{codes, ℕ, zero, suc, ◌+◌, ◌/◌, ◌%◌, ◌^◌, ltb, if◌then◌else◌, List, [], ◌∷◌, ◌++◌}
+use Rattle.std.specs.Prelude.{codes, ℕ, zero, suc, ◌+◌, ◌/◌, ◌%◌, ◌^◌, ltb, if◌then◌else◌, Bool, true, false, List, [], ◌∷◌, ◌++◌}
 use Rattle.service_hall.specs.declared.reads.Reads.{Reads}
 use Rattle.service_hall.specs.declared.reads.Reads.TheVariants.{Logged, Plain}
+use Rattle.service_hall.specs.declared.rules.Rules.{Rules}
 
 -- a digit to the base of 16
 abbrev pub hex_digit : ℕ → ℕ
@@ -20,14 +21,28 @@ head_of token count = token ++ 32 ∷ hex_digits 16 count
 abbrev pub batch_of : List ℕ → ℕ → List ℕ → List ℕ
 batch_of token count lines = head_of token count ++ 10 ∷ lines
 
--- what stands behind the count of a batch whose reads are plain
-abbrev pub told_of : Reads → List ℕ
-told_of Logged = []
-told_of Plain = codes " plain"
+-- whether reads are plain, as a word
+abbrev pub reads_word : Reads → List ℕ
+reads_word Logged = codes " whole"
+reads_word Plain = codes " plain"
 
--- a batch whose reads are logged or plain
-abbrev pub batch_by : Reads → List ℕ → ℕ → List ℕ → List ℕ
-batch_by reads token count lines = head_of token count ++ (told_of reads ++ 10 ∷ lines)
+-- a letter where something is admitted, and a hyphen where it is barred
+abbrev pub admission : Bool → ℕ → ℕ
+admission true letter = letter
+admission false letter = 45
+
+-- what stands behind the count of a batch: whether its reads are plain, and where something is barred whether `widen` is admitted, and `begin` and `step`
+abbrev pub told_by : Reads → Bool → Bool → List ℕ
+told_by Logged true true = []
+told_by Plain true true = codes " plain"
+told_by reads widening naming = reads_word reads ++ 32 ∷ admission widening 119 ∷ admission naming 110 ∷ []
+
+abbrev pub told_of : Rules → List ℕ
+told_of rules = told_by rules.reads rules.widening rules.naming
+
+-- a batch by rules
+abbrev pub batch_by : Rules → List ℕ → ℕ → List ℕ → List ℕ
+batch_by rules token count lines = head_of token count ++ (told_of rules ++ 10 ∷ lines)
 
 -- the count of the next batch, in 64 bits
 abbrev pub next_count : ℕ → ℕ

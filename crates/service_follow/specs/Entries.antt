@@ -1,5 +1,5 @@
 -- entries of a log that are applied to a hall
-use Rattle.std.specs.Prelude.{◌≡◌, ◌==◌, ◌&&◌, if◌then◌else◌, ℕ, Bool, false, List, [], ◌∷◌, ◌++◌, map, Option, Some, None, Result, slice_get}
+use Rattle.std.specs.Prelude.{◌≡◌, ◌==◌, ◌&&◌, if◌then◌else◌, ℕ, Bool, false, not, List, [], ◌∷◌, ◌++◌, map, Option, Some, None, Result, slice_get}
 use Rattle.model_asked.specs.declared.bad.Bad.{Bad}
 use Rattle.model_asked.specs.declared.command.Command.{Command}
 use Rattle.model_asked.specs.declared.kind.WorldKind.{WorldKind}
@@ -14,6 +14,7 @@ use Rattle.service_hall.specs.HallState.{HallState}
 use Rattle.service_hall.specs.Reading.{Serves}
 use Rattle.service_hall.specs.declared.reads.Reads.{Reads}
 use Rattle.service_hall.specs.declared.reads.Reads.TheVariants.{Logged, Plain}
+use Rattle.service_hall.specs.declared.rules.Rules.{Rules}
 use Rattle.service_follow.specs.Said.{said, reply_queue_of}
 use Rattle.service_follow.specs.ReplyQueueState.{ReplyQueueState}
 
@@ -35,12 +36,21 @@ is_there (Some b) byte = b == byte
 abbrev pub reads_of : List ℕ → Reads
 reads_of entry = if is_there (slice_get entry 49) 32 && is_there (slice_get entry 50) 112 then Plain else Logged
 
--- The hall was so, and answered what the lines of the entry ask for, in order, with no growth refused. It stored reads or not, as the entry says.
+-- An entry bars something where a hyphen stands in its place, and a space before the two places and behind the token and the count. An entry of an
+-- older version has no such bytes in its first line, and bars nothing
+abbrev pub bars : ℕ → List ℕ → Bool
+bars place entry = is_there (slice_get entry 49) 32 && (is_there (slice_get entry 55) 32 && is_there (slice_get entry place) 45)
+
+-- the rules of an entry: whether its reads are plain, and whether it bars `widen`, or `begin` and `step`
+abbrev pub rules_of : List ℕ → Rules
+rules_of entry = record { reads = reads_of entry; widening = not (bars 56 entry); naming = not (bars 57 entry) }
+
+-- The hall was so, and answered what the lines of the entry ask for, in order, with no growth refused. It did so by the rules of the entry.
 -- The answers are on the queue of replies, and it is so
 pub record HallApplies (h : HallState) (entry : List ℕ) (reply_queue : ReplyQueueState) (u : HallState) : Type 0 where
   pub turns : List Turn
   pub asked_is : map asked turns ≡ asked_in h.config.world entry
-  pub run : Runs (Serves (reads_of entry)) h turns u
+  pub run : Runs (Serves (rules_of entry)) h turns u
   pub granted : NoneRefusedGrowth turns
   pub reply_queue_is : reply_queue ≡ reply_queue_of (said turns)
 

@@ -1,4 +1,6 @@
 pub mod NotingState
+pub mod AskingState
+pub mod Readings
 pub mod ReplyQueueState
 pub mod Said
 pub mod Entries

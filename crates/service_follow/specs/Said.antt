@@ -54,8 +54,8 @@ ReplyQueueReplies w q r u =
 -- the hall answers, and it is noted; no memory was refused
 pub record IsNoted (w : NotingState) (q : Request) (r : ShownReply) (u : NotingState) : Type 0 where
   pub was_well : w.lost ≡ false
-  pub serves : Serves w.reads w.hall q r u.hall
-  pub reads : u.reads ≡ w.reads
+  pub serves : Serves w.rules w.hall q r u.hall
+  pub rules : u.rules ≡ w.rules
   pub noted : u.said ≡ w.said ++ (q, r) ∷ []
   pub granted : r ≢ reply.Refused refusal.NoMemory
 

@@ -1,6 +1,6 @@
 -- changes of the terms of a hall in a log, and how terms are read back
 use Rattle.std.specs.Prelude.{◌≡◌, ◌≢◌, ◌⊎◌, ◌≤◌, ℕ, List, [], ◌∷◌, ◌++◌, All, length, Option, Some, None}
-use Rattle.service_hall.specs.declared.reads.Reads.{Reads}
+use Rattle.service_hall.specs.declared.rules.Rules.{Rules}
 use Rattle.service_follow.specs.Batches.{batch_by}
 use Rattle.service_follow.specs.Entries.{behind_first_line}
 use Rattle.service_follow.specs.FollowState.{FollowState}
@@ -39,4 +39,4 @@ pub record IsTermsRead (token : List ℕ) (count : ℕ) (told : ToldTerms) : Typ
   pub silent : behind_first_line (change_entry token count told) ≡ []
   pub compaction : terms_of (first_entry token count (Some told)) ≡ Some told
   pub untold : terms_of (first_entry token count None) ≡ None
-  pub batch : (reads : Reads) (lines : List ℕ) → terms_of (batch_by reads token count lines) ≡ None
+  pub batch : (rules : Rules) (lines : List ℕ) → terms_of (batch_by rules token count lines) ≡ None

@@ -11,8 +11,8 @@ ghost use Rattle.service_hall.specs.Halls.{hall_of};
 ghost use Rattle.service_loop.specs.Seats.{LoopIteration, Seating};
 ghost use Rattle.service_follow.specs.Batches.{batch_by};
 ghost use Rattle.service_follow.specs.Desks.{ByDesk, HasItsDesk, lines_in};
-ghost use Rattle.service_follow.specs.Entries.{HallApplies, reads_of};
-ghost use Rattle.service_follow.specs.Hosted.{IsHostedOverLog, IsPrefetched, IsUsedUp};
+ghost use Rattle.service_follow.specs.Entries.{HallApplies, rules_of};
+ghost use Rattle.service_follow.specs.Hosted.{IsHostedAtEnd, IsHostedOverLog, IsPrefetched, IsReadAtEnd, IsUsedUp};
 ghost use Rattle.service_follow.specs.Marks.{mark_of};
 ghost use Rattle.service_follow.specs.Said.{ReplyQueueReplies};
 ghost use Rattle.service_follow.specs.ReplyQueueState.{ReplyQueueState};
@@ -29,7 +29,7 @@ ghost use Rattle.service_follow.specs.declared.watches.Watch.{Watch};
 
 use crate::machine::HallMachine;
 use crate::stay_machine::StayMachine;
-use service_hall::Reads;
+use service_hall::Rules;
 use service_log::{Store, law_of_agreement};
 
 /// A law, which runs nothing: what a hall says to an entry, and the hall after it, are determined by the entry and the hall before it; so
@@ -110,12 +110,22 @@ pub fn law_of_log_hosting<C, K, S: Store>()
         IsHostedOverLog on (S.stands s) config t.log from place lines r seats after }
 {}
 
+/// A law, which runs nothing, of a turn of the loop over a queue of replies to reads that are no entry, which was used up: it is a turn over the hall of the
+/// log to which all entries were applied that stood, and leaves that as it is.
+pub fn law_of_reads<C, K, S: Store>()
+    ensures { (on : Seating C) (s : S) (config : Config) (from place : ℕ) (lines : List ℕ) (reply_queue u : ReplyQueueState)
+        (r : ReplicaState StayState) (k l : K) (seats after : List (Option C)) →
+        IsReadAtEnd (S.stands s) (S.lacks s) config from place lines reply_queue r →
+        (t : LoopIteration on ReplyQueueReplies IsUsedUp k reply_queue seats l u after) →
+        IsHostedAtEnd on (S.stands s) (S.lacks s) config t.log from place r seats after }
+{}
+
 /// A law, which runs nothing, of the batches of front ends whose tokens are as long.
 ///
-/// - `one`: two batches are the same entry only where token, count and lines are the same, and whether reads are plain.
-/// - `reads`: an entry tells whether its reads are plain.
+/// - `one`: two batches are the same entry only where token, count, lines and rules are the same.
+/// - `rules`: an entry tells its rules.
 pub fn law_of_batches()
-    ensures one { (reads kind : Reads) (token other : List ℕ) (count next : ℕ) (lines more : List ℕ) → length token ≡ length other → count < 2 ^ 64 →
-        next < 2 ^ 64 → batch_by reads token count lines ≡ batch_by kind other next more → (reads ≡ kind) × (token ≡ other) × (count ≡ next) × (lines ≡ more) }
-    ensures reads { (reads : Reads) (token : List ℕ) (count : ℕ) (lines : List ℕ) → length token ≡ 32 → reads_of (batch_by reads token count lines) ≡ reads }
+    ensures one { (rules others : Rules) (token other : List ℕ) (count next : ℕ) (lines more : List ℕ) → length token ≡ length other → count < 2 ^ 64 →
+        next < 2 ^ 64 → batch_by rules token count lines ≡ batch_by others other next more → (rules ≡ others) × (token ≡ other) × (count ≡ next) × (lines ≡ more) }
+    ensures rules { (rules : Rules) (token : List ℕ) (count : ℕ) (lines : List ℕ) → length token ≡ 32 → rules_of (batch_by rules token count lines) ≡ rules }
 {}

@@ -13,7 +13,8 @@
 //! turns of all connections, in one order, are a run of the hall to which just the entries before this turn's were applied. Halls of one
 //! config that have applied one log up to one place are the same (`law_of_halls`).
 //!
-//! An entry tells whether the hall stores its reads: those of an entry with ` plain` in its first line are answered, and are no events.
+//! An entry tells whether the hall stores its reads: those of an entry with ` plain` in its first line are answered, and are no events. Where a front end
+//! stores none, lines that ask for reads alone are no entry: they are answered once the log was read to its end (`law_of_reads`).
 //!
 //! `StayMachine` has with the hall who keeps each stay in its pool, as the log tells: the front end whose entry said `enter` of it last and was
 //! answered `ok` or `refused 9` (`law_of_keepers`). `LogPersister::end_stays` ends the stays of this front end that nobody keeps any more, and those of
@@ -56,6 +57,7 @@ pub mod marks;
 pub mod note;
 mod noting;
 pub mod pause;
+mod reading;
 mod release_lines;
 pub mod reply_queue;
 mod retelling;
@@ -68,7 +70,7 @@ pub use front_end_stay::FrontEndStay;
 pub use hall_terms::{HallTerms, ToldTerms, terms_of};
 pub use laws::{
     law_of_batches, law_of_compactions, law_of_halls, law_of_keepers, law_of_log_hosting,
-    law_of_silence, law_of_starts, law_of_tellings, law_of_terms,
+    law_of_reads, law_of_silence, law_of_starts, law_of_tellings, law_of_terms,
 };
 pub use log_fault::LogFault;
 pub use log_hall::LogHall;

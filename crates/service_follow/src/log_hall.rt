@@ -8,7 +8,7 @@ ghost use Rattle.service_log.specs.declared.replica.Step.TheVariants.{Answered};
 ghost use Rattle.service_log.specs.declared.serve_fault.Cause.TheVariants.{Busy};
 ghost use Rattle.service_log.specs.declared.serve_fault.ServeFault.TheVariants.{Unknown};
 ghost use Rattle.service_follow.specs.Decided.{HasRead};
-ghost use Rattle.service_follow.specs.Hosted.{AddsWhereApplied, HasMovedOn, IsAtEnd};
+ghost use Rattle.service_follow.specs.Hosted.{AddsWhereApplied, HasAppliedAll, HasMovedOn, IsAtEnd};
 ghost use Rattle.service_follow.specs.Said.{reply_queue_of};
 ghost use Rattle.service_follow.specs.Stays.{StayApplies, hall_part, since_compaction, start_of, under_way};
 
@@ -115,6 +115,13 @@ impl<S: Store> LogHall<S> {
         ensures { result ≡ self.now.replica.place }
     {
         self.replica.place()
+    }
+
+    /// What the hall was opened for.
+    pub(crate) fn config(&self) -> Config
+        ensures { result ≡ self.now.config }
+    {
+        self.config
     }
 
     /// Whether nothing is known of the hall, since it started at a later place than the first and has read no compaction whole.
@@ -244,6 +251,7 @@ impl<S: Store> LogHall<S> {
     /// Applies what stands in the log, up to so many entries; tells whether all was read that stands.
     pub(crate) fn read(&mut self, most: u64, reply_queue: &mut ReplyQueue) -> Result<bool, Cause>
         ensures read { result ≡ Ok true → HasRead S.lacks (S.stands self.old.store) self.new.config self.new.stays }
+        ensures all { result ≡ Ok true → HasAppliedAll S.stands S.lacks self.new }
         ensures moved { HasMovedOn S.stands self.old self.new }
         ensures unanswered { reply_queue.new ≡ reply_queue_of [] }
         ensures same { Same (S.stands self.old.store) (S.stands self.new.store) }

@@ -1,14 +1,16 @@
 //! Serves the clients of one front end over a log.
 
-ghost use Rattle.std.specs.Prelude.{◌≡◌, ◌≢◌, ◌↔◌, ◌==◌, ◌+◌, ◌-◌, ◌++◌, ◌<◌, ◌≤◌, ◌⊎◌, ℕ, [], true, false, ltb, map, Ok, Err, OnOk, IfOk, All};
+ghost use Rattle.std.specs.Prelude.{◌≡◌, ◌≢◌, ◌↔◌, ◌==◌, ◌+◌, ◌-◌, ◌++◌, ◌<◌, ◌≤◌, ◌⊎◌, ℕ, [], true, false, ltb, map, None, Ok, Err, OnOk, IfOk, IfSome, All};
 ghost use Rattle.std.specs.List.{list_any};
 ghost use Rattle.std.specs.String.{string_bytes};
 ghost use Rattle.model_asked.specs.Config.{gives_names};
 ghost use Rattle.service_log.specs.Places.{Keeps, Same};
 ghost use Rattle.service_follow.specs.Batches.{batch_by, batch_of, head_of, hex_digit, hex_digits, next_count, told_of};
 ghost use Rattle.service_follow.specs.Decided.{AddsBatch, HasLooked, IsDecided, next_read, release_lines};
-ghost use Rattle.service_follow.specs.Hosted.{HasGoneOn, HasMovedOn, IsAtEnd, IsPrefetchedBy, IsServed};
+ghost use Rattle.service_hall.specs.declared.reads.Reads.TheVariants.{Plain};
+ghost use Rattle.service_follow.specs.Hosted.{HasAppliedAll, HasGoneOn, HasMovedOn, IsAtEnd, IsPrefetchedBy, IsReadBy, IsServed};
 ghost use Rattle.service_follow.specs.Pauses.{IsSpent};
+ghost use Rattle.service_follow.specs.Readings.{are_reads, read_by, requested, requests_in};
 ghost use Rattle.service_follow.specs.Said.{reply_queue_of};
 ghost use Rattle.service_follow.specs.Stays.{since_compaction};
 ghost use Rattle.service_follow.specs.Terms.{HasFirstLine, change_entry, config_text, first_line_of, grace_of, terms_of};
@@ -23,12 +25,13 @@ use crate::log_fault::LogFault;
 use crate::log_hall::LogHall;
 use crate::marks::is_ordinary;
 use crate::pause::Pause;
+use crate::reading::{Read, put_replies, reads_in};
 use crate::release_lines::lines_of;
 use crate::reply_queue::ReplyQueue;
 use crate::sessions::Sessions;
 use crate::tallying::tally_of;
 use model_asked::Config;
-use service_hall::{Hall, Reads};
+use service_hall::{Hall, Reads, Rules};
 use service_log::{Cause, MOST_BATCH, MOST_PLACES, ServeFault, Step, Store, StoreFault};
 use service_loop::{Persist, Prefetch, Tally};
 use std::alloc::{AllocError, Allocator, Global};
@@ -38,8 +41,8 @@ use text_player::Replies;
 /// What ends a line.
 const LF: u8 = 10;
 
-/// How many bytes the first line of a batch has, at most: a token, a count, ` plain` and its LF.
-const HEAD: usize = 56;
+/// How many bytes the first line of a batch has, at most: a token, a count, ` plain --` and its LF.
+const HEAD: usize = 59;
 
 /// How often a store is asked for one batch, at most; a `Pause` ends it before.
 const MOST_TRIES: u32 = 1_000_000;
@@ -73,8 +76,8 @@ pub struct LogPersister<S: Store, T: Pause> {
     batch: Vec<u8>,
     token: [u8; 32],
     count: u64,
-    /// Whether the history stores reads of this front end.
-    reads: Reads,
+    /// The rules for the clients of this front end.
+    rules: Rules,
     pause: T,
     /// Whether the store had no room for the last batch.
     no_space: bool,
@@ -104,7 +107,7 @@ impl<S: Store + Drop, T: Pause + Drop> Drop for LogPersister<S, T> {
             batch: _,
             token: _,
             count: _,
-            reads: _,
+            rules: _,
             pause: _,
             no_space: _,
             answers: _,
@@ -151,28 +154,34 @@ pub(crate) fn put_head(head: &mut Vec<u8>, token: &[u8], count: u64) -> Result<(
     push_count(head, 16, count)
 }
 
-// What the first line of a batch tells of its reads.
-fn told_of(reads: Reads) -> &'static [u8]
-    ensures { result.now ≡ told_of reads }
+// What the first line of a batch tells of its rules.
+fn told_of(rules: Rules) -> &'static [u8]
+    ensures { result.now ≡ told_of rules }
 {
-    match reads {
-        Reads::Logged => b"",
-        Reads::Plain => b" plain",
+    match (rules.reads, rules.widening, rules.naming) {
+        (Reads::Logged, true, true) => b"",
+        (Reads::Logged, true, false) => b" whole w-",
+        (Reads::Logged, false, true) => b" whole -n",
+        (Reads::Logged, false, false) => b" whole --",
+        (Reads::Plain, true, true) => b" plain",
+        (Reads::Plain, true, false) => b" plain w-",
+        (Reads::Plain, false, true) => b" plain -n",
+        (Reads::Plain, false, false) => b" plain --",
     }
 }
 
-// Puts a batch of these lines over a list: a first line of a token, a count and whether its reads are plain, and then the lines.
+// Puts a batch of these lines over a list: a first line of a token, a count and what it tells of its rules, and then the lines.
 fn put_batch(
     batch: &mut Vec<u8>,
-    reads: Reads,
+    rules: Rules,
     token: &[u8],
     count: u64,
     lines: &[u8],
 ) -> Result<(), AllocError>
-    ensures { OnOk result (batch.new.items ≡ batch_by reads token.now count lines.now) }
+    ensures { OnOk result (batch.new.items ≡ batch_by rules token.now count lines.now) }
 {
     put_head(batch, token, count)?;
-    batch.extend_from_slice(told_of(reads))?;
+    batch.extend_from_slice(told_of(rules))?;
     batch.push(LF)?;
     batch.extend_from_slice(lines)?;
     Ok(())
@@ -201,8 +210,12 @@ fn first_line(alloc: Global, config: Config, told: Option<ToldTerms>) -> Result<
     Ok(line)
 }
 
-// Returns true only if an entry is the first one of a log of halls of this config, with terms or without.
-fn is_first_line(alloc: Global, config: Config, entry: &[u8]) -> Result<bool, AllocError>
+/// Returns true only if an entry is the first one of a log of halls of this config, with terms or without.
+///
+/// # Errors
+///
+/// `AllocError`: an allocation failed.
+pub fn is_first_line(alloc: Global, config: Config, entry: &[u8]) -> Result<bool, AllocError>
     ensures { result ≡ Ok true → entry.now ≡ first_line_of config (terms_of entry.now) }
 {
     let line = first_line(alloc, config, terms_of(entry))?;
@@ -302,7 +315,7 @@ impl<S: Store + Drop, T: Pause + Drop> LogPersister<S, T> {
             batch: Vec::new(alloc),
             token,
             count: 0,
-            reads: Reads::Logged,
+            rules: Rules::all(Reads::Logged),
             pause,
             no_space: false,
             answers: true,
@@ -535,25 +548,133 @@ impl<S: Store, T: Pause> LogPersister<S, T> {
         Ok(Prefetch::Lost)
     }
 
-    /// Has the history store the reads of this front end from now on, or not. It stores them until this is called. Each entry tells it, so that
-    /// front ends of one log may differ in it.
-    pub fn choose_reads(&mut self, reads: Reads)
-        ensures reads { self.new.reads ≡ reads }
+    // Has the batch of these lines come to stand in the log.
+    #[tactic(auto, using(crate::proofs::Moves::moved_then))]
+    fn write_batch(
+        &mut self,
+        reply_queue: &mut ReplyQueue,
+        lines: &[u8],
+    ) -> Result<Prefetch, LogFault>
+        ensures known { result ≡ Ok Prefetch.Known → (count : ℕ) → self.old.count ≡ next_count count →
+            IsPrefetchedBy S.stands self.old.log self.new.log self.old.rules self.old.token count self.new.count lines.now reply_queue.new }
+        ensures lost { result ≡ Ok Prefetch.Lost → reply_queue.new ≡ reply_queue_of [] }
+        ensures patient { result ≡ Ok Prefetch.Lost → IsSpent T.is_over T.waited self.new.pause }
+        ensures moved { HasMovedOn S.stands self.old.log self.new.log }
+        ensures head { (self.new.count ≡ self.old.count) × (self.new.token ≡ self.old.token) }
+    {
+        self.compaction
+            .compact(&mut self.log, &mut self.pause, reply_queue)?;
+        let Ok(()) = put_batch(&mut self.batch, self.rules, &self.token, self.count, lines) else {
+            return Err(LogFault::Memory);
+        };
+        self.serve_batch(reply_queue)
+    }
+
+    // The reads that lines ask for, if they ask for nothing else, and the history stores none.
+    fn plain_reads(&self, lines: &[u8]) -> Result<Option<Vec<Read>>, LogFault>
+        ensures reads { IfOk result (λ found. IfSome found (λ reads. (self.now.rules.reads ≡ Plain) × (are_reads self.now.log.config.world lines.now ≡ true) ×
+            (map requested reads.items ≡ requests_in self.now.log.config.world lines.now))) }
+        ensures none { result ≡ Ok None → self.now.rules.reads ≡ Plain → are_reads self.now.log.config.world lines.now ≡ false }
+    {
+        if self.rules.reads == Reads::Logged {
+            return Ok(None);
+        }
+        match reads_in(self.alloc, self.log.config().world, lines) {
+            Ok(reads) => Ok(reads),
+            Err(_) => Err(LogFault::Memory),
+        }
+    }
+
+    // Reads the log on, and tells whether all was read that stands. A store that does not answer has told nothing.
+    fn read_on(&mut self, reply_queue: &mut ReplyQueue) -> Result<bool, LogFault>
+        ensures all { result ≡ Ok true → HasAppliedAll S.stands S.lacks self.new.log }
+        ensures moved { HasMovedOn S.stands self.old.log self.new.log }
+        ensures unwritten { Same (S.stands self.old.log.store) (S.stands self.new.log.store) }
+        ensures unanswered { reply_queue.new ≡ reply_queue_of [] }
+        ensures same { (self.new.count ≡ self.old.count) × (self.new.token ≡ self.old.token) × (self.new.pause ≡ self.old.pause) }
+    {
+        match self.log.read(TICK_ENTRIES, reply_queue) {
+            Ok(all) => Ok(all),
+            Err(cause) => match LogFault::of_cause(cause) {
+                Some(fault) => Err(fault),
+                None => Ok(false),
+            },
+        }
+    }
+
+    // Reads the log to its end, as soon as the store answers; returns false if patience ends before.
+    #[tactic(auto, using(crate::proofs::Moves::moved_same, crate::proofs::Moves::moved_then, crate::proofs::Releasing::same_self))]
+    fn read_to_end(&mut self, reply_queue: &mut ReplyQueue) -> Result<bool, LogFault>
+        ensures all { result ≡ Ok true → HasAppliedAll S.stands S.lacks self.new.log }
+        ensures patient { result ≡ Ok false → IsSpent T.is_over T.waited self.new.pause }
+        ensures moved { HasMovedOn S.stands self.old.log self.new.log }
+        ensures unwritten { Same (S.stands self.old.log.store) (S.stands self.new.log.store) }
+        ensures unanswered { reply_queue.new ≡ reply_queue_of [] }
+        ensures same { (self.new.count ≡ self.old.count) × (self.new.token ≡ self.old.token) }
+    {
+        reply_queue.clear();
+        self.pause.begin();
+        for _asked in 0..MOST_TRIES {
+            let all = self.read_on(reply_queue)?;
+            if all {
+                return Ok(true);
+            }
+            if !self.pause.again() {
+                return Ok(false);
+            }
+        }
+        Ok(false)
+    }
+
+    // Answers reads by the hall to which all entries were applied that stand in the log now. They are no entry.
+    fn answer_reads(
+        &mut self,
+        reply_queue: &mut ReplyQueue,
+        reads: &[Read],
+    ) -> Result<Prefetch, LogFault>
+        ensures all { result ≡ Ok Prefetch.Known → HasAppliedAll S.stands S.lacks self.new.log }
+        ensures known { result ≡ Ok Prefetch.Known → self.new.log.stays.machine.blind ≡ false }
+        ensures replies { result ≡ Ok Prefetch.Known →
+            reply_queue.new ≡ reply_queue_of (read_by self.new.log.stays.machine.hall (map requested reads.now)) }
+        ensures lost { result ≡ Ok Prefetch.Lost → reply_queue.new ≡ reply_queue_of [] }
+        ensures patient { result ≡ Ok Prefetch.Lost → IsSpent T.is_over T.waited self.new.pause }
+        ensures moved { HasMovedOn S.stands self.old.log self.new.log }
+        ensures unwritten { Same (S.stands self.old.log.store) (S.stands self.new.log.store) }
+        ensures same { (self.new.count ≡ self.old.count) × (self.new.token ≡ self.old.token) }
+    {
+        if !self.read_to_end(reply_queue)? {
+            return Ok(Prefetch::Lost);
+        }
+        if self.log.is_blind() {
+            return Err(LogFault::Astray);
+        }
+        self.check_terms()?;
+        let Ok(()) = put_replies(self.alloc, self.log.hall(), reads, reply_queue) else {
+            return Err(LogFault::Memory);
+        };
+        self.answers = true;
+        Ok(Prefetch::Known)
+    }
+
+    /// Has the clients of this front end be served by these rules from now on. Reads are logged and all is admitted until this is called. Each entry tells
+    /// its rules, so that front ends of one log may differ in them.
+    pub fn choose_rules(&mut self, rules: Rules)
+        ensures rules { self.new.rules ≡ rules }
         ensures same { (self.new.log ≡ self.old.log) × (self.new.count ≡ self.old.count) × (self.new.token ≡ self.old.token) }
     {
-        self.reads = reads;
+        self.rules = rules;
     }
 
     /// Has the next compaction that this front end offers be due at so many events. It is due at 450,001 until this is called.
     pub fn compact_at(&mut self, events: usize)
-        ensures { (self.new.log ≡ self.old.log) × (self.new.count ≡ self.old.count) × (self.new.token ≡ self.old.token) × (self.new.reads ≡ self.old.reads) }
+        ensures { (self.new.log ≡ self.old.log) × (self.new.count ≡ self.old.count) × (self.new.token ≡ self.old.token) × (self.new.rules ≡ self.old.rules) }
     {
         self.compaction.be_due_at(events);
     }
 
     /// Has a compaction be due at so many entries since the last one, too. It is due at 10,000 until this is called.
     pub fn compact_at_entries(&mut self, entries: u64)
-        ensures { (self.new.log ≡ self.old.log) × (self.new.count ≡ self.old.count) × (self.new.token ≡ self.old.token) × (self.new.reads ≡ self.old.reads) }
+        ensures { (self.new.log ≡ self.old.log) × (self.new.count ≡ self.old.count) × (self.new.token ≡ self.old.token) × (self.new.rules ≡ self.old.rules) }
     {
         self.compaction.be_due_at_entries(entries);
     }
@@ -716,7 +837,13 @@ impl<S: Store, T: Pause> LogPersister<S, T> {
     {
         let now = self.pause.seconds();
         let count = self.count.wrapping_add(1);
-        let Ok(()) = put_batch(&mut self.batch, Reads::Logged, &self.token, count, lines) else {
+        let Ok(()) = put_batch(
+            &mut self.batch,
+            Rules::all(Reads::Logged),
+            &self.token,
+            count,
+            lines,
+        ) else {
             return Err(LogFault::Memory);
         };
         self.count = count;
@@ -808,13 +935,15 @@ impl<S: Store, T: Pause> LogPersister<S, T> {
 }
 
 impl<S: Store, T: Pause> Persist<ReplyQueue> for LogPersister<S, T> {
-    ghost use Rattle.service_follow.specs.Hosted.{HasGoneOn, IsPrefetchedBy, IsUsedUp};
+    ghost use Rattle.std.specs.Prelude.{◌⊎◌};
+    ghost use Rattle.service_follow.specs.Hosted.{HasGoneOn, IsPrefetchedBy, IsReadBy, IsUsedUp};
 
     type Fault = LogFault;
 
     ghost persists = { λ k w l u. IsUsedUp k w l u };
 
-    ghost prefetches = { λ k w lines l u. IsPrefetchedBy S.stands k.log l.log k.reads k.token k.count l.count lines u };
+    ghost prefetches = { λ k w lines l u. IsPrefetchedBy S.stands k.log l.log k.rules k.token k.count l.count lines u ⊎
+        IsReadBy S.stands S.lacks k.log l.log k.rules.reads lines u };
 
     ghost waits = { λ k w l u. HasGoneOn S.stands k.log l.log k.count l.count u };
 
@@ -853,9 +982,15 @@ impl<S: Store, T: Pause> Persist<ReplyQueue> for LogPersister<S, T> {
         Some(MOST_BATCH - HEAD)
     }
 
+    #[tactic(auto, using(crate::proofs::Releasing::same_self))]
     fn prefetch(&mut self, reply_queue: &mut ReplyQueue, lines: &[u8]) -> Result<Prefetch, LogFault>
         ensures known { result ≡ Ok Prefetch.Known →
-            IsPrefetchedBy S.stands self.old.log self.new.log self.old.reads self.old.token self.old.count self.new.count lines.now reply_queue.new }
+            IsPrefetchedBy S.stands self.old.log self.new.log self.old.rules self.old.token self.old.count self.new.count lines.now reply_queue.new ⊎
+            IsReadBy S.stands S.lacks self.old.log self.new.log self.old.rules.reads lines.now reply_queue.new }
+
+        // Plain reads alone make no entry, whatever comes of them.
+        ensures unwritten { self.old.rules.reads ≡ Plain → are_reads self.old.log.config.world lines.now ≡ true →
+            Same (S.stands self.old.log.store) (S.stands self.new.log.store) }
         ensures lost { result ≡ Ok Prefetch.Lost → HasGoneOn S.stands self.old.log self.new.log self.old.count self.new.count reply_queue.new }
 
         // Whatever comes of a batch, no other has its count, nor another token.
@@ -864,12 +999,10 @@ impl<S: Store, T: Pause> Persist<ReplyQueue> for LogPersister<S, T> {
         ensures token { self.new.token ≡ self.old.token }
     {
         self.count = self.count.wrapping_add(1);
-        self.compaction
-            .compact(&mut self.log, &mut self.pause, reply_queue)?;
-        let Ok(()) = put_batch(&mut self.batch, self.reads, &self.token, self.count, lines) else {
-            return Err(LogFault::Memory);
-        };
-        self.serve_batch(reply_queue)
+        match self.plain_reads(lines)? {
+            Some(reads) => self.answer_reads(reply_queue, &reads),
+            None => self.write_batch(reply_queue, lines),
+        }
     }
 
     fn tick(&mut self, reply_queue: &mut ReplyQueue) -> Result<(), LogFault> {

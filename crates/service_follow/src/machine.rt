@@ -3,19 +3,20 @@
 ghost use Rattle.std.specs.Prelude.{◌≡◌, ◌⊎◌, ◌↔◌, ◌+◌, ◌<◌, [], false, IfErr, IfOk, OnOk, Err};
 ghost use Rattle.model_asked.specs.Config.{gives_names};
 ghost use Rattle.service_hall.specs.Halls.{hall_of};
-ghost use Rattle.service_follow.specs.Entries.{HallApplies, TakesBytes, behind_first_line, reads_of};
-ghost use Rattle.service_follow.specs.Said.{NotingSays, reply_queue_of};
+ghost use Rattle.service_follow.specs.Entries.{HallApplies, TakesBytes, bars, behind_first_line, reads_of, rules_of};
+ghost use Rattle.text_player.specs.Knows.{Knows};
+ghost use Rattle.service_follow.specs.Said.{reply_queue_of};
 
 use crate::marks::is_there;
 use crate::noting::Noting;
 use crate::reply_queue::ReplyQueue;
 use model_asked::Config;
 use model_steps::{Refusal, View};
-use service_hall::{Hall, Reads};
+use service_hall::{Hall, Reads, Rules};
 use service_log::{ApplyFault, Machine};
 use std::alloc::{AllocError, Global};
 use std::marker::Model;
-use text_player::{AsReplies, Replies, Responder};
+use text_player::{AsReplies, Replies, Responder, Service};
 
 /// What ends a line.
 const LF: u8 = 10;
@@ -23,9 +24,12 @@ const LF: u8 = 10;
 /// Where it stands in the first line of an entry whether its reads are plain: behind a token, a space and a count.
 const MARK: usize = 49;
 
+/// Where it stands behind that what the entry bars: a space, and then the place of `widen`, and that of `begin` and `step`.
+const BARS: usize = 55;
+
 /// A hall to which the entries of a log are applied. An entry is a first line, which is passed over, and then lines of commands, each with
 /// its LF: they are played over the hall in order, and what it says to them is put on a queue of replies. `quit` ends an entry. Where ` plain`
-/// stands behind the token and the count of the first line, the hall stores no read of the entry.
+/// stands behind the token and the count of the first line, the hall stores no read of the entry. Behind that it may tell what the entry bars.
 #[derive(Drop)]
 pub struct HallMachine {
     alloc: Global,
@@ -67,21 +71,40 @@ fn reads_of(entry: &[u8]) -> Reads
     }
 }
 
-/// Plays lines over a hall. The text of the replies is let go: what was said is noted.
-fn play(
-    noting: &mut Noting,
+/// Whether an entry bars what this place of its first line tells of.
+fn bars(entry: &[u8], place: usize) -> bool
+    ensures { result ≡ bars place entry.now }
+{
+    is_there(entry, MARK, b' ') && is_there(entry, BARS, b' ') && is_there(entry, place, b'-')
+}
+
+/// The rules by which the lines of an entry are played, as its first line says.
+fn rules_of(entry: &[u8]) -> Rules
+    ensures { result ≡ rules_of entry.now }
+{
+    Rules {
+        reads: reads_of(entry),
+        widening: !bars(entry, BARS + 1),
+        naming: !bars(entry, BARS + 2),
+    }
+}
+
+/// Plays lines over a service that notes what it is asked for. The text of the replies is let go.
+pub(crate) fn play<D: Service<()>>(
+    service: &mut D,
     responder: &mut Responder<Global, AsReplies>,
     view: &mut View,
     replies: &mut Replies<Global>,
     lines: &[u8],
 )
-    requires { responder.old.summary.lines ≡ 0 }
-    ensures { TakesBytes NotingSays noting.old responder.old lines.now noting.new responder.new }
+    requires afresh { responder.old.summary.lines ≡ 0 }
+    requires knows { Knows D.knows responder.old.kind }
+    ensures { TakesBytes D.may service.old responder.old lines.now service.new responder.new }
 {
     let mut at = 0;
     while at < lines.len() {
         replies.clear();
-        at += responder.take(&(), noting, view, &lines[at..], replies);
+        at += responder.take(&(), service, view, &lines[at..], replies);
     }
 }
 
@@ -126,7 +149,7 @@ impl HallMachine {
         let Ok(mut responder) = Responder::new(self.alloc, kind) else {
             return Err(AllocError);
         };
-        self.noting.begin(reads_of(entry));
+        self.noting.begin(rules_of(entry));
         play(
             &mut self.noting,
             &mut responder,

@@ -6,6 +6,7 @@ ghost use Rattle.model_asked.specs.declared.reply.Reply.TheVariants as replies;
 ghost use Rattle.model_asked.specs.Config.{gives_names};
 ghost use Rattle.model_asked.specs.Replies.{with_view};
 ghost use Rattle.service_hall.specs.Halls.{hall_of};
+ghost use Rattle.service_hall.specs.Reading.{all_admitted};
 ghost use Rattle.service_hall.specs.declared.reads.Reads.TheVariants.{Logged};
 ghost use Rattle.service_follow.specs.Said.{NotingSays, request_of, said_by, reply_queue_of};
 ghost use Rattle.service_follow.specs.lemmas.SaidProofs.{noting_answers};
@@ -14,7 +15,7 @@ use crate::note::{Asked, Note, lacks_memory};
 use crate::reply_queue::ReplyQueue;
 use model_asked::{Config, Event, Reply};
 use model_steps::{Refusal, View};
-use service_hall::{Hall, Reads};
+use service_hall::{Hall, Reads, Rules};
 use std::alloc::{AllocError, Global};
 use std::marker::Model;
 use text_player::Service;
@@ -26,8 +27,8 @@ pub(crate) struct Noting {
     hall: Hall,
     notes: Vec<Note>,
     lost: bool,
-    /// Whether the history stores reads.
-    reads: Reads,
+    /// By which rules it is asked.
+    rules: Rules,
 }
 
 impl Model for Noting {
@@ -38,13 +39,13 @@ impl Model for Noting {
 
     ghost use Rattle.service_follow.specs.Said.{said_by};
 
-    ghost view = { λ n. record { hall = n.hall; said = map said_by n.notes.items; lost = n.lost; reads = n.reads } };
+    ghost view = { λ n. record { hall = n.hall; said = map said_by n.notes.items; lost = n.lost; rules = n.rules } };
 }
 
 impl Noting {
     /// A hall of this config with no event, of which nothing is noted.
     pub(crate) fn new(alloc: Global, config: Config) -> Result<Noting, Refusal>
-        ensures opened { IfOk result (λ n. n ≡ record { hall = hall_of config []; said = []; lost = false; reads = Logged }) }
+        ensures opened { IfOk result (λ n. n ≡ record { hall = hall_of config []; said = []; lost = false; rules = all_admitted Logged }) }
         ensures out_of_range { result ≡ Err Refusal.OutOfRange ↔ (gives_names config.world ≡ false) }
         ensures only { IfErr result (λ why. (why ≡ Refusal.NoMemory) ⊎ (why ≡ Refusal.OutOfRange)) }
     {
@@ -54,7 +55,7 @@ impl Noting {
             hall,
             notes: Vec::new(alloc),
             lost: false,
-            reads: Reads::Logged,
+            rules: Rules::all(Reads::Logged),
         })
     }
 
@@ -65,13 +66,13 @@ impl Noting {
         &self.hall
     }
 
-    /// Nothing is noted so far, and reads are logged or plain from then on.
-    pub(crate) fn begin(&mut self, reads: Reads)
-        ensures { self.new ≡ record { hall = self.old.hall; said = []; lost = false; reads = reads } }
+    /// Nothing is noted so far, and it is asked by these rules from then on.
+    pub(crate) fn begin(&mut self, rules: Rules)
+        ensures { self.new ≡ record { hall = self.old.hall; said = []; lost = false; rules = rules } }
     {
         self.notes.clear();
         self.lost = false;
-        self.reads = reads;
+        self.rules = rules;
     }
 
     /// Has a queue of replies say what was noted; an error where memory was refused.
@@ -89,7 +90,7 @@ impl Noting {
     // Notes a request, and the reply to it with the view beside it.
     fn note(&mut self, asked: Asked, reply: Reply<()>, view: &View)
         ensures hall { self.new.hall ≡ self.old.hall }
-        ensures reads { self.new.reads ≡ self.old.reads }
+        ensures rules { self.new.rules ≡ self.old.rules }
         ensures well { self.new.lost ≡ false → self.old.lost ≡ false }
         ensures noted { self.new.lost ≡ false → self.new.said ≡ self.old.said ++ (request_of asked, with_view reply view.now) ∷ [] }
         ensures granted { self.new.lost ≡ false → with_view reply view.now ≢ replies.Refused refusal.NoMemory }
@@ -114,7 +115,7 @@ impl<R> Service<R> for Noting {
     ghost answers = { λ w q known. noting_answers w q };
 
     fn apply(&mut self, _rt: &R, event: Event, view: &mut View) -> Reply<()> {
-        let reply = self.hall.serve_short(self.reads, event, view);
+        let reply = self.hall.serve_short(self.rules, event, view);
         self.note(Asked::ToTake(event), reply, view);
         reply
     }

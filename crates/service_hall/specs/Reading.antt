@@ -1,7 +1,9 @@
--- a hall that stores no reads (this project's profile)
-use Rattle.std.specs.Prelude.{◌≡◌, List, [], ◌∷◌, Bool, true, false, if◌then◌else◌}
+-- a hall that stores no reads, and admits not all events (this project's profile)
+use Rattle.std.specs.Prelude.{◌≡◌, ℕ, List, [], ◌∷◌, Bool, true, false, if◌then◌else◌}
+use Rattle.model_steps.specs.declared.refusal.Refusal.TheVariants as refusal
 use Rattle.model_asked.specs.declared.event.Event.{Event}
-use Rattle.model_asked.specs.declared.event.Event.TheVariants.{Get}
+use Rattle.model_asked.specs.declared.event.Event.TheVariants.{Begin, Step, Enter, Probe, Leave, Put, Get, Widen}
+use Rattle.model_asked.specs.declared.reply.Reply.TheVariants as reply
 use Rattle.model_asked.specs.Replies.{ShownReply}
 use Rattle.model_asked.specs.Requests.{Request}
 use Rattle.model_asked.specs.Requests.Request.{Take, OwnerOf}
@@ -14,37 +16,76 @@ use Rattle.service_hall.specs.HallState.{HallState}
 use Rattle.service_hall.specs.Serving.{HallServes}
 use Rattle.service_hall.specs.declared.reads.Reads.{Reads}
 use Rattle.service_hall.specs.declared.reads.Reads.TheVariants.{Logged, Plain}
+use Rattle.service_hall.specs.declared.rules.Rules.{Rules}
+use Rattle.service_hall.specs.declared.rules.Way.{Way}
+use Rattle.service_hall.specs.declared.rules.Way.TheVariants.{Applied, Read, Barred}
 
--- a read: it changes nothing of a desk
-abbrev pub is_read : Event → Bool
-is_read (Get p) = true
-is_read e = false
+-- the rules by which all is admitted
+abbrev pub all_admitted : Reads → Rules
+all_admitted reads = record { reads = reads; widening = true; naming = true }
 
--- the event is a read, and reads are plain: stored nowhere
-abbrev pub is_plain : Reads → Event → Bool
-is_plain Logged e = false
-is_plain Plain e = is_read e
+-- an event that is admitted is applied, and one that is not is barred
+abbrev pub applied_if : Bool → Way
+applied_if true = Applied
+applied_if false = Barred
 
--- a plain read has the reply of the desk, whatever room the history has, and the hall stays as it is
-abbrev pub TakesPlainly : Bool → HallState → Event → ShownReply → HallState → Type 0
-TakesPlainly true h e r u = (r ≡ desk_reply (desk_of h) e) × (u ≡ h)
-TakesPlainly false h e r u = HallMay h e r u
+-- a read is an event, or it is stored nowhere
+abbrev pub way_of_read : Reads → ℕ → Way
+way_of_read Logged p = Applied
+way_of_read Plain p = Read p
 
--- a hall whose reads are logged or plain: it serves all but plain reads as `HallServes` says
-abbrev pub Serves : Reads → HallState → Request → ShownReply → HallState → Type 0
-Serves reads h (Take e) r u = TakesPlainly (is_plain reads e) h e r u
-Serves reads h (OwnerOf n) r u = HallServes h (OwnerOf n) r u
+-- how an event is taken: `begin` and `step` use up names, and `widen` is no participant's
+abbrev pub way_of : Rules → Event → Way
+way_of rules (Begin p) = applied_if rules.naming
+way_of rules (Step p) = applied_if rules.naming
+way_of rules (Enter p) = Applied
+way_of rules (Probe p) = Applied
+way_of rules (Leave p) = Applied
+way_of rules (Put p value) = Applied
+way_of rules (Get p) = way_of_read rules.reads p
+way_of rules (Widen size) = applied_if rules.widening
 
--- the turns without plain reads
-abbrev pub stored : Reads → List Turn → List Turn
-stored reads [] = []
-stored reads (Answered x ∷ ts) = if is_plain reads x.event then stored reads ts else Answered x ∷ stored reads ts
-stored reads (Reported n r ∷ ts) = Reported n r ∷ stored reads ts
-stored reads (Ended ∷ ts) = Ended ∷ stored reads ts
-stored reads (Misread bad ∷ ts) = Misread bad ∷ stored reads ts
+-- a plain read has the reply of the desk, whatever room the history has, and an event that is barred is refused 14: the hall stays as it is
+abbrev pub TakesBy : Way → HallState → Event → ShownReply → HallState → Type 0
+TakesBy Applied h e r u = HallMay h e r u
+TakesBy (Read p) h e r u = (r ≡ desk_reply (desk_of h) (Get p)) × (u ≡ h)
+TakesBy Barred h e r u = (r ≡ reply.Refused refusal.OutOfRange) × (u ≡ h)
+
+-- a hall by rules: it serves all but plain reads and what is barred as `HallServes` says
+abbrev pub Serves : Rules → HallState → Request → ShownReply → HallState → Type 0
+Serves rules h (Take e) r u = TakesBy (way_of rules e) h e r u
+Serves rules h (OwnerOf n) r u = HallServes h (OwnerOf n) r u
+
+-- these turns but one that was taken so, unless it was applied
+abbrev pub stored_by : Way → Turn → List Turn → List Turn
+stored_by Applied t ts = t ∷ ts
+stored_by (Read p) t ts = ts
+stored_by Barred t ts = ts
+
+-- and unless it was barred
+abbrev pub admitted_by : Way → Turn → List Turn → List Turn
+admitted_by Applied t ts = t ∷ ts
+admitted_by (Read p) t ts = t ∷ ts
+admitted_by Barred t ts = ts
+
+-- the turns without plain reads and without what is barred
+abbrev pub stored : Rules → List Turn → List Turn
+stored rules [] = []
+stored rules (Answered x ∷ ts) = stored_by (way_of rules x.event) (Answered x) (stored rules ts)
+stored rules (Reported n r ∷ ts) = Reported n r ∷ stored rules ts
+stored rules (Ended ∷ ts) = Ended ∷ stored rules ts
+stored rules (Misread bad ∷ ts) = Misread bad ∷ stored rules ts
+
+-- the turns without what is barred
+abbrev pub admitted : Rules → List Turn → List Turn
+admitted rules [] = []
+admitted rules (Answered x ∷ ts) = admitted_by (way_of rules x.event) (Answered x) (admitted rules ts)
+admitted rules (Reported n r ∷ ts) = Reported n r ∷ admitted rules ts
+admitted rules (Ended ∷ ts) = Ended ∷ admitted rules ts
+admitted rules (Misread bad ∷ ts) = Misread bad ∷ admitted rules ts
 
 -- the hall to which the turns before a plain read led, without the reads among them, has a desk with this reply to it
-pub record IsRead (reads : Reads) (h : HallState) (before : List Turn) (e : Event) (r : ShownReply) : Type 0 where
+pub record IsRead (rules : Rules) (h : HallState) (before : List Turn) (p : ℕ) (r : ShownReply) : Type 0 where
   pub at : HallState
-  pub led : Runs HallServes h (stored reads before) at
-  pub reply : r ≡ desk_reply (desk_of at) e
+  pub led : Runs HallServes h (stored rules before) at
+  pub reply : r ≡ desk_reply (desk_of at) (Get p)

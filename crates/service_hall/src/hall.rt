@@ -13,7 +13,7 @@ ghost use Rattle.service_hall.specs.Serving.{wants_room};
 ghost use Rattle.model_asked.specs.Requests.Request.{Take};
 
 use crate::log::Log;
-use crate::reads::Reads;
+use crate::rules::{Rules, Way};
 use model_asked::{Config, Event, Exchange, Reply};
 use model_pool::slots::Slots;
 use model_steps::{Refusal, View};
@@ -176,13 +176,15 @@ impl Hall {
         Reply::of_value(self.held.desk.slots().get(id).copied())
     }
 
-    /// Does what `read` does, if the event is a `get` and reads are plain, and else what `apply_short` does.
-    pub fn serve_short(&mut self, reads: Reads, event: Event, view: &mut View) -> Reply<()>
-        ensures { Serves reads self.old (Take event) (with_view result view.new) self.new }
+    /// Takes an event by rules: it does what `read` does if the event is a `get` and reads are plain, and what `apply_short` does if it is another that is
+    /// admitted. Any other is refused with `OutOfRange`, and changes nothing.
+    pub fn serve_short(&mut self, rules: Rules, event: Event, view: &mut View) -> Reply<()>
+        ensures { Serves rules self.old (Take event) (with_view result view.new) self.new }
     {
-        match (reads, event) {
-            (Reads::Plain, Event::Get(id)) => self.read(id),
-            _ => self.apply_short(event, view),
+        match rules.way_of(event) {
+            Way::Applied => self.apply_short(event, view),
+            Way::Read(id) => self.read(id),
+            Way::Barred => Reply::Refused(Refusal::OutOfRange),
         }
     }
 

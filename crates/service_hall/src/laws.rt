@@ -15,12 +15,13 @@ ghost use Rattle.text_player.specs.Turns.Turn.{Answered};
 ghost use Rattle.service_hall.specs.GoesOn.{GoesOn};
 ghost use Rattle.service_hall.specs.Halls.{SatisfiesSpec, HallMay, desk_of, hall_of, hall_refusal};
 ghost use Rattle.service_hall.specs.HallState.{HallState};
-ghost use Rattle.service_hall.specs.Reading.{IsRead, Serves, is_plain, stored};
+ghost use Rattle.service_hall.specs.Reading.{IsRead, Serves, admitted, stored, way_of};
 ghost use Rattle.service_hall.specs.Serving.{HallServes, HasServed, accepted, wants_room, with_room};
 
 use crate::hall::Hall;
-use crate::reads::Reads;
+use crate::rules::{Rules, Way};
 use model_asked::{Event, Reply};
+use model_steps::Refusal;
 
 /// A law: the history of a hall is a run of the renaming object, the pool and the slots, each fresh at first.
 pub fn law_of_hall(hall: &Hall)
@@ -53,22 +54,25 @@ pub fn law_of_serving()
     ensures history { (h u : HallState) (ts : List Turn) → SatisfiesSpec h → Runs HallServes h ts u → u.history ≡ h.history ++ accepted (exchanges ts) }
 {}
 
-/// A law of a hall as a service whose reads are logged or plain (`Hall::serve_short`).
+/// A law of a hall as a service by rules (`Hall::serve_short`): its reads are logged or plain, and what the rules bar is refused.
 ///
 /// - `transcript`: the turns from a hall with no event are a transcript of its config, with all reads in it. Turns
-///   whose reply is `NoMemory` or `HistoryFull` are left out.
-/// - `without`: the turns without plain reads are those of a hall that stores reads, and lead to the same hall.
+///   that are barred, or whose reply is `NoMemory` or `HistoryFull`, are left out.
+/// - `without`: the turns without plain reads and what is barred are those of a hall that stores reads, and lead to the same hall.
 /// - `history`: the history gains the accepted events with their replies, without plain reads.
 /// - `replies`: each plain read has the reply of the desk that the turns before it led to.
+/// - `barred`: what is barred is refused with `OutOfRange`, and the turns without it lead to the same hall.
 /// - `alike`: a hall that stores a read returns the same reply, unless it is `NoMemory` or `HistoryFull`.
 pub fn law_of_reads()
-    ensures transcript { (reads : Reads) (c : Config) → gives_names c.world ≡ true → (u : HallState) (ts : List Turn) →
-        Runs (Serves reads) (hall_of c []) ts u → IsTranscript c (with_room ts) }
-    ensures without { (reads : Reads) (h u : HallState) (ts : List Turn) → Runs (Serves reads) h ts u → Runs HallServes h (stored reads ts) u }
-    ensures history { (reads : Reads) (h u : HallState) (ts : List Turn) → SatisfiesSpec h → Runs (Serves reads) h ts u →
-        u.history ≡ h.history ++ accepted (exchanges (stored reads ts)) }
-    ensures replies { (reads : Reads) (h u : HallState) (before behind : List Turn) (x : Exchange) → is_plain reads x.event ≡ true →
-        Runs (Serves reads) h (before ++ Answered x ∷ behind) u → IsRead reads h before x.event x.reply }
+    ensures transcript { (rules : Rules) (c : Config) → gives_names c.world ≡ true → (u : HallState) (ts : List Turn) →
+        Runs (Serves rules) (hall_of c []) ts u → IsTranscript c (with_room (admitted rules ts)) }
+    ensures without { (rules : Rules) (h u : HallState) (ts : List Turn) → Runs (Serves rules) h ts u → Runs HallServes h (stored rules ts) u }
+    ensures history { (rules : Rules) (h u : HallState) (ts : List Turn) → SatisfiesSpec h → Runs (Serves rules) h ts u →
+        u.history ≡ h.history ++ accepted (exchanges (stored rules ts)) }
+    ensures replies { (rules : Rules) (h u : HallState) (before behind : List Turn) (x : Exchange) (id : ℕ) → way_of rules x.event ≡ Way.Read id →
+        Runs (Serves rules) h (before ++ Answered x ∷ behind) u → IsRead rules h before id x.reply }
+    ensures barred { (rules : Rules) (h u : HallState) (before behind : List Turn) (x : Exchange) → way_of rules x.event ≡ Way.Barred →
+        Runs (Serves rules) h (before ++ Answered x ∷ behind) u → (x.reply ≡ Reply.Refused Refusal.OutOfRange) × Runs (Serves rules) h (before ++ behind) u }
     ensures alike { (h u : HallState) (id : ℕ) (r : ShownReply) → SatisfiesSpec h → HallMay h (Event.Get id) r u → wants_room r ≡ false →
         r ≡ desk_reply (desk_of h) (Event.Get id) }
 {}

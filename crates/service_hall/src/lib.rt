@@ -13,8 +13,9 @@
 //! a log or a journal may store its events.
 //!
 //! A `get` changes nothing of a desk. `Hall::serve_short` answers it as the desk does and stores it nowhere, if reads
-//! are plain (`Reads`). What is proved of such turns (`law_of_reads`): they are a transcript of the config with all
-//! reads in it, and without the reads they are the turns of a hall that stores reads.
+//! are plain (`Reads`). It refuses `widen`, `begin` and `step` if the rules bar them (`Rules`). What is proved of such
+//! turns (`law_of_reads`): without what is barred they are a transcript of the config with all reads in it, and without
+//! the reads too they are the turns of a hall that stores reads.
 //!
 //! A reply that shows a view takes a kilobyte. `Hall::apply_short` returns a reply of few bytes instead, and stores the
 //! view in a buffer of the caller.
@@ -67,6 +68,7 @@ pub mod log;
 mod plan;
 pub mod reads;
 mod rebuilding;
+pub mod rules;
 pub mod same;
 mod slots_copy;
 mod stuck;
@@ -77,4 +79,5 @@ pub use hall::{Hall, MOST_EVENTS};
 pub use laws::{law_of_events, law_of_hall, law_of_reads, law_of_serving};
 pub use log::Log;
 pub use reads::Reads;
+pub use rules::{Rules, Way};
 pub use same::{is_same, is_same_event};

@@ -34,8 +34,7 @@ use Rattle.service_hall.specs.HallState.{HallState}
 use Rattle.service_hall.specs.Halls.{HallMay, after_unless, desk_of, full_unless, reply_unless}
 use Rattle.service_hall.specs.Reading.{Serves}
 use Rattle.service_hall.specs.Serving.{wants_room}
-use Rattle.service_hall.specs.declared.reads.Reads.{Reads}
-use Rattle.service_hall.specs.declared.reads.Reads.TheVariants.{Logged, Plain}
+use Rattle.service_hall.specs.declared.rules.Rules.{Rules}
 use Rattle.service_hall.proofs.cited.Histories.{replay_push}
 use Rattle.service_loop.specs.Releasing.{AreProbes, IsReleaseBy, ReleasesFree, TellsOfStays, is_freed, is_missed, lacks_number, leave_of, probe_of}
 use Rattle.service_loop.proofs.cited.ReleaseLemmas.{AreSaid, said_releases}
@@ -398,9 +397,8 @@ module _ {D : Type 0} (hall : D → HallState) (may : D → Request → ShownRep
         inr (subst (WasRefusedRoom id) (sym kept.parts) (was_behind id kept.before (kept.one ++ kept.after) (was_before id kept.one kept.after was)))
   ]
 
--- neither is a read, so it does not matter whether reads are stored
-pub as_hall : (reads : Reads) (h : HallState) (e : Event) (r : ShownReply) (u : HallState) → is_of_release e ≡ true → Serves reads h (Take e) r u → HallMay h e r u
-as_hall Logged h e r u is may = may
-as_hall Plain h (Leave p) r u is may = may
-as_hall Plain h (Probe p) r u is may = may
-as_hall Plain h e r u is may = absurd (cc)
+-- both are applied, whatever the rules are
+pub as_hall : (rules : Rules) (h : HallState) (e : Event) (r : ShownReply) (u : HallState) → is_of_release e ≡ true → Serves rules h (Take e) r u → HallMay h e r u
+as_hall rules h (Leave p) r u is may = may
+as_hall rules h (Probe p) r u is may = may
+as_hall rules h e r u is may = absurd (cc)

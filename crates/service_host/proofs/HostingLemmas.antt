@@ -17,9 +17,11 @@ use Rattle.text_player.specs.Turns.{Turn, exchanges}
 use Rattle.text_player.specs.Turns.Turn.{Answered, Reported, Ended, Misread}
 use Rattle.service_hall.specs.Halls.{HallMay, SatisfiesSpec, after_unless, hall_refusal}
 use Rattle.service_hall.specs.HallState.{HallState}
-use Rattle.service_hall.specs.Reading.{Serves, TakesPlainly, is_plain, stored}
+use Rattle.service_hall.specs.Reading.{Serves, TakesBy, stored, way_of}
 use Rattle.service_hall.specs.Serving.{HallServes, accepted}
-use Rattle.service_hall.specs.declared.reads.Reads.{Reads}
+use Rattle.service_hall.specs.declared.rules.Rules.{Rules}
+use Rattle.service_hall.specs.declared.rules.Way.{Way}
+use Rattle.service_hall.specs.declared.rules.Way.TheVariants.{Applied, Read, Barred}
 use Rattle.service_journal.specs.declared.journal.Journal.{Journal}
 use Rattle.service_journal.specs.WriteAheadState.{WriteAheadState}
 use Rattle.service_journal.specs.WriteAheads.{write_ahead_of, reported_record}
@@ -42,42 +44,43 @@ config_may : (h u : HallState) (e : Event) (r : ShownReply) → HallMay h e r u 
 config_may h u e r (inl done) = ap (λ (x : HallState). x.config) done.1 ∙ config_after (hall_refusal h e) h e
 config_may h u e r (inr refused) = ap (λ (x : HallState). x.config) refused.1
 
-config_takes : (plain : Bool) (h u : HallState) (e : Event) (r : ShownReply) → TakesPlainly plain h e r u → u.config ≡ h.config
-config_takes true h u e r may = ap (λ (x : HallState). x.config) may.1
-config_takes false h u e r may = config_may h u e r may
+config_takes : (way : Way) (h u : HallState) (e : Event) (r : ShownReply) → TakesBy way h e r u → u.config ≡ h.config
+config_takes (Read p) h u e r may = ap (λ (x : HallState). x.config) may.1
+config_takes Barred h u e r may = ap (λ (x : HallState). x.config) may.1
+config_takes Applied h u e r may = config_may h u e r may
 
--- a write-ahead hall answers as its hall does, with its config, and hands nothing on; it stores reads as before
+-- a write-ahead hall answers as its hall does, with its config, and hands nothing on; by the same rules
 pub record Follows (c u : Reading WriteAheadState) (ts : List Turn) : Type 0 where
-  pub run : Runs (Serves c.reads) c.service.hall ts u.service.hall
+  pub run : Runs (Serves c.rules) c.service.hall ts u.service.hall
   pub config : u.service.hall.config ≡ c.service.hall.config
   pub reported : u.service.reported ≡ c.service.reported
-  pub reads : u.reads ≡ c.reads
+  pub rules : u.rules ≡ c.rules
 
 -- the first of more turns
-one_follows : (c mid u : Reading WriteAheadState) (ts : List Turn) → mid.service.hall.config ≡ c.service.hall.config → mid.service.reported ≡ c.service.reported → mid.reads ≡ c.reads → Follows mid u ts →
-    Runs (Serves c.reads) mid.service.hall ts u.service.hall × (u.service.hall.config ≡ c.service.hall.config) × (u.service.reported ≡ c.service.reported) × (u.reads ≡ c.reads)
-one_follows c mid u ts config reported reads later =
-    (subst (λ (k : Reads). Runs (Serves k) mid.service.hall ts u.service.hall) reads later.run, later.config ∙ config, later.reported ∙ reported, later.reads ∙ reads)
+one_follows : (c mid u : Reading WriteAheadState) (ts : List Turn) → mid.service.hall.config ≡ c.service.hall.config → mid.service.reported ≡ c.service.reported → mid.rules ≡ c.rules → Follows mid u ts →
+    Runs (Serves c.rules) mid.service.hall ts u.service.hall × (u.service.hall.config ≡ c.service.hall.config) × (u.service.reported ≡ c.service.reported) × (u.rules ≡ c.rules)
+one_follows c mid u ts config reported same later =
+    (subst (λ (k : Rules). Runs (Serves k) mid.service.hall ts u.service.hall) same later.run, later.config ∙ config, later.reported ∙ reported, later.rules ∙ same)
 
 pub follows : (c u : Reading WriteAheadState) (ts : List Turn) → Runs ReadingServes c ts u → Follows c u ts
 follows c u [] run = record {
   run = ap (λ (x : Reading WriteAheadState). x.service.hall) run;
   config = ap (λ (x : Reading WriteAheadState). x.service.hall.config) (sym run);
   reported = ap (λ (x : Reading WriteAheadState). x.service.reported) (sym run);
-  reads = ap (λ (x : Reading WriteAheadState). x.reads) (sym run);
+  rules = ap (λ (x : Reading WriteAheadState). x.rules) (sym run);
 }
 follows c u (Answered x ∷ ts) run =
     let mid = run.0 in
-    let config = config_takes (is_plain c.reads x.event) c.service.hall mid.service.hall x.event x.reply run.1.0 in
+    let config = config_takes (way_of c.rules x.event) c.service.hall mid.service.hall x.event x.reply run.1.0 in
     let all = one_follows c mid u ts config run.1.1 run.1.2 (follows mid u ts run.2) in
-    record { run = (mid.service.hall, run.1.0, all.0); config = all.1; reported = all.2; reads = all.3 }
+    record { run = (mid.service.hall, run.1.0, all.0); config = all.1; reported = all.2; rules = all.3 }
 follows c u (Reported n r ∷ ts) run =
     let mid = run.0 in
     let config = ap (λ (x : HallState). x.config) run.1.0.1 in
     let all = one_follows c mid u ts config run.1.1 run.1.2 (follows mid u ts run.2) in
-    record { run = (mid.service.hall, run.1.0, all.0); config = all.1; reported = all.2; reads = all.3 }
-follows c u (Ended ∷ ts) run = let later = follows c u ts run in record { run = later.run; config = later.config; reported = later.reported; reads = later.reads }
-follows c u (Misread bad ∷ ts) run = let later = follows c u ts run in record { run = later.run; config = later.config; reported = later.reported; reads = later.reads }
+    record { run = (mid.service.hall, run.1.0, all.0); config = all.1; reported = all.2; rules = all.3 }
+follows c u (Ended ∷ ts) run = let later = follows c u ts run in record { run = later.run; config = later.config; reported = later.reported; rules = later.rules }
+follows c u (Misread bad ∷ ts) run = let later = follows c u ts run in record { run = later.run; config = later.config; reported = later.reported; rules = later.rules }
 
 -- what was committed stays the same record where the history goes on
 pub same_reported : (c u : WriteAheadState) (more : List Exchange) → c.reported ≤ length c.hall.history → u.hall.config ≡ c.hall.config → u.reported ≡ c.reported → u.hall.history ≡ c.hall.history ++ more → reported_record u ≡ reported_record c
@@ -124,7 +127,7 @@ module _ {C : Type 0} (on : Seating C) where
   reported_at turns (Some x) None (Some z) a d took sends was is = elim took [ ]
 
   module _ {D : Type 0} (state : D → Option DiskState)
-      (history : (reads : Reads) (h u : HallState) (ts : List Turn) → SatisfiesSpec h → Runs (Serves reads) h ts u → u.history ≡ h.history ++ accepted (exchanges (stored reads ts)))
+      (history : (rules : Rules) (h u : HallState) (ts : List Turn) → SatisfiesSpec h → Runs (Serves rules) h ts u → u.history ≡ h.history ++ accepted (exchanges (stored rules ts)))
       (between : (c : WriteAheadState) (s : DiskState) → HasSynced c s → c.reported ≤ length c.hall.history → KeepsHandedOn c s s) where
     pub hosted : (k l : Recorded D) (c u : Reading WriteAheadState) (seats seats' : List (Option C)) → SatisfiesSpec c.service.hall → c.service.reported ≤ length c.service.hall.history →
         Stands state k.journal c.service → (t : LoopIteration on ReadingServes (KeptBy state) k c seats l u seats') →
@@ -133,8 +136,8 @@ module _ {C : Type 0} (on : Seating C) where
         let reported = t.reported.service in
         let kept : IsKept state k.journal t.reported.service l.journal u.service = t.kept.0 in
         let way = follows c t.reported (all_turns t.log) t.taken.run in
-        let gained = history c.reads c.service.hall reported.hall (all_turns t.log) lawful way.run in
-        let more = accepted (exchanges (stored c.reads (all_turns t.log))) in
+        let gained = history c.rules c.service.hall reported.hall (all_turns t.log) lawful way.run in
+        let more = accepted (exchanges (stored c.rules (all_turns t.log))) in
         let stood = still_stands state k.journal c.service reported (same_reported c.service reported more few way.config way.reported gained) stands in
         let stood_then = kept.stands stood in
         let stands_after = kept.stands_then stood_then in
@@ -150,18 +153,18 @@ module _ {C : Type 0} (on : Seating C) where
           between = kept.any_moment_then stood_then;
           compacted = ended.0;
           reported = ended.1;
-          reads = t.kept.1 ∙ way.reads;
+          rules = t.kept.1 ∙ way.rules;
           stands = stands_after;
           after = λ s is. between u.service s (stands_after.known s is) (omega (arith, ended.1));
           each = λ i a d was is. reported_at (turns_of i t.log) (get_or seats i None) (get_or t.between i None) (get_or seats' i None) a d (t.taken.each i) (t.sent.each i) was is;
         }
 
--- plain reads alone leave a write-ahead hall as it was
-pub idle : (without : (reads : Reads) (h u : HallState) (ts : List Turn) → Runs (Serves reads) h ts u → Runs HallServes h (stored reads ts) u) →
-    (c u : Reading WriteAheadState) (ts : List Turn) → Runs ReadingServes c ts u → stored c.reads ts ≡ [] → u ≡ c
+-- plain reads, and what the rules bar, leave a write-ahead hall as it was
+pub idle : (without : (rules : Rules) (h u : HallState) (ts : List Turn) → Runs (Serves rules) h ts u → Runs HallServes h (stored rules ts) u) →
+    (c u : Reading WriteAheadState) (ts : List Turn) → Runs ReadingServes c ts u → stored c.rules ts ≡ [] → u ≡ c
 idle without c u ts run none =
     let way = follows c u ts run in
-    let same : c.service.hall ≡ u.service.hall = subst (λ (xs : List Turn). Runs HallServes c.service.hall xs u.service.hall) none (without c.reads c.service.hall u.service.hall ts way.run) in
-    ap (λ (h : HallState). let w : Reading WriteAheadState = record { service = write_ahead_of h u.service.reported; reads = u.reads } in w) (sym same)
-    ∙ (ap (λ (n : ℕ). let w : Reading WriteAheadState = record { service = write_ahead_of c.service.hall n; reads = u.reads } in w) way.reported
-    ∙ ap (λ (k : Reads). let w : Reading WriteAheadState = record { service = c.service; reads = k } in w) way.reads)
+    let same : c.service.hall ≡ u.service.hall = subst (λ (xs : List Turn). Runs HallServes c.service.hall xs u.service.hall) none (without c.rules c.service.hall u.service.hall ts way.run) in
+    ap (λ (h : HallState). let w : Reading WriteAheadState = record { service = write_ahead_of h u.service.reported; rules = u.rules } in w) (sym same)
+    ∙ (ap (λ (n : ℕ). let w : Reading WriteAheadState = record { service = write_ahead_of c.service.hall n; rules = u.rules } in w) way.reported
+    ∙ ap (λ (k : Rules). let w : Reading WriteAheadState = record { service = c.service; rules = k } in w) way.rules)

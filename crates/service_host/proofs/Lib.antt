@@ -4,3 +4,4 @@ mod KeptLemmas
 mod ExportLemmas
 mod ServedLemmas
 mod FreeingLemmas
+mod WideningLemmas

@@ -34,17 +34,17 @@ pub record IsReported {C : Type 0} (on : Seating C) (turns : List Turn) (a d : C
   pub gained : Appends (on.gone a) (on.gone d) sent
   pub text : (on.buffers d).broken ≡ false → sent ++ (on.buffers d).outbox ≡ (on.buffers a).outbox ++ replies_of turns
 
--- A write-ahead hall that was served for a while, turn after turn: its hall is lawful and of the same config, reads are stored as before, and header
+-- A write-ahead hall that was served for a while, turn after turn: its hall is lawful and of the same config, by the same rules, and header
 -- and journal are the record of what was committed of it, and synced
 pub record WasHosted {D : Type 0} (state : D → Option DiskState) (c : Reading WriteAheadState) (j' : Journal D) (u : Reading WriteAheadState) : Type 0 where
   pub lawful : SatisfiesSpec u.service.hall
   pub config : u.service.hall.config ≡ c.service.hall.config
-  pub reads : u.reads ≡ c.reads
+  pub rules : u.rules ≡ c.rules
   pub few : u.service.reported ≤ length u.service.hall.history
   pub stands : Stands state j' u.service
 
 -- All turns, in the one order of this log, lead the hall to `full`: each is answered there as is due, a plain read among them by the desk at its place.
--- The history gains the accepted events of all turns but plain reads, and nothing else. Header and journal are its record and are synced, at
+-- The history gains the accepted events of all turns but plain reads and what the rules bar, and nothing else. Header and journal are its record and are synced, at
 -- `committed`, and a crash before that leaves all that was committed before. Then the hall may be compacted, with header and journal its
 -- record, before replies are sent; a crash meanwhile leaves the one record or the other, and one after it the whole history. Each
 -- connection that stays gets the replies to its own turns
@@ -52,13 +52,13 @@ pub record IsHosted {C D : Type 0} (on : Seating C) (state : D → Option DiskSt
   pub full : HallState
   pub committed : Journal D
   pub config : full.config ≡ c.service.hall.config
-  pub run : Runs (Serves c.reads) c.service.hall (all_turns log) full
-  pub history : full.history ≡ c.service.hall.history ++ accepted (exchanges (stored c.reads (all_turns log)))
+  pub run : Runs (Serves c.rules) c.service.hall (all_turns log) full
+  pub history : full.history ≡ c.service.hall.history ++ accepted (exchanges (stored c.rules (all_turns log)))
   pub before : KeepsAtAnyMoment state j committed (write_ahead_of full c.service.reported)
   pub between : KeepsWhenCompacted state committed j' (write_ahead_of full (length full.history))
   pub compacted : MayCompactHall full u.service.hall
   pub reported : u.service.reported ≡ length u.service.hall.history
-  pub reads : u.reads ≡ c.reads
+  pub rules : u.rules ≡ c.rules
   pub stands : Stands state j' u.service
   pub after : (s : DiskState) → state j'.disk ≡ Some s → KeepsHandedOn u.service s s
   pub each : (i : ℕ) (a d : C) → get_or seats i None ≡ Some a → get_or seats' i None ≡ Some d → IsReported on (turns_of i log) a d

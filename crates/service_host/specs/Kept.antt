@@ -36,4 +36,4 @@ pub record IsKept {D : Type 0} (state : D → Option DiskState) (j : Journal D) 
 
 -- so a persister with a journal keeps it
 abbrev pub KeptBy : {D : Type 0} → (D → Option DiskState) → Recorded D → Reading WriteAheadState → Recorded D → Reading WriteAheadState → Type 0
-KeptBy state k c l u = IsKept state k.journal c.service l.journal u.service × (u.reads ≡ c.reads)
+KeptBy state k c l u = IsKept state k.journal c.service l.journal u.service × (u.rules ≡ c.rules)

@@ -5,4 +5,6 @@ pub mod Holders
 pub mod Keepers
 pub mod Readings
 pub mod Freeing
+pub mod Sizes
+pub mod Widened
 pub mod lemmas

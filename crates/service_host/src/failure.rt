@@ -61,6 +61,12 @@ pub enum HostFailure {
     /// The journal is one of another config, or of an older version.
     #[error("journal of another config: its first line says of which")]
     OtherConfig,
+    /// The pool of the hall has so many numbers, and fewer were asked for.
+    #[error("this hall has {0} numbers, and --k asks for fewer: numbers are never taken away; start it with --k {0}")]
+    Wider(u64),
+    /// The history of the hall is full, so that its pool was not widened.
+    #[error("the history of this hall is full, so that --k does not widen its pool")]
+    NotWidened,
     /// The line of this number of the journal is none that a server writes.
     #[error("journal: line {0} is none of a server")]
     OtherLine(u64),

@@ -17,7 +17,7 @@ pub fn law_of_freed_stays<R, D: Service<R>>()
     law_of_releases::<R, D>();
 }
 
-/// A law, which runs nothing: a hall that is hosted, without a journal or with one, answers `leave` and `probe` as the hall may, however it reads. So
+/// A law, which runs nothing: a hall that is hosted, without a journal or with one, answers `leave` and `probe` as the hall may, by whatever rules. So
 /// `law_of_freed_stays` is true of both.
 pub fn law_of_hosted_releases()
     ensures alone { ReleasesAsHall (λ (w : Reading HallState). w.service) HallReads }

@@ -35,8 +35,13 @@ fn read_all<R: Read>(alloc: Global, input: &mut R) -> Result<Vec<u8>, HostFailur
     }
 }
 
-// The config that the first line of a record says.
-fn config_of(alloc: Global, bytes: &[u8]) -> Result<Config, HostFailure> {
+/// Returns the config that the first line of a record says.
+///
+/// # Errors
+///
+/// - `BadRecord`: it is no first line of a record.
+/// - `Memory`: an allocation failed.
+pub(crate) fn config_of(alloc: Global, bytes: &[u8]) -> Result<Config, HostFailure> {
     let end = bytes.iter().position(|byte| *byte == LF).unwrap_or(0);
     match read_header(alloc, &bytes[..end.min(bytes.len())]) {
         Ok(Some(header)) => Ok(header.config),

@@ -34,7 +34,7 @@ pub fn law_of_hosted_journals<D: Disk>()
 /// - `hosted`: all turns are answered as is due in their one order. The history has gained just their accepted events, without plain reads,
 ///   and may have been compacted then. Header and journal are its record, and synced, when replies are sent. Each connection is sent the
 ///   replies to its own lines, and a crash leaves all that was answered and stored (`law_of_crashes`).
-/// - `idle`: a turn of plain reads alone leaves the write-ahead hall as it was, so that nothing more is pending.
+/// - `idle`: a turn of plain reads alone, and of what the rules bar, leaves the write-ahead hall as it was, so that nothing more is pending.
 pub fn law_of_hosting<C, D: Disk>()
     ensures hosted { (on : Seating C) (k l : Recorded D) (c u : Reading WriteAheadState) (seats after : List (Option C)) →
         SatisfiesSpec c.service.hall → c.service.reported ≤ length c.service.hall.history → Stands D.state k.journal c.service →
@@ -42,7 +42,7 @@ pub fn law_of_hosting<C, D: Disk>()
         IsHosted on D.state t.log k.journal c seats l.journal u after }
     ensures idle { (on : Seating C) (k l : Recorded D) (c u : Reading WriteAheadState) (seats after : List (Option C)) →
         (t : LoopIteration on ReadingServes (KeptBy D.state) k c seats l u after) →
-        stored c.reads (all_turns t.log) ≡ [] → t.reported ≡ c }
+        stored c.rules (all_turns t.log) ≡ [] → t.reported ≡ c }
 {
     law_of_reads();
     law_of_crashes();

@@ -2,11 +2,11 @@
 //!
 //! `host_hall` opens the journal, where one is named, and has `service_loop` serve clients over the hall of its record. `Recorded` keeps what
 //! a write-ahead hall tells of each turn in its journal before a reply of that turn is sent; `Unrecorded` serves a hall whose history ends with
-//! the program. `Reading` tells of either whether the history stores reads. Where a log in etcd is named (`LogPlan`), the hall is served over
+//! the program. `Reading` has the rules of either (`Rules`): whether the history stores reads, and what clients may ask for. Where a log in etcd is named (`LogPlan`), the hall is served over
 //! that (`service_follow`), and other servers share it. `AuditFile` is the file to which the lines of an audit are appended, where one is named.
 //!
 //! The theorem (`law_of_hosting`): after a turn of the loop over a write-ahead hall and its journal all turns of all connections were answered
-//! as is due in one order. The history has gained just their accepted events, plain reads aside; header and journal are its record and are
+//! as is due in one order. The history has gained just their accepted events, plain reads and what is barred aside; header and journal are its record and are
 //! synced; each connection was sent the replies to its own lines, and what a crash leaves then has each event that was stored and answered.
 //!
 //! Not promised, and shown by running it: that a file of the system is such a disk, what sockets carry, how soon a client is served.
@@ -32,8 +32,10 @@ pub mod laws;
 pub mod log_plan;
 pub mod persisters;
 pub mod reading;
+pub mod sizes;
 pub mod start;
 pub mod terms;
+pub mod widening;
 
 pub use audit_file::AuditFile;
 pub use export::write_events;
@@ -44,5 +46,7 @@ pub use laws::{law_of_hosted_journals, law_of_hosting};
 pub use log_plan::LogPlan;
 pub use persisters::{Recorded, Unrecorded};
 pub use reading::Reading;
+pub use sizes::{Sizing, choose_sizing};
 pub use start::{HostPlan, Keeping, export_hall, host_hall};
 pub use terms::change_terms;
+pub use widening::law_of_widening;

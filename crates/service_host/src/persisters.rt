@@ -52,7 +52,7 @@ impl Unrecorded {
 impl Persist<Reading<Hall>> for Unrecorded {
     type Fault = JournalFault;
 
-    ghost persists = { λ k h l u. MayCompactHall h.service u.service × (u.reads ≡ h.reads) };
+    ghost persists = { λ k h l u. MayCompactHall h.service u.service × (u.rules ≡ h.rules) };
 
     // The hall answers each request as it comes, and there is nothing to learn.
     ghost prefetches = { λ k h lines l u. Rests k h l u };

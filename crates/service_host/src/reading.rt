@@ -1,22 +1,22 @@
-//! A service whose reads are logged or plain.
+//! A service with the rules for its clients.
 
 ghost use Rattle.std.specs.Prelude.{true};
 ghost use Rattle.service_host.specs.Readings.{HallReads, ReadingServes};
 ghost use Rattle.service_host.specs.lemmas.ReadingProofs.{hall_reading_answers, reading_answers};
 
 use model_asked::{Event, Reply};
-use model_steps::View;
-use service_hall::{Hall, Reads};
+use model_steps::{Refusal, View};
+use service_hall::{Hall, Rules, Way};
 use service_journal::WriteAhead;
 use text_player::Service;
 
-/// A service, and whether the history stores its reads.
+/// A service, and the rules for its clients.
 #[derive(Drop)]
 pub struct Reading<D> {
     /// The service.
     pub service: D,
-    /// Whether the history stores reads.
-    pub reads: Reads,
+    /// Whether the history stores reads, and what clients may ask for.
+    pub rules: Rules,
 }
 
 impl<R> Service<R> for Reading<Hall> {
@@ -27,7 +27,7 @@ impl<R> Service<R> for Reading<Hall> {
     ghost answers = { λ w q known. hall_reading_answers w q };
 
     fn apply(&mut self, _rt: &R, event: Event, view: &mut View) -> Reply<()> {
-        self.service.serve_short(self.reads, event, view)
+        self.service.serve_short(self.rules, event, view)
     }
 
     fn owner(&mut self, _rt: &R, n: u64) -> Reply<View> {
@@ -43,9 +43,10 @@ impl<R> Service<R> for Reading<WriteAhead> {
     ghost answers = { λ w q known. reading_answers w q };
 
     fn apply(&mut self, rt: &R, event: Event, view: &mut View) -> Reply<()> {
-        match (self.reads, event) {
-            (Reads::Plain, Event::Get(id)) => self.service.hall().read(id),
-            _ => self.service.apply(rt, event, view),
+        match self.rules.way_of(event) {
+            Way::Applied => self.service.apply(rt, event, view),
+            Way::Read(id) => self.service.hall().read(id),
+            Way::Barred => Reply::Refused(Refusal::OutOfRange),
         }
     }
 

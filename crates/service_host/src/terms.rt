@@ -2,6 +2,7 @@
 
 use crate::failure::HostFailure;
 use crate::log_plan::{LogPlan, Patience, fresh_token};
+use crate::sizes::config_in;
 use crate::start::store_of;
 use model_asked::Config;
 use service_follow::{HallTerms, LogPersister, Pause, ReplyQueue, TermsChange, ToldTerms};
@@ -27,10 +28,11 @@ pub(crate) fn terms_by(grace: Option<u64>) -> HallTerms {
     }
 }
 
-/// Opens the hall of a log, whatever that stands in and whatever its terms: all that stands there is applied.
+/// Opens the hall of a log, whatever that stands in, and whatever its terms and the size of its pool: all that stands there is applied.
 ///
 /// # Errors
 ///
+/// - Those of `config_in`.
 /// - `NoToken`: the system gave no random bytes.
 /// - Those of `LogPersister::open_any`.
 pub(crate) fn followed_any<R: Files<File = File>, S: Store + Drop, P: Pause + Drop>(
@@ -41,6 +43,11 @@ pub(crate) fn followed_any<R: Files<File = File>, S: Store + Drop, P: Pause + Dr
     pause: P,
     terms: HallTerms,
 ) -> Result<LogPersister<S, P>, HostFailure> {
+    let (mut store, mut pause) = (store, pause);
+    let config = match config_in(alloc, &mut store, &mut pause, config) {
+        Ok(config) => config,
+        Err(failure) => return Err(failure),
+    };
     match fresh_token(rt) {
         Ok(token) => Ok(LogPersister::open_any(alloc, store, pause, config, token, terms)?),
         Err(failure) => Err(failure),

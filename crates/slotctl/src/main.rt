@@ -12,7 +12,7 @@ ghost use Rattle.std.specs.Prelude.{◌≡◌};
 
 mod race;
 
-use service_hall::Reads;
+use service_hall::{Reads, Rules};
 use service_host::{
     HostFailure, HostPlan, Keeping, LogPlan, change_terms, export_hall, host_hall, write_holders,
 };
@@ -34,8 +34,8 @@ use std::thread::Threads;
 use text_player::{Fault, Tried};
 use tool_work::program::{program, report};
 use tool_work::{
-    Endpoints, Failure, Holding, Hosting, Keeping as KeepingWords, LogWords, Misuse, Outcome,
-    Serving, in_sight, may_take_long, refused,
+    Admissions, Endpoints, Failure, Holding, Hosting, Keeping as KeepingWords, LogWords, Misuse,
+    Outcome, Serving, in_sight, may_take_long, refused,
 };
 
 // What is reported where `--etcd` names no members.
@@ -154,6 +154,19 @@ fn grace_by(holding: Holding) -> Option<u64> {
     }
 }
 
+// The rules for clients who may ask for so much.
+fn rules_of(admissions: Admissions, stores_reads: bool) -> Rules {
+    Rules {
+        reads: if stores_reads {
+            Reads::Logged
+        } else {
+            Reads::Plain
+        },
+        widening: admissions.widening,
+        naming: admissions.naming,
+    }
+}
+
 // What is to be hosted, where somebody may look on.
 fn host_plan_of<'a>(hosting: Hosting<'a>, seen: bool) -> HostPlan<'a> {
     HostPlan {
@@ -166,11 +179,7 @@ fn host_plan_of<'a>(hosting: Hosting<'a>, seen: bool) -> HostPlan<'a> {
             Some(hosting.idle)
         },
         grace: grace_by(hosting.holding),
-        reads: if hosting.stores_reads {
-            Reads::Logged
-        } else {
-            Reads::Plain
-        },
+        rules: rules_of(hosting.admissions, hosting.stores_reads),
         keeping: keeping_of(hosting.keeping),
         reports: hosting.verbose || seen,
         log: hosting.log,

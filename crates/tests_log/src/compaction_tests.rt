@@ -2,9 +2,9 @@
 
 use crate::front_tests::{draw_lines, drawn};
 use crate::persister_tests::reported;
-use crate::stay_doubles::{self, FrontEnd, Site, front_end};
+use crate::stay_doubles::{self, FrontEnd, Site, front_end, reading};
 use service_follow::ReplyQueue;
-use service_hall::{Hall, Reads, is_same};
+use service_hall::{Hall, is_same};
 use service_loop::Persist;
 use std::alloc::Global;
 
@@ -134,13 +134,6 @@ fn a_compaction_that_stops_in_its_midst_holds_nobody_up(rt: HostRuntime) {
     }
 }
 
-/// A front end whose reads are no events.
-fn reading(site: &Site, letter: u8) -> Option<FrontEnd<'_>> {
-    let mut front = front_end(site, letter)?;
-    front.choose_reads(Reads::Plain);
-    Some(front)
-}
-
 /// One that compacts at few entries, too.
 fn resting(site: &Site, letter: u8) -> Option<FrontEnd<'_>> {
     let mut front = reading(site, letter)?;
@@ -151,7 +144,7 @@ fn resting(site: &Site, letter: u8) -> Option<FrontEnd<'_>> {
 /// A front end is asked so often for what is no event, and answers.
 fn asks(site: &Site, front: &mut FrontEnd<'_>, times: u64) -> Option<()> {
     for _ in 0..times {
-        if !stay_doubles::says(site, front, b"get 1\nowner 1\n", b"value 7\nowner none\n") {
+        if !stay_doubles::says(site, front, b"leave 2\nget 1\n", b"refused 8\nvalue 7\n") {
             return None;
         }
     }
@@ -180,12 +173,11 @@ fn compactions(site: &Site, front: &FrontEnd<'_>) -> Option<u64> {
 }
 
 /// Requests that are no events lead to compactions, each of the very same history, and to one who starts behind the last of them.
-fn compact_reads(site: &Site) -> Option<bool> {
+fn compact_refused(site: &Site) -> Option<bool> {
     let mut front = resting(site, b'a')?;
     begins(site, &mut front)?;
     asks(site, &mut front, 5 * DUE_ENTRIES)?;
-    let mut later = front_end(site, b'b')?;
-    later.choose_reads(Reads::Plain);
+    let mut later = reading(site, b'b')?;
     let since = front.entries_since_compaction();
     let is_compacted = 4 <= compactions(site, &front)? && since <= DUE_ENTRIES;
     let is_alike = are_one(front.hall(), later.hall()) && front.hall().len() == 3;
@@ -216,7 +208,7 @@ fn compact_at_rest(site: &Site) -> Option<[u64; 4]> {
 
 #[test]
 fn entries_without_events_lead_to_compactions(rt: HostRuntime) {
-    assert!(rt; compact_reads(&Site::new(rt.alloc())) == Some(true));
+    assert!(rt; compact_refused(&Site::new(rt.alloc())) == Some(true));
 }
 
 #[test]

@@ -14,6 +14,8 @@ mod log_doubles;
 #[cfg(test)]
 mod persister_tests;
 #[cfg(test)]
+mod read_tests;
+#[cfg(test)]
 mod replica_tests;
 #[cfg(test)]
 mod stay_doubles;

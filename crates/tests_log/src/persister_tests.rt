@@ -3,7 +3,7 @@
 use crate::front_tests::{answers, config};
 use crate::log_doubles::{Lossy, Tries};
 use service_follow::{HallTerms, LogFault, LogPersister, Pause, ReplyQueue};
-use service_hall::Reads;
+use service_hall::{Reads, Rules};
 use service_log::{MemoryStore, Store, StoreFault};
 use service_loop::{Persist, Prefetch};
 use std::alloc::Global;
@@ -154,21 +154,75 @@ const READ: [Said; 2] = [
     (b"get 1\nget 1\n", Some(b"value 8\nvalue 8\n")),
 ];
 
-/// The reads of a front end alone are stored that says so, whoever reads the log.
-const READINGS: [(Reads, Transcript); 2] = [
+/// Rules by which all is admitted, and by which nothing is but numbers.
+const LOGGED: Rules = Rules {
+    reads: Reads::Logged,
+    widening: true,
+    naming: true,
+};
+
+const PLAIN: Rules = Rules {
+    reads: Reads::Plain,
+    widening: true,
+    naming: true,
+};
+
+const BARRED: Rules = Rules {
+    reads: Reads::Plain,
+    widening: false,
+    naming: false,
+};
+
+/// What two other front ends have written: one that bars `widen`, and one that bars `begin` and `step`.
+const BARRING: [&[u8]; 3] = [
+    FIRST,
+    b"0123456789abcdef0123456789abcdef 1000000000000000 whole -n\nwiden 9\nbegin 1\n",
+    b"0123456789abcdef0123456789abcdee 1000000000000000 plain w-\nbegin 2\nstep 1\nwiden 6\n",
+];
+
+/// The reads of a front end alone are stored that says so, and what it bars is refused, whoever reads the log.
+const READINGS: [(Rules, Transcript); 4] = [
     (
-        Reads::Plain,
+        BARRED,
         Transcript {
-            title: "plain reads are no events",
+            title: "what is barred is refused, and no event",
+            entries: &BARRING,
+            every: 0,
+            most: 0,
+            reported: &[(
+                b"widen 9\nbegin 3\nstep 1\nenter 3\nowner 1\n",
+                Some(b"refused 14\nrefused 14\nrefused 14\nok\nowner none\n"),
+            )],
+            then: (4, 3),
+        },
+    ),
+    (
+        LOGGED,
+        Transcript {
+            title: "what others barred is admitted",
+            entries: &BARRING,
+            every: 0,
+            most: 0,
+            reported: &[(
+                b"widen 6\nwiden 9\nbegin 1\nbegin 2\n",
+                Some(b"refused 14\nok\nrefused 2\nok\n"),
+            )],
+            then: (4, 4),
+        },
+    ),
+    (
+        PLAIN,
+        Transcript {
+            title: "plain reads are no events, and alone no entry",
             entries: &READERS,
             every: 0,
             most: 0,
             reported: &READ,
-            then: (6, 5),
+            then: (5, 5),
         },
     ),
     (
-        Reads::Logged,
+        LOGGED,
         Transcript {
             title: "logged reads are",
             entries: &READERS,
@@ -180,11 +234,11 @@ const READINGS: [(Reads, Transcript); 2] = [
     ),
 ];
 
-// Whether a front end of these reads goes so.
-fn reads_so(alloc: Global, reads: Reads, transcript: &Transcript) -> bool {
+// Whether a front end of these rules goes so.
+fn rules_so(alloc: Global, rules: Rules, transcript: &Transcript) -> bool {
     match opened(alloc, transcript.entries, transcript.every, transcript.most) {
         Ok(mut persister) => {
-            persister.choose_reads(reads);
+            persister.choose_rules(rules);
             goes_so(alloc, &mut persister, transcript)
         }
         Err(_) => false,
@@ -192,10 +246,10 @@ fn reads_so(alloc: Global, reads: Reads, transcript: &Transcript) -> bool {
 }
 
 #[test]
-fn reads_over_a_log(rt: HostRuntime) {
-    for (reads, transcript) in &READINGS {
+fn rules_over_a_log(rt: HostRuntime) {
+    for (rules, transcript) in &READINGS {
         assert!(rt;
-            reads_so(rt.alloc(), *reads, transcript),
+            rules_so(rt.alloc(), *rules, transcript),
             "{}",
             transcript.title
         );

@@ -4,7 +4,7 @@ use crate::front_tests::{answers, config};
 use crate::log_doubles::{HandClock, SharedLog};
 use crate::persister_tests::reported;
 use service_follow::{HallTerms, LogFault, LogPersister, ReplyQueue, TermsChange};
-use service_hall::Hall;
+use service_hall::{Hall, Reads, Rules};
 use service_log::{MemoryStore, Store};
 use std::alloc::{AllocError, Global};
 use std::cell::{Cell, RefCell};
@@ -127,6 +127,13 @@ pub(crate) fn changed_to(site: &Site, terms: HallTerms) -> Result<TermsChange, L
 /// The front end whose token is this letter.
 pub(crate) fn front_end(site: &Site, letter: u8) -> Option<FrontEnd<'_>> {
     opened_by(site, letter, HallTerms::Grace(GRACE)).ok()
+}
+
+/// One whose reads are no events.
+pub(crate) fn reading(site: &Site, letter: u8) -> Option<FrontEnd<'_>> {
+    let mut front = front_end(site, letter)?;
+    front.choose_rules(Rules::all(Reads::Plain));
+    Some(front)
 }
 
 /// Whether a front end answers lines so.

@@ -5,7 +5,7 @@ ghost use Rattle.std.specs.Prelude.{◌≡◌};
 use crate::opening::{Opening, opened};
 use model_asked::{Config, Event, Reply, WorldKind};
 use model_steps::{Refusal, View};
-use service_hall::{Hall, Reads};
+use service_hall::{Hall, Reads, Rules};
 use service_lock::{Act, Clerk, HallLock, LockName, Missing, Session};
 use std::alloc::Global;
 use std::marker::Brand;
@@ -73,9 +73,9 @@ fn reads_of_a_full_history(rt: HostRuntime) {
     assert!(rt; reads(&hall) == due);
     let full = Reply::Refused(Refusal::HistoryFull);
     let served = [
-        hall.serve_short(Reads::Plain, Event::Get(5), &mut view),
-        hall.serve_short(Reads::Logged, Event::Get(5), &mut view),
-        hall.serve_short(Reads::Plain, Event::Put(5, 1), &mut view),
+        hall.serve_short(Rules::all(Reads::Plain), Event::Get(5), &mut view),
+        hall.serve_short(Rules::all(Reads::Logged), Event::Get(5), &mut view),
+        hall.serve_short(Rules::all(Reads::Plain), Event::Put(5, 1), &mut view),
     ];
     assert!(rt;
         is_full && served == [Reply::Value(999_999), full, full] && hall.len() == 1_000_000
@@ -105,7 +105,9 @@ fn served(hall: &mut Hall) -> usize {
     let mut view = View::new();
     for (i, (event, logged, reply, events)) in SERVED.iter().enumerate() {
         let reads = if *logged { Reads::Logged } else { Reads::Plain };
-        if hall.serve_short(reads, *event, &mut view) != *reply || hall.len() != *events {
+        if hall.serve_short(Rules::all(reads), *event, &mut view) != *reply
+            || hall.len() != *events
+        {
             return i;
         }
     }
@@ -118,6 +120,41 @@ fn reads_of_a_hall(rt: HostRuntime) {
     let mut hall = hall(&rt, rt.alloc());
     let count = served(&mut hall);
     assert!(rt; count == SERVED.len(), "{count}");
+}
+
+/// What rules bar is refused, and changes nothing; all else is served.
+#[test]
+fn rules_of_a_hall(rt: HostRuntime) {
+    let mut hall = hall(&rt, rt.alloc());
+    let mut view = View::new();
+    let rules = Rules {
+        reads: Reads::Plain,
+        widening: false,
+        naming: false,
+    };
+    let barred = Reply::Refused(Refusal::OutOfRange);
+    let served = [
+        hall.serve_short(rules, Event::Begin(5), &mut view),
+        hall.serve_short(rules, Event::Step(5), &mut view),
+        hall.serve_short(rules, Event::Widen(2), &mut view),
+        hall.serve_short(rules, Event::Enter(5), &mut view),
+    ];
+    assert!(rt; served == [barred, barred, barred, Reply::Ok] && hall.len() == 1);
+    let named = Rules {
+        naming: true,
+        ..rules
+    };
+    let widened = Rules {
+        widening: true,
+        ..rules
+    };
+    let later = [
+        hall.serve_short(named, Event::Begin(5), &mut view),
+        hall.serve_short(named, Event::Widen(2), &mut view),
+        hall.serve_short(widened, Event::Step(5), &mut view),
+        hall.serve_short(widened, Event::Widen(2), &mut view),
+    ];
+    assert!(rt; later == [Reply::Ok, barred, barred, Reply::Ok] && hall.len() == 3);
 }
 
 /// What a session does, with the replies: it takes a number, uses its slot, gives it back, and steps.

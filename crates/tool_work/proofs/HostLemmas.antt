@@ -1,19 +1,28 @@
 -- when no hosting has the matched options
-use Rattle.std.proofs.Common.{ap, arith, inl, inr, refl, sym, subst, ◌≡◌, ◌∙◌, ◌<◌, ◌≤◌, ◌^◌, ℕ, List, Option, Some, None, Result, Ok, Err, ◌↔◌, Bool, MatchOption, IfSome, IsSome, codes, true, false}
+use Rattle.std.proofs.Common.{ap, arith, inl, inr, refl, sym, subst, ◌≡◌, ◌∙◌, ◌<◌, ◌≤◌, ◌^◌, ℕ, List, Option, Some, None, Result, Ok, Err, ◌↔◌, ◌≢◌, Bool, MatchOption, IfOk, IfSome, IfNone, IsOk, IsSome, codes, true, false}
 use Rattle.tool_work.proofs.Common.{result_ok, same_Some, Row, first_of, Config, Hosting}
 use Rattle.std.specs.Borrow.{Bor}
 use Rattle.std.specs.Net.Grammar.{IsIpText, Parses}
 use Rattle.std.specs.Str.Parse.{IsNumeral, ParsesUnsigned, digits_value, without_leading_plus}
 use Rattle.std.specs.declared.net.ip_addr.IpAddr.{IpAddr}
-use Rattle.tool_work.specs.Asked.{AreEndpointsOf, HasAddress, HasMode, HasNumber, HasText, MayHavePort, IsConfigOf, IsGraceOf, IsHoldingOf, IsHostingOf, IsIdleOf, IsKeepingOf, IsLogOf, StoreReads, asks_flag, asks_log, idle_of}
+use Rattle.tool_work.specs.Asked.{AreEndpointsOf, HasAddress, HasMode, HasNumber, HasText, MayHavePort, AreAdmitted, HasHallWorld, IsHallOf, IsGraceOf, IsHoldingOf, IsHostingOf, IsIdleOf, IsKeepingOf, IsLogOf, StoreReads, asks_flag, asks_log, idle_of}
 use Rattle.tool_work.specs.Ranges.{IsHostingRange, IsModeRange}
+use Rattle.tool_work.specs.declared.asked.Admissions.{Admissions}
 use Rattle.tool_work.specs.declared.asked.Endpoints.{Endpoints}
 use Rattle.tool_work.specs.declared.asked.Keeping.{Keeping}
 use Rattle.tool_work.specs.declared.asked.Holding.{Holding}
 use Rattle.tool_work.specs.declared.asked.Holding.TheVariants.{Forever, Connection}
 use Rattle.tool_work.specs.declared.asked.Keeping.TheVariants.{Nothing, Journal, NewJournal, Log}
 use Rattle.tool_work.specs.declared.asked.LogWords.{LogWords}
-use Rattle.tool_work.proofs.ConfigLemmas.{same_number, same_world}
+use Rattle.model_asked.specs.Config.{world_name}
+use Rattle.model_asked.specs.Ranges.{IsConfigRange}
+use Rattle.std.specs.Option.{unwrap_or}
+use Rattle.model_asked.specs.declared.kind.WorldKind.{WorldKind}
+use Rattle.model_asked.specs.declared.kind.WorldKind.TheVariants.{Rename}
+use Rattle.model_asked.specs.lemmas.KindProofs.{named_apart}
+use Rattle.model_steps.specs.declared.refusal.Refusal.{Refusal}
+use Rattle.tool_work.specs.Asked.{world_word}
+use Rattle.tool_work.proofs.ConfigLemmas.{same_number}
 
 -- no text is matched there, so no address is
 pub no_address : (rows : List Row) (id : List ℕ) → None ≡ first_of id rows → (a : IpAddr) → HasAddress rows id a → ⊥
@@ -88,15 +97,55 @@ same_idle_by rows a b m n held held' small small' (inl h) (inr k) = absurd (k.0 
 same_idle_by rows a b m n held held' small small' (inr h) (inl k) = absurd (h.0 n small' k)
 same_idle_by rows a b m n held held' small small' (inr h) (inr k) = h.1 ∙ same_idle_of rows a b held held' ∙ sym k.1
 
+-- what the word of the world names is the world of the hall, if there is one
+hall_world_reported : (rows : List Row) (word : List ℕ) (r : Option WorldKind) → word ≡ world_word rows
+    → IfSome r (λ kind. world_name kind ≡ word) → IfNone r ((kind : WorldKind) → world_name kind ≢ word)
+    → MatchOption r ((w : WorldKind) → HasHallWorld rows w → ⊥) (HasHallWorld rows)
+hall_world_reported rows word None matched some none = λ w h. none w (sym (matched ∙ h))
+hall_world_reported rows word (Some w) matched some none = sym matched ∙ sym some
+
+pub hall_world_named : (rows : List Row) (word : List ℕ) (r : Option WorldKind) → Some word ≡ first_of (codes "world") rows
+    → IfSome r (λ kind. world_name kind ≡ word) → IfNone r ((kind : WorldKind) → world_name kind ≢ word)
+    → MatchOption r ((w : WorldKind) → HasHallWorld rows w → ⊥) (HasHallWorld rows)
+hall_world_named rows word r matched some none = hall_world_reported rows word r (ap (λ (o : Option (List ℕ)). unwrap_or o (codes "rename")) matched) some none
+
+-- where no world is named it is `rename`
+pub hall_world_absent : (rows : List Row) → None ≡ first_of (codes "world") rows → HasHallWorld rows Rename
+hall_world_absent rows none = sym (ap (λ (o : Option (List ℕ)). unwrap_or o (codes "rename")) none)
+
+-- two worlds of the hall are one
+same_hall_world : (rows : List Row) (w u : WorldKind) → HasHallWorld rows w → HasHallWorld rows u → w ≡ u
+same_hall_world rows w u h g = named_apart w u (sym h ∙ g)
+
+-- what is made of the world of the hall and the matched numbers is its config, where there is one
+pub hall_made : (rows : List Row) (w : WorldKind) (m k limit : ℕ) (r : Result Config Refusal)
+    → HasHallWorld rows w → HasNumber rows (codes "m") m → HasNumber rows (codes "k") k → HasNumber rows (codes "limit") limit
+    → IfOk r (λ c. (c.world ≡ w) × (c.m ≡ m) × (c.k ≡ k) × (c.limit ≡ limit)) → (IsOk r ↔ IsConfigRange w m k limit)
+    → MatchOption (result_ok r) ((c : Config) → IsHallOf rows c → ⊥) (IsHallOf rows)
+hall_made rows w m k limit (Ok c) world has_m has_k has_limit values range = record {
+  world = world ∙ ap world_name (sym values.0);
+  m = subst (λ x. HasNumber rows (codes "m") x) (sym values.1) has_m;
+  k = subst (λ x. HasNumber rows (codes "k") x) (sym values.2) has_k;
+  limit = subst (λ x. HasNumber rows (codes "limit") x) (sym values.3) has_limit;
+}
+hall_made rows w m k limit (Err e) world has_m has_k has_limit values range = λ c h.
+    let same_m : c.m ≡ m = same_number rows (codes "m") c.m m h.m has_m in
+    let same_k : c.k ≡ k = same_number rows (codes "k") c.k k h.k has_k in
+    let same_limit : c.limit ≡ limit = same_number rows (codes "limit") c.limit limit h.limit has_limit in
+    let fits = c.in_range in
+    let bad : false ≡ true = range.1 (rw (same_hall_world rows c.world w h.world world, same_m, same_k, same_limit) at fits) in
+    cc
+
 -- what is made of the matched values is the hosting, where there is one
-pub hosted : (rows : List Row) (c : Config) (endpoints : Endpoints) (clients idle : ℕ) (holding : Holding) (stores : Bool) (keeping : Keeping) (verbose : Bool) (log : Option (Bor (List ℕ))) (o : Option Hosting)
-    → IsConfigOf rows c → AreEndpointsOf rows endpoints → HasNumber rows (codes "clients") clients → IsIdleOf rows holding idle
+pub hosted : (rows : List Row) (c : Config) (admissions : Admissions) (endpoints : Endpoints) (clients idle : ℕ) (holding : Holding) (stores : Bool) (keeping : Keeping) (verbose : Bool) (log : Option (Bor (List ℕ))) (o : Option Hosting)
+    → IsHallOf rows c → AreAdmitted rows admissions → AreEndpointsOf rows endpoints → HasNumber rows (codes "clients") clients → IsIdleOf rows holding idle
     → IsHoldingOf rows holding → StoreReads rows stores → IsKeepingOf rows keeping → verbose ≡ asks_flag (codes "verbose") rows → HasText rows (codes "log") log
-    → IfSome o (λ h. (h.config ≡ c) × (h.clients ≡ clients) × (h.idle ≡ idle)) → IfSome o (λ h. (h.endpoints ≡ endpoints) × (h.keeping ≡ keeping) × (h.verbose ≡ verbose) × (h.holding ≡ holding) × (h.stores_reads ≡ stores)) → IfSome o (λ h. h.log ≡ log)
+    → IfSome o (λ h. (h.config ≡ c) × (h.clients ≡ clients) × (h.idle ≡ idle)) → IfSome o (λ h. (h.endpoints ≡ endpoints) × (h.keeping ≡ keeping) × (h.verbose ≡ verbose) × (h.holding ≡ holding) × (h.stores_reads ≡ stores)) → IfSome o (λ h. h.log ≡ log) → IfSome o (λ h. h.admissions ≡ admissions)
     → (IsSome o ↔ IsHostingRange c.world clients idle) → idle < 2 ^ 64
     → MatchOption o ((h : Hosting) → IsHostingOf rows h → ⊥) (IsHostingOf rows)
-hosted rows c endpoints clients idle holding stores keeping verbose log (Some h) config has_endpoints has_clients has_idle has_holding has_reads has_keeping asks has_log sizes others logs range small = record {
-  config = subst (λ (x : Config). IsConfigOf rows x) (sym sizes.0) config;
+hosted rows c admissions endpoints clients idle holding stores keeping verbose log (Some h) config has_admissions has_endpoints has_clients has_idle has_holding has_reads has_keeping asks has_log sizes others logs admits range small = record {
+  config = subst (λ (x : Config). IsHallOf rows x) (sym sizes.0) config;
+  admissions = subst (λ (x : Admissions). AreAdmitted rows x) (sym admits) has_admissions;
   endpoints = subst (λ (x : Endpoints). AreEndpointsOf rows x) (sym others.0) has_endpoints;
   clients = subst (λ x. HasNumber rows (codes "clients") x) (sym sizes.1) has_clients;
   idle = subst (λ (x : Holding). IsIdleOf rows x h.idle) (sym others.3) (subst (λ (x : ℕ). IsIdleOf rows holding x) (sym sizes.2) has_idle);
@@ -106,10 +155,10 @@ hosted rows c endpoints clients idle holding stores keeping verbose log (Some h)
   holding = subst (λ (x : Holding). IsHoldingOf rows x) (sym others.3) has_holding;
   reads = subst (λ (x : Bool). StoreReads rows x) (sym others.4) has_reads;
 }
-hosted rows c endpoints clients idle holding stores keeping verbose log None config has_endpoints has_clients has_idle has_holding has_reads has_keeping asks has_log sizes others logs range small = λ h is.
+hosted rows c admissions endpoints clients idle holding stores keeping verbose log None config has_admissions has_endpoints has_clients has_idle has_holding has_reads has_keeping asks has_log sizes others logs admits range small = λ h is.
     let same_clients : h.clients ≡ clients = same_number rows (codes "clients") h.clients clients is.clients has_clients in
     let same_idle : h.idle ≡ idle = same_idle_by rows h.holding holding h.idle idle is.holding has_holding (let fits = h.in_range in omega arith) small is.idle has_idle in
-    let same_kind : h.config.world ≡ c.world = same_world rows h.config.world c.world is.config.world config.world in
+    let same_kind : h.config.world ≡ c.world = same_hall_world rows h.config.world c.world is.config.world config.world in
     let fits = h.in_range in
     let bad : false ≡ true = range.1 (rw (same_clients, same_idle, same_kind) at fits) in
     cc

@@ -4,7 +4,7 @@ use Rattle.std.specs.Str.{bytes_eq}
 use Rattle.std.specs.Str.Parse.{IsNumeral, digits_value, without_leading_plus}
 use Rattle.std.specs.List.{list_any}
 use Rattle.std.specs.Borrow.{Bor}
-use Rattle.std.specs.Option.{option_map, option_map_or}
+use Rattle.std.specs.Option.{option_map, option_map_or, unwrap_or}
 use Rattle.std.specs.Net.Grammar.{IsIpText}
 use Rattle.std.specs.declared.net.ip_addr.IpAddr.{IpAddr}
 use Rattle.clap.specs.Faults.{fault_of}
@@ -17,6 +17,7 @@ use Rattle.model_asked.specs.declared.kind.WorldKind.{WorldKind}
 use Rattle.tool_work.specs.CommandLine.{slotctl_app}
 use Rattle.tool_work.specs.declared.asked.Ask.{Ask}
 use Rattle.tool_work.specs.declared.asked.Ask.TheVariants.{Play, Check, Migrate, Show, Draw, Race, Serve, Host, Held}
+use Rattle.tool_work.specs.declared.asked.Admissions.{Admissions}
 use Rattle.tool_work.specs.declared.asked.Drawing.{Drawing}
 use Rattle.tool_work.specs.declared.asked.Endpoints.{Endpoints}
 use Rattle.tool_work.specs.declared.asked.Hosting.{Hosting}
@@ -170,9 +171,34 @@ abbrev pub StoreReads : List Row → Bool → Type 0
 StoreReads rows true = first_of (codes "reads") rows ≡ Some (codes "logged")
 StoreReads rows false = first_of (codes "reads") rows ≡ Some (codes "plain")
 
+-- the word of the world of a hall that is hosted: the name that the options of `host` give, and `rename` where they give none
+abbrev pub world_word : List Row → List ℕ
+world_word rows = unwrap_or (first_of (codes "world") rows) (codes "rename")
+
+abbrev pub HasHallWorld : List Row → WorldKind → Type 0
+HasHallWorld rows world = world_word rows ≡ world_name world
+
+-- the config of the hall that is hosted: its world and the numbers as clap matched them, each number in its range
+pub record IsHallOf (rows : List Row) (c : Config) : Type 0 where
+  pub world : HasHallWorld rows c.world
+  pub m : HasNumber rows (codes "m") c.m
+  pub k : HasNumber rows (codes "k") c.k
+  pub limit : HasNumber rows (codes "limit") c.limit
+
+-- clients may widen the pool, or they may not, by the options of `host`
+abbrev pub AdmitWidening : List Row → Bool → Type 0
+AdmitWidening rows true = first_of (codes "admit") rows ≡ Some (codes "widen")
+AdmitWidening rows false = first_of (codes "admit") rows ≡ None
+
+-- what clients may ask for by the options of `host`: names where a world is named
+pub record AreAdmitted (rows : List Row) (a : Admissions) : Type 0 where
+  pub naming : a.naming ≡ is_some (first_of (codes "world") rows)
+  pub widening : AdmitWidening rows a.widening
+
 -- the hosting that the options of `host` give, as clap matched them, each number in its range
 pub record IsHostingOf (rows : List Row) (h : Hosting) : Type 0 where
-  pub config : IsConfigOf rows h.config
+  pub config : IsHallOf rows h.config
+  pub admissions : AreAdmitted rows h.admissions
   pub endpoints : AreEndpointsOf rows h.endpoints
   pub clients : HasNumber rows (codes "clients") h.clients
   pub idle : IsIdleOf rows h.holding h.idle

@@ -297,11 +297,22 @@ impl<'a> Endpoints<'a> {
     }
 }
 
+/// What clients may ask for, beside numbers.
+#[derive(Clone, Copy, Drop)]
+pub struct Admissions {
+    /// Whether they may begin and step, to get names.
+    pub naming: bool,
+    /// Whether they may widen the pool.
+    pub widening: bool,
+}
+
 /// The hall that is hosted.
 #[derive(Clone, Copy, Drop)]
 pub struct Hosting<'a> {
     /// The world of the hall, in which names are given, and its sizes.
     pub config: Config,
+    /// What clients may ask for.
+    pub admissions: Admissions,
     /// What it is reached by.
     pub endpoints: Endpoints<'a>,
     /// How many clients are served at once, from 1 to 1,000,000.
@@ -325,6 +336,7 @@ impl<'a> Hosting<'a> {
     /// Returns a hosting of these values, or `None` if one of them is outside its range.
     pub fn new(
         config: Config,
+        admissions: Admissions,
         endpoints: Endpoints<'a>,
         clients: u64,
         idle: u64,
@@ -338,6 +350,7 @@ impl<'a> Hosting<'a> {
         ensures others { IfSome result (λ h. (h.endpoints ≡ endpoints.entry) × (h.keeping ≡ keeping.entry) × (h.verbose ≡ verbose)
             × (h.holding ≡ holding) × (h.stores_reads ≡ stores_reads)) }
         ensures log { IfSome result (λ h. h.log ≡ log.entry) }
+        ensures admissions { IfSome result (λ h. h.admissions ≡ admissions) }
         ensures range { IsSome result ↔ IsHostingRange config.world clients idle }
     {
         if clients < 1 || 1_000_000 < clients || 31_536_000 < idle {
@@ -348,6 +361,7 @@ impl<'a> Hosting<'a> {
         }
         Some(Hosting {
             config,
+            admissions,
             endpoints,
             clients,
             idle,

@@ -240,6 +240,13 @@ const SERVE: Manual = Manual {
     ],
 };
 
+// `--world NAME`, of the worlds that give names, where clients are to have some.
+const WORLD_OF_CLIENTS: Choice = Choice {
+    name: "world",
+    takes: Takes::Text("NAME"),
+    help: "gives names to clients: rename or tree; without this begin and step are refused 14",
+};
+
 // `slotctl host`.
 const HOST: Manual = Manual {
     name: "host",
@@ -251,10 +258,19 @@ const HOST: Manual = Manual {
   slotctl host --port 7070 --etcd 10.0.0.1:2379,10.0.0.2:2379 --prefix slots/
   slotctl host --etcd 10.0.0.1:2379 --prefix slots/ --export | slotctl play",
     choices: &[
-        WORLD_OF_NAMES,
+        WORLD_OF_CLIENTS,
         MOST_PARTICIPANTS,
-        POOL_SIZE,
+        Choice {
+            name: "k",
+            takes: Takes::Number(1, 64, "4"),
+            help: "the size of the pool, from 1 to 64; a smaller one that is there is widened, and a larger one is refused",
+        },
         PROPOSAL_LIMIT,
+        Choice {
+            name: "admit",
+            takes: Takes::Text("WHAT"),
+            help: "widen: clients may widen the pool too; without this widen is refused 14",
+        },
         Choice {
             name: "address",
             takes: Takes::TextOr("ADDRESS", "127.0.0.1"),

@@ -50,7 +50,8 @@ pub mod showing;
 pub mod words;
 
 pub use asked::{
-    Ask, Drawing, Endpoints, Holding, Hosting, Keeping, LogWords, Playing, Racing, Serving, Showing,
+    Admissions, Ask, Drawing, Endpoints, Holding, Hosting, Keeping, LogWords, Playing, Racing,
+    Serving, Showing,
 };
 pub use checking::check_for;
 pub use drawing::draw_for;

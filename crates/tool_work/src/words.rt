@@ -2,9 +2,10 @@
 
 ghost use Rattle.std.specs.Prelude.{◌≡◌, ℕ, Bool, true, ◌<◌, ◌^◌, MatchOption, Some, map};
 ghost use Rattle.clap.specs.Words.{found_of, kind_of, rows_of, subcommand_rows_of};
-ghost use Rattle.tool_work.specs.Asked.{AreEndpointsOf, HasMode, HasNumber, HasWorld, IsAsked, IsConfigOf, HasAddress, HasText, MayHavePort, IsDrawingOf, IsGraceOf, IsHoldingOf, IsHostingOf, IsIdleOf, IsKeepingOf, IsLogOf, IsMisuseOf, IsPlayingOf, IsRacingOf, IsRead, IsRefusal, IsServingOf, IsShowingOf, StoreReads, asks_flag, asks_log};
+ghost use Rattle.tool_work.specs.Asked.{AreAdmitted, AreEndpointsOf, HasHallWorld, HasMode, HasNumber, HasWorld, IsAsked, IsConfigOf, IsHallOf, HasAddress, HasText, MayHavePort, IsDrawingOf, IsGraceOf, IsHoldingOf, IsHostingOf, IsIdleOf, IsKeepingOf, IsLogOf, IsMisuseOf, IsPlayingOf, IsRacingOf, IsRead, IsRefusal, IsServingOf, IsShowingOf, StoreReads, asks_flag, asks_log};
 ghost use Rattle.model_asked.specs.declared.config.Config.{Config};
 ghost use Rattle.model_asked.specs.declared.kind.WorldKind.{WorldKind};
+ghost use Rattle.tool_work.specs.declared.asked.Admissions.{Admissions};
 ghost use Rattle.tool_work.specs.declared.asked.Drawing.{Drawing};
 ghost use Rattle.tool_work.specs.declared.asked.Endpoints.{Endpoints};
 ghost use Rattle.tool_work.specs.declared.asked.Holding.{Holding};
@@ -18,7 +19,8 @@ ghost use Rattle.tool_work.specs.declared.asked.Showing.{Showing};
 ghost use Rattle.tool_work.specs.declared.asked.Ask.{Ask};
 
 use crate::asked::{
-    Ask, Drawing, Endpoints, Holding, Hosting, Keeping, LogWords, Playing, Racing, Serving, Showing,
+    Admissions, Ask, Drawing, Endpoints, Holding, Hosting, Keeping, LogWords, Playing, Racing,
+    Serving, Showing,
 };
 use crate::command_line::slotctl_command;
 use crate::misuse::Misuse;
@@ -266,6 +268,46 @@ fn reads_given(matches: &ArgMatches<'_>) -> Option<bool>
     }
 }
 
+// The world of the hall that the options of `host` give.
+#[tactic(auto, using(crate::proofs::HostLemmas::hall_world_absent))]
+fn hall_world_given(matches: &ArgMatches<'_>) -> Option<WorldKind>
+    ensures { MatchOption result ((w : WorldKind) → HasHallWorld (rows_of (found_of matches.now)) w → ⊥) (HasHallWorld (rows_of (found_of matches.now))) }
+{
+    match text_given(matches, "world") {
+        Some(name) => WorldKind::named(name),
+        None => Some(WorldKind::Rename),
+    }
+}
+
+// The config of the hall that the options of `host` give, where they give one.
+fn hall_given(matches: &ArgMatches<'_>) -> Option<Config>
+    ensures { MatchOption result ((c : Config) → IsHallOf (rows_of (found_of matches.now)) c → ⊥) (IsHallOf (rows_of (found_of matches.now))) }
+{
+    let world = hall_world_given(matches)?;
+    let m = number_given(matches, "m")?;
+    let k = number_given(matches, "k")?;
+    let limit = number_given(matches, "limit")?;
+    Config::new(world, m, k, limit).ok()
+}
+
+// What the options of `host` have clients ask for, where they say so.
+fn admissions_given(matches: &ArgMatches<'_>) -> Option<Admissions>
+    ensures { MatchOption result ((a : Admissions) → AreAdmitted (rows_of (found_of matches.now)) a → ⊥) (AreAdmitted (rows_of (found_of matches.now))) }
+{
+    let naming = text_given(matches, "world").is_some();
+    match text_given(matches, "admit") {
+        None => Some(Admissions {
+            naming,
+            widening: false,
+        }),
+        Some("widen") => Some(Admissions {
+            naming,
+            widening: true,
+        }),
+        Some(_) => None,
+    }
+}
+
 // What the options of `host` have the hall reached by, where they say so.
 fn endpoints_given<'a>(matches: &ArgMatches<'a>) -> Option<Endpoints<'a>>
     ensures { MatchOption result ((e : Endpoints) → AreEndpointsOf (rows_of (found_of matches.now)) e → ⊥) (AreEndpointsOf (rows_of (found_of matches.now))) }
@@ -283,7 +325,8 @@ fn endpoints_given<'a>(matches: &ArgMatches<'a>) -> Option<Endpoints<'a>>
 fn host_given<'a>(matches: &ArgMatches<'a>) -> Option<Hosting<'a>>
     ensures { MatchOption result ((h : Hosting) → IsHostingOf (rows_of (found_of matches.now)) h → ⊥) (IsHostingOf (rows_of (found_of matches.now))) }
 {
-    let config = config_given(matches)?;
+    let config = hall_given(matches)?;
+    let admissions = admissions_given(matches)?;
     let endpoints = endpoints_given(matches)?;
     let clients = number_given(matches, "clients")?;
     let holding = holding_given(matches)?;
@@ -294,6 +337,7 @@ fn host_given<'a>(matches: &ArgMatches<'a>) -> Option<Hosting<'a>>
     let log = text_given(matches, "log");
     Hosting::new(
         config,
+        admissions,
         endpoints,
         clients,
         idle,
@@ -355,6 +399,9 @@ fn why_nothing_in(world: WorldKind, options: &ArgMatches<'_>) -> &'static str {
     if reads_given(options).is_none() {
         return "error: '--reads' wants plain or logged\n";
     }
+    if admissions_given(options).is_none() {
+        return "error: '--admit' wants widen\n";
+    }
     if text_given(options, "journal").is_some() {
         return "error: '--journal' goes with none of '--etcd', '--prefix', '--export' and '--change-terms'\n";
     }
@@ -366,8 +413,12 @@ fn why_nothing_in(world: WorldKind, options: &ArgMatches<'_>) -> &'static str {
 
 // Why what clap takes asks for nothing, as a text for people.
 fn why_nothing(matches: &ArgMatches<'_>) -> &'static str {
-    if let Some((_, options)) = matches.subcommand() {
-        if let Some(world) = world_given(options) {
+    if let Some((name, options)) = matches.subcommand() {
+        let world = match name {
+            "host" => hall_world_given(options),
+            _ => world_given(options),
+        };
+        if let Some(world) = world {
             return why_nothing_in(world, options);
         }
     }

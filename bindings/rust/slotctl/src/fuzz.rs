@@ -12,6 +12,7 @@ use crate::proved::model_pool::stays::stays::Stays;
 use crate::proved::service_hall::compactor::Compactor;
 use crate::proved::service_hall::hall::Hall;
 use crate::proved::service_hall::reads::Reads;
+use crate::proved::service_hall::rules::Rules;
 use crate::proved::service_host::persisters::Unrecorded;
 use crate::proved::service_host::reading::Reading;
 use crate::proved::service_loop::answering::answer_queries;
@@ -240,7 +241,7 @@ fn hosted(config: Config, bytes: &[u8], pieces: u64, most: usize) -> Vec<u8> {
     };
     let reading = Reading {
         service: hall,
-        reads: Reads::Logged,
+        rules: Rules::all(Reads::Logged),
     };
     let mut service = Attended::new(reading, Stays::new(Global), false, Audit::new(Global, true));
     let mut persister = Unrecorded {

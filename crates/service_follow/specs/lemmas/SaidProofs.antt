@@ -7,12 +7,17 @@ use Rattle.model_asked.specs.declared.event.Event.TheVariants.{Begin, Step, Ente
 use Rattle.model_asked.specs.declared.reply.Reply.TheVariants as reply
 use Rattle.model_asked.specs.Requests.{Request}
 use Rattle.model_asked.specs.Requests.Request.{Take, OwnerOf}
+use Rattle.service_follow.specs.AskingState.{AskingState}
 use Rattle.service_follow.specs.NotingState.{NotingState}
+use Rattle.service_follow.specs.Readings.{AskingSays}
 use Rattle.service_follow.specs.ReplyQueueState.{ReplyQueueState}
 use Rattle.service_follow.specs.Said.{IsNext, NotingSays, ReplyQueueReplies}
 
 pub noting_answers : (w : NotingState) (q : Request) → (r : ShownReply) × (u : NotingState) × NotingSays w q r u
 noting_answers w q = (reply.Refused refusal.NoMemory, record w { lost = true }, λ well. absurd (let bad : true ≡ false = well in cc))
+
+pub asking_answers : (w : AskingState) (q : Request) → (r : ShownReply) × (u : AskingState) × AskingSays w q r u
+asking_answers w q = (reply.Refused refusal.NoMemory, record w { lost = true }, λ well. absurd (let bad : true ≡ false = well in cc))
 
 -- the numbers of a request: its kind, whom or what it names, and a value
 kind : Request → ℕ

@@ -10,9 +10,9 @@ use Rattle.service_host.specs.Readings.{HallReads, ReadingServes}
 use Rattle.service_host.specs.declared.reading.Reading.{Reading}
 
 pub hall_reading_answers : (w : Reading HallState) (q : Request) → (r : ShownReply) × (u : Reading HallState) × HallReads w q r u
-hall_reading_answers w q = let a = serves_answers w.reads w.service q in (a.0, record { service = a.1; reads = w.reads }, (a.2, refl))
+hall_reading_answers w q = let a = serves_answers w.rules w.service q in (a.0, record { service = a.1; rules = w.rules }, (a.2, refl))
 
 pub reading_answers : (w : Reading WriteAheadState) (q : Request) → (r : ShownReply) × (u : Reading WriteAheadState) × ReadingServes w q r u
 reading_answers w q =
-    let a = serves_answers w.reads w.service.hall q in
-    (a.0, record { service = write_ahead_of a.1 w.service.reported; reads = w.reads }, (a.2, refl, refl))
+    let a = serves_answers w.rules w.service.hall q in
+    (a.0, record { service = write_ahead_of a.1 w.service.reported; rules = w.rules }, (a.2, refl, refl))

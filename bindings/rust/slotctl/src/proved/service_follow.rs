@@ -1,4 +1,4 @@
-// Erased by bindings/rust/erase from crates/service_follow/src/lib.rt, sha256 73ee61267235afbf2e3a5ad418450b8f351c5f40f8fc8e46710d3963357b0951.
+// Erased by bindings/rust/erase from crates/service_follow/src/lib.rt, sha256 184da5111db8e3eb6c5155abbbe3c52662ba9be3816da3db1fe7049153176c80.
 //! A hall whose history is a log that several machines share.
 //!
 //! `HallMachine` is a hall as the machine of a `service_log::Replica`: an entry of the log is a first line, a token of its own, and then lines
@@ -14,7 +14,8 @@
 //! turns of all connections, in one order, are a run of the hall to which just the entries before this turn's were applied. Halls of one
 //! config that have applied one log up to one place are the same (`law_of_halls`).
 //!
-//! An entry tells whether the hall stores its reads: those of an entry with ` plain` in its first line are answered, and are no events.
+//! An entry tells whether the hall stores its reads: those of an entry with ` plain` in its first line are answered, and are no events. Where a front end
+//! stores none, lines that ask for reads alone are no entry: they are answered once the log was read to its end (`law_of_reads`).
 //!
 //! `StayMachine` has with the hall who keeps each stay in its pool, as the log tells: the front end whose entry said `enter` of it last and was
 //! answered `ok` or `refused 9` (`law_of_keepers`). `LogPersister::end_stays` ends the stays of this front end that nobody keeps any more, and those of
@@ -55,6 +56,7 @@ pub mod marks;
 pub mod note;
 mod noting;
 pub mod pause;
+mod reading;
 mod release_lines;
 pub mod reply_queue;
 mod retelling;

@@ -1,4 +1,4 @@
-// Erased by bindings/rust/erase from crates/service_hall/src/lib.rt, sha256 ff647140400a8027b2cbc2f0ecec517774e539f83cce40429e420ae29c24e6d7.
+// Erased by bindings/rust/erase from crates/service_hall/src/lib.rt, sha256 fe5b43a144d60823acc9b87e42bd7e43cc454eedcc48bedb9010bce395b694d4.
 //! One desk with the history of its events, and a shorter history for the same desk.
 //!
 //! A *hall* is a desk with the list of its accepted events and their replies. What is proved:
@@ -14,8 +14,9 @@
 //! a log or a journal may store its events.
 //!
 //! A `get` changes nothing of a desk. `Hall::serve_short` answers it as the desk does and stores it nowhere, if reads
-//! are plain (`Reads`). What is proved of such turns (`law_of_reads`): they are a transcript of the config with all
-//! reads in it, and without the reads they are the turns of a hall that stores reads.
+//! are plain (`Reads`). It refuses `widen`, `begin` and `step` if the rules bar them (`Rules`). What is proved of such
+//! turns (`law_of_reads`): without what is barred they are a transcript of the config with all reads in it, and without
+//! the reads too they are the turns of a hall that stores reads.
 //!
 //! A reply that shows a view takes a kilobyte. `Hall::apply_short` returns a reply of few bytes instead, and stores the
 //! view in a buffer of the caller.
@@ -67,6 +68,7 @@ pub mod log;
 mod plan;
 pub mod reads;
 mod rebuilding;
+pub mod rules;
 pub mod same;
 mod slots_copy;
 mod stuck;

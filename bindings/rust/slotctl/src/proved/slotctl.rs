@@ -1,4 +1,4 @@
-// Erased by bindings/rust/erase from crates/slotctl/src/main.rt, sha256 d87534bcbfa84771de5836e8873b63688b16e37b11e5326cbd65af14ceb1fdc4.
+// Erased by bindings/rust/erase from crates/slotctl/src/main.rt, sha256 86ac78c266a6ec77839d40748cda5fd506eb31132f46b6e3a23295c81e942a27.
 //! The program `slotctl`: plays schedules of shared-memory algorithms, one access a step.
 //!
 //! `slotctl play --world splitter --m 2` reads commands from the standard input, one a line, and writes a reply to each to
@@ -24,6 +24,7 @@ use crate::kit::sync::ledger::Blank;
 use crate::kit::sync::Wait;
 use crate::kit::thread::Threads;
 use crate::proved::service_hall::reads::Reads;
+use crate::proved::service_hall::rules::Rules;
 use crate::proved::service_host::failure::HostFailure;
 use crate::proved::service_host::holders::write_holders;
 use crate::proved::service_host::log_plan::LogPlan;
@@ -37,7 +38,7 @@ use crate::proved::service_watch::listeners::socket_file::SocketPlan;
 use crate::proved::text_lines::fault::Fault;
 use crate::proved::text_player::tried::Tried;
 use crate::proved::tool_work::asked::{
-    Endpoints, Holding, Hosting, Keeping as KeepingWords, LogWords, Serving,
+    Admissions, Endpoints, Holding, Hosting, Keeping as KeepingWords, LogWords, Serving,
 };
 use crate::proved::tool_work::failure::Failure;
 use crate::proved::tool_work::misuse::Misuse;
@@ -160,6 +161,19 @@ fn grace_by(holding: Holding) -> Option<u64> {
     }
 }
 
+// The rules for clients who may ask for so much.
+fn rules_of(admissions: Admissions, stores_reads: bool) -> Rules {
+    Rules {
+        reads: if stores_reads {
+            Reads::Logged
+        } else {
+            Reads::Plain
+        },
+        widening: admissions.widening,
+        naming: admissions.naming,
+    }
+}
+
 // What is to be hosted, where somebody may look on.
 fn host_plan_of<'a>(hosting: Hosting<'a>, seen: bool) -> HostPlan<'a> {
     HostPlan {
@@ -172,11 +186,7 @@ fn host_plan_of<'a>(hosting: Hosting<'a>, seen: bool) -> HostPlan<'a> {
             Some(hosting.idle)
         },
         grace: grace_by(hosting.holding),
-        reads: if hosting.stores_reads {
-            Reads::Logged
-        } else {
-            Reads::Plain
-        },
+        rules: rules_of(hosting.admissions, hosting.stores_reads),
         keeping: keeping_of(hosting.keeping),
         reports: hosting.verbose || seen,
         log: hosting.log,

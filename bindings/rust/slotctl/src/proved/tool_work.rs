@@ -1,4 +1,4 @@
-// Erased by bindings/rust/erase from crates/tool_work/src/lib.rt, sha256 de203432dfe8dc606c9fc6818b532c07f45c8f74cae50f4817c980ab96e08128.
+// Erased by bindings/rust/erase from crates/tool_work/src/lib.rt, sha256 fa44bde4e1ab75dab0a1d29799471a9beb44a943344a338de9695745f57d1868.
 //! What the words of a command line ask `slotctl` for, done over any reader and writer.
 //!
 //! `ask` has clap match the words with the program's command line (`slotctl_command`), and answers what was matched as an `Ask`, whose parts are in

@@ -7,6 +7,9 @@ use Rattle.tool_work.proofs.words.host_given.Goals as goal
 pub returns-in_err-config : goal.returns-in_err-config
 returns-in_err-config c = unless_some c.from_residual.result _ _ c.from_residual.ensures (λ given h. c.in_err-config.ensures given.config h.config)
 
+pub returns-in_err-admissions : goal.returns-in_err-admissions
+returns-in_err-admissions c = unless_some c.from_residual-in_err-admissions.result _ _ c.from_residual-in_err-admissions.ensures (λ given h. c.in_err-admissions.ensures given.admissions h.admissions)
+
 pub returns-in_err-endpoints : goal.returns-in_err-endpoints
 returns-in_err-endpoints c = unless_some c.from_residual-in_err-endpoints.result _ _ c.from_residual-in_err-endpoints.ensures (λ given h. c.in_err-endpoints.ensures given.endpoints h.endpoints)
 
@@ -24,5 +27,5 @@ returns-in_err-stores_reads c = unless_some c.from_residual-in_err-stores_reads.
 
 pub returns : goal.returns
 returns c =
-    hosted (rows_of (found_of c.args.matches.now)) c.in_ok-config.config c.in_ok-endpoints.endpoints c.in_ok-clients.clients c.idle_given-idle.result c.in_ok-holding.holding c.in_ok-stores_reads.stores_reads c.in_ok-keeping.keeping c.flag_given-verbose.result c.text_given-log.result c.new.result
-    c.in_ok-config.ensures c.in_ok-endpoints.ensures c.in_ok-clients.ensures c.idle_given-idle.ensures c.in_ok-holding.ensures c.in_ok-stores_reads.ensures c.in_ok-keeping.ensures c.flag_given-verbose.ensures c.text_given-log.ensures c.new.ensures.sizes c.new.ensures.others c.new.ensures.log c.new.ensures.range (omega arith)
+    hosted (rows_of (found_of c.args.matches.now)) c.in_ok-config.config c.in_ok-admissions.admissions c.in_ok-endpoints.endpoints c.in_ok-clients.clients c.idle_given-idle.result c.in_ok-holding.holding c.in_ok-stores_reads.stores_reads c.in_ok-keeping.keeping c.flag_given-verbose.result c.text_given-log.result c.new.result
+    c.in_ok-config.ensures c.in_ok-admissions.ensures c.in_ok-endpoints.ensures c.in_ok-clients.ensures c.idle_given-idle.ensures c.in_ok-holding.ensures c.in_ok-stores_reads.ensures c.in_ok-keeping.ensures c.flag_given-verbose.ensures c.text_given-log.ensures c.new.ensures.sizes c.new.ensures.others c.new.ensures.log c.new.ensures.admissions c.new.ensures.range (omega arith)

@@ -1,4 +1,4 @@
-// Erased by bindings/rust/erase from crates/service_follow/src/log_hall.rt, sha256 b5a7c4a48eba037c18da89c0abfcbd40e6c9fb84667917168683b582d9167122.
+// Erased by bindings/rust/erase from crates/service_follow/src/log_hall.rt, sha256 35eae46ce055a91aebf7358bc1c69a35d5ffb3188d20cf8de47881f3dc3e867c.
 //! A hall that follows a log.
 
 use crate::kit::alloc::Global;
@@ -77,6 +77,11 @@ impl<S: Store> LogHall<S> {
     /// How many entries were applied.
     pub fn place(&self) -> u64 {
         self.replica.place()
+    }
+
+    /// What the hall was opened for.
+    pub(crate) fn config(&self) -> Config {
+        self.config
     }
 
     /// Whether nothing is known of the hall, since it started at a later place than the first and has read no compaction whole.

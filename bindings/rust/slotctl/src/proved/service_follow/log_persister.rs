@@ -1,4 +1,4 @@
-// Erased by bindings/rust/erase from crates/service_follow/src/log_persister.rt, sha256 f905fcc092720492d96e0d6957bedb7004fc6a15ba979b63f9e9c677eb1a3d1d.
+// Erased by bindings/rust/erase from crates/service_follow/src/log_persister.rt, sha256 d524a26e4042c6133056c8896e5ea0c9381eb0999e7d7092b9a7ebb64baec21e.
 //! Serves the clients of one front end over a log.
 
 use crate::kit::alloc::{AllocError, Allocator, Global};
@@ -14,12 +14,14 @@ use crate::proved::service_follow::log_fault::LogFault;
 use crate::proved::service_follow::log_hall::LogHall;
 use crate::proved::service_follow::marks::is_ordinary;
 use crate::proved::service_follow::pause::Pause;
+use crate::proved::service_follow::reading::{put_replies, reads_in, Read};
 use crate::proved::service_follow::release_lines::lines_of;
 use crate::proved::service_follow::reply_queue::ReplyQueue;
 use crate::proved::service_follow::sessions::Sessions;
 use crate::proved::service_follow::tallying::tally_of;
 use crate::proved::service_hall::hall::Hall;
 use crate::proved::service_hall::reads::Reads;
+use crate::proved::service_hall::rules::Rules;
 use crate::proved::service_log::replica::{Step, MOST_BATCH};
 use crate::proved::service_log::serve_fault::{Cause, ServeFault};
 use crate::proved::service_log::store::{Store, MOST_PLACES};
@@ -32,8 +34,8 @@ use crate::proved::text_lines::replies::Replies;
 /// What ends a line.
 const LF: u8 = 10;
 
-/// How many bytes the first line of a batch has, at most: a token, a count, ` plain` and its LF.
-const HEAD: usize = 56;
+/// How many bytes the first line of a batch has, at most: a token, a count, ` plain --` and its LF.
+const HEAD: usize = 59;
 
 /// How often a store is asked for one batch, at most; a `Pause` ends it before.
 const MOST_TRIES: u32 = 1_000_000;
@@ -67,8 +69,8 @@ pub struct LogPersister<S: Store, T: Pause> {
     batch: Vec<u8>,
     token: [u8; 32],
     count: u64,
-    /// Whether the history stores reads of this front end.
-    reads: Reads,
+    /// The rules for the clients of this front end.
+    rules: Rules,
     pause: T,
     /// Whether the store had no room for the last batch.
     no_space: bool,
@@ -114,24 +116,30 @@ pub(crate) fn put_head(head: &mut Vec<u8>, token: &[u8], count: u64) -> Result<(
     push_count(head, 16, count)
 }
 
-// What the first line of a batch tells of its reads.
-fn told_of(reads: Reads) -> &'static [u8] {
-    match reads {
-        Reads::Logged => b"",
-        Reads::Plain => b" plain",
+// What the first line of a batch tells of its rules.
+fn told_of(rules: Rules) -> &'static [u8] {
+    match (rules.reads, rules.widening, rules.naming) {
+        (Reads::Logged, true, true) => b"",
+        (Reads::Logged, true, false) => b" whole w-",
+        (Reads::Logged, false, true) => b" whole -n",
+        (Reads::Logged, false, false) => b" whole --",
+        (Reads::Plain, true, true) => b" plain",
+        (Reads::Plain, true, false) => b" plain w-",
+        (Reads::Plain, false, true) => b" plain -n",
+        (Reads::Plain, false, false) => b" plain --",
     }
 }
 
-// Puts a batch of these lines over a list: a first line of a token, a count and whether its reads are plain, and then the lines.
+// Puts a batch of these lines over a list: a first line of a token, a count and what it tells of its rules, and then the lines.
 fn put_batch(
     batch: &mut Vec<u8>,
-    reads: Reads,
+    rules: Rules,
     token: &[u8],
     count: u64,
     lines: &[u8],
 ) -> Result<(), AllocError> {
     put_head(batch, token, count)?;
-    batch.extend_from_slice(told_of(reads))?;
+    batch.extend_from_slice(told_of(rules))?;
     batch.push(LF)?;
     batch.extend_from_slice(lines)?;
     Ok(())
@@ -160,8 +168,12 @@ fn first_line(
     Ok(line)
 }
 
-// Returns true only if an entry is the first one of a log of halls of this config, with terms or without.
-fn is_first_line(alloc: Global, config: Config, entry: &[u8]) -> Result<bool, AllocError> {
+/// Returns true only if an entry is the first one of a log of halls of this config, with terms or without.
+///
+/// # Errors
+///
+/// `AllocError`: an allocation failed.
+pub fn is_first_line(alloc: Global, config: Config, entry: &[u8]) -> Result<bool, AllocError> {
     let line = first_line(alloc, config, terms_of(entry))?;
     Ok(line.as_slice() == entry)
 }
@@ -240,7 +252,7 @@ impl<S: Store, T: Pause> LogPersister<S, T> {
             batch: Vec::new(alloc),
             token,
             count: 0,
-            reads: Reads::Logged,
+            rules: Rules::all(Reads::Logged),
             pause,
             no_space: false,
             answers: true,
@@ -411,10 +423,82 @@ impl<S: Store, T: Pause> LogPersister<S, T> {
         Ok(Prefetch::Lost)
     }
 
-    /// Has the history store the reads of this front end from now on, or not. It stores them until this is called. Each entry tells it, so that
-    /// front ends of one log may differ in it.
-    pub fn choose_reads(&mut self, reads: Reads) {
-        self.reads = reads;
+    // Has the batch of these lines come to stand in the log.
+    fn write_batch(
+        &mut self,
+        reply_queue: &mut ReplyQueue,
+        lines: &[u8],
+    ) -> Result<Prefetch, LogFault> {
+        self.compaction
+            .compact(&mut self.log, &mut self.pause, reply_queue)?;
+        let Ok(()) = put_batch(&mut self.batch, self.rules, &self.token, self.count, lines) else {
+            return Err(LogFault::Memory);
+        };
+        self.serve_batch(reply_queue)
+    }
+
+    // The reads that lines ask for, if they ask for nothing else, and the history stores none.
+    fn plain_reads(&self, lines: &[u8]) -> Result<Option<Vec<Read>>, LogFault> {
+        if self.rules.reads == Reads::Logged {
+            return Ok(None);
+        }
+        match reads_in(self.alloc, self.log.config().world, lines) {
+            Ok(reads) => Ok(reads),
+            Err(_) => Err(LogFault::Memory),
+        }
+    }
+
+    // Reads the log on, and tells whether all was read that stands. A store that does not answer has told nothing.
+    fn read_on(&mut self, reply_queue: &mut ReplyQueue) -> Result<bool, LogFault> {
+        match self.log.read(TICK_ENTRIES, reply_queue) {
+            Ok(all) => Ok(all),
+            Err(cause) => match LogFault::of_cause(cause) {
+                Some(fault) => Err(fault),
+                None => Ok(false),
+            },
+        }
+    }
+
+    // Reads the log to its end, as soon as the store answers; returns false if patience ends before.
+    fn read_to_end(&mut self, reply_queue: &mut ReplyQueue) -> Result<bool, LogFault> {
+        reply_queue.clear();
+        self.pause.begin();
+        for _asked in 0..MOST_TRIES {
+            let all = self.read_on(reply_queue)?;
+            if all {
+                return Ok(true);
+            }
+            if !self.pause.again() {
+                return Ok(false);
+            }
+        }
+        Ok(false)
+    }
+
+    // Answers reads by the hall to which all entries were applied that stand in the log now. They are no entry.
+    fn answer_reads(
+        &mut self,
+        reply_queue: &mut ReplyQueue,
+        reads: &[Read],
+    ) -> Result<Prefetch, LogFault> {
+        if !self.read_to_end(reply_queue)? {
+            return Ok(Prefetch::Lost);
+        }
+        if self.log.is_blind() {
+            return Err(LogFault::Astray);
+        }
+        self.check_terms()?;
+        let Ok(()) = put_replies(self.alloc, self.log.hall(), reads, reply_queue) else {
+            return Err(LogFault::Memory);
+        };
+        self.answers = true;
+        Ok(Prefetch::Known)
+    }
+
+    /// Has the clients of this front end be served by these rules from now on. Reads are logged and all is admitted until this is called. Each entry tells
+    /// its rules, so that front ends of one log may differ in them.
+    pub fn choose_rules(&mut self, rules: Rules) {
+        self.rules = rules;
     }
 
     /// Returns true: other front ends share the stays in the pool, so that this persister ends them itself.
@@ -538,7 +622,13 @@ impl<S: Store, T: Pause> LogPersister<S, T> {
     fn offer(&mut self, lines: &[u8], reply_queue: &mut ReplyQueue) -> Result<(), LogFault> {
         let now = self.pause.seconds();
         let count = self.count.wrapping_add(1);
-        let Ok(()) = put_batch(&mut self.batch, Reads::Logged, &self.token, count, lines) else {
+        let Ok(()) = put_batch(
+            &mut self.batch,
+            Rules::all(Reads::Logged),
+            &self.token,
+            count,
+            lines,
+        ) else {
             return Err(LogFault::Memory);
         };
         self.count = count;
@@ -638,12 +728,10 @@ impl<S: Store, T: Pause> Persist<ReplyQueue> for LogPersister<S, T> {
         lines: &[u8],
     ) -> Result<Prefetch, LogFault> {
         self.count = self.count.wrapping_add(1);
-        self.compaction
-            .compact(&mut self.log, &mut self.pause, reply_queue)?;
-        let Ok(()) = put_batch(&mut self.batch, self.reads, &self.token, self.count, lines) else {
-            return Err(LogFault::Memory);
-        };
-        self.serve_batch(reply_queue)
+        match self.plain_reads(lines)? {
+            Some(reads) => self.answer_reads(reply_queue, &reads),
+            None => self.write_batch(reply_queue, lines),
+        }
     }
 
     fn tick(&mut self, reply_queue: &mut ReplyQueue) -> Result<(), LogFault> {

@@ -1,4 +1,4 @@
-// Erased by bindings/rust/erase from crates/service_follow/src/machine.rt, sha256 febb06c3932dc312af60378b918f6da87aeca662b5409caa2990efd8ce1db044.
+// Erased by bindings/rust/erase from crates/service_follow/src/machine.rt, sha256 774b5a9d015e2f67ac831613e8888e4b2e4295729224fb1a0584079bda5ccdbb.
 //! A hall to which the entries of a log are applied.
 
 use crate::kit::alloc::{AllocError, Global};
@@ -10,10 +10,12 @@ use crate::proved::service_follow::noting::Noting;
 use crate::proved::service_follow::reply_queue::ReplyQueue;
 use crate::proved::service_hall::hall::Hall;
 use crate::proved::service_hall::reads::Reads;
+use crate::proved::service_hall::rules::Rules;
 use crate::proved::service_log::machine::{ApplyFault, Machine};
 use crate::proved::text_lines::replies::Replies;
 use crate::proved::text_player::as_replies::AsReplies;
 use crate::proved::text_player::responder::Responder;
+use crate::proved::text_player::service::Service;
 
 /// What ends a line.
 const LF: u8 = 10;
@@ -21,9 +23,12 @@ const LF: u8 = 10;
 /// Where it stands in the first line of an entry whether its reads are plain: behind a token, a space and a count.
 const MARK: usize = 49;
 
+/// Where it stands behind that what the entry bars: a space, and then the place of `widen`, and that of `begin` and `step`.
+const BARS: usize = 55;
+
 /// A hall to which the entries of a log are applied. An entry is a first line, which is passed over, and then lines of commands, each with
 /// its LF: they are played over the hall in order, and what it says to them is put on a queue of replies. `quit` ends an entry. Where ` plain`
-/// stands behind the token and the count of the first line, the hall stores no read of the entry.
+/// stands behind the token and the count of the first line, the hall stores no read of the entry. Behind that it may tell what the entry bars.
 pub struct HallMachine {
     alloc: Global,
     noting: Noting,
@@ -52,9 +57,23 @@ fn reads_of(entry: &[u8]) -> Reads {
     }
 }
 
-/// Plays lines over a hall. The text of the replies is let go: what was said is noted.
-fn play(
-    noting: &mut Noting,
+/// Whether an entry bars what this place of its first line tells of.
+fn bars(entry: &[u8], place: usize) -> bool {
+    is_there(entry, MARK, b' ') && is_there(entry, BARS, b' ') && is_there(entry, place, b'-')
+}
+
+/// The rules by which the lines of an entry are played, as its first line says.
+fn rules_of(entry: &[u8]) -> Rules {
+    Rules {
+        reads: reads_of(entry),
+        widening: !bars(entry, BARS + 1),
+        naming: !bars(entry, BARS + 2),
+    }
+}
+
+/// Plays lines over a service that notes what it is asked for. The text of the replies is let go.
+pub(crate) fn play<D: Service<()>>(
+    service: &mut D,
     responder: &mut Responder<Global, AsReplies>,
     view: &mut View,
     replies: &mut Replies<Global>,
@@ -63,7 +82,7 @@ fn play(
     let mut at = 0;
     while at < lines.len() {
         replies.clear();
-        at += responder.take(&(), noting, view, &lines[at..], replies);
+        at += responder.take(&(), service, view, &lines[at..], replies);
     }
 }
 
@@ -100,7 +119,7 @@ impl HallMachine {
         let Ok(mut responder) = Responder::new(self.alloc, kind) else {
             return Err(AllocError);
         };
-        self.noting.begin(reads_of(entry));
+        self.noting.begin(rules_of(entry));
         play(
             &mut self.noting,
             &mut responder,

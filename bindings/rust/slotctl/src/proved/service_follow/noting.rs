@@ -1,4 +1,4 @@
-// Erased by bindings/rust/erase from crates/service_follow/src/noting.rt, sha256 c3128bf561a15104a51399e7558ea0213a95d591012e895423a53af0664c1512.
+// Erased by bindings/rust/erase from crates/service_follow/src/noting.rt, sha256 1380a139edd581426fc3842c7b62bccdabb8272b2bed45c1a9fa28f42dadd4dc.
 //! A hall of which each answer is noted.
 
 use crate::kit::alloc::{AllocError, Global};
@@ -12,6 +12,7 @@ use crate::proved::service_follow::note::{lacks_memory, Asked, Note};
 use crate::proved::service_follow::reply_queue::ReplyQueue;
 use crate::proved::service_hall::hall::Hall;
 use crate::proved::service_hall::reads::Reads;
+use crate::proved::service_hall::rules::Rules;
 use crate::proved::text_player::service::Service;
 
 /// A hall of which each answer is noted, until memory is refused.
@@ -20,8 +21,8 @@ pub(crate) struct Noting {
     hall: Hall,
     notes: Vec<Note>,
     lost: bool,
-    /// Whether the history stores reads.
-    reads: Reads,
+    /// By which rules it is asked.
+    rules: Rules,
 }
 
 impl Noting {
@@ -33,7 +34,7 @@ impl Noting {
             hall,
             notes: Vec::new(alloc),
             lost: false,
-            reads: Reads::Logged,
+            rules: Rules::all(Reads::Logged),
         })
     }
 
@@ -42,11 +43,11 @@ impl Noting {
         &self.hall
     }
 
-    /// Nothing is noted so far, and reads are logged or plain from then on.
-    pub(crate) fn begin(&mut self, reads: Reads) {
+    /// Nothing is noted so far, and it is asked by these rules from then on.
+    pub(crate) fn begin(&mut self, rules: Rules) {
         self.notes.clear();
         self.lost = false;
-        self.reads = reads;
+        self.rules = rules;
     }
 
     /// Has a queue of replies say what was noted; an error where memory was refused.
@@ -74,7 +75,7 @@ impl Noting {
 
 impl<R> Service<R> for Noting {
     fn apply(&mut self, _rt: &R, event: Event, view: &mut View) -> Reply<()> {
-        let reply = self.hall.serve_short(self.reads, event, view);
+        let reply = self.hall.serve_short(self.rules, event, view);
         self.note(Asked::ToTake(event), reply, view);
         reply
     }

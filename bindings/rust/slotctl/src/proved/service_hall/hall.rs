@@ -1,4 +1,4 @@
-// Erased by bindings/rust/erase from crates/service_hall/src/hall.rt, sha256 752efca20c1280c4331e5002c7f15291f1618b39b9b32db6cebfe774527f515e.
+// Erased by bindings/rust/erase from crates/service_hall/src/hall.rt, sha256 94b754ec4c36c203fe228cefce9124fed18bb4b40c88e99c6bd77f8f2a5442a0.
 //! A desk with its history.
 
 use crate::kit::alloc::Global;
@@ -10,7 +10,7 @@ use crate::proved::model_pool::slots::slots::Slots;
 use crate::proved::model_steps::refusal::Refusal;
 use crate::proved::model_steps::view::View;
 use crate::proved::service_hall::log::Log;
-use crate::proved::service_hall::reads::Reads;
+use crate::proved::service_hall::rules::{Rules, Way};
 use crate::proved::text_worlds::desk::desk::Desk;
 
 /// The most events of a history.
@@ -108,11 +108,13 @@ impl Hall {
         Reply::of_value(self.held.desk.slots().get(id).copied())
     }
 
-    /// Does what `read` does, if the event is a `get` and reads are plain, and else what `apply_short` does.
-    pub fn serve_short(&mut self, reads: Reads, event: Event, view: &mut View) -> Reply<()> {
-        match (reads, event) {
-            (Reads::Plain, Event::Get(id)) => self.read(id),
-            _ => self.apply_short(event, view),
+    /// Takes an event by rules: it does what `read` does if the event is a `get` and reads are plain, and what `apply_short` does if it is another that is
+    /// admitted. Any other is refused with `OutOfRange`, and changes nothing.
+    pub fn serve_short(&mut self, rules: Rules, event: Event, view: &mut View) -> Reply<()> {
+        match rules.way_of(event) {
+            Way::Applied => self.apply_short(event, view),
+            Way::Read(id) => self.read(id),
+            Way::Barred => Reply::Refused(Refusal::OutOfRange),
         }
     }
 

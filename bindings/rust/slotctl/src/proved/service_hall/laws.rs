@@ -1,4 +1,4 @@
-// Erased by bindings/rust/erase from crates/service_hall/src/laws.rt, sha256 d7aa36fb2e4dd7cf8407b0900ab66c23f045e7fc7be519c1e4418b48e8b68ffe.
+// Erased by bindings/rust/erase from crates/service_hall/src/laws.rt, sha256 904aa9a6a8b3d2e6023c1235c40c21e7d42fe9d0b3d8624bfc8ba1fd888db4e4.
 //! Laws of a hall, which run nothing.
 
 /// A law of a hall as a service.

@@ -1,4 +1,4 @@
-// Erased by bindings/rust/erase from crates/service_host/src/failure.rt, sha256 19a50d9116e7cc093285f657ccf1123f2849f2938de00bc984723db14709ad5d.
+// Erased by bindings/rust/erase from crates/service_host/src/failure.rt, sha256 da10e28f751219dcffc7d340da67bff83013b70f5c5be9b145f85a3c26d3c03a.
 //! Why a hall is not hosted, or no more.
 
 use crate::kit::alloc::AllocError;
@@ -66,6 +66,12 @@ pub enum HostFailure {
     /// The journal is one of another config, or of an older version.
     #[error("journal of another config: its first line says of which")]
     OtherConfig,
+    /// The pool of the hall has so many numbers, and fewer were asked for.
+    #[error("this hall has {0} numbers, and --k asks for fewer: numbers are never taken away; start it with --k {0}")]
+    Wider(u64),
+    /// The history of the hall is full, so that its pool was not widened.
+    #[error("the history of this hall is full, so that --k does not widen its pool")]
+    NotWidened,
     /// The line of this number of the journal is none that a server writes.
     #[error("journal: line {0} is none of a server")]
     OtherLine(u64),

@@ -1,4 +1,4 @@
-// Erased by bindings/rust/erase from crates/service_host/src/holders.rt, sha256 63745e35cb6f66a54904d8b2c1667fc17f594595ec674d8361665317394218bb.
+// Erased by bindings/rust/erase from crates/service_host/src/holders.rt, sha256 06e4662cc1e5a2b005404a95264a493196236bd2c206aa09295aad965e75bf5e.
 //! Who holds numbers by the record of a hall.
 
 use crate::kit::alloc::Global;
@@ -28,8 +28,13 @@ fn read_all<R: Read>(alloc: Global, input: &mut R) -> Result<Vec<u8>, HostFailur
     }
 }
 
-// The config that the first line of a record says.
-fn config_of(alloc: Global, bytes: &[u8]) -> Result<Config, HostFailure> {
+/// Returns the config that the first line of a record says.
+///
+/// # Errors
+///
+/// - `BadRecord`: it is no first line of a record.
+/// - `Memory`: an allocation failed.
+pub(crate) fn config_of(alloc: Global, bytes: &[u8]) -> Result<Config, HostFailure> {
     let end = bytes.iter().position(|byte| *byte == LF).unwrap_or(0);
     match read_header(alloc, &bytes[..end.min(bytes.len())]) {
         Ok(Some(header)) => Ok(header.config),

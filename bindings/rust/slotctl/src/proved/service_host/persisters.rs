@@ -1,4 +1,4 @@
-// Erased by bindings/rust/erase from crates/service_host/src/persisters.rt, sha256 4d83bacec9383ad67a54504dc82690749354a373610e2e47bc5888d35eda4ad0.
+// Erased by bindings/rust/erase from crates/service_host/src/persisters.rt, sha256 4748e8d98d3ac4d879d864b0d107b617372fd39d1933cf773173862d20a3f79d.
 //! What is kept of the turns of a loop over a hall.
 
 use crate::kit::alloc::{Allocator, Global};

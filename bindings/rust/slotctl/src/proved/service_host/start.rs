@@ -1,4 +1,4 @@
-// Erased by bindings/rust/erase from crates/service_host/src/start.rt, sha256 48925b21e33d0daf1d422a23db47024240defde140f58e418d123e0de5522a80.
+// Erased by bindings/rust/erase from crates/service_host/src/start.rt, sha256 914ad8c05c704bb657ef3674d3963ae960020d69dd777fd82fc451381d0c7baf.
 //! A whole server of a hall, by its plan.
 
 use crate::kit::alloc::{AllocGlobal, Global};
@@ -17,20 +17,26 @@ use crate::proved::service_follow::pause::Pause;
 use crate::proved::service_follow::reply_queue::ReplyQueue;
 use crate::proved::service_hall::compactor::Compactor;
 use crate::proved::service_hall::hall::Hall;
-use crate::proved::service_hall::reads::Reads;
+use crate::proved::service_hall::rules::Rules;
 use crate::proved::service_host::audit_file::AuditFile;
 use crate::proved::service_host::export::write_events;
 use crate::proved::service_host::failure::HostFailure;
+use crate::proved::service_host::holders::config_of;
 use crate::proved::service_host::keepers::stays_at_start;
 use crate::proved::service_host::log_plan::{
     fresh_token, members_of, LogPlan, Patience, MEMBER_SECONDS,
 };
 use crate::proved::service_host::persisters::{Recorded, Unrecorded};
 use crate::proved::service_host::reading::Reading;
+use crate::proved::service_host::sizes::{are_alike_but_size, config_in};
 use crate::proved::service_host::terms::{followed_any, terms_by, warn_of_none};
+use crate::proved::service_host::widening::{
+    check_size, widen_followed, widen_recorded, SizeAsked,
+};
 use crate::proved::service_journal::disk::Disk;
 use crate::proved::service_journal::file_disk::FileDisk;
-use crate::proved::service_journal::journal::{Journal, Opened};
+use crate::proved::service_journal::journal::{Journal, NotOpened, Opened};
+use crate::proved::service_journal::opening::OpenFault;
 use crate::proved::service_journal::sealed_disk::SealedDisk;
 use crate::proved::service_log::etcd::dial::TcpDial;
 use crate::proved::service_log::etcd::etcd_store::EtcdStore;
@@ -68,8 +74,8 @@ pub struct HostPlan<'a> {
     pub idle: Option<u64>,
     /// How many seconds after its connection has ended a stay ends; never, where it is not given.
     pub grace: Option<u64>,
-    /// Whether the history stores reads: the `get` of clients.
-    pub reads: Reads,
+    /// Whether the history stores reads, the `get` of clients, and what clients may ask for.
+    pub rules: Rules,
     /// Where the history is kept.
     pub keeping: Keeping<'a>,
     /// Whether a line at first and then one a minute tells how much there is.
@@ -88,6 +94,14 @@ impl HostPlan<'_> {
             grace: self.grace,
             reports: self.reports,
             logs: self.log.is_some(),
+        }
+    }
+
+    // How many numbers the pool is to have.
+    fn size_asked(&self) -> SizeAsked {
+        SizeAsked {
+            size: self.config.k,
+            by_clients: self.rules.widening,
         }
     }
 
@@ -114,6 +128,24 @@ fn ended<R: Files>(
     }
 }
 
+// Opens a journal that was not opened with a config, if that differs from the one that it was made with in the size of the pool alone.
+fn reopened<D: Disk>(
+    alloc: Global,
+    refused: NotOpened<D>,
+    config: Config,
+) -> Result<Opened<D>, HostFailure> {
+    let NotOpened { fault, mut disk } = refused;
+    if fault != OpenFault::OtherConfig {
+        return Err(HostFailure::from(fault));
+    }
+    let bytes = disk.read(alloc)?;
+    let made = config_of(alloc, &bytes)?;
+    if !are_alike_but_size(config, made) {
+        return Err(HostFailure::OtherConfig);
+    }
+    Ok(Journal::open(alloc, disk, made)?)
+}
+
 // Opens the journal of a path, or makes it where it is to be new. One that another server has is refused.
 fn open_journal<R: Clock + Files<File = File> + AllocGlobal + Copy>(
     rt: &R,
@@ -128,7 +160,10 @@ fn open_journal<R: Clock + Files<File = File> + AllocGlobal + Copy>(
         FileDisk::open(rt, path)?
     };
     let lines = SealedDisk::open(alloc, disk)?;
-    Ok(Journal::open(alloc, lines, config)?)
+    match Journal::open(alloc, lines, config) {
+        Ok(opened) => Ok(opened),
+        Err(refused) => reopened(alloc, refused, config),
+    }
 }
 
 // Serves a hall whose history is in the journal of a path.
@@ -165,6 +200,9 @@ fn host_recorded<R: Net + Wait + Clock + Files, D: Disk, L: AuditLog, W: Write, 
         journal,
         mut write_ahead,
     } = opened;
+    if let Err(failure) = check_size(write_ahead.hall(), plan.size_asked()) {
+        return Err(failure);
+    }
     let mut persister = Recorded {
         journal,
         alloc,
@@ -173,13 +211,25 @@ fn host_recorded<R: Net + Wait + Clock + Files, D: Disk, L: AuditLog, W: Write, 
     if let Err(fault) = persister.compact_when_due(&mut write_ahead) {
         return Err(HostFailure::from(fault));
     }
-    let stays = match stays_at_start(alloc, write_ahead.hall(), plan.grace) {
+    // The operator may widen the pool where clients may not.
+    let mut reading = Reading {
+        service: write_ahead,
+        rules: Rules::all(plan.rules.reads),
+    };
+    if let Err(failure) = widen_recorded(
+        rt,
+        alloc,
+        plan.size_asked(),
+        &mut reading,
+        &mut persister,
+        errors,
+    ) {
+        return Err(failure);
+    }
+    reading.rules = plan.rules;
+    let stays = match stays_at_start(alloc, reading.service.hall(), plan.grace) {
         Ok(stays) => stays,
         Err(failure) => return Err(failure),
-    };
-    let reading = Reading {
-        service: write_ahead,
-        reads: plan.reads,
     };
     let mut attended = Attended::new(reading, stays, plan.grace.is_some(), plan.audit(alloc));
     let Listening { listeners, file } = match listen(rt, alloc, plan.listen) {
@@ -212,7 +262,7 @@ fn host_unrecorded<R: Net + Wait + Clock + Files, L: AuditLog, W: Write, E: Writ
     let hall = Hall::new(alloc, plan.config)?;
     let reading = Reading {
         service: hall,
-        reads: plan.reads,
+        rules: plan.rules,
     };
     let mut attended = Attended::new(
         reading,
@@ -267,6 +317,11 @@ fn followed<R: Files<File = File>, S: Store, P: Pause>(
     pause: P,
     terms: HallTerms,
 ) -> Result<LogPersister<S, P>, HostFailure> {
+    let (mut store, mut pause) = (store, pause);
+    let config = match config_in(alloc, &mut store, &mut pause, config) {
+        Ok(config) => config,
+        Err(failure) => return Err(failure),
+    };
     match fresh_token(rt) {
         Ok(token) => Ok(LogPersister::open(
             alloc, store, pause, config, token, terms,
@@ -315,13 +370,23 @@ where
         Err(failure) => return Err(failure),
     };
     warn_of_none(persister.told_terms(), errors);
+    // Who kept the stays that are there at the start follows from the log.
+    let mut reply_queue = ReplyQueue::new(alloc);
+    if let Err(failure) = widen_followed(
+        rt,
+        alloc,
+        plan.size_asked(),
+        &mut reply_queue,
+        &mut persister,
+        errors,
+    ) {
+        return Err(failure);
+    }
     let Listening { listeners, file } = match listen(rt, alloc, plan.listen) {
         Ok(listening) => listening,
         Err(fault) => return Err(HostFailure::from(fault)),
     };
-    persister.choose_reads(plan.reads);
-    // Who kept the stays that are there at the start follows from the log.
-    let reply_queue = ReplyQueue::new(alloc);
+    persister.choose_rules(plan.rules);
     let mut attended = Attended::new(
         reply_queue,
         Stays::new(alloc),
@@ -395,6 +460,9 @@ fn open_audit<'a, R: Files<File = File>>(
 /// dropped, and a file that is no record of a run of this config is refused, with nothing changed. Each accepted event is on the disk
 /// before its reply is sent.
 ///
+/// A hall whose pool has fewer numbers than the plan's config is widened before anything is listened on, and that is said on standard error. One with more is
+/// refused.
+///
 /// Where a log is named, the hall is that of all that stands in it, by whichever server of the hall it came there, and each reply is sent
 /// once its line stands there. Clients wait while the members do not answer, and are closed once the plan's patience ends.
 ///
@@ -404,7 +472,8 @@ fn open_audit<'a, R: Files<File = File>>(
 ///
 /// # Errors
 ///
-/// - Before anything is listened on: the audit log could not be opened; the journal or the log could not be opened, or holds another hall; or an address could not be bound.
+/// - Before anything is listened on: the audit log could not be opened; the journal or the log could not be opened, or holds another hall; the pool has more
+///   numbers, or could not be widened; or an address could not be bound.
 /// - Later: the journal, the log, standard output, the system's poll or an allocation failed. Nothing is sent of that turn.
 pub fn host_hall<R, W: Write, E: Write>(
     rt: &R,

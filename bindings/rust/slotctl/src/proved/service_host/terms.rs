@@ -1,4 +1,4 @@
-// Erased by bindings/rust/erase from crates/service_host/src/terms.rt, sha256 1d39d1c5d7d813627b72bed71e21850e5527c70e798415b60f57af422b269a27.
+// Erased by bindings/rust/erase from crates/service_host/src/terms.rt, sha256 03d924fdb68a3ff010fac6000b0ed6db0cac40b791cc0380c619394f0b1e5d21.
 //! For how long stays go on in a hall over a log, and how an operator changes that.
 
 use crate::kit::alloc::Global;
@@ -13,6 +13,7 @@ use crate::proved::service_follow::pause::Pause;
 use crate::proved::service_follow::reply_queue::ReplyQueue;
 use crate::proved::service_host::failure::HostFailure;
 use crate::proved::service_host::log_plan::{fresh_token, LogPlan, Patience};
+use crate::proved::service_host::sizes::config_in;
 use crate::proved::service_host::start::store_of;
 use crate::proved::service_log::store::Store;
 
@@ -31,10 +32,11 @@ pub(crate) fn terms_by(grace: Option<u64>) -> HallTerms {
     }
 }
 
-/// Opens the hall of a log, whatever that stands in and whatever its terms: all that stands there is applied.
+/// Opens the hall of a log, whatever that stands in, and whatever its terms and the size of its pool: all that stands there is applied.
 ///
 /// # Errors
 ///
+/// - Those of `config_in`.
 /// - `NoToken`: the system gave no random bytes.
 /// - Those of `LogPersister::open_any`.
 pub(crate) fn followed_any<R: Files<File = File>, S: Store, P: Pause>(
@@ -45,6 +47,11 @@ pub(crate) fn followed_any<R: Files<File = File>, S: Store, P: Pause>(
     pause: P,
     terms: HallTerms,
 ) -> Result<LogPersister<S, P>, HostFailure> {
+    let (mut store, mut pause) = (store, pause);
+    let config = match config_in(alloc, &mut store, &mut pause, config) {
+        Ok(config) => config,
+        Err(failure) => return Err(failure),
+    };
     match fresh_token(rt) {
         Ok(token) => Ok(LogPersister::open_any(
             alloc, store, pause, config, token, terms,

@@ -163,7 +163,7 @@ pub struct NotOpened<D: Disk> {
     /// Why it was not.
     pub fault: OpenFault,
     /// The disk.
-    pub _disk: D,
+    pub disk: D,
 }
 
 /// Returns what a record with so many whole bytes lacks: its header if there are none, and else nothing.
@@ -226,7 +226,7 @@ impl<D: Disk> Journal<D> {
                 journal: Journal { disk, ended: false },
                 write_ahead,
             }),
-            Err(fault) => Err(NotOpened { fault, _disk: disk }),
+            Err(fault) => Err(NotOpened { fault, disk }),
         }
     }
 

@@ -105,7 +105,7 @@ impl<D: Disk> SealedDisk<D> {
                 disk,
                 torn: false,
             }),
-            Err(fault) => Err(NotOpened { fault, _disk: disk }),
+            Err(fault) => Err(NotOpened { fault, disk }),
         }
     }
 }

@@ -1,4 +1,4 @@
-// Erased by bindings/rust/erase from crates/tool_work/src/asked.rt, sha256 ed33075553dcac99ec2d42497e3b975bc73ad43eee997dbfd9abebe2d847934b.
+// Erased by bindings/rust/erase from crates/tool_work/src/asked.rt, sha256 6e4c76bf5a1a9a455d54a8da95007191395d193f79e05c8c8f93985a23474151.
 //! What the program can be asked for.
 
 use crate::kit::net::IpAddr;
@@ -265,11 +265,22 @@ impl<'a> Endpoints<'a> {
     }
 }
 
+/// What clients may ask for, beside numbers.
+#[derive(Clone, Copy)]
+pub struct Admissions {
+    /// Whether they may begin and step, to get names.
+    pub naming: bool,
+    /// Whether they may widen the pool.
+    pub widening: bool,
+}
+
 /// The hall that is hosted.
 #[derive(Clone, Copy)]
 pub struct Hosting<'a> {
     /// The world of the hall, in which names are given, and its sizes.
     pub config: Config,
+    /// What clients may ask for.
+    pub admissions: Admissions,
     /// What it is reached by.
     pub endpoints: Endpoints<'a>,
     /// How many clients are served at once, from 1 to 1,000,000.
@@ -292,6 +303,7 @@ impl<'a> Hosting<'a> {
     /// Returns a hosting of these values, or `None` if one of them is outside its range.
     pub fn new(
         config: Config,
+        admissions: Admissions,
         endpoints: Endpoints<'a>,
         clients: u64,
         idle: u64,
@@ -309,6 +321,7 @@ impl<'a> Hosting<'a> {
         }
         Some(Hosting {
             config,
+            admissions,
             endpoints,
             clients,
             idle,

@@ -1,4 +1,4 @@
-// Erased by bindings/rust/erase from crates/tool_work/src/words.rt, sha256 e248545e5b6acd0a217095109beac0306c4c0900e83504b6deb476cbd2b1fe1b.
+// Erased by bindings/rust/erase from crates/tool_work/src/words.rt, sha256 a2817e29f8e4c5bcae4370a5a584648aa7060d74c202e640da24e8def9702f2f.
 //! What the words of a command line ask for.
 
 use crate::kit::alloc::Global;
@@ -10,7 +10,8 @@ use crate::kit::String;
 use crate::proved::model_asked::config::Config;
 use crate::proved::model_asked::kind::WorldKind;
 use crate::proved::tool_work::asked::{
-    Ask, Drawing, Endpoints, Holding, Hosting, Keeping, LogWords, Playing, Racing, Serving, Showing,
+    Admissions, Ask, Drawing, Endpoints, Holding, Hosting, Keeping, LogWords, Playing, Racing,
+    Serving, Showing,
 };
 use crate::proved::tool_work::command_line::slotctl_command;
 use crate::proved::tool_work::misuse::Misuse;
@@ -205,6 +206,39 @@ fn reads_given(matches: &ArgMatches<'_>) -> Option<bool> {
     }
 }
 
+// The world of the hall that the options of `host` give.
+fn hall_world_given(matches: &ArgMatches<'_>) -> Option<WorldKind> {
+    match text_given(matches, "world") {
+        Some(name) => WorldKind::named(name),
+        None => Some(WorldKind::Rename),
+    }
+}
+
+// The config of the hall that the options of `host` give, where they give one.
+fn hall_given(matches: &ArgMatches<'_>) -> Option<Config> {
+    let world = hall_world_given(matches)?;
+    let m = number_given(matches, "m")?;
+    let k = number_given(matches, "k")?;
+    let limit = number_given(matches, "limit")?;
+    Config::new(world, m, k, limit).ok()
+}
+
+// What the options of `host` have clients ask for, where they say so.
+fn admissions_given(matches: &ArgMatches<'_>) -> Option<Admissions> {
+    let naming = text_given(matches, "world").is_some();
+    match text_given(matches, "admit") {
+        None => Some(Admissions {
+            naming,
+            widening: false,
+        }),
+        Some("widen") => Some(Admissions {
+            naming,
+            widening: true,
+        }),
+        Some(_) => None,
+    }
+}
+
 // What the options of `host` have the hall reached by, where they say so.
 fn endpoints_given<'a>(matches: &ArgMatches<'a>) -> Option<Endpoints<'a>> {
     let address = address_given(matches, "address")?;
@@ -218,7 +252,8 @@ fn endpoints_given<'a>(matches: &ArgMatches<'a>) -> Option<Endpoints<'a>> {
 
 // What the options of `host` give, where they give something.
 fn host_given<'a>(matches: &ArgMatches<'a>) -> Option<Hosting<'a>> {
-    let config = config_given(matches)?;
+    let config = hall_given(matches)?;
+    let admissions = admissions_given(matches)?;
     let endpoints = endpoints_given(matches)?;
     let clients = number_given(matches, "clients")?;
     let holding = holding_given(matches)?;
@@ -229,6 +264,7 @@ fn host_given<'a>(matches: &ArgMatches<'a>) -> Option<Hosting<'a>> {
     let log = text_given(matches, "log");
     Hosting::new(
         config,
+        admissions,
         endpoints,
         clients,
         idle,
@@ -285,6 +321,9 @@ fn why_nothing_in(world: WorldKind, options: &ArgMatches<'_>) -> &'static str {
     if reads_given(options).is_none() {
         return "error: '--reads' wants plain or logged\n";
     }
+    if admissions_given(options).is_none() {
+        return "error: '--admit' wants widen\n";
+    }
     if text_given(options, "journal").is_some() {
         return "error: '--journal' goes with none of '--etcd', '--prefix', '--export' and '--change-terms'\n";
     }
@@ -296,8 +335,12 @@ fn why_nothing_in(world: WorldKind, options: &ArgMatches<'_>) -> &'static str {
 
 // Why what clap takes asks for nothing, as a text for people.
 fn why_nothing(matches: &ArgMatches<'_>) -> &'static str {
-    if let Some((_, options)) = matches.subcommand() {
-        if let Some(world) = world_given(options) {
+    if let Some((name, options)) = matches.subcommand() {
+        let world = match name {
+            "host" => hall_world_given(options),
+            _ => world_given(options),
+        };
+        if let Some(world) = world {
             return why_nothing_in(world, options);
         }
     }

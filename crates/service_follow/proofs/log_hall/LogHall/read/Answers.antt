@@ -1,5 +1,5 @@
 -- All entries that the store has were applied.
-use Rattle.std.proofs.Common.{rules, ◌<◌, subst}
+use Rattle.std.proofs.Common.{rules, ◌<◌, refl, subst}
 use Rattle.service_follow.specs.Decided.{HasRead}
 use Rattle.service_follow.specs.FollowState.{FollowState}
 use Rattle.service_follow.specs.Stays.{start_of}
@@ -17,3 +17,15 @@ returns-then-passed-most-clause-read g c = λ all.
       end = c.catch_up.new.store;
       at_end = c.in_ok-passed.ensures.stopped less;
     })
+
+pub returns-then-passed-most-clause-all : goal.returns-then-passed-most-clause-all
+returns-then-passed-most-clause-all g c = λ all.
+    let from = c.self.inside.from in
+    let start = start_of c.self.inside.config from in
+    let less : c.in_ok-passed.passed < c.args.most = search rules in
+    record {
+      applied = c.catch_up.ensures.follows from start c.self.invariant c.in_ok-passed.ensures.well;
+      at_end = c.in_ok-passed.ensures.stopped less;
+      well = c.in_ok-passed.ensures.well;
+      place = refl;
+    }

@@ -1,5 +1,5 @@
 -- The last part of a compaction was read.
-use Rattle.std.proofs.Common.{◌≡◌, Some, Option, Result, Ok, Err, OnOk, ap, subst, sym, ◌∙◌}
+use Rattle.std.proofs.Common.{◌≡◌, Option, Result, Ok, Err, OnOk, ap, subst, sym, ◌∙◌}
 use Rattle.service_follow.specs.Stays.{EndsFrom, TellsTheSame}
 use Rattle.service_follow.specs.StayState.{StayState}
 use Rattle.service_follow.specs.declared.gathering.Gathering.{Gathering}
