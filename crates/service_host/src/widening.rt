@@ -77,7 +77,8 @@ pub(crate) fn ask_to_widen<R, D: Service<R>, K: Persist<D>>(
     line: &[u8],
 ) -> Result<Option<Reply<()>>, K::Fault>
     requires known { D.knows (Take (Event.Widen size)) ≡ true }
-    ensures { IfOk result (λ o. IfSome o (λ reply. IsAskedFor K.prefetches D.may K.persists size line.now persister.old service.old reply persister.new service.new)) }
+    ensures { IfOk result (λ o. IfSome o (λ reply. IsAskedFor K.prefetches D.may K.persists size line.now persister.old service.old reply
+        persister.new service.new)) }
 {
     let mut view = View::new();
     match persister.prefetch(service, line)? {

@@ -1,4 +1,4 @@
-// Erased by bindings/rust/erase from crates/service_host/src/widening.rt, sha256 f9888b6cceb26b1c20b2989f72ce308314ffacf587df3bef816362c8b210d8c3.
+// Erased by bindings/rust/erase from crates/service_host/src/widening.rt, sha256 59299724cdadbb3533b3e99bf95c4ffea742804ef75356d12400cd22fc3a5e63.
 //! How a hall gets more numbers before it is served.
 
 use crate::kit::alloc::Global;
