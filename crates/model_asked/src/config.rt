@@ -7,6 +7,9 @@ ghost use Rattle.model_asked.specs.rounds.Rounds.{most_proposals};
 use crate::kind::WorldKind;
 use model_steps::Refusal;
 
+/// The most numbers that the pool of a run may get, but in the wide world.
+pub const MOST_NUMBERS: usize = 64;
+
 /// The configuration of a run: its world and its sizes, each in its range.
 #[derive(Clone, Copy, Debug, Drop, PartialEq, Eq)]
 pub struct Config {
@@ -14,7 +17,7 @@ pub struct Config {
     pub world: WorldKind,
     /// The most participants: from 1 to 64 if the world is `Tree`, and from 1 to 16 otherwise.
     pub m: u64,
-    /// The size of the pool, from 1 to 64.
+    /// The size of the pool: from 1 to 65,536 if the world is `Wide`, and from 1 to 64 otherwise.
     pub k: u64,
     /// The round limit, from 1 to 1,000,000.
     pub limit: u64,
@@ -32,7 +35,13 @@ impl Config {
         ensures range { IsOk result ↔ IsConfigRange world m k limit }
         ensures only { IfErr result (λ r. r ≡ Refusal.OutOfRange) }
     {
-        if m < 1 || world.most() < m || k < 1 || 64 < k || limit < 1 || 1_000_000 < limit {
+        if m < 1
+            || world.most() < m
+            || k < 1
+            || world.most_numbers() < k
+            || limit < 1
+            || 1_000_000 < limit
+        {
             return Err(Refusal::OutOfRange);
         }
         Ok(Config { world, m, k, limit })

@@ -1,7 +1,7 @@
 //! What a participant does, and the growth of the pool.
 
 /// One event: an action of one participant, or the growth of the pool, which is no participant's. It makes at most one
-/// access.
+/// access, but for `Seek`, which stands for probes that make one each.
 ///
 /// The identity is as it was written, 0 included.
 #[derive(Clone, Copy, Debug, Drop, PartialEq, Eq)]
@@ -14,6 +14,8 @@ pub enum Event {
     Enter(u64),
     /// The competitor makes its next access to the bits of the pool.
     Probe(u64),
+    /// The competitor probes until it has a number. The wide world alone knows it.
+    Seek(u64),
     /// The competitor gives its number back and stops competing.
     Leave(u64),
     /// The holder of a number puts a value into its slot.

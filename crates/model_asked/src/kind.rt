@@ -1,7 +1,7 @@
 //! The worlds.
 
 ghost use Rattle.std.specs.Prelude.{◌≡◌, ◌≢◌, ◌≤◌, length, Contains, IfSome, IfNone};
-ghost use Rattle.model_asked.specs.Config.{gives_names, is_played_over, is_tree, most_in, world_name};
+ghost use Rattle.model_asked.specs.Config.{gives_names, is_played_over, is_tree, is_wide, most_in, numbers_in, world_name};
 ghost use Rattle.model_asked.specs.declared.kind.WorldKind.{WorldKind};
 
 /// The worlds, as the help of a command line lists them.
@@ -18,11 +18,13 @@ pub enum WorldKind {
     Rename,
     /// Renaming over the places of a tree of splitters, which grows on demand.
     Tree,
+    /// Renaming as in `Rename`, beside a pool of many numbers. Servers alone play it.
+    Wide,
 }
 
 impl WorldKind {
     /// Returns all of them.
-    pub fn all() -> [WorldKind; 4]
+    pub fn all() -> [WorldKind; 5]
         ensures { (kind : WorldKind) → Contains result kind }
     {
         [
@@ -30,6 +32,7 @@ impl WorldKind {
             WorldKind::Grid,
             WorldKind::Rename,
             WorldKind::Tree,
+            WorldKind::Wide,
         ]
     }
 
@@ -43,6 +46,7 @@ impl WorldKind {
             WorldKind::Grid => "grid",
             WorldKind::Rename => "rename",
             WorldKind::Tree => "tree",
+            WorldKind::Wide => "wide",
         }
     }
 
@@ -59,6 +63,8 @@ impl WorldKind {
             Some(WorldKind::Rename)
         } else if word == WorldKind::Tree.name() {
             Some(WorldKind::Tree)
+        } else if word == WorldKind::Wide.name() {
+            Some(WorldKind::Wide)
         } else {
             None
         }
@@ -73,6 +79,7 @@ impl WorldKind {
             WorldKind::Grid => false,
             WorldKind::Rename => false,
             WorldKind::Tree => true,
+            WorldKind::Wide => false,
         }
     }
 
@@ -86,6 +93,7 @@ impl WorldKind {
             WorldKind::Grid => false,
             WorldKind::Rename => true,
             WorldKind::Tree => true,
+            WorldKind::Wide => true,
         }
     }
 
@@ -98,6 +106,34 @@ impl WorldKind {
             WorldKind::Grid => 16,
             WorldKind::Rename => 16,
             WorldKind::Tree => 64,
+            WorldKind::Wide => 16,
+        }
+    }
+
+    /// Returns the most numbers of its pool: 65,536 in the wide world, 64 otherwise.
+    pub fn most_numbers(self) -> u64
+        ensures { result ≡ numbers_in self }
+    {
+        match self {
+            WorldKind::Splitter => 64,
+            WorldKind::Grid => 64,
+            WorldKind::Rename => 64,
+            WorldKind::Tree => 64,
+            WorldKind::Wide => 65_536,
+        }
+    }
+
+    /// Whether its pool may have many numbers, and `seek` is known.
+    #[inline(always)]
+    pub fn is_wide(self) -> bool
+        ensures { result ≡ is_wide self }
+    {
+        match self {
+            WorldKind::Splitter => false,
+            WorldKind::Grid => false,
+            WorldKind::Rename => false,
+            WorldKind::Tree => false,
+            WorldKind::Wide => true,
         }
     }
 

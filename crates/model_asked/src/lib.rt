@@ -31,7 +31,7 @@ pub mod rounds;
 
 pub use bad::Bad;
 pub use command::Command;
-pub use config::Config;
+pub use config::{Config, MOST_NUMBERS};
 pub use event::Event;
 pub use exchange::Exchange;
 pub use kind::{ANY_WORLD, WorldKind};

@@ -34,9 +34,9 @@ pub enum Reply<V> {
     /// The bit was set: the next probe is of the next bit.
     Missed,
     /// The competitor holds this number.
-    Got(u8),
+    Got(u32),
     /// The competitor has given this number back.
-    Left(u8),
+    Left(u32),
     /// The value in the slot of the number that is held.
     Value(u64),
     /// The identity that has the name, or `None` if no identity has it.
@@ -123,7 +123,7 @@ impl Reply<()> {
     }
 
     /// Returns the reply for the outcome of a call that gives a number back.
-    pub fn of_leave(outcome: Result<u8, Refusal>) -> Self
+    pub fn of_leave(outcome: Result<u32, Refusal>) -> Self
         ensures { (view : List (ℕ × ℕ)) → with_view result view ≡ left_reply outcome }
     {
         match outcome {

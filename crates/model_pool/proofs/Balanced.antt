@@ -1,7 +1,7 @@
 -- bits and competitors keep in balance: the argument for the last number
 use Rattle.std.proofs.Common.{◌≡◌, ◌≢◌, ℕ, suc, ◌+◌, ◌-◌, ◌≤◌, ◌<◌, Bool, true, false, not, ◌==◌, nat_le, List, [], ◌∷◌, ◌++◌, Some, None, length, get_or, set, replicate, max, inl, inr, refl, sym, ap, subst, ◌∙◌, arith, is_some}
 use Rattle.model_pool.proofs.Common.{leb_tells, Decides-eqb, nat_tests, Competitor, Stay, Seeking, Settled, held_at, identities, stay_of, with_stay, without, holds_at, set_at-is}
-use Rattle.std.proofs.lemmas.List.{get_or-set_same, get_or-set_other, get_or-replicate, length-set, length-append}
+use Rattle.std.proofs.lemmas.List.{get_or-set_same, get_or-set_other, get_or-replicate, length-replicate, length-set, length-append}
 use Rattle.model_pool.proofs.StayOfLemmas.{stay_of-push, stay_of-with_stay, stay_of-without, identities-with_stay, length-identities}
 use Rattle.model_pool.proofs.Counts.{one, count, competitor, is_of, holds, seeks, reaches, number_of, one_most, count-push, count-with_stay, count-without, count-some, count-absent, count-length, count-none, length-filter, reaches-split}
 
@@ -15,8 +15,7 @@ IsPlaced size (Settled number) = (1 ≤ number) × (number ≤ size)
 -- number free
 pub record IsBalanced (size : ℕ) (bits : List Bool) (cs : List Competitor) : Type 0 where
   pub first : 1 ≤ size
-  pub last : size ≤ 64
-  pub room : length bits ≡ 65
+  pub last : size < length bits
   pub held : (i : ℕ) → i < size → one (get_or bits i false) ≡ count (holds i) cs
   pub spare : (i : ℕ) → size ≤ i → get_or bits i false ≡ false
   pub crowd : length cs ≤ size
@@ -29,13 +28,12 @@ clear_at : (n i : ℕ) → get_or (replicate n false) i false ≡ false
 clear_at (suc n) (suc i) = clear_at n i
 clear_at n i = refl
 
-pub balanced_fresh : (size : ℕ) → 1 ≤ size → size ≤ 64 → IsBalanced size (replicate 65 false) []
-balanced_fresh size first last = record {
+pub balanced_fresh : (most size : ℕ) → 1 ≤ size → size ≤ most → IsBalanced size (replicate (most + 1) false) []
+balanced_fresh most size first last = record {
   first = first;
-  last = last;
-  room = refl;
-  held = λ i h. let lt : i < 65 = omega arith in ap one (get_or-replicate 65 i false false lt);
-  spare = λ i h. clear_at 65 i;
+  last = omega (arith, last, length-replicate (most + 1) false);
+  held = λ i h. let lt : i < most + 1 = omega (arith, h, last) in ap one (get_or-replicate (most + 1) i false false lt);
+  spare = λ i h. clear_at (most + 1) i;
   crowd = omega arith;
   reach = λ i h k. omega arith;
   apart = λ p. omega arith;
@@ -49,7 +47,6 @@ balanced_entered size bits cs id b absent room =
     record {
       first = b.first;
       last = b.last;
-      room = b.room;
       held = λ i h. let pushed : count (holds i) (cs ++ new ∷ []) ≡ count (holds i) cs + 0 = count-push (holds i) cs new in omega (arith, b.held i h);
       spare = b.spare;
       crowd = omega (arith, length-append cs (new ∷ []));
@@ -71,7 +68,7 @@ balanced_entered size bits cs id b absent room =
 
 -- a probe of `next` that leaves this state
 pub record IsProbed (size : ℕ) (bits after : List Bool) (cs : List Competitor) (next : ℕ) (new : Stay) : Type 0 where
-  pub room : length after ≡ 65
+  pub room : length after ≡ length bits
   pub held : (i : ℕ) → i < size → one (get_or after i false) ≡ one (get_or bits i false) + one (holds_at i (held_at new))
   pub spare : (i : ℕ) → size ≤ i → get_or after i false ≡ get_or bits i false
   pub reach : (i : ℕ) → 1 ≤ i → i ≤ size → count (reaches i) cs + one (nat_le i (number_of new)) + i ≤ size + 1 + one (nat_le i next)
@@ -80,8 +77,7 @@ pub record IsProbed (size : ℕ) (bits after : List Bool) (cs : List Competitor)
 pub balanced_probed : (size : ℕ) (bits after : List Bool) (cs : List Competitor) (id next : ℕ) (new : Stay) → IsBalanced size bits cs → stay_of id cs ≡ Some (Seeking next) → IsProbed size bits after cs next new → IsBalanced size after (with_stay id new cs)
 balanced_probed size bits after cs id next new b here m = record {
   first = b.first;
-  last = b.last;
-  room = m.room;
+  last = omega (arith, b.last, m.room);
   held = λ i h.
       let moved : count (holds i) (with_stay id new cs) + 0 ≡ count (holds i) cs + one (holds_at i (held_at new)) = count-with_stay (holds i) cs id (Seeking next) new here in
       omega (arith, b.held i h, m.held i h);
@@ -120,9 +116,9 @@ module _ (size : ℕ) (bits : List Bool) (cs : List Competitor) (id next : ℕ) 
   probed_clear below clear =
       let p : IsPlaced size (Seeking next) = b.placed id (Seeking next) here in
       record {
-        room = length-set bits next true ∙ b.room;
+        room = length-set bits next true;
         held = λ i h.
-            let here_set = get_or-set_same bits next true false (omega (arith, below, b.room, b.last)) in
+            let here_set = get_or-set_same bits next true false (omega (arith, below, b.last)) in
             let spared = get_or-set_other bits next i true false in
             grind (arith, nat_tests);
         spare = λ i h. get_or-set_other bits next i true false (λ e. omega (arith, below, h, e));
@@ -145,7 +141,7 @@ module _ (size : ℕ) (bits : List Bool) (cs : List Competitor) (id next : ℕ) 
 
   set_again : get_or bits next false ≡ true → (i : ℕ) → i < size → next < size → get_or (set bits next true) i false ≡ get_or bits i false
   set_again was i h below =
-      let here_set = get_or-set_same bits next true false (omega (arith, below, b.room, b.last)) in
+      let here_set = get_or-set_same bits next true false (omega (arith, below, b.last)) in
       let spared = get_or-set_other bits next i true false in
       grind (arith, nat_tests)
 
@@ -154,7 +150,7 @@ module _ (size : ℕ) (bits : List Bool) (cs : List Competitor) (id next : ℕ) 
   probed_missed below was =
       let lt : next < size = omega arith in
       record {
-        room = length-set bits next true ∙ b.room;
+        room = length-set bits next true;
         held = λ i h. rw (set_again was i h lt) (omega arith);
         spare = λ i h. get_or-set_other bits next i true false (λ e. omega (arith, lt, h, e));
         reach = reach_next lt was;
@@ -170,7 +166,7 @@ module _ (size : ℕ) (bits : List Bool) (cs : List Competitor) (id next : ℕ) 
 
   pub probed_last : next < size → size ≤ next + 1 → get_or bits next false ≡ true → IsProbed size bits (set bits next true) cs next (Settled size)
   probed_last below end was = record {
-    room = length-set bits next true ∙ b.room;
+    room = length-set bits next true;
     held = λ i h. rw (set_again was i h below) (grind (arith, nat_tests));
     spare = λ i h. get_or-set_other bits next i true false (λ e. omega (arith, below, h, e));
     reach = λ i h k. let e : next + 1 ≡ size = omega arith in subst (λ (n : ℕ). count (reaches i) cs + one (nat_le i n) + i ≤ size + 1 + one (nat_le i next)) e (reach_next below was i h k);
@@ -193,7 +189,7 @@ module _ (size : ℕ) (bits : List Bool) (cs : List Competitor) (id next : ℕ) 
       let o = only past in
       let same : next ≡ size = o.1 ∙ sym o.0 in
       record {
-        room = b.room;
+        room = refl;
         held = λ i h. grind (arith, nat_tests);
         spare = λ i h. refl;
         reach = λ i h k. rw same (omega (arith, b.reach i h k));
@@ -201,13 +197,12 @@ module _ (size : ℕ) (bits : List Bool) (cs : List Competitor) (id next : ℕ) 
       }
 
 -- the number is given back
-pub balanced_left : (size : ℕ) (bits after : List Bool) (cs : List Competitor) (id number : ℕ) → IsBalanced size bits cs → stay_of id cs ≡ Some (Settled number) → length after ≡ 65 →
+pub balanced_left : (size : ℕ) (bits after : List Bool) (cs : List Competitor) (id number : ℕ) → IsBalanced size bits cs → stay_of id cs ≡ Some (Settled number) → length after ≡ length bits →
     (number < size → get_or after number false ≡ false) → ((i : ℕ) → i < size → i ≢ number → get_or after i false ≡ get_or bits i false) →
     ((i : ℕ) → size ≤ i → get_or after i false ≡ get_or bits i false) → IsBalanced size after (without id cs)
 balanced_left size bits after cs id number b here room clears spares beyond = record {
   first = b.first;
-  last = b.last;
-  room = room;
+  last = omega (arith, b.last, room);
   held = λ i h.
       let fewer : count (holds i) (without id cs) + one (number == i) ≡ count (holds i) cs = count-without (holds i) cs id (Settled number) here (b.apart id) in
       let before = b.held i h in
@@ -245,9 +240,9 @@ more_placed size more (Settled number) above p = let top : number ≤ size = p.1
 pub record IsWidenedBits (size : ℕ) (bits after : List Bool) (cs : List Competitor) : Type 0 where
   pub last : one (get_or after size false) ≡ count (holds size) cs
   pub others : (i : ℕ) → i ≢ size → get_or after i false ≡ get_or bits i false
-  pub room : length after ≡ 65
+  pub room : length after ≡ length bits
 
-pub balanced_widened : (size more : ℕ) (bits after : List Bool) (cs : List Competitor) → IsBalanced size bits cs → size < more → more ≤ 64 → IsWidenedBits size bits after cs → IsBalanced more after cs
+pub balanced_widened : (size more : ℕ) (bits after : List Bool) (cs : List Competitor) → IsBalanced size bits cs → size < more → more < length bits → IsWidenedBits size bits after cs → IsBalanced more after cs
 balanced_widened size more bits after cs b above most m =
     let beyond : (i : ℕ) → size < i → count (reaches i) cs ≡ 0 = λ i h. count-none (reaches i) cs b.apart (λ p stay here.
     let low : number_of stay ≤ size = within_size size stay b.first (b.placed p stay here) in
@@ -255,8 +250,7 @@ balanced_widened size more bits after cs b above most m =
     in
     record {
       first = omega (arith, b.first, above);
-      last = most;
-      room = m.room;
+      last = omega (arith, most, m.room);
       held = λ i h.
           let last = m.last in
           let others = m.others i in

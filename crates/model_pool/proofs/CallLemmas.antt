@@ -8,7 +8,7 @@ going_answer w id (Seeking next) here n = rw here refl
 going_answer w id (Settled number) here n = absurd (n number refl)
 
 pub going_after : (w : PoolState) (id : ℕ) (stay : Stay) → stay_of id w.competitors ≡ Some stay → ((n : ℕ) → stay ≡ Settled n → ⊥) →
-    after_probe w id ≡ record { size = w.size; bits = after_access w.bits (probe_access w.size stay); competitors = with_stay id (stay_probed w.size stay (got_by w stay)) w.competitors }
+    after_probe w id ≡ record { most = w.most; size = w.size; bits = after_access w.bits (probe_access w.size stay); competitors = with_stay id (stay_probed w.size stay (got_by w stay)) w.competitors }
 going_after w id (Seeking next) here n = rw here refl
 going_after w id (Settled number) here n = absurd (n number refl)
 

@@ -4,7 +4,7 @@ pub use Rattle.model_steps.specs.RegisterState.{Registers}
 pub use Rattle.model_steps.specs.Registers.{after_access}
 pub use Rattle.model_steps.proofs.cited.SetAtLemmas.{set_at-same, set_at-is, set_at-other}
 pub use Rattle.model_steps.specs.declared.refusal.Refusal.{Refusal}
-pub use Rattle.model_steps.specs.declared.access.Access.TheVariants.{TestAndSet, Nothing}
+pub use Rattle.model_steps.specs.declared.access.Access.TheVariants.{TestAndSet, Clear, Nothing}
 pub use Rattle.model_steps.specs.declared.refusal.Refusal.TheVariants.{NotCompeting, Holding, NotHolding}
 pub use Rattle.model_steps.specs.SetAt.{set_at}
 pub use Rattle.model_pool.specs.declared.competitor.Competitor.{Competitor}
@@ -16,6 +16,6 @@ pub use Rattle.model_pool.specs.Competitors.{stay_of, with_stay, identities, wit
 pub use Rattle.model_pool.specs.PoolState.{PoolState}
 pub use Rattle.model_pool.specs.Pool.{fresh_pool, enter_refusal, probe_answer, after_probe, got_by, number_answer, number_by, after_leave, after_leave_by, probe_answer_by, after_probe_by, probe_refusal_by}
 pub use Rattle.model_pool.specs.Calls.{Call}
-pub use Rattle.model_pool.specs.Calls.Call.{Probed, Entered, Left, Widened}
+pub use Rattle.model_pool.specs.Calls.Call.{Probed, Sought, Entered, Left, Widened}
 pub use Rattle.model_pool.specs.Machine.{next, IsReply, pool}
 pub use Rattle.model_pool.specs.Acquired.{Gets}

@@ -3,9 +3,11 @@ mod Balanced
 mod CallLemmas
 mod Common
 mod Counts
+mod IndexLemmas
 mod LocalityLemmas
 mod RosterLemmas
 mod Seeking
+mod SoughtLemmas
 mod StayOfLemmas
 mod Tied
 pub mod cited

@@ -19,7 +19,7 @@ module _ {O : Type 0} (steps : OwnSteps O) (id : ℕ) (w : PoolState) where
   -- an accepted call of one who stands so
   accepted_local : (stay : Stay) (cs : List Competitor) → stay_of id w.competitors ≡ Some stay →
       ((q : ℕ) → stay_of q cs ≡ set_at (λ v. stay_of v w.competitors) id (steps.stay w.size stay (got_in steps w stay)) q) →
-      ChangesOnly steps id w (record { size = w.size; bits = after_access w.bits (steps.access w.size stay); competitors = cs }) (Ok (steps.reply w.size stay (got_in steps w stay)))
+      ChangesOnly steps id w (record { most = w.most; size = w.size; bits = after_access w.bits (steps.access w.size stay); competitors = cs }) (Ok (steps.reply w.size stay (got_in steps w stay)))
   accepted_local stay cs here stands =
       let own : (x : Stay) → stay_of id w.competitors ≡ Some x → stay ≡ x = λ x h. (let e : Some stay ≡ Some x = sym here ∙ h in cc) in
       let left : Option Stay = steps.stay w.size stay (got_in steps w stay) in

@@ -1,11 +1,18 @@
--- competitors whose identities are distinct, and what is noted of them
-use Rattle.std.proofs.Common.{◌≡◌, ◌≢◌, ◌<◌, ◌%◌, ℕ, zero, suc, true, List, [], ◌∷◌, ◌++◌, Some, None, length, get_or, set, inl, inr, refl, sym, ap, subst, ◌∙◌, arith, add-one, is_some}
-use Rattle.model_pool.proofs.Common.{eqb_tells, nat_tests, Competitor, Stay, index_of, stay_of, with_stay, without, set_at-other}
-use Rattle.std.proofs.lemmas.List.{get_or_default, get_or-set_other}
-use Rattle.std.proofs.lemmas.Grind.{get_or-set_at}
-use Rattle.model_steps.proofs.cited.Roster as roster
-use Rattle.model_pool.specs.Roster.{AreDistinct, IsNoted, AreNoted}
+-- competitors whose identities are distinct, and the entries that they are
+use Rattle.std.proofs.Common.{◌≡◌, ◌≤◌, ◌<◌, ◌+◌, ℕ, zero, suc, true, false, cond, filter, ◌≢◌, ◌==◌, List, [], ◌∷◌, ◌++◌, Option, Some, None, length, get_or, set, take, inl, inr, refl, sym, ap, subst, ◌∙◌, arith, is_some, All, IfSome}
+use Rattle.model_steps.specs.Registers.{answer_of}
+use Rattle.std.proofs.lemmas.Bool.{cases_Bool}
+use Rattle.model_pool.proofs.Common.{eqb_tells, leb_tells, Registers, Seeking, Settled, probe_access, stay_probed, Decides-eqb, nat_tests, Competitor, Stay, IsWithin, stay_of, with_stay, without, set_at-other}
+use Rattle.model_pool.specs.declared.entry.Entry.{Entry}
+use Rattle.model_pool.specs.Roster.{AreDistinct, IsEntry, live, live_one, noted}
+use Rattle.std.proofs.lemmas.List.{get_or_default, take_more, append_assoc, map-append}
+use Rattle.std.proofs.Math.Seq.{map-set_same}
+use Rattle.model_pool.proofs.Counts.{without-absent, count-absent}
 use Rattle.model_pool.proofs.StayOfLemmas.{stay_of-push, stay_of-without}
+
+-- an entry of this identity
+abbrev pub entry : ℕ → Option Stay → Entry
+entry id stay = record { identity = id; stay = stay }
 
 -- another's state is put
 stay_elsewhere : (q : ℕ) (cs : List Competitor) (id : ℕ) (stay : Stay) → q ≢ id → stay_of q (with_stay id stay cs) ≡ stay_of q cs
@@ -38,59 +45,202 @@ distinct_without id (c ∷ cs) d = elim (eqb_tells c.identity id) [
   | inr e ↦ rw e.0 (absent_without c.identity id cs d.0, distinct_without id cs d.1)
 ]
 
--- one who is met anywhere is the first of its identity
-pub first_at : (id : ℕ) (cs : List Competitor) (i : ℕ) (c : Competitor) → AreDistinct cs → i < length cs → (get_or cs i c).identity ≡ id → index_of id cs ≡ Some i
-first_at id [] i c d h own = absurd (omega (arith, h))
-first_at id (v ∷ vs) zero c d h own = elim (eqb_tells v.identity id) [ inl e ↦ rw e.0 refl | inr e ↦ absurd (e.1 own) ]
-first_at id (v ∷ vs) (suc k) c d h own =
-    let there : index_of id vs ≡ Some k = first_at id vs k c d.1 (omega (arith, h)) own in
-    elim (eqb_tells v.identity id) [
-      | inl e ↦ absurd (let known : true ≡ is_some (stay_of id vs) = ap is_some (sym there) ∙ roster.is_some-index (λ x. x.identity) (λ x. x.stay) id vs in let no : stay_of id vs ≡ None = rw e.1 at d.0 in cc)
-      | inr e ↦ rw (e.0, there) (ap Some (add-one k))
-    ]
+-- where an identity does not compete, nothing of it is put or removed
+pub put_absent : (id : ℕ) (stay : Stay) (cs : List Competitor) → stay_of id cs ≡ None → with_stay id stay cs ≡ cs
+put_absent id stay [] h = refl
+put_absent id stay (c ∷ cs) h = let rest : stay_of id cs ≡ None → with_stay id stay cs ≡ cs = put_absent id stay cs in grind (arith, nat_tests)
 
--- where nothing is noted nobody stands
-pub unnoted : (places : List ℕ) (id : ℕ) (cs : List Competitor) → AreNoted places cs → get_or places (id % 64) 0 ≡ 64 → index_of id cs ≡ None
-unnoted places id [] h none = refl
-unnoted places id (c ∷ cs) h none = elim (eqb_tells c.identity id) [
-  | inl e ↦ absurd (h.0 (ap (λ (q : ℕ). get_or places (q % 64) 0) e.1 ∙ none))
-  | inr e ↦ rw (e.0, unnoted places id cs h.1 none) refl
+pub left_absent : (id : ℕ) (cs : List Competitor) → stay_of id cs ≡ None → without id cs ≡ cs
+left_absent id cs h = without-absent cs id (count-absent cs id h)
+
+-- entries after others
+live_one-append : (id : ℕ) (s : Option Stay) (cs ds : List Competitor) → live_one id s (cs ++ ds) ≡ live_one id s cs ++ ds
+live_one-append id None cs ds = refl
+live_one-append id (Some stay) cs ds = refl
+
+pub live-append : (es fs : List Entry) → live (es ++ fs) ≡ live es ++ live fs
+live-append [] fs = refl
+live-append (e ∷ es) fs = ap (live_one e.identity e.stay) (live-append es fs) ∙ live_one-append e.identity e.stay (live es) (live fs)
+
+-- no entry from this index on is a competitor of the identity
+abbrev pub AreOthers : List Entry → ℕ → ℕ → Type 0
+AreOthers es id first = (j : ℕ) → first ≤ j → j < length es → (d : Entry) → (get_or es j d).identity ≡ id → (get_or es j d).stay ≡ None
+
+other_past : (id i : ℕ) (s : Option Stay) (cs : List Competitor) → (i ≡ id → s ≡ None) → stay_of id cs ≡ None → stay_of id (live_one i s cs) ≡ None
+other_past id i None cs other h = h
+other_past id i (Some stay) cs other h = elim (eqb_tells i id) [
+  | inl e ↦ absurd (let no : Some stay ≡ None = other e.1 in cc)
+  | inr e ↦ rw e.0 h
 ]
 
-noted_too : (places : List ℕ) (k v id : ℕ) → k < length places → v ≢ 64 → IsNoted places id → IsNoted (set places k v) id
-noted_too places k v id inside some h = elim (eqb_tells (id % 64) k) [
-  | inl e ↦ λ is. some (sym (get_or-set_at places k (id % 64) v 0 e.1 inside) ∙ is)
-  | inr e ↦ λ is. h (sym (get_or-set_other places k (id % 64) v 0 e.1) ∙ is)
+pub all_others : (es : List Entry) (id : ℕ) → AreOthers es id 0 → stay_of id (live es) ≡ None
+all_others [] id h = refl
+all_others (e ∷ es) id h =
+    other_past id e.identity e.stay (live es) (h 0 (omega arith) (omega arith) e) (all_others es id (λ j from inside d. h (suc j) (omega arith) (omega (arith, inside)) d))
+
+-- what is after one entry
+distinct_past : (id : ℕ) (s : Option Stay) (cs : List Competitor) → AreDistinct (live_one id s cs) → AreDistinct cs
+distinct_past id None cs d = d
+distinct_past id (Some stay) cs d = d.1
+
+apart_past : (id i : ℕ) (t stay : Stay) (cs : List Competitor) → stay_of i cs ≡ None → stay_of id cs ≡ Some stay → (i == id) ≡ false
+apart_past id i t stay cs none h = elim (eqb_tells i id) [
+  | inl e ↦ absurd (let no : stay_of id cs ≡ None = subst (λ (k : ℕ). stay_of k cs ≡ None) e.1 none in let both : Some stay ≡ None = sym h ∙ no in cc)
+  | inr e ↦ e.0
 ]
 
--- one more note
-pub all_noted_too : (places : List ℕ) (k v : ℕ) (cs : List Competitor) → k < length places → v ≢ 64 → AreNoted places cs → AreNoted (set places k v) cs
-all_noted_too places k v [] inside some h = tt
-all_noted_too places k v (c ∷ cs) inside some h = (noted_too places k v c.identity inside some h.0, all_noted_too places k v cs inside some h.1)
+stay_past : (id i : ℕ) (s : Option Stay) (stay : Stay) (cs : List Competitor) → AreDistinct (live_one i s cs) → stay_of id cs ≡ Some stay → stay_of id (live_one i s cs) ≡ Some stay
+stay_past id i None stay cs d h = h
+stay_past id i (Some t) stay cs d h = rw (apart_past id i t stay cs d.0 h) h
 
-noted_push : (places : List ℕ) (cs : List Competitor) (new : Competitor) → AreNoted places cs → IsNoted places new.identity → AreNoted places (cs ++ new ∷ [])
-noted_push places [] new h n = (n, tt)
-noted_push places (c ∷ cs) new h n = (h.0, noted_push places cs new h.1 n)
+put_past : (id i : ℕ) (s : Option Stay) (stay new : Stay) (cs : List Competitor) → AreDistinct (live_one i s cs) → stay_of id cs ≡ Some stay →
+    with_stay id new (live_one i s cs) ≡ live_one i s (with_stay id new cs)
+put_past id i None stay new cs d h = refl
+put_past id i (Some t) stay new cs d h = rw (apart_past id i t stay cs d.0 h) refl
 
--- one more who is noted
-pub one_more_noted : (places : List ℕ) (cs : List Competitor) (new : Competitor) (at : ℕ) → 64 ≡ length places → AreNoted places cs → AreNoted (set places (new.identity % 64) (at % 64)) (cs ++ new ∷ [])
-one_more_noted places cs new at wide h =
-    let inside : new.identity % 64 < length places = omega (arith, wide) in
-    let some : at % 64 ≢ 64 = λ is. absurd (omega (arith, is)) in
-    noted_push (set places (new.identity % 64) (at % 64)) cs new (all_noted_too places (new.identity % 64) (at % 64) cs inside some h)
-    (λ is. some (sym (get_or-set_at places (new.identity % 64) (new.identity % 64) (at % 64) 0 refl inside) ∙ is))
+left_past : (id i : ℕ) (s : Option Stay) (stay : Stay) (cs : List Competitor) → AreDistinct (live_one i s cs) → stay_of id cs ≡ Some stay →
+    without id (live_one i s cs) ≡ live_one i s (without id cs)
+left_past id i None stay cs d h = refl
+left_past id i (Some t) stay cs d h = rw (apart_past id i t stay cs d.0 h) refl
 
-pub noted_put : (places : List ℕ) (cs : List Competitor) (id : ℕ) (stay : Stay) → AreNoted places cs → AreNoted places (with_stay id stay cs)
-noted_put places [] id stay h = tt
-noted_put places (c ∷ cs) id stay h = elim (eqb_tells c.identity id) [
-  | inl e ↦ rw e.0 (subst (IsNoted places) e.1 h.0, h.1)
-  | inr e ↦ rw e.0 (h.0, noted_put places cs id stay h.1)
+own_test : (id : ℕ) → (id == id) ≡ true
+own_test id = (Decides-eqb id id).1 refl
+
+-- an entry that is a competitor is the one of its identity
+pub stay_here : (es : List Entry) (id at : ℕ) (stay : Stay) → AreDistinct (live es) → at < length es → ((d : Entry) → get_or es at d ≡ entry id (Some stay)) → stay_of id (live es) ≡ Some stay
+stay_here [] id at stay d inside is = absurd (omega (arith, inside))
+stay_here (e ∷ es) id zero stay d inside is = rw (is e, own_test id) refl
+stay_here (e ∷ es) id (suc k) stay d inside is =
+    stay_past id e.identity e.stay stay (live es) d (stay_here es id k stay (distinct_past e.identity e.stay (live es) d) (omega (arith, inside)) is)
+
+-- another state of it is put there
+pub live_put : (es : List Entry) (id at : ℕ) (stay new : Stay) → AreDistinct (live es) → at < length es → ((d : Entry) → get_or es at d ≡ entry id (Some stay)) →
+    live (set es at (entry id (Some new))) ≡ with_stay id new (live es)
+live_put [] id at stay new d inside is = absurd (omega (arith, inside))
+live_put (e ∷ es) id zero stay new d inside is = rw (is e, own_test id) refl
+live_put (e ∷ es) id (suc k) stay new d inside is =
+    let past = distinct_past e.identity e.stay (live es) d in
+    let below : k < length es = omega (arith, inside) in
+    ap (live_one e.identity e.stay) (live_put es id k stay new past below is) ∙ sym (put_past id e.identity e.stay stay new (live es) d (stay_here es id k stay past below is))
+
+-- it has left
+pub live_left : (es : List Entry) (id at : ℕ) (stay : Stay) → AreDistinct (live es) → at < length es → ((d : Entry) → get_or es at d ≡ entry id (Some stay)) →
+    live (set es at (entry id None)) ≡ without id (live es)
+live_left [] id at stay d inside is = absurd (omega (arith, inside))
+live_left (e ∷ es) id zero stay d inside is =
+    let here : AreDistinct (live_one id (Some stay) (live es)) = rw (is e) at d in
+    rw (is e, own_test id) (sym (left_absent id (live es) here.0))
+live_left (e ∷ es) id (suc k) stay d inside is =
+    let past = distinct_past e.identity e.stay (live es) d in
+    let below : k < length es = omega (arith, inside) in
+    ap (live_one e.identity e.stay) (live_left es id k stay past below is) ∙ sym (left_past id e.identity e.stay stay (live es) d (stay_here es id k stay past below is))
+
+-- how many compete then
+long_past : (id m : ℕ) (s : Option Stay) (cs ds : List Competitor) → length cs + m ≡ length ds → length (live_one id s cs) + m ≡ length (live_one id s ds)
+long_past id m None cs ds h = h
+long_past id m (Some stay) cs ds h = omega (arith, h)
+
+pub long_put : (es : List Entry) (id at : ℕ) (stay new : Stay) → at < length es → ((d : Entry) → get_or es at d ≡ entry id (Some stay)) → length (live (set es at (entry id (Some new)))) + 0 ≡ length (live es)
+long_put [] id at stay new inside is = absurd (omega (arith, inside))
+long_put (e ∷ es) id zero stay new inside is = rw (is e) (omega arith)
+long_put (e ∷ es) id (suc k) stay new inside is = long_past e.identity 0 e.stay (live (set es k (entry id (Some new)))) (live es) (long_put es id k stay new (omega (arith, inside)) is)
+
+pub long_left : (es : List Entry) (id at : ℕ) (stay : Stay) → at < length es → ((d : Entry) → get_or es at d ≡ entry id (Some stay)) → length (live (set es at (entry id None))) + 1 ≡ length (live es)
+long_left [] id at stay inside is = absurd (omega (arith, inside))
+long_left (e ∷ es) id zero stay inside is = rw (is e) (omega arith)
+long_left (e ∷ es) id (suc k) stay inside is = long_past e.identity 1 e.stay (live (set es k (entry id None))) (live es) (long_left es id k stay (omega (arith, inside)) is)
+
+-- those that have not left
+
+kept_one : (id : ℕ) (s : Option Stay) (es fs : List Entry) → live fs ≡ live es → live (cond (is_some s) (entry id s ∷ fs) fs) ≡ live_one id s (live es)
+kept_one id None es fs h = h
+kept_one id (Some stay) es fs h = ap (live_one id (Some stay)) h
+
+pub live_kept : (es : List Entry) → live (filter (λ e. is_some e.stay) es) ≡ live es
+live_kept [] = refl
+live_kept (e ∷ es) = kept_one e.identity e.stay es (filter (λ e. is_some e.stay) es) (live_kept es)
+
+few_one : (id : ℕ) (s : Option Stay) (fs : List Entry) → length fs ≡ length (live fs) → length (cond (is_some s) (entry id s ∷ fs) fs) ≡ length (live (cond (is_some s) (entry id s ∷ fs) fs))
+few_one id None fs h = h
+few_one id (Some stay) fs h = omega (arith, h)
+
+pub few_kept : (es : List Entry) → length (filter (λ e. is_some e.stay) es) ≡ length (live (filter (λ e. is_some e.stay) es))
+few_kept [] = refl
+few_kept (e ∷ es) = few_one e.identity e.stay (filter (λ e. is_some e.stay) es) (few_kept es)
+
+-- no more compete than have entries
+less_past : (id : ℕ) (s : Option Stay) (cs : List Competitor) (n : ℕ) → length cs ≤ n → length (live_one id s cs) ≤ suc n
+less_past id None cs n h = omega (arith, h)
+less_past id (Some stay) cs n h = omega (arith, h)
+
+pub few_live : (es : List Entry) → length (live es) ≤ length es
+few_live [] = omega arith
+few_live (e ∷ es) = less_past e.identity e.stay (live es) (length es) (few_live es)
+
+-- an entry that was met is the one of its identity
+met_by : (es : List Entry) (id at : ℕ) (d : Entry) (s : Option Stay) → at < length es → (get_or es at d).identity ≡ id → (get_or es at d).stay ≡ s → is_some s ≡ true → IsEntry es id at
+met_by es id at d None inside own here h = absurd (cc)
+met_by es id at d (Some stay) inside own here h = record {
+  inside = inside;
+  stay = stay;
+  is = λ e. get_or_default es at e d inside ∙ ap (λ (i : ℕ). entry i (get_or es at d).stay) own ∙ ap (entry id) here;
+}
+
+pub met : (es : List Entry) (id at : ℕ) (d : Entry) → at < length es → (get_or es at d).identity ≡ id → is_some (get_or es at d).stay ≡ true → IsEntry es id at
+met es id at d inside own h = met_by es id at d (get_or es at d).stay inside own refl h
+
+-- the identities that are noted stay where one's state changes
+pub noted_set : (es : List Entry) (id at : ℕ) (s new : Option Stay) → ((d : Entry) → get_or es at d ≡ entry id s) → noted (set es at (entry id new)) ≡ noted es
+noted_set es id at s new is = map-set_same (λ e. e.identity) es at (entry id new) (entry id new) (sym (ap (λ e. e.identity) (is (entry id new))))
+
+-- one more entry is copied
+pub copied_one : (es : List Entry) (i : ℕ) (x : Entry) (first : List Competitor) → i < length es → first ++ live (take (i + 1) es) ≡ (first ++ live (take i es)) ++ live_one (get_or es i x).identity (get_or es i x).stay []
+copied_one es i x first inside =
+    ap (λ fs. first ++ live fs) (take_more es i x inside) ∙ ap (λ cs. first ++ cs) (live-append (take i es) (get_or es i x ∷ [])) ∙ sym (append_assoc first (live (take i es)) (live_one (get_or es i x).identity (get_or es i x).stay []))
+
+-- one more entry, which is a competitor
+pub live_more : (es : List Entry) (id : ℕ) (stay : Stay) → live (es ++ entry id (Some stay) ∷ []) ≡ live es ++ record { identity = id; stay = stay } ∷ []
+live_more es id stay = live-append es (entry id (Some stay) ∷ [])
+
+pub noted_more : (es : List Entry) (e : Entry) → noted (es ++ e ∷ []) ≡ noted es ++ e.identity ∷ []
+noted_more es e = map-append (λ e. e.identity) es (e ∷ [])
+
+-- the state of one who competes is within the pool, as all are
+pub stay_within : (size id : ℕ) (cs : List Competitor) (s : Option Stay) → All (λ c. IsWithin size c.stay) cs → s ≡ stay_of id cs → IfSome s (λ stay. IsWithin size stay)
+stay_within size id [] s all h = rw h tt
+stay_within size id (c ∷ cs) s all h = elim (eqb_tells c.identity id) [
+  | inl e ↦ let is : s ≡ Some c.stay = rw e.0 at h in rw is (all 0 c (omega arith))
+  | inr e ↦ stay_within size id cs s (λ i d inside. all (suc i) d (omega (arith, inside))) (rw e.0 at h)
 ]
 
--- where one stands another state of it is put
-pub put_here : (id : ℕ) (stay : Stay) (cs : List Competitor) (at : ℕ) → Some at ≡ index_of id cs → set cs at (record { identity = id; stay = stay }) ≡ with_stay id stay cs
-put_here id stay [] at h = absurd (cc)
-put_here id stay (c ∷ cs) at h =
-    let x = get_or (c ∷ cs) at c in
-    let f = roster.found (λ x. x.identity) (λ x. x.stay) id (c ∷ cs) at x refl refl h (get_or_default (c ∷ cs) at c x (roster.below (λ y. y.identity) (λ y. y.stay) id (c ∷ cs) at h)) in
-    sym (f.put (record { identity = id; stay = stay }) refl)
+-- all are within the pool still where one gets another state that is
+all_more : (size : ℕ) (c : Competitor) (cs : List Competitor) → IsWithin size c.stay → All (λ c. IsWithin size c.stay) cs → All (λ c. IsWithin size c.stay) (c ∷ cs)
+all_more size c cs h all zero d inside = h
+all_more size c cs h all (suc k) d inside = all k d (omega (arith, inside))
+
+all_rest : (size : ℕ) (c : Competitor) (cs : List Competitor) → All (λ c. IsWithin size c.stay) (c ∷ cs) → All (λ c. IsWithin size c.stay) cs
+all_rest size c cs all k d inside = all (suc k) d (omega (arith, inside))
+
+pub stays_put : (size id : ℕ) (new : Stay) (cs : List Competitor) → IsWithin size new → All (λ c. IsWithin size c.stay) cs → All (λ c. IsWithin size c.stay) (with_stay id new cs)
+stays_put size id new [] h all = all
+stays_put size id new (c ∷ cs) h all = elim (eqb_tells c.identity id) [
+  | inl e ↦ rw e.0 (all_more size (record { identity = id; stay = new }) cs h (all_rest size c cs all))
+  | inr e ↦ rw e.0 (all_more size c (with_stay id new cs) (all 0 c (omega arith)) (stays_put size id new cs h (all_rest size c cs all)))
+]
+
+-- a probe leaves a state within the pool
+pub within_next : (size : ℕ) (stay : Stay) (bits : Registers (Unit {0})) → 1 ≤ size → IsWithin size stay → IsWithin size (stay_probed size stay (answer_of bits (probe_access size stay)))
+within_next size (Settled number) bits first h = h
+within_next size (Seeking next) bits first h = elim (leb_tells (suc next) size) [
+  | inr end ↦ rw end.0 (first, omega arith)
+  | inl below ↦
+      let inside = below.1 in
+      let low : 1 ≤ next = h in
+      elim (cases_Bool (get_or bits.bits next false)) [
+        | inr clear ↦ rw (below.0, clear) (low, omega (arith, inside))
+        | inl was ↦ elim (leb_tells (suc (next + 1)) size) [
+          | inl more ↦ rw (below.0, was, more.0) (omega arith)
+          | inr end ↦ rw (below.0, was, end.0) (first, omega arith)
+        ]
+      ]
+]

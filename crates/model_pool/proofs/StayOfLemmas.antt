@@ -38,3 +38,8 @@ length-identities cs = length-map cs (λ c. c.identity)
 pub competes-identities : (cs : List Competitor) (p : ℕ) → list_any (λ q. q == p) (identities cs) ≡ is_some (stay_of p cs)
 competes-identities [] p = refl
 competes-identities (c ∷ cs) p = let rest = competes-identities cs p in grind (arith, nat_tests)
+
+-- of two states of one identity the second stays
+pub with_stay-twice : (id : ℕ) (a b : Stay) (cs : List Competitor) → with_stay id b (with_stay id a cs) ≡ with_stay id b cs
+with_stay-twice id a b [] = refl
+with_stay-twice id a b (c ∷ cs) = let rest = with_stay-twice id a b cs in grind (arith, nat_tests)

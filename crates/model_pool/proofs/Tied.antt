@@ -3,6 +3,7 @@ use Rattle.std.proofs.Common.{◌≡◌, ◌≢◌, ℕ, ◌+◌, true, not, ◌
 use Rattle.model_pool.proofs.Common.{Decides-eqb, set_at, Competitor, Stay, Seeking, Settled, PoolState, enter_refusal, number_by, probe_refusal_by}
 use Rattle.std.proofs.Math.Path.{fun_ext}
 use Rattle.model_pool.specs.Competitors.{identities, stay_of, with_stay, without, held_in, held_by_stay}
+use Rattle.model_pool.specs.PoolState.{PoolStart}
 use Rattle.model_pool.specs.PoolObject.{PoolObject, competes, no_entry, no_probe, number_in}
 use Rattle.model_pool.proofs.StayOfLemmas.{stay_of-push, stay_of-with_stay, stay_of-without, identities-push, identities-with_stay, identities-without, length-identities, competes-identities}
 use Rattle.model_pool.proofs.Counts.{competitor, holds, count-some}
@@ -10,14 +11,15 @@ use Rattle.model_steps.proofs.cited.SetAtLemmas.{set_at-same, set_at-other, set_
 use Rattle.model_pool.proofs.Balanced.{NobodyHolds}
 
 -- the object has the pool's size and competitors and what these hold; who seeks has made the probes of all numbers below
-pub record IsTied (size : ℕ) (cs : List Competitor) (o : PoolObject) : Type 0 where
+pub record IsTied (most size : ℕ) (cs : List Competitor) (o : PoolObject) : Type 0 where
+  pub most_is : o.most ≡ most
   pub size_is : o.size ≡ size
   pub competing : o.competing ≡ identities cs
   pub held : (p : ℕ) → o.held p ≡ held_in p cs
   pub probes : (p next : ℕ) → stay_of p cs ≡ Some (Seeking next) → o.probes p + 1 ≡ next
 
 -- both refuse alike
-module _ (size : ℕ) (cs : List Competitor) (o : PoolObject) (t : IsTied size cs o) where
+module _ (most size : ℕ) (cs : List Competitor) (o : PoolObject) (t : IsTied most size cs o) where
   competes_is : (p : ℕ) → competes o p ≡ is_some (stay_of p cs)
   competes_is p = rw t.competing (competes-identities cs p)
 
@@ -55,16 +57,16 @@ settled_by_held s n h = absurd (cc)
 pub settled_at : (cs : List Competitor) (p n : ℕ) → held_in p cs ≡ Some n → stay_of p cs ≡ Some (Settled n)
 settled_at cs p n = settled_by_held (stay_of p cs) n
 
-pub unheld : (size : ℕ) (cs : List Competitor) (o : PoolObject) → IsTied size cs o → (n : ℕ) → NobodyHolds n cs → (q : ℕ) → o.held q ≢ Some n
-unheld size cs o t n none q h =
+pub unheld : (most size : ℕ) (cs : List Competitor) (o : PoolObject) → IsTied most size cs o → (n : ℕ) → NobodyHolds n cs → (q : ℕ) → o.held q ≢ Some n
+unheld most size cs o t n none q h =
     let some = count-some (holds n) cs q (Settled n) (settled_at cs q n (sym (t.held q) ∙ h)) ((Decides-eqb n n).1 refl) in
     omega arith
 
-pub tied_fresh : (size : ℕ) → IsTied size [] (record { size = size; competing = []; held = λ p. None; probes = λ p. 0 })
-tied_fresh size = record { size_is = refl; competing = refl; held = λ p. refl; probes = λ p next h. absurd (cc) }
+pub tied_fresh : (start : PoolStart) → IsTied start.most start.size [] (record { most = start.most; size = start.size; competing = []; held = λ p. None; probes = λ p. 0 })
+tied_fresh start = record { most_is = refl; size_is = refl; competing = refl; held = λ p. refl; probes = λ p next h. absurd (cc) }
 
 -- an identity stands otherwise: it holds what its state says, and has made as many probes
-module _ (size : ℕ) (cs after : List Competitor) (o : PoolObject) (id : ℕ) (s : Option Stay) (t : IsTied size cs o) (stands : (q : ℕ) → stay_of q after ≡ set_at (λ v. stay_of v cs) id s q) where
+module _ (most size : ℕ) (cs after : List Competitor) (o : PoolObject) (id : ℕ) (s : Option Stay) (t : IsTied most size cs o) (stands : (q : ℕ) → stay_of q after ≡ set_at (λ v. stay_of v cs) id s q) where
   held_then : (p : ℕ) → set_at o.held id (held_by_stay s) p ≡ held_in p after
   held_then p = ap (λ (f : ℕ → Option ℕ). set_at f id (held_by_stay s) p) (fun_ext t.held) ∙ sym (ap held_by_stay (stands p) ∙ set_at-map held_by_stay (λ v. stay_of v cs) id s p)
 
@@ -78,46 +80,50 @@ module _ (size : ℕ) (cs after : List Competitor) (o : PoolObject) (id : ℕ) (
     | inr w ↦ rw (set_at-other o.probes id m p w.0) (t.probes p next w.1)
   ]
 
-pub tied_entered : (size : ℕ) (cs : List Competitor) (o : PoolObject) (id : ℕ) → IsTied size cs o → stay_of id cs ≡ None →
-    IsTied size (cs ++ competitor id (Seeking 1) ∷ []) (record o { competing = o.competing ++ id ∷ []; probes = set_at o.probes id 0 })
-tied_entered size cs o id t absent =
+pub tied_entered : (most size : ℕ) (cs : List Competitor) (o : PoolObject) (id : ℕ) → IsTied most size cs o → stay_of id cs ≡ None →
+    IsTied most size (cs ++ competitor id (Seeking 1) ∷ []) (record o { competing = o.competing ++ id ∷ []; probes = set_at o.probes id 0 })
+tied_entered most size cs o id t absent =
     let after : List Competitor = cs ++ competitor id (Seeking 1) ∷ [] in
     let stands = stay_of-push cs (competitor id (Seeking 1)) absent in
     record {
+      most_is = t.most_is;
       size_is = t.size_is;
       competing = ap (λ xs. xs ++ id ∷ []) t.competing ∙ sym (identities-push cs (competitor id (Seeking 1)));
-      held = held_still size cs after o id (Some (Seeking 1)) t stands (ap held_by_stay absent) refl;
-      probes = probes_then size cs after o id (Some (Seeking 1)) t stands 0 (λ next h. cc);
+      held = held_still most size cs after o id (Some (Seeking 1)) t stands (ap held_by_stay absent) refl;
+      probes = probes_then most size cs after o id (Some (Seeking 1)) t stands 0 (λ next h. cc);
     }
 
-module _ (size : ℕ) (cs : List Competitor) (o : PoolObject) (id next : ℕ) (t : IsTied size cs o) (here : stay_of id cs ≡ Some (Seeking next)) where
-  pub tied_missed : IsTied size (with_stay id (Seeking (next + 1)) cs) (record o { probes = set_at o.probes id (o.probes id + 1) })
+module _ (most size : ℕ) (cs : List Competitor) (o : PoolObject) (id next : ℕ) (t : IsTied most size cs o) (here : stay_of id cs ≡ Some (Seeking next)) where
+  pub tied_missed : IsTied most size (with_stay id (Seeking (next + 1)) cs) (record o { probes = set_at o.probes id (o.probes id + 1) })
   tied_missed =
       let stands = stay_of-with_stay cs id (Seeking (next + 1)) (ap is_some here) in
       record {
+        most_is = t.most_is;
         size_is = t.size_is;
         competing = t.competing ∙ sym (identities-with_stay cs id (Seeking (next + 1)));
-        held = held_still size cs (with_stay id (Seeking (next + 1)) cs) o id (Some (Seeking (next + 1))) t stands (ap held_by_stay here) refl;
-        probes = probes_then size cs (with_stay id (Seeking (next + 1)) cs) o id (Some (Seeking (next + 1))) t stands (o.probes id + 1)
+        held = held_still most size cs (with_stay id (Seeking (next + 1)) cs) o id (Some (Seeking (next + 1))) t stands (ap held_by_stay here) refl;
+        probes = probes_then most size cs (with_stay id (Seeking (next + 1)) cs) o id (Some (Seeking (next + 1))) t stands (o.probes id + 1)
             (λ m h. let e : next + 1 ≡ m = cc in omega (arith, t.probes id next here, e));
       }
 
-  pub tied_got : (n : ℕ) → IsTied size (with_stay id (Settled n) cs) (record o { held = set_at o.held id (Some n); probes = set_at o.probes id (o.probes id + 1) })
+  pub tied_got : (n : ℕ) → IsTied most size (with_stay id (Settled n) cs) (record o { held = set_at o.held id (Some n); probes = set_at o.probes id (o.probes id + 1) })
   tied_got n =
       let stands = stay_of-with_stay cs id (Settled n) (ap is_some here) in
       record {
+        most_is = t.most_is;
         size_is = t.size_is;
         competing = t.competing ∙ sym (identities-with_stay cs id (Settled n));
-        held = held_then size cs (with_stay id (Settled n) cs) o id (Some (Settled n)) t stands;
-        probes = probes_then size cs (with_stay id (Settled n) cs) o id (Some (Settled n)) t stands (o.probes id + 1) (λ m h. absurd (cc));
+        held = held_then most size cs (with_stay id (Settled n) cs) o id (Some (Settled n)) t stands;
+        probes = probes_then most size cs (with_stay id (Settled n) cs) o id (Some (Settled n)) t stands (o.probes id + 1) (λ m h. absurd (cc));
       }
 
-pub tied_left : (size : ℕ) (cs : List Competitor) (o : PoolObject) (id : ℕ) → IsTied size cs o →
-    IsTied size (without id cs) (record o { competing = filter (λ q. not (q == id)) o.competing; held = set_at o.held id None })
-tied_left size cs o id t = record {
+pub tied_left : (most size : ℕ) (cs : List Competitor) (o : PoolObject) (id : ℕ) → IsTied most size cs o →
+    IsTied most size (without id cs) (record o { competing = filter (λ q. not (q == id)) o.competing; held = set_at o.held id None })
+tied_left most size cs o id t = record {
+  most_is = t.most_is;
   size_is = t.size_is;
   competing = ap (λ xs. filter (λ q. not (q == id)) xs) t.competing ∙ sym (identities-without cs id);
-  held = held_then size cs (without id cs) o id None t (stay_of-without cs id);
+  held = held_then most size cs (without id cs) o id None t (stay_of-without cs id);
   probes = λ p m h. elim (set_at-is (λ v. stay_of v cs) id None p (Some (Seeking m)) (sym (stay_of-without cs id p) ∙ h)) [
     | inl w ↦ absurd (let e = w.1 in cc)
     | inr w ↦ t.probes p m w.1

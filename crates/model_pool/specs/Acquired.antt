@@ -16,9 +16,24 @@ use Rattle.model_pool.specs.Calls.Call.{Entered, Probed}
 use Rattle.model_pool.specs.Machine.{next, IsReply, pool}
 use Rattle.model_steps.specs.Machine.{Reaches, OnEveryHistory, Extends}
 
+-- the probes of a competitor that misses this often and then gets a number
+abbrev pub probe_calls : ℕ → ℕ → ℕ → List Call
+probe_calls p misses n = replicate misses (Probed p (Ok Missed)) ++ Probed p (Ok (Got n)) ∷ []
+
+-- by such probes, each with the reply that it gets, p gets n, and one pool becomes the other
+pub record IsSought (old : PoolState) (p n : ℕ) (new : PoolState) : Type 0 where
+  pub misses : ℕ
+  pub run : Run next IsReply old (probe_calls p misses n) new
+
+-- every list of calls that leads to the old pool leads to the new one with such probes; where they are refused, with a
+-- `probe` that is
+abbrev pub LeadsByProbes : ℕ → PoolState → PoolState → Result ℕ Refusal → Type 0
+LeadsByProbes p old new (Ok n) = OnEveryHistory pool (λ start r. (misses : ℕ) × Reaches pool start new (r ++ probe_calls p misses n)) old
+LeadsByProbes p old new (Err why) = Extends pool old new (Probed p (Err why))
+
 -- the calls of a competitor that enters, misses this often and then gets a number
 abbrev pub stay_calls : ℕ → ℕ → ℕ → List Call
-stay_calls p misses n = Entered p (Ok tt) ∷ (replicate misses (Probed p (Ok Missed)) ++ Probed p (Ok (Got n)) ∷ [])
+stay_calls p misses n = Entered p (Ok tt) ∷ probe_calls p misses n
 
 -- by such calls, each with the reply that it gets, p gets n, and one pool becomes the other
 pub record IsAcquired (old : PoolState) (p n : ℕ) (new : PoolState) : Type 0 where

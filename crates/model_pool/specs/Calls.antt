@@ -7,5 +7,6 @@ use Rattle.model_pool.specs.declared.probe.Probe.{Probe}
 pub data Call : Type 0 where
   Entered : ℕ → Result (Unit {0}) Refusal → Call
   Probed : ℕ → Result Probe Refusal → Call
+  Sought : ℕ → Result ℕ Refusal → Call
   Left : ℕ → Result ℕ Refusal → Call
   Widened : ℕ → Result (Unit {0}) Refusal → Call

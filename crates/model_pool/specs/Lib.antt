@@ -3,6 +3,7 @@ pub mod Competitors
 pub mod PoolState
 pub mod Widening
 pub mod Pool
+pub mod Sought
 pub mod Locality
 pub mod Calls
 pub mod PoolObject

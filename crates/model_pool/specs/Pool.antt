@@ -1,5 +1,5 @@
 -- what the calls of a pool answer and leave
-use Rattle.std.specs.Prelude.{ℕ, [], ◌∷◌, ◌++◌, length, replicate, false, Option, Some, None, Result, Ok, Err, ◌==◌, nat_le, if◌then◌else◌, is_some}
+use Rattle.std.specs.Prelude.{ℕ, ◌+◌, [], ◌∷◌, ◌++◌, length, replicate, false, Option, Some, None, Result, Ok, Err, ◌==◌, nat_le, if◌then◌else◌, is_some}
 use Rattle.model_steps.specs.declared.access.Answer.{Answer}
 use Rattle.model_steps.specs.declared.refusal.Refusal.{Refusal}
 use Rattle.model_steps.specs.declared.refusal.Refusal.TheVariants.{ZeroIdentity, Crowded, NotCompeting, AlreadyCompeting, Holding, NotHolding}
@@ -11,16 +11,16 @@ use Rattle.model_pool.specs.declared.stay.Stay.{Stay}
 use Rattle.model_pool.specs.declared.stay.Stay.TheVariants.{Seeking, Settled}
 use Rattle.model_pool.specs.Stay.{probe_access, stay_probed, probe_reply, leave_access}
 use Rattle.model_pool.specs.Competitors.{stay_of, with_stay, without}
-use Rattle.model_pool.specs.PoolState.{PoolState}
+use Rattle.model_pool.specs.PoolState.{PoolStart, PoolState}
 use Rattle.model_pool.specs.Widening.{widen_refusal, widen_access}
 
--- the bits of 64 numbers, all clear; register 0 is no number's
-abbrev pub clear_bits : Registers (Unit {0})
-clear_bits = record { first = tt; values = replicate 0 tt; bits = replicate 65 false }
+-- the bits of so many numbers, all clear; register 0 is no number's
+abbrev pub clear_bits : ℕ → Registers (Unit {0})
+clear_bits most = record { first = tt; values = replicate 0 tt; bits = replicate (most + 1) false }
 
 -- a pool of this size in which no one competes
-abbrev pub fresh_pool : ℕ → PoolState
-fresh_pool size = record { size = size; bits = clear_bits; competitors = [] }
+abbrev pub fresh_pool : PoolStart → PoolState
+fresh_pool start = record { most = start.most; size = start.size; bits = clear_bits start.most; competitors = [] }
 
 -- why `enter` is refused: the first of these that holds
 abbrev pub enter_refusal : PoolState → ℕ → Option Refusal
@@ -67,6 +67,7 @@ probe_refusal w id = probe_refusal_by (stay_of id w.competitors)
 abbrev pub after_probe_by : PoolState → ℕ → Option Stay → PoolState
 after_probe_by w id None = w
 after_probe_by w id (Some (Seeking next)) = record {
+  most = w.most;
   size = w.size;
   bits = after_access w.bits (probe_access w.size (Seeking next));
   competitors = with_stay id (stay_probed w.size (Seeking next) (got_by w (Seeking next))) w.competitors;
@@ -90,6 +91,7 @@ abbrev pub after_leave_by : PoolState → ℕ → Option Stay → PoolState
 after_leave_by w id None = w
 after_leave_by w id (Some (Seeking next)) = w
 after_leave_by w id (Some (Settled number)) = record {
+  most = w.most;
   size = w.size;
   bits = after_access w.bits (leave_access w.size (Settled number));
   competitors = without id w.competitors;
@@ -101,12 +103,12 @@ after_leave w id = after_leave_by w id (stay_of id w.competitors)
 
 -- what `widen` answers
 abbrev pub widen_answer : PoolState → ℕ → Result (Unit {0}) Refusal
-widen_answer w more = done_unless (widen_refusal w.size more)
+widen_answer w more = done_unless (widen_refusal w.most w.size more)
 
 abbrev pub widened_unless : Option Refusal → PoolState → ℕ → PoolState
-widened_unless None w more = record { size = more; bits = after_access w.bits (widen_access w); competitors = w.competitors }
+widened_unless None w more = record { most = w.most; size = more; bits = after_access w.bits (widen_access w); competitors = w.competitors }
 widened_unless (Some refusal) w more = w
 
 -- the pool after `widen`
 abbrev pub after_widen : PoolState → ℕ → PoolState
-after_widen w more = widened_unless (widen_refusal w.size more) w more
+after_widen w more = widened_unless (widen_refusal w.most w.size more) w more

@@ -9,20 +9,22 @@ use Rattle.model_steps.specs.World.{done_unless}
 use Rattle.model_pool.specs.declared.probe.Probe.{Probe}
 use Rattle.model_pool.specs.declared.probe.Probe.TheVariants.{Missed, Got}
 use Rattle.model_pool.specs.Calls.{Call}
-use Rattle.model_pool.specs.Calls.Call.{Entered, Probed, Left, Widened}
+use Rattle.model_pool.specs.Calls.Call.{Entered, Probed, Sought, Left, Widened}
+use Rattle.model_pool.specs.PoolState.{PoolStart}
 use Rattle.model_pool.specs.Widening.{widen_refusal}
 
--- the present size, and the identities that compete. Of each identity it has the number that it holds, if any, and how
+-- the most numbers that it may get, the present size, and the identities that compete. Of each identity it has the number that it holds, if any, and how
 -- many accepted probes it has made in its present stay
 pub record PoolObject : Type 0 where
+  pub most : ℕ
   pub size : ℕ
   pub competing : List ℕ
   pub held : ℕ → Option ℕ
   pub probes : ℕ → ℕ
 
--- the object of this size in which no one competes
-abbrev pub fresh_object : ℕ → PoolObject
-fresh_object size = record { size = size; competing = []; held = λ p. None; probes = λ p. 0 }
+-- the object that begins so, in which no one competes
+abbrev pub fresh_object : PoolStart → PoolObject
+fresh_object start = record { most = start.most; size = start.size; competing = []; held = λ p. None; probes = λ p. 0 }
 
 abbrev pub competes : PoolObject → ℕ → Bool
 competes o p = list_any (λ q. q == p) o.competing
@@ -63,22 +65,29 @@ MayAnswer o p (Ok Missed) = (no_probe o p ≡ None) × (o.probes p + 1 ≢ max 1
 MayAnswer o p (Ok (Got n)) = (no_probe o p ≡ None) × IsFree o n
 MayAnswer o p (Err refusal) = no_probe o p ≡ Some refusal
 
+-- what probing until a number is got may answer: any free number
+abbrev pub MayGive : PoolObject → ℕ → Result ℕ Refusal → Type 0
+MayGive o p (Ok n) = (no_probe o p ≡ None) × IsFree o n
+MayGive o p (Err refusal) = no_probe o p ≡ Some refusal
+
 -- the reply is one that the object may give to the call
 abbrev pub Answers : PoolObject → Call → Type 0
 Answers o (Entered p reply) = reply ≡ done_unless (no_entry o p)
 Answers o (Probed p reply) = MayAnswer o p reply
+Answers o (Sought p reply) = MayGive o p reply
 Answers o (Left p reply) = reply ≡ number_in o p
-Answers o (Widened more reply) = reply ≡ done_unless (widen_refusal o.size more)
+Answers o (Widened more reply) = reply ≡ done_unless (widen_refusal o.most o.size more)
 
 -- the object after a call. A refusal changes nothing, and a widening the size alone
 abbrev pub after : PoolObject → Call → PoolObject
 after o (Entered p (Ok done)) = record o { competing = o.competing ++ p ∷ []; probes = set_at o.probes p 0 }
 after o (Probed p (Ok Missed)) = record o { probes = set_at o.probes p (o.probes p + 1) }
 after o (Probed p (Ok (Got n))) = record o { held = set_at o.held p (Some n); probes = set_at o.probes p (o.probes p + 1) }
+after o (Sought p (Ok n)) = record o { held = set_at o.held p (Some n); probes = set_at o.probes p (o.probes p + 1) }
 after o (Left p (Ok n)) = record o { competing = filter (λ q. not (q == p)) o.competing; held = set_at o.held p None }
 after o (Widened more (Ok done)) = record o { size = more }
 after o c = o
 
--- the object, begun fresh with this size, may answer these calls so, and is then in that state
-abbrev pub IsRun : ℕ → List Call → PoolObject → Type 0
-IsRun size r o = Run after Answers (fresh_object size) r o
+-- the object, begun so, may answer these calls so, and is then in that state
+abbrev pub IsRun : PoolStart → List Call → PoolObject → Type 0
+IsRun start r o = Run after Answers (fresh_object start) r o

@@ -7,9 +7,9 @@ use Rattle.model_steps.specs.declared.refusal.Refusal.TheVariants.{OutOfRange}
 use Rattle.model_pool.specs.Competitors.{holder_in}
 use Rattle.model_pool.specs.PoolState.{PoolState}
 
--- why a pool of this size does not get this many numbers: it has as many, or they are more than 64
-abbrev pub widen_refusal : ℕ → ℕ → Option Refusal
-widen_refusal size more = if nat_le more size then Some OutOfRange else if nat_lt 64 more then Some OutOfRange else None
+-- why a pool of this size does not get this many numbers: it has as many, or they are more than it may get
+abbrev pub widen_refusal : ℕ → ℕ → ℕ → Option Refusal
+widen_refusal most size more = if nat_le more size then Some OutOfRange else if nat_lt most more then Some OutOfRange else None
 
 -- the access of widening, which is no competitor's: what was the last number had no bit, and gets one that is set where
 -- the number is held

@@ -12,11 +12,11 @@ ghost use Rattle.model_steps.specs.Steps.{SetsOrClears};
 /// A law: a pool is a machine whose calls extend its history.
 ///
 /// Each history, with every prefix, keeps the law of the pool. Each call's reply is one that the object may give after
-/// the calls before it. So a call fails if and only if that is due. Widening makes a pool larger, to 64 numbers at
-/// most.
+/// the calls before it. So a call fails if and only if that is due. Widening makes a pool larger, to the most that it
+/// may get.
 pub fn law_of_pool_calls()
     ensures machine { IsProved pool }
-    ensures wider { (size more : ℕ) → widen_refusal size more ≡ None → (size < more) × (more ≤ 64) }
+    ensures wider { (most size more : ℕ) → widen_refusal most size more ≡ None → (size < more) × (more ≤ most) }
 {}
 
 /// A law: an access of a competitor tests and sets a bit, clears one, or accesses none. That of a pool that widens

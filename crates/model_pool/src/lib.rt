@@ -14,7 +14,7 @@
 //! - The probe numbered `max(1, k - 1)` of a competitor is never missed.
 //! - Widening changes the size, and no competitor's number.
 //! - Each error is returned if and only if it is due, and changes nothing.
-//! - After `new` no call allocates.
+//! - After `new` no call but `competitors` allocates.
 //!
 //! From `tests_model/src/pool_tests.rt`, for a pool of one number:
 //!
@@ -33,6 +33,7 @@
 #![tactic(auto)]
 
 pub mod competitor;
+mod entry;
 pub mod laws;
 pub mod pool;
 pub mod probe;

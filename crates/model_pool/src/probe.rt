@@ -6,5 +6,5 @@ pub enum Probe {
     /// The bit was set: another competitor holds its number. The next probe is of the next bit.
     Missed,
     /// The competitor holds this number, from 1 to the size of the pool, and no other does.
-    Got(u8),
+    Got(u32),
 }

@@ -11,20 +11,20 @@ use model_steps::{Access, Answer};
 #[derive(Clone, Copy, Debug, Drop, PartialEq, Eq)]
 pub enum Stay {
     /// It holds no number, and missed each bit below this one. It probes this one next.
-    Seeking(u8),
+    Seeking(u32),
     /// It holds this number.
-    Settled(u8),
+    Settled(u32),
 }
 
 impl Stay {
     /// Returns the access of the next probe, in a pool of this size: the last number has no bit.
-    pub(crate) fn probe_access(self, size: u8) -> Access<usize, ()>
+    pub(crate) fn probe_access(self, size: u32) -> Access<usize, ()>
         ensures { result ≡ probe_access size self }
     {
         match self {
             Stay::Seeking(next) => {
                 if next < size {
-                    Access::TestAndSet(usize::from(next))
+                    Access::TestAndSet(next as usize)
                 } else {
                     Access::Nothing
                 }
@@ -34,12 +34,12 @@ impl Stay {
     }
 
     /// Returns the state after the next probe, for this answer to its access.
-    pub(crate) fn probed(self, size: u8, got: Answer<()>) -> Stay
+    pub(crate) fn probed(self, size: u32, got: Answer<()>) -> Stay
         ensures { result ≡ stay_probed size self got }
     {
         match (self, got) {
             (Stay::Seeking(next), Answer::WasSet(true)) => {
-                if u16::from(next) + 1 < u16::from(size) {
+                if u64::from(next) + 1 < u64::from(size) {
                     Stay::Seeking(next + 1)
                 } else {
                     Stay::Settled(size)
@@ -63,14 +63,14 @@ impl Stay {
     }
 
     /// Returns the access that gives the number back, in a pool of this size: the last number has no bit.
-    pub(crate) fn leave_access(self, size: u8) -> Access<usize, ()>
+    pub(crate) fn leave_access(self, size: u32) -> Access<usize, ()>
         ensures { result ≡ leave_access size self }
     {
         match self {
             Stay::Seeking(_) => Access::Nothing,
             Stay::Settled(number) => {
                 if number < size {
-                    Access::Clear(usize::from(number))
+                    Access::Clear(number as usize)
                 } else {
                     Access::Nothing
                 }
@@ -79,7 +79,7 @@ impl Stay {
     }
 
     /// Whether it holds this number.
-    pub(crate) fn holds(self, number: u8) -> bool
+    pub(crate) fn holds(self, number: u32) -> bool
         ensures { result ≡ holds_at number (held_at self) }
     {
         match self {

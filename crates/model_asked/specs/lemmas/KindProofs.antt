@@ -6,7 +6,7 @@ use Rattle.std.proofs.lemmas.Option.{same_Some}
 use Rattle.std.proofs.lemmas.Slice.Eq.{bytes_eq-Decides}
 use Rattle.model_asked.specs.Config.{world_name, gives_names, is_kind, is_letter, all_kinds, first_named, facts_of}
 use Rattle.model_asked.specs.declared.kind.WorldKind.{WorldKind}
-use Rattle.model_asked.specs.declared.kind.WorldKind.TheVariants.{Rename, Tree}
+use Rattle.model_asked.specs.declared.kind.WorldKind.TheVariants.{Rename, Tree, Wide}
 
 -- names tell worlds apart
 pub named_apart : (kind other : WorldKind) → world_name kind ≡ world_name other → kind ≡ other
@@ -16,11 +16,12 @@ named_apart kind other same = same_Some kind other (sym (facts_of kind).named �
 pub one_kind : (kind other : WorldKind) → is_kind kind other ≡ true → kind ≡ other
 one_kind kind other is = named_apart kind other ((bytes_eq-Decides (world_name kind) (world_name other)).0 is)
 
--- what is so in the two worlds with names is so wherever names are given
-pub where_named : (IsSo : WorldKind → Type 0) (kind : WorldKind) → gives_names kind ≡ true → IsSo Rename → IsSo Tree → IsSo kind
-where_named IsSo kind given rename tree = elim ((facts_of kind).names given) [
+-- what is so in the three worlds with names is so wherever names are given
+pub where_named : (IsSo : WorldKind → Type 0) (kind : WorldKind) → gives_names kind ≡ true → IsSo Rename → IsSo Tree → IsSo Wide → IsSo kind
+where_named IsSo kind given rename tree wide = elim ((facts_of kind).names given) [
   | inl is ↦ subst IsSo (sym is) rename
-  | inr is ↦ subst IsSo (sym is) tree
+  | inr (inl is) ↦ subst IsSo (sym is) tree
+  | inr (inr is) ↦ subst IsSo (sym is) wide
 ]
 
 -- a name has only what letters are

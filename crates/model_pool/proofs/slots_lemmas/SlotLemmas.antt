@@ -37,8 +37,8 @@ not_refused None done h = refl
 not_refused (Some why) done h = absurd (cc)
 
 -- a widening that is done makes the pool larger
-pub wider : (size more : ℕ) (done : Unit {0}) → Ok done ≡ done_unless (widen_refusal size more) → size < more
-wider size more done h = (may_widen size more (not_refused (widen_refusal size more) done h)).0
+pub wider : (most size more : ℕ) (done : Unit {0}) → Ok done ≡ done_unless (widen_refusal most size more) → size < more
+wider most size more done h = (may_widen most size more (not_refused (widen_refusal most size more) done h)).0
 
 slice_get-before : {T : Type 0} (xs ys : List T) (i : ℕ) → i < length xs → slice_get (xs ++ ys) i ≡ slice_get xs i
 slice_get-before [] ys i h = absurd (omega arith)
@@ -64,7 +64,7 @@ pub fills_new : {T : Type 0} (s : SlotsState T) (more : ℕ) (value : T) → len
 fills_new {T} s more value many done = record {
   kept = λ n low high. kept_in (widen_answer s.pool more) more value s.values (n - 1) (omega (arith, low, high, many));
   filled = λ n low high.
-      let above : s.pool.size < more = wider s.pool.size more tt done in
+      let above : s.pool.size < more = wider s.pool.most s.pool.size more tt done in
       let fresh : slice_get (s.values ++ replicate (more - length s.values) value) (n - 1) ≡ Some value = slice_get-filled s.values (more - length s.values) (n - 1) value (omega (arith, low, many)) (omega (arith, low, high, many, above)) in
       subst (λ (k : Result (Unit {0}) Refusal). slot n (extended_in k more value s.values) ≡ Some value) done fresh;
 }

@@ -1,5 +1,6 @@
 -- tokens rise
-use Rattle.std.proofs.Common.{◌≡◌, ℕ, zero, suc, ◌+◌, ◌-◌, ◌≤◌, ◌<◌, ◌==◌, Bool, true, false, List, [], ◌∷◌, ◌++◌, Option, Some, None, Ok, Err, Result, length, replicate, set, get_or, refl, sym, ap, subst, arith, cond, IfSome}
+use Rattle.model_pool.specs.PoolState.{PoolStart}
+use Rattle.std.proofs.Common.{◌≡◌, ℕ, zero, suc, ◌-◌, ◌≤◌, ◌<◌, ◌==◌, Bool, true, false, List, [], ◌∷◌, ◌++◌, Some, None, Ok, Err, Result, length, replicate, set, get_or, refl, sym, ap, subst, arith, cond, IfSome}
 use Rattle.std.proofs.lemmas.Bool.{eqb-true, eqb-false}
 use Rattle.model_pool.proofs.slots_lemmas.Common.{widen_answer}
 use Rattle.model_pool.proofs.slots_lemmas.Common.{Refusal, SlotsState, Pooled, Stored, Fetched, Extended, stored_in, extended_in, number_answer, slots, slots_next}
@@ -7,7 +8,7 @@ use Rattle.model_steps.specs.Machine.{Reaches}
 use Rattle.model_steps.specs.Runs.{Run}
 use Rattle.model_pool.specs.slots.SlotCalls.{SlotCall}
 use Rattle.model_pool.specs.slots.Machine.{IsSlotReply}
-use Rattle.model_pool.specs.slots.Tokens.{value_of, is_number, token_of, with_token, tokens_of, RaisesByOne, Rise, TokensRise}
+use Rattle.model_pool.specs.slots.Tokens.{value_of, is_number, with_token, tokens_of, RaisesByOne, Rise, TokensRise}
 use Rattle.model_pool.proofs.cited.slots.SlotsKeep.{slots_proved, held_within}
 
 -- a list, after another value was put into it
@@ -55,7 +56,7 @@ token_rises n (Ok m) value xs tokens high low within one on =
           subst (λ (v : ℕ). Rise v tokens high) (set_elsewhere xs (m - 1) (n - 1) value apart) on
     ] refl one
 
-module _ (start : ℕ × List ℕ) (n : ℕ) (low : 1 ≤ n) where
+module _ (start : PoolStart × List ℕ) (n : ℕ) (low : 1 ≤ n) where
   after_call : (s : SlotsState ℕ) (p : List (SlotCall ℕ)) (h : SlotCall ℕ) → IsSlotReply s h → Reaches slots start s p → Reaches slots start (slots_next s h) (p ++ h ∷ [])
   after_call s p h is a = slots_proved.call s (slots_next s h) h refl is start p a
 

@@ -1,11 +1,11 @@
 -- slots as a machine
-use Rattle.std.specs.Prelude.{◌≡◌, ℕ, ◌≤◌, List, length}
+use Rattle.std.specs.Prelude.{◌≡◌, ◌≤◌, List, length}
 use Rattle.model_steps.specs.Runs.{AnswersAsDue}
 use Rattle.model_steps.specs.Machine.{Machine}
 use Rattle.model_pool.specs.Machine.{next, IsReply}
 use Rattle.model_pool.specs.Calls.{Call}
-use Rattle.model_pool.specs.Calls.Call.{Entered, Probed, Left, Widened}
-use Rattle.model_pool.specs.PoolState.{PoolState}
+use Rattle.model_pool.specs.Calls.Call.{Entered, Probed, Sought, Left, Widened}
+use Rattle.model_pool.specs.PoolState.{PoolStart, PoolState}
 use Rattle.model_pool.specs.Pool.{fresh_pool, number_answer}
 use Rattle.model_pool.specs.slots.SlotsState.{SlotsState}
 use Rattle.model_pool.specs.slots.SlotCalls.{SlotCall}
@@ -25,6 +25,7 @@ slots_next s (Extended more value reply) = after_extend s more value
 abbrev pub IsPoolReply : PoolState → Call → Type 0
 IsPoolReply w (Entered id reply) = IsReply w (Entered id reply)
 IsPoolReply w (Probed id reply) = IsReply w (Probed id reply)
+IsPoolReply w (Sought id reply) = IsReply w (Sought id reply)
 IsPoolReply w (Left id reply) = IsReply w (Left id reply)
 IsPoolReply w (Widened more reply) = ⊥
 
@@ -35,10 +36,10 @@ IsSlotReply s (Stored id value reply) = reply ≡ stored_reply (number_answer s.
 IsSlotReply s (Fetched id reply) = IsFetched s.values (number_answer s.pool id) reply
 IsSlotReply s (Extended more value reply) = IsReply s.pool (Widened more reply)
 
--- slots over a new pool of from 1 to 64 numbers, with as many values, and what they keep
-abbrev pub slots : {T : Type 0} → Machine (ℕ × List T) (SlotsState T) (SlotCall T)
+-- slots over a new pool of from 1 to 65,536 numbers, with as many values, and what they keep
+abbrev pub slots : {T : Type 0} → Machine (PoolStart × List T) (SlotsState T) (SlotCall T)
 slots = record {
-  MayStart = λ first. (1 ≤ first.0) × (first.0 ≤ 64) × (length first.1 ≡ first.0);
+  MayStart = λ first. (1 ≤ first.0.size) × (first.0.size ≤ first.0.most) × (first.0.most ≤ 65536) × (length first.1 ≡ first.0.size);
   first = λ first. record { pool = fresh_pool first.0; values = first.1 };
   next = slots_next;
   IsReply = IsSlotReply;

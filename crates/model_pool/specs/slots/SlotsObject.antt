@@ -1,8 +1,9 @@
 -- a pool object and a value for each of its numbers
-use Rattle.std.specs.Prelude.{◌≡◌, ℕ, List}
+use Rattle.std.specs.Prelude.{◌≡◌, List}
 use Rattle.model_steps.specs.Runs.{Run}
+use Rattle.model_pool.specs.PoolState.{PoolStart}
 use Rattle.model_pool.specs.Calls.{Call}
-use Rattle.model_pool.specs.Calls.Call.{Entered, Probed, Left, Widened}
+use Rattle.model_pool.specs.Calls.Call.{Entered, Probed, Sought, Left, Widened}
 use Rattle.model_pool.specs.PoolObject.{PoolObject, fresh_object, Answers, after, number_in}
 use Rattle.model_pool.specs.slots.SlotCalls.{SlotCall}
 use Rattle.model_pool.specs.slots.SlotCalls.SlotCall.{Pooled, Stored, Fetched, Extended}
@@ -13,14 +14,15 @@ pub record SlotsObject (T : Type 0) : Type 0 where
   pub pool : PoolObject
   pub values : List T
 
--- the object of this size in which no one competes, with these values
-abbrev pub fresh_slots : {T : Type 0} → ℕ → List T → SlotsObject T
-fresh_slots size values = record { pool = fresh_object size; values = values }
+-- the object that begins so, in which no one competes, with these values
+abbrev pub fresh_slots : {T : Type 0} → PoolStart → List T → SlotsObject T
+fresh_slots start values = record { pool = fresh_object start; values = values }
 
 -- the reply is one that the object may give to a call of the pool alone, which a widening is not: new slots need a value
 abbrev pub PoolAnswers : PoolObject → Call → Type 0
 PoolAnswers o (Entered p reply) = Answers o (Entered p reply)
 PoolAnswers o (Probed p reply) = Answers o (Probed p reply)
+PoolAnswers o (Sought p reply) = Answers o (Sought p reply)
 PoolAnswers o (Left p reply) = Answers o (Left p reply)
 PoolAnswers o (Widened more reply) = ⊥
 
@@ -39,6 +41,6 @@ slots_after o (Stored p value reply) = record o { values = stored_in (number_in 
 slots_after o (Fetched p reply) = o
 slots_after o (Extended more value reply) = record { pool = after o.pool (Widened more reply); values = extended_in reply more value o.values }
 
--- the object, begun fresh with this size and these values, may answer these calls so, and is then in that state
-abbrev pub IsSlotsRun : {T : Type 0} → ℕ → List T → List (SlotCall T) → SlotsObject T → Type 0
-IsSlotsRun size values r o = Run slots_after SlotAnswers (fresh_slots size values) r o
+-- the object, begun so with these values, may answer these calls so, and is then in that state
+abbrev pub IsSlotsRun : {T : Type 0} → PoolStart → List T → List (SlotCall T) → SlotsObject T → Type 0
+IsSlotsRun start values r o = Run slots_after SlotAnswers (fresh_slots start values) r o

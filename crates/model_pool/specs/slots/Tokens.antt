@@ -5,7 +5,7 @@ use Rattle.model_steps.specs.Machine.{OnEveryHistory}
 use Rattle.model_pool.specs.Pool.{number_answer}
 use Rattle.model_pool.specs.slots.Machine.{slots, slots_next}
 use Rattle.model_pool.specs.slots.SlotCalls.{SlotCall}
-use Rattle.model_pool.specs.slots.SlotCalls.SlotCall.{Pooled, Stored, Fetched, Extended}
+use Rattle.model_pool.specs.slots.SlotCalls.SlotCall.{Stored}
 use Rattle.model_pool.specs.slots.SlotsState.{SlotsState}
 
 -- the value in the slot of a number, or 0 if there is none

@@ -2,18 +2,20 @@
 
 ghost use Rattle.std.specs.Prelude.{◌≡◌, ℕ, ◌+◌, [], ◌++◌, replicate, ◌≤◌, IfOk, IsOk, OnErr, vec_len, vec_capacity};
 ghost use Rattle.std.specs.Result.{result_map_both};
-ghost use Rattle.model_pool.specs.Calls.Call.{Entered, Probed, Left};
+ghost use Rattle.model_pool.specs.Calls.Call.{Entered, Probed, Sought, Left};
+ghost use Rattle.model_pool.specs.Acquired.{IsSought};
+ghost use Rattle.model_pool.specs.Sought.{seek_answer, after_seek};
 ghost use Rattle.model_pool.specs.Pool.{enter_answer, after_enter, probe_answer, after_probe, number_answer, after_leave, widen_answer};
 ghost use Rattle.model_pool.specs.Machine.{pool as pool_machine};
 ghost use Rattle.model_steps.specs.Machine.{Reaches, OnEveryHistory, SatisfiesSpec, Extends};
 ghost use Rattle.model_pool.specs.Locality.{ChangesOnly, IsWidened, Indistinguishable, StandAlike, probe_steps, leave_steps};
-ghost use Rattle.model_pool.specs.PoolState.{PoolState};
+ghost use Rattle.model_pool.specs.PoolState.{PoolStart, PoolState};
 ghost use Rattle.model_pool.specs.slots.SlotCalls.{pool_calls};
 ghost use Rattle.model_pool.specs.slots.SlotCalls.SlotCall.{Pooled, Stored, Fetched, Extended};
 ghost use Rattle.model_pool.specs.slots.Slots.{stored_reply, IsFetched, after_put, ChangesOwnSlot, after_extend, FillsNewSlots};
 ghost use Rattle.model_pool.specs.slots.Machine.{slots};
 
-use crate::{MOST_NUMBERS, Pool, Probe};
+use crate::{Pool, Probe};
 use model_steps::{NoMemory, Refusal};
 use std::alloc::Allocator;
 use std::marker::Model;
@@ -39,7 +41,7 @@ impl<T, A: Allocator> Model for Slots<T, A> {
 
     ghost view = { λ s. record { pool = s.pool; values = s.values.items } };
 
-    ghost invariant = { λ s. (vec_len s.values ≡ s.pool.size) × (64 ≤ vec_capacity s.values) };
+    ghost invariant = { λ s. (vec_len s.values ≡ s.pool.size) × (s.pool.most ≤ vec_capacity s.values) };
 }
 
 /// Appends `more` copies of a value to a vector that has room for them.
@@ -56,7 +58,7 @@ fn fill<T: Copy, A: Allocator>(values: &mut Vec<T, A>, more: usize, value: T)
 impl<T: Drop, A: Allocator> Slots<T, A> {
     /// Makes slots over a pool, one for each of its numbers. The slot of number 1 holds the first of `values`.
     ///
-    /// It allocates room for 64 values, unless `values` has it.
+    /// It allocates room for a value of each number that the pool may get, unless `values` has it.
     ///
     /// # Errors
     ///
@@ -64,11 +66,11 @@ impl<T: Drop, A: Allocator> Slots<T, A> {
     pub fn new(pool: Pool<A>, values: Vec<T, A>) -> Result<Self, NoMemory>
         requires { vec_len values ≡ pool.size }
         ensures state { IfOk result (λ s. s ≡ record { pool = pool; values = values.items }) }
-        ensures after { IfOk result (λ s. (size : ℕ) → Reaches pool_machine size pool [] → Reaches slots (size, values.items) s []) }
-        ensures room { 64 ≤ vec_capacity values → IsOk result }
+        ensures after { IfOk result (λ s. (start : PoolStart) → Reaches pool_machine start pool [] → Reaches slots (start, values.items) s []) }
+        ensures room { pool.most ≤ vec_capacity values → IsOk result }
     {
         let mut values = values;
-        let spare = MOST_NUMBERS - pool.size() as usize;
+        let spare = (pool.most() - pool.size()) as usize;
         match values.reserve(spare) {
             Ok(()) => Ok(Slots { pool, values }),
             Err(_) => Err(NoMemory),
@@ -135,6 +137,25 @@ impl<T: Drop, A: Allocator> Slots<T, A> {
         self.pool.probe(id)
     }
 
+    /// Lets competitor `id` probe until it has a number, as `Pool::seek` does.
+    ///
+    /// # Errors
+    ///
+    /// Those of `probe`, in that order. An error changes nothing.
+    #[tactic(auto, using(crate::proofs::cited::slots::SlotsKeep::slots_law))]
+    pub fn seek(&mut self, id: u64) -> Result<u32, Refusal>
+        ensures answer { result ≡ seek_answer self.old.pool id }
+        ensures state { self.new ≡ record self.old { pool = after_seek self.old.pool id } }
+        ensures unchanged_on_error { OnErr result (self.new ≡ self.old) }
+        ensures after { Extends slots self.old self.new (Pooled (Sought id result)) }
+        ensures law { SatisfiesSpec slots self.new }
+
+        // It is shorthand for probes.
+        ensures sought { IfOk result (λ n. IsSought self.old.pool id n self.new.pool) }
+    {
+        self.pool.seek(id)
+    }
+
     /// Gives back the number that `id` holds, as `Pool::leave` does: at most one access. The number's slot keeps its
     /// value.
     ///
@@ -145,7 +166,7 @@ impl<T: Drop, A: Allocator> Slots<T, A> {
     /// - `NotCompeting`: `id` does not compete.
     /// - `NotHolding`: `id` competes and holds no number.
     #[tactic(auto, using(crate::proofs::cited::slots::SlotsKeep::slots_law))]
-    pub fn leave(&mut self, id: u64) -> Result<u8, Refusal>
+    pub fn leave(&mut self, id: u64) -> Result<u32, Refusal>
         ensures answer { result ≡ number_answer self.old.pool id }
         ensures state { self.new ≡ record self.old { pool = after_leave self.old.pool id } }
         ensures unchanged_on_error { OnErr result (self.new ≡ self.old) }
@@ -179,7 +200,7 @@ impl<T: Drop, A: Allocator> Slots<T, A> {
         ensures law { SatisfiesSpec slots self.new }
     {
         let number = self.pool.number_of(id)?;
-        self.values[usize::from(number) - 1] = value;
+        self.values[number as usize - 1] = value;
         Ok(())
     }
 
@@ -198,7 +219,7 @@ impl<T: Drop, A: Allocator> Slots<T, A> {
         ensures law { SatisfiesSpec slots self.now }
     {
         let number = self.pool.number_of(id)?;
-        Ok(&self.values[usize::from(number) - 1])
+        Ok(&self.values[number as usize - 1])
     }
 }
 
@@ -210,7 +231,7 @@ impl<T: Copy, A: Allocator> Slots<T, A> {
     ///
     /// # Errors
     ///
-    /// `OutOfRange`: `size` is not above the present size, or is above 64. Nothing has changed.
+    /// `OutOfRange`: `size` is not above the present size, or is above the most. Nothing has changed.
     #[tactic(auto, using(crate::proofs::cited::slots::SlotsKeep::slots_law))]
     pub fn widen(&mut self, size: u64, value: T) -> Result<(), Refusal>
         ensures answer { result ≡ widen_answer self.old.pool size }

@@ -5,10 +5,10 @@ use Rattle.model_steps.specs.declared.refusal.Refusal.TheVariants.{NotCompeting,
 use Rattle.std.proofs.lemmas.List.{append-nil, length-set, length-append, length-replicate}
 use Rattle.model_steps.proofs.cited.RunLemmas.{run_more, run_one, run_splits, run_answers}
 use Rattle.model_pool.specs.Pool.{fresh_pool, number_answer, widen_answer, after_widen}
-use Rattle.model_pool.specs.PoolState.{PoolState}
+use Rattle.model_pool.specs.PoolState.{PoolStart, PoolState}
 use Rattle.model_pool.specs.declared.probe.Probe.TheVariants.{Missed}
 use Rattle.model_pool.specs.Calls.{Call}
-use Rattle.model_pool.specs.Calls.Call.{Entered, Probed, Left, Widened}
+use Rattle.model_pool.specs.Calls.Call.{Entered, Probed, Sought, Left, Widened}
 use Rattle.model_pool.specs.PoolObject.{PoolObject, competes, fresh_object, Answers, after, number_in, IsRun}
 use Rattle.model_pool.specs.Machine.{next, IsReply, pool}
 use Rattle.model_steps.specs.Machine.{Reaches, OnEveryHistory, SatisfiesSpec, RefusesWhereDue, IsProved}
@@ -37,7 +37,7 @@ length-stored_in (Ok number) value values = length-set values (number - 1) value
 length-stored_in (Err refusal) value values = refl
 
 -- the pool after its part of the calls, and the object that may have given the same replies
-record Stands {T : Type 0} (size : ℕ) (first : List T) (s : SlotsState T) (r : List (SlotCall T)) : Type 0 where
+record Stands {T : Type 0} (size : PoolStart) (first : List T) (s : SlotsState T) (r : List (SlotCall T)) : Type 0 where
   object : SlotsObject T
   run : IsSlotsRun size first r object
   pool : Reaches pool size s.pool (pool_calls r)
@@ -49,6 +49,7 @@ record Stands {T : Type 0} (size : ℕ) (first : List T) (s : SlotsState T) (r :
 size_kept : (w : PoolState) (o : PoolObject) (h : Call) → IsPoolReply w h → (after o h).size ≡ o.size
 size_kept w o (Entered p (Ok done)) is = refl
 size_kept w o (Probed p (Ok Missed)) is = refl
+size_kept w o (Sought p (Ok n)) is = refl
 size_kept w o (Left p (Ok n)) is = refl
 size_kept w o (Widened more reply) is = absurd is
 size_kept w o h is = refl
@@ -63,13 +64,13 @@ pool_answers w o (Widened more reply) is right = absurd is
 pool_answers w o h is right = right
 
 -- there are as many values as numbers after a widening too
-many_extended : {T : Type 0} (o : PoolObject) (more : ℕ) (value : T) (values : List T) (reply : Result (Unit {0}) Refusal) → length values ≡ o.size → reply ≡ done_unless (widen_refusal o.size more) →
+many_extended : {T : Type 0} (o : PoolObject) (more : ℕ) (value : T) (values : List T) (reply : Result (Unit {0}) Refusal) → length values ≡ o.size → reply ≡ done_unless (widen_refusal o.most o.size more) →
     length (extended_in reply more value values) ≡ (after o (Widened more reply)).size
 many_extended o more value values (Err refusal) many is = many
 many_extended o more value values (Ok done) many is =
-    omega (arith, length-append values (replicate (more - length values) value), length-replicate (more - length values) value, wider o.size more done is, many)
+    omega (arith, length-append values (replicate (more - length values) value), length-replicate (more - length values) value, wider o.most o.size more done is, many)
 
-module _ {T : Type 0} (size : ℕ) (first : List T) (s : SlotsState T) (r : List (SlotCall T)) (t : Stands size first s r) where
+module _ {T : Type 0} (size : PoolStart) (first : List T) (s : SlotsState T) (r : List (SlotCall T)) (t : Stands size first s r) where
   -- the object goes on by a call
   gone_on : (h : SlotCall T) → SlotAnswers t.object h → IsSlotsRun size first (r ++ h ∷ []) (slots_after t.object h)
   gone_on h is = run_more slots_after SlotAnswers (fresh_slots size first) r t.object h t.run is
@@ -106,7 +107,7 @@ module _ {T : Type 0} (size : ℕ) (first : List T) (s : SlotsState T) (r : List
   extended_keeps : (more : ℕ) (value : T) (reply : Result (Unit {0}) Refusal) → reply ≡ widen_answer s.pool more → Stands size first (after_extend s more value) (r ++ Extended more value reply ∷ [])
   extended_keeps more value reply is =
       let h : Call = Widened more reply in
-      let right : reply ≡ done_unless (widen_refusal t.object.pool.size more) = pool_right h is in
+      let right : reply ≡ done_unless (widen_refusal t.object.pool.most t.object.pool.size more) = pool_right h is in
       record {
         object = slots_after t.object (Extended more value reply);
         run = gone_on (Extended more value reply) right;
@@ -141,7 +142,7 @@ module _ {T : Type 0} (size : ℕ) (first : List T) (s : SlotsState T) (r : List
         many = t.many;
       }
 
-next_keeps : {T : Type 0} (size : ℕ) (first : List T) (s : SlotsState T) (r : List (SlotCall T)) (h : SlotCall T) → Stands size first s r → IsSlotReply s h → Stands size first (slots_next s h) (r ++ h ∷ [])
+next_keeps : {T : Type 0} (size : PoolStart) (first : List T) (s : SlotsState T) (r : List (SlotCall T)) (h : SlotCall T) → Stands size first s r → IsSlotReply s h → Stands size first (slots_next s h) (r ++ h ∷ [])
 next_keeps size first s r (Pooled h) t is = pooled_keeps size first s r t h is
 next_keeps size first s r (Stored p value reply) t is = stored_keeps size first s r t p value reply is
 next_keeps size first s r (Fetched p reply) t is = fetched_keeps size first s r t p reply is
@@ -154,10 +155,10 @@ stands {T} s first r a =
     let begun : Stands first.0 first.1 fresh [] = record {
       object = fresh_slots first.0 first.1;
       run = refl;
-      pool = pool_proved.fresh first.0 (a.started.0, a.started.1);
+      pool = pool_proved.fresh first.0 (a.started.0, a.started.1, a.started.2);
       pool_run = refl;
       values = refl;
-      many = a.started.2;
+      many = a.started.3;
     } in
     always_by slots (Stands first.0 first.1) (next_keeps first.0 first.1) first begun s r a
 

@@ -14,9 +14,10 @@ returns-clause-acquired g c =
     let may : None ≡ enter_refusal c.args.self.now c.args.id = sym c.in_default.is ∙ c.enter_refusal.ensures in
     let z : c.self.inside.size ≡ c.args.self.now.size = ap (λ w. w.size) c.self.view_is in
     let b : c.self.inside.bits ≡ c.args.self.now.bits = ap (λ w. w.bits) c.self.view_is in
-    let v : c.self.inside.competitors ≡ c.args.self.now.competitors = ap (λ w. w.competitors) c.self.view_is in
+    let v : c.self.inside.competitors.competitors ≡ c.args.self.now.competitors = ap (λ w. w.competitors) c.self.view_is in
+    let k : c.self.inside.competitors.most ≡ c.args.self.now.most = ap (λ w. w.most) c.self.view_is in
     let gets : Gets c.args.self.now.size 1 c.args.self.now.bits c.seek-number.result c.seek-number.new.bits = rw (z, b) at c.seek-number.ensures.probes in
-    rw (c.add.ensures, z, v) (acquired c.args.self.now c.args.id c.seek-number.result c.seek-number.new.bits may gets)
+    rw (c.add.ensures, k, z, v) (acquired c.args.self.now c.args.id c.seek-number.result c.seek-number.new.bits may gets)
 
 pub returns-clause-after : goal.returns-clause-after
 returns-clause-after g c = λ size r a.

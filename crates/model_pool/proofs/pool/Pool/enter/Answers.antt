@@ -17,7 +17,7 @@ returns-clause-state g c = search rules
 
 pub returns-clause-after : goal.returns-clause-after
 returns-clause-after g c =
-    pool_proved.call c.args.self.now (record { size = c.self.inside.size; bits = c.self.inside.bits; competitors = c.add.new.self }) (Entered c.args.id (Ok tt)) (returns-clause-state g c) (returns-clause-answer g c)
+    pool_proved.call c.args.self.now (record { most = c.add.new.self.most; size = c.self.inside.size; bits = c.self.inside.bits; competitors = c.add.new.self.competitors }) (Entered c.args.id (Ok tt)) (returns-clause-state g c) (returns-clause-answer g c)
 
 pub returns-clause-law : goal.returns-clause-law
 returns-clause-law g c = pool_law _

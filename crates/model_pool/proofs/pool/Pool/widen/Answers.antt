@@ -17,7 +17,7 @@ returns-clause-state g c = search rules
 
 pub returns-clause-after : goal.returns-clause-after
 returns-clause-after g c =
-    pool_proved.call c.args.self.now (record { size = c.args.size; bits = c.access.new.self; competitors = c.self.inside.competitors }) (Widened c.args.size (Ok tt)) (returns-clause-state g c) (returns-clause-answer g c)
+    pool_proved.call c.args.self.now (record { most = c.self.inside.competitors.most; size = c.args.size; bits = c.access.new.self; competitors = c.self.inside.competitors.competitors }) (Widened c.args.size (Ok tt)) (returns-clause-state g c) (returns-clause-answer g c)
 
 pub returns-clause-law : goal.returns-clause-law
 returns-clause-law g c = pool_law _

@@ -1,27 +1,32 @@
-use Rattle.std.proofs.Common.{◌≡◌, Some, sym, ap, ◌∙◌, arith}
-use Rattle.model_steps.proofs.cited.Roster as roster
-use Rattle.model_pool.specs.Competitors.{index_of, with_stay}
-use Rattle.model_pool.proofs.RosterLemmas.{distinct_put, noted_put, put_here}
+use Rattle.std.proofs.Common.{◌≡◌, Some, None, refl, sym, ap, ◌∙◌, arith}
+use Rattle.model_pool.specs.Competitors.{stay_of, with_stay}
+use Rattle.model_pool.specs.Roster.{RosterState, IsEntry, live}
+use Rattle.model_pool.proofs.RosterLemmas.{distinct_put, put_absent, live_put, long_put, noted_set}
 use Rattle.model_pool.proofs.roster.Roster.put.Goals as goal
-
-pub index_mut-requires : goal.index_mut-requires
-index_mut-requires g c =
-    let at : Some c.args.at ≡ index_of c.args.id c.self.inside.competitors.items = c.requires ∙ ap (index_of c.args.id) (sym c.self.view_is) in
-    let inside = roster.below (λ x. x.identity) (λ x. x.stay) c.args.id c.self.inside.competitors.items c.args.at at in
-    omega (arith, inside, c.self.inside.competitors.ok.0)
 
 pub invariant_of-self : goal.invariant_of-self
 invariant_of-self g c =
-    let items = c.self.inside.competitors.items in
-    let at : Some c.args.at ≡ index_of c.args.id items = c.requires ∙ ap (index_of c.args.id) (sym c.self.view_is) in
-    let put = put_here c.args.id c.args.stay items c.args.at at in (
-      rw put (distinct_put items c.args.id c.args.stay c.self.invariant.0),
-      rw put (noted_put c.self.inside.places items c.args.id c.args.stay c.self.invariant.1),
-      c.self.invariant.2,
+    let f : IsEntry c.self.inside.entries.items c.args.id c.in-Some.at = rw c.deref.ensures.value at c.in-Some.ensures.found in
+    let es = c.self.inside.entries.items in
+    let i = c.self.invariant in (
+      rw (live_put es c.args.id c.in-Some.at f.stay c.args.stay i.0 f.inside f.is) (distinct_put _ c.args.id c.args.stay i.0),
+      rw (noted_set es c.args.id c.in-Some.at (Some f.stay) (Some c.args.stay) f.is) i.1,
+      omega (arith, i.2, long_put es c.args.id c.in-Some.at f.stay c.args.stay f.inside f.is),
+      i.3,
+      i.4,
+      i.5,
+      i.6,
+      i.7,
     )
 
-pub returns-clause-put : goal.returns-clause-put
-returns-clause-put g c =
-    let items = c.self.inside.competitors.items in
-    let at : Some c.args.at ≡ index_of c.args.id items = c.requires ∙ ap (index_of c.args.id) (sym c.self.view_is) in
-    put_here c.args.id c.args.stay items c.args.at at ∙ ap (with_stay c.args.id c.args.stay) c.self.view_is
+pub returns-in-Some : goal.returns-in-Some
+returns-in-Some g c =
+    let f : IsEntry c.self.inside.entries.items c.args.id c.in-Some.at = rw c.deref.ensures.value at c.in-Some.ensures.found in
+    let put = live_put c.self.inside.entries.items c.args.id c.in-Some.at f.stay c.args.stay c.self.invariant.0 f.inside f.is in
+    ap (λ cs. let r : RosterState = record { most = c.self.inside.most; competitors = cs } in r) put ∙ ap (λ (r : RosterState). let n : RosterState = record { most = r.most; competitors = with_stay c.args.id c.args.stay r.competitors } in n) c.self.view_is
+
+pub returns-in_default : goal.returns-in_default
+returns-in_default g c =
+    let none : stay_of c.args.id (live c.self.inside.entries.items) ≡ None = rw c.deref.ensures.value at c.in_default.ensures.absent in
+    let absent : stay_of c.args.id c.args.self.now.competitors ≡ None = sym (ap (λ (r : RosterState). stay_of c.args.id r.competitors) c.self.view_is) ∙ none in
+    rw (put_absent c.args.id c.args.stay c.args.self.now.competitors absent) refl

@@ -1,20 +1,37 @@
-use Rattle.std.proofs.Common.{rules, ◌≡◌, ◌==◌, not, ap, ◌∙◌, arith}
-use Rattle.std.proofs.lemmas.Fn.{filter_same}
-use Rattle.model_pool.specs.Competitors.{without}
-use Rattle.model_pool.proofs.RosterLemmas.{distinct_without}
+use Rattle.std.proofs.Common.{◌≡◌, Some, None, refl, sym, ap, ◌∙◌, arith}
+use Rattle.model_pool.specs.Competitors.{stay_of, without}
+use Rattle.model_pool.specs.Roster.{RosterState, IsEntry, live}
+use Rattle.model_pool.proofs.RosterLemmas.{distinct_without, left_absent, live_left, long_left, noted_set}
 use Rattle.model_pool.proofs.roster.Roster.remove.Goals as goal
-use Rattle.model_pool.proofs.roster.Roster.remove.Goals.{After-retain}
 
--- what is left of the competitors
-left : (g : _) (c : After-retain g) → c.retain.new.self.items ≡ without c.args.id c.self.inside.competitors.items
-left g c = filter_same _ (λ x. not (x.identity == c.args.id)) _ (λ x b f' k. search rules) _ _ c.retain.ensures.filtered
+pub overflow_sub-self : goal.overflow_sub-self
+overflow_sub-self g c =
+    let f : IsEntry c.self.inside.entries.items c.args.id c.in-Some.at = rw c.deref.ensures.value at c.in-Some.ensures.found in
+    omega (arith, c.self.invariant.2, long_left c.self.inside.entries.items c.args.id c.in-Some.at f.stay f.inside f.is)
 
 pub invariant_of-self : goal.invariant_of-self
-invariant_of-self g c = (
-  rw (left g (goal.at.invariant_of-self g c).After-retain) (distinct_without c.args.id c.self.inside.competitors.items c.self.invariant.0),
-  rw (← c.deref.ensures.value) c.notes_of-self-inside.ensures,
-  omega (arith, c.self.invariant.2, c.retain.ensures.capacity),
-)
+invariant_of-self g c =
+    let f : IsEntry c.self.inside.entries.items c.args.id c.in-Some.at = rw c.deref.ensures.value at c.in-Some.ensures.found in
+    let es = c.self.inside.entries.items in
+    let i = c.self.invariant in (
+      rw (live_left es c.args.id c.in-Some.at f.stay i.0 f.inside f.is) (distinct_without c.args.id _ i.0),
+      rw (noted_set es c.args.id c.in-Some.at (Some f.stay) None f.is) i.1,
+      omega (arith, i.2, long_left es c.args.id c.in-Some.at f.stay f.inside f.is),
+      i.3,
+      i.4,
+      i.5,
+      i.6,
+      i.7,
+    )
 
-pub returns : goal.returns
-returns g c = left g (goal.at.returns g c).After-retain ∙ ap (without c.args.id) c.self.view_is
+pub returns-in-Some : goal.returns-in-Some
+returns-in-Some g c =
+    let f : IsEntry c.self.inside.entries.items c.args.id c.in-Some.at = rw c.deref.ensures.value at c.in-Some.ensures.found in
+    let left = live_left c.self.inside.entries.items c.args.id c.in-Some.at f.stay c.self.invariant.0 f.inside f.is in
+    ap (λ cs. let r : RosterState = record { most = c.self.inside.most; competitors = cs } in r) left ∙ ap (λ (r : RosterState). let n : RosterState = record { most = r.most; competitors = without c.args.id r.competitors } in n) c.self.view_is
+
+pub returns-in_default : goal.returns-in_default
+returns-in_default g c =
+    let none : stay_of c.args.id (live c.self.inside.entries.items) ≡ None = rw c.deref.ensures.value at c.in_default.ensures.absent in
+    let absent : stay_of c.args.id c.args.self.now.competitors ≡ None = sym (ap (λ (r : RosterState). stay_of c.args.id r.competitors) c.self.view_is) ∙ none in
+    rw (left_absent c.args.id c.args.self.now.competitors absent) refl

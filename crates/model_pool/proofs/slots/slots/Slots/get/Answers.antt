@@ -16,11 +16,10 @@ returns-clause-answer g c =
     let p : c.self.inside.pool ≡ c.args.self.now.pool = ap (λ s. s.pool) c.self.view_is in
     let v : c.self.inside.values.items ≡ c.args.self.now.values = ap (λ s. s.values) c.self.view_is in
     let held : Ok c.in_ok-number.number ≡ number_answer c.args.self.now.pool c.args.id = rw p at c.in_ok-number.ensures.answer in
-    let from : c.from.result ≡ c.in_ok-number.number = c.from.ensures in
     let low : 1 ≤ c.in_ok-number.number = c.in_ok-number.ensures.range.0 in
     let high : c.in_ok-number.number ≤ c.self.inside.pool.size = c.in_ok-number.ensures.range.1 in
     let inside : c.in_ok-number.number - 1 < length c.args.self.now.values = omega (arith, low, high, c.self.invariant.0, c.self.inside.values.ok.0, ap length v) in
-    let read : c.index.result.now ≡ get_or c.args.self.now.values (c.in_ok-number.number - 1) c.index.result.now = rw (v, from) at c.index.ensures in
+    let read : c.index.result.now ≡ get_or c.args.self.now.values (c.in_ok-number.number - 1) c.index.result.now = rw v at c.index.ensures in
     let at : slice_get c.args.self.now.values (c.in_ok-number.number - 1) ≡ Some c.index.result.now = slice_get_read c.args.self.now.values (length c.args.self.now.values) (c.in_ok-number.number - 1) c.index.result.now refl inside read in
     rw (← held) at
 
