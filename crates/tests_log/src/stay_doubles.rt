@@ -153,7 +153,7 @@ pub(crate) fn sweeps(site: &Site, front: &mut FrontEnd<'_>, left: &[u64]) -> boo
 
 /// How many compete, as a front end has read the log.
 pub(crate) fn competing(front: &FrontEnd<'_>) -> usize {
-    front.hall().slots().pool().competitors().len()
+    front.hall().slots().pool().count() as usize
 }
 
 /// How many compete once a second has passed, and a front end ended what was to end.

@@ -145,11 +145,11 @@ impl Persist<Reported> for Teller {
 
     ghost may_answer = { λ k. ⊤ };
 
-    ghost holds = { λ k w. record { pool = record { size = 0; bits = record { first = tt; values = []; bits = [] }; competitors = [] }; values = [] } };
+    ghost holds = { λ k w. record { pool = record { most = 0; size = 0; bits = record { first = tt; values = []; bits = [] }; competitors = [] }; values = [] } };
 
     fn put_held<B: Allocator>(&self, _service: &Reported, query: HeldQuery, out: &mut Replies<B>) {
         match query {
-            HeldQuery::All => out.put(b"ok\n"),
+            HeldQuery::All | HeldQuery::From(_) => out.put(b"ok\n"),
             HeldQuery::Of(_) => out.put(b"none\n"),
         }
     }

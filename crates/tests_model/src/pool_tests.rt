@@ -21,6 +21,6 @@ fn go_in_turn(pool: &mut Pool<Global>) -> bool {
 
 #[test]
 fn stays_of_three(rt: HostRuntime) {
-    let pool = Pool::new(rt.alloc(), 1);
+    let pool = Pool::new(rt.alloc(), 2, 1);
     same(&rt, 3, lent(pool, go_in_turn), Ok(true));
 }

@@ -25,14 +25,16 @@ pub use Rattle.model_snapshot.specs.Snapshot.{IsMoment}
 pub use Rattle.model_renaming.specs.RenameObject.{RenameTerms, RenameObject, IsRecent, ShowsSole, no_begin, no_step, ShowsConflict}
 pub use Rattle.model_renaming.specs.Reply.{StepReply}
 pub use Rattle.model_asked.specs.lemmas.ConfigProofs.{few_take_part}
-pub use Rattle.model_pool.specs.Calls.Call.{Entered, Probed, Widened, Left}
+pub use Rattle.model_pool.specs.Calls.Call.{Entered, Probed, Sought, Widened, Left}
 pub use Rattle.model_pool.specs.PoolObject.{number_in, competes}
+pub use Rattle.model_pool.specs.PoolState.{PoolStart}
 pub use Rattle.model_pool.proofs.cited.PoolKeeps.{may_widen}
 pub use Rattle.model_pool.specs.slots.SlotCalls.SlotCall.{Pooled, Stored, Fetched, Extended}
 pub use Rattle.model_pool.specs.slots.Slots.{stored_reply, stored_in, IsFetched}
 pub use Rattle.text_worlds.specs.desk.DeskCalls.{DeskCall, exchange_of}
 pub use Rattle.text_worlds.specs.desk.DeskCalls.DeskCall.{Renamed, Slotted}
 pub use Rattle.text_worlds.specs.desk.DeskValue.{DeskValue}
+pub use Rattle.text_worlds.specs.desk.Start.{pool_start}
 pub use Rattle.text_records.specs.declared.line.Line.{Line}
 pub use Rattle.text_records.specs.Lines.{reported_of, line_of, IsLineOf, IsShown}
 pub use Rattle.text_records.specs.Records.{record_lines, lines_left, IsRecordOf, AreRead}

@@ -1,6 +1,6 @@
 -- what a desk may answer, with its counts of steps, the objects can answer
 use Rattle.std.proofs.Common.{ℕ, Bool, inl, inr, List, [], ◌∷◌, map, refl, Ok, Err}
-use Rattle.text_checker.proofs.Common.{Began, Stepped, Run, StepReply, Exchange, Renamed, Slotted}
+use Rattle.text_checker.proofs.Common.{Began, Stepped, Run, StepReply, PoolStart, Exchange, Renamed, Slotted}
 use Rattle.model_steps.specs.Calls.{Call}
 use Rattle.model_snapshot.specs.Snapshot.{SnapBounds}
 use Rattle.model_renaming.specs.RenameObject.{RenameTerms, RenameObject, Allows, after}
@@ -23,8 +23,8 @@ joined terms [] names names' slots slots' r s new = λ i. record { names = r i; 
 joined terms (Renamed h ∷ calls) names names' slots slots' r s new = (allowed terms names h r.0, joined terms calls (after names h) names' slots slots' r.1 s new)
 joined terms (Slotted h ∷ calls) names names' slots slots' r s new = ((s.0, new.0), joined terms calls names names' (slots_after slots h) slots' r s.1 new.1)
 
-pub desk_run : (terms : RenameTerms) (bounds : SnapBounds) (size : ℕ) (r : List Exchange) → IsDeskRun terms bounds size r → IsObjectRun terms size r
-desk_run terms bounds size r d = record {
+pub desk_run : (terms : RenameTerms) (bounds : SnapBounds) (start : PoolStart) (r : List Exchange) → IsDeskRun terms bounds start r → IsObjectRun terms start r
+desk_run terms bounds start r d = record {
   calls = d.calls;
   spelled = d.spelled;
   object = record { names = d.names.object; slots = d.slots.object };

@@ -6,8 +6,8 @@ use Rattle.model_steps.specs.declared.refusal.Refusal.TheVariants.{NoMemory}
 use Rattle.model_steps.specs.Refusal.{refusal_number}
 use Rattle.model_renaming.specs.declared.reply.Reply.TheVariants as step
 use Rattle.model_pool.specs.declared.probe.Probe.TheVariants as probe
-use Rattle.model_pool.specs.Calls.Call.{Entered, Probed, Left as HasLeft, Widened}
-use Rattle.model_asked.specs.declared.event.Event.TheVariants.{Begin, Step, Enter, Probe, Leave, Put, Get, Widen}
+use Rattle.model_pool.specs.Calls.Call.{Entered, Probed, Sought, Left as HasLeft, Widened}
+use Rattle.model_asked.specs.declared.event.Event.TheVariants.{Begin, Step, Enter, Probe, Seek, Leave, Put, Get, Widen}
 use Rattle.model_asked.specs.declared.reply.Reply.TheVariants as reply
 use Rattle.text_checker.specs.declared.reason.Reason.TheVariants as reason
 use Rattle.text_records.specs.declared.reported.Reported.{Reported}
@@ -87,6 +87,8 @@ can_follow terms o (Enter p) (Refused n) k = refused terms o (Enter p) (λ w. Sl
 can_follow terms o (Probe p) Missed k = record { call = Slotted (Pooled (Probed p (Ok probe.Missed))); spelled = reported refl; allowed = ((none_of _ (k reason.Refusal), k reason.Pool), tt) }
 can_follow terms o (Probe p) (Got n) k = record { call = Slotted (Pooled (Probed p (Ok (probe.Got n)))); spelled = reported refl; allowed = ((none_of _ (k reason.Refusal), k reason.Pool), tt) }
 can_follow terms o (Probe p) (Refused n) k = refused terms o (Probe p) (λ w. Slotted (Pooled (Probed p (Err w)))) (λ w. refl) _ n (k reason.Refusal) (λ w due. (due, tt))
+can_follow terms o (Seek p) (Got n) k = record { call = Slotted (Pooled (Sought p (Ok n))); spelled = reported refl; allowed = ((none_of _ (k reason.Refusal), k reason.Pool), tt) }
+can_follow terms o (Seek p) (Refused n) k = refused terms o (Seek p) (λ w. Slotted (Pooled (Sought p (Err w)))) (λ w. refl) _ n (k reason.Refusal) (λ w due. (due, tt))
 can_follow terms o (Leave p) (Left n) k = record { call = Slotted (Pooled (HasLeft p (Ok n))); spelled = reported refl; allowed = (sym (k reason.Pool), tt) }
 can_follow terms o (Leave p) (Refused n) k =
     refused terms o (Leave p) (λ w. Slotted (Pooled (HasLeft p (Err w)))) (λ w. refl) (why_of (number_in o.slots.pool p)) n (k reason.Refusal) (λ w due. (sym (err_of (number_in o.slots.pool p) w due), tt))
@@ -155,6 +157,8 @@ call_keeps terms o (Slotted (Pooled (Entered p (Err why)))) b a = for_all (Keeps
 call_keeps terms o (Slotted (Pooled (Probed p (Ok probe.Missed)))) b a = for_all (Keeps terms o (Probe p) Missed) refl (none_due _ a.0.0) tt tt tt tt a.0.1
 call_keeps terms o (Slotted (Pooled (Probed p (Ok (probe.Got n))))) b a = for_all (Keeps terms o (Probe p) (Got n)) refl (none_due _ a.0.0) tt tt tt tt a.0.1
 call_keeps terms o (Slotted (Pooled (Probed p (Err why)))) b a = for_all (Keeps terms o (Probe p) (Refused (refusal_number why))) refl (due_reported _ (terms.grows && false) why a.0) tt tt tt tt tt
+call_keeps terms o (Slotted (Pooled (Sought p (Ok n)))) b a = for_all (Keeps terms o (Seek p) (Got n)) refl (none_due _ a.0.0) tt tt tt tt a.0.1
+call_keeps terms o (Slotted (Pooled (Sought p (Err why)))) b a = for_all (Keeps terms o (Seek p) (Refused (refusal_number why))) refl (due_reported _ (terms.grows && false) why a.0) tt tt tt tt tt
 call_keeps terms o (Slotted (Pooled (HasLeft p (Ok n)))) b a = for_all (Keeps terms o (Leave p) (Left n)) refl (none_due _ (sym (ap why_of a.0))) tt tt tt tt (sym a.0)
 call_keeps terms o (Slotted (Pooled (HasLeft p (Err why)))) b a = for_all (Keeps terms o (Leave p) (Refused (refusal_number why))) refl (due_reported _ (terms.grows && false) why (sym (ap why_of a.0))) tt tt tt tt tt
 call_keeps terms o (Slotted (Stored p value (Ok done))) b a = for_all (Keeps terms o (Put p value) Accepted) refl (none_due _ (none_by _ (a.0 ∙ stored_is _))) tt tt tt tt tt
@@ -181,6 +185,7 @@ same_after terms o (Renamed (Began p (Err why))) b a = refl
 same_after terms o (Renamed (Stepped p (Ok step.Quiet))) b a = refl
 same_after terms o (Slotted (Pooled (Entered p (Err why)))) b a = refl
 same_after terms o (Slotted (Pooled (Probed p (Ok probe.Missed)))) b a = refl
+same_after terms o (Slotted (Pooled (Sought p (Err why)))) b a = refl
 same_after terms o (Slotted (Pooled (HasLeft p (Err why)))) b a = refl
 same_after terms o (Slotted (Fetched p (Err why))) b a = refl
 same_after terms o c b a = refl

@@ -1,6 +1,6 @@
 -- the places that a desk tells have at most 64 bits
 use Rattle.std.proofs.Common.{◌≡◌, ℕ, ◌+◌, ◌*◌, ◌^◌, ◌<◌, ◌≤◌, true, false, List, [], ◌∷◌, ◌++◌, length, Option, Some, None, Result, Ok, Err, inl, refl, sym, ap, ◌∙◌, subst, arith, nat_le, option_and_then, option_map, if◌then◌else◌}
-use Rattle.text_checker.proofs.Common.{Contains, Began, Stepped, participant_of, program_of, Run, Participant, Refusal, Config, StepReply, WorldKind, stored_reply, Event, DeskValue}
+use Rattle.text_checker.proofs.Common.{Contains, Began, Stepped, participant_of, program_of, Run, Participant, Refusal, Config, StepReply, WorldKind, PoolStart, pool_start, stored_reply, Event, DeskValue}
 use Rattle.std.proofs.lemmas.List.Elements.{Contains-append_right}
 use Rattle.std.proofs.Math.Nat.{mul-le-mul}
 use Rattle.std.proofs.Math.Pow.{pow_mono}
@@ -53,7 +53,8 @@ use Rattle.text_worlds.specs.desk.DeskState.{DeskState}
 use Rattle.text_worlds.specs.desk.DeskValue.DeskValue.{OverGrid, OverTree}
 use Rattle.text_worlds.specs.desk.DeskRules.{reply_over, fetched}
 use Rattle.model_asked.specs.Replies.{done_reply, left_reply, value_reply}
-use Rattle.text_worlds.specs.desk.Replies.{step_reply, probe_reply}
+use Rattle.text_worlds.specs.desk.Replies.{step_reply, probe_reply, seek_reply}
+use Rattle.model_pool.specs.Sought.{seek_answer}
 
 done_other : (answer : Result (Unit {0}) Refusal) (place : ℕ) → done_reply answer ≡ reply.Place place → ⊥
 done_other (Ok done) place e = cc
@@ -63,6 +64,10 @@ probe_other : (answer : Result Probe Refusal) (place : ℕ) → probe_reply answ
 probe_other (Ok probe.Missed) place e = cc
 probe_other (Ok (probe.Got n)) place e = cc
 probe_other (Err why) place e = cc
+
+seek_other : (answer : Result ℕ Refusal) (place : ℕ) → seek_reply answer ≡ reply.Place place → ⊥
+seek_other (Ok n) place e = cc
+seek_other (Err why) place e = cc
 
 left_other : (answer : Result ℕ Refusal) (place : ℕ) → left_reply answer ≡ reply.Place place → ⊥
 left_other (Ok n) place e = cc
@@ -166,15 +171,16 @@ module _ {S R V U K : Type 0} (W : KnownPlaces S R V U K) (laws : PlacesLaws W) 
     step_low place (Ok (step.Placed x)) e = (let same : x ≡ place = cc in ap (λ (y : ℕ). Ok (step.Placed y)) same)
     step_low place answer e = absurd (cc)
 
-    over_low : (kind : WorldKind) (most limit size : ℕ) (w : DeskState S U K) (calls : List DeskCall) → ReachesDesk W kind most limit size w calls → (e : Event) (place : ℕ) → reply_over W w e ≡ reply.Place place → place < 2 ^ 64
-    over_low kind most limit size w calls a (event.Begin p) place e = absurd (done_other (done_unless (begin_refusal w.names.snap p)) place e)
-    over_low kind most limit size w calls a (event.Step p) place e = place_low kind w.names (a.first, limit) (rename_calls calls) a.names p place (step_low place (rename_answer W w.names p) e)
-    over_low kind most limit size w calls a (event.Enter p) place e = absurd (done_other (enter_answer w.slots.pool p) place e)
-    over_low kind most limit size w calls a (event.Probe p) place e = absurd (probe_other (probe_answer w.slots.pool p) place e)
-    over_low kind most limit size w calls a (event.Leave p) place e = absurd (left_other (number_answer w.slots.pool p) place e)
-    over_low kind most limit size w calls a (event.Put p value) place e = absurd (done_other (stored_reply (number_answer w.slots.pool p)) place e)
-    over_low kind most limit size w calls a (event.Get p) place e = absurd (value_other (fetched w.slots.values (number_answer w.slots.pool p)) place e)
-    over_low kind most limit size w calls a (event.Widen more) place e = absurd (done_other (widen_answer w.slots.pool more) place e)
+    over_low : (kind : WorldKind) (most limit : ℕ) (start : PoolStart) (w : DeskState S U K) (calls : List DeskCall) → ReachesDesk W kind most limit start w calls → (e : Event) (place : ℕ) → reply_over W w e ≡ reply.Place place → place < 2 ^ 64
+    over_low kind most limit start w calls a (event.Begin p) place e = absurd (done_other (done_unless (begin_refusal w.names.snap p)) place e)
+    over_low kind most limit start w calls a (event.Step p) place e = place_low kind w.names (a.first, limit) (rename_calls calls) a.names p place (step_low place (rename_answer W w.names p) e)
+    over_low kind most limit start w calls a (event.Enter p) place e = absurd (done_other (enter_answer w.slots.pool p) place e)
+    over_low kind most limit start w calls a (event.Probe p) place e = absurd (probe_other (probe_answer w.slots.pool p) place e)
+    over_low kind most limit start w calls a (event.Seek p) place e = absurd (seek_other (seek_answer w.slots.pool p) place e)
+    over_low kind most limit start w calls a (event.Leave p) place e = absurd (left_other (number_answer w.slots.pool p) place e)
+    over_low kind most limit start w calls a (event.Put p value) place e = absurd (done_other (stored_reply (number_answer w.slots.pool p)) place e)
+    over_low kind most limit start w calls a (event.Get p) place e = absurd (value_other (fetched w.slots.values (number_answer w.slots.pool p)) place e)
+    over_low kind most limit start w calls a (event.Widen more) place e = absurd (done_other (widen_answer w.slots.pool more) place e)
 
 -- the doors of a grid, and the nodes of a tree
 few_doors : (b : ℕ) → b ≤ 64 → b * (b + 1) ≤ 4160
@@ -203,5 +209,5 @@ tree_low s b ways c p u is place at =
 
 -- each place that a desk tells after some calls
 pub desk_low : (c : Config) (w : DeskValue) (calls : List DeskCall) → IsAfterDesk c w calls → (e : Event) (place : ℕ) → desk_reply w e ≡ reply.Place place → place < 2 ^ 64
-desk_low c (OverGrid w) calls a e place is = over_low grid_places grid_laws grid_low world.Rename c.m c.limit c.k w calls a.1 e place is
-desk_low c (OverTree w) calls a e place is = over_low tree_places tree_laws tree_low world.Tree c.m c.limit c.k w calls a.1 e place is
+desk_low c (OverGrid w) calls a e place is = over_low grid_places grid_laws grid_low world.Rename c.m c.limit (pool_start c) w calls a.1 e place is
+desk_low c (OverTree w) calls a e place is = over_low tree_places tree_laws tree_low world.Tree c.m c.limit (pool_start c) w calls a.1 e place is

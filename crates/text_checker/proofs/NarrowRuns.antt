@@ -1,6 +1,6 @@
 -- what the objects answer has numbers that a record can write, where the events have
 use Rattle.std.proofs.Common.{◌≡◌, ℕ, ◌+◌, ◌-◌, ◌*◌, ◌^◌, ◌<◌, ◌≤◌, true, false, List, [], ◌∷◌, length, map, replicate, Option, Some, None, Bool, Result, Ok, Err, inl, inr, refl, sym, ap, ◌∙◌, subst, arith, slice_get, IsSome}
-use Rattle.text_checker.proofs.Common.{eqb_tells, leb_tells, Began, Stepped, Run, set_at, done_unless, Refusal, StepReply, IsMoment, Entered, Probed, Left, Widened, competes, number_in, may_widen, Pooled, Stored, Fetched, Extended, stored_in, IsFetched, Exchange, DeskCall, exchange_of, Renamed, Slotted, ShownReply, done_reply, value_reply, DeskObject, fresh_desk_object, AllowsCall, after_call, IsObjectRun}
+use Rattle.text_checker.proofs.Common.{WorldKind, eqb_tells, leb_tells, Began, Stepped, Run, set_at, done_unless, Refusal, StepReply, IsMoment, PoolStart, Entered, Probed, Sought, Left, Widened, competes, number_in, may_widen, Pooled, Stored, Fetched, Extended, stored_in, IsFetched, Exchange, DeskCall, exchange_of, Renamed, Slotted, ShownReply, done_reply, value_reply, DeskObject, fresh_desk_object, AllowsCall, after_call, IsObjectRun}
 use Rattle.std.specs.List.{All, Contains}
 use Rattle.std.proofs.lemmas.Option.{get_or_from_slice_get, slice_get_within}
 use Rattle.std.proofs.lemmas.List.Elements.{All-append, All-get_or, All-replicate, All-set, Contains-append_right}
@@ -25,9 +25,9 @@ FitsPlace (reply.Place place) = place < 2 ^ 128
 FitsPlace r = Unit {0}
 
 -- what is asked, and the places that are reported, fit a record
-abbrev pub AreWritable : List Exchange → Type 0
-AreWritable [] = Unit {0}
-AreWritable (x ∷ xs) = IsNarrowEvent x.event × FitsPlace x.reply × AreWritable xs
+abbrev pub AreWritable : WorldKind → List Exchange → Type 0
+AreWritable kind [] = Unit {0}
+AreWritable kind (x ∷ xs) = IsNarrowEvent kind x.event × FitsPlace x.reply × AreWritable kind xs
 
 -- ---- views
 
@@ -78,19 +78,20 @@ record AreNarrowNames (most many : ℕ) (begun : ℕ → Bool) (moment : ℕ →
   narrow : (q : ℕ) → begun q ≡ true → (0 < q) × (q < 2 ^ 64)
   shown : (i q n : ℕ) → moment i q ≡ Some n → (begun q ≡ true) × (n < 2 ^ 64)
 
--- the pool has at most 64 numbers, those are held, and values kept that fit
-record AreNarrowSlots (size : ℕ) (holds : ℕ → Option ℕ) (values : List ℕ) : Type 0 where
-  sized : size ≤ 64
-  held : (q n : ℕ) → holds q ≡ Some n → n ≤ 64
+-- the pool may get at most 65,536 numbers, those are held, and values kept that fit
+record AreNarrowSlots (most size : ℕ) (holds : ℕ → Option ℕ) (values : List ℕ) : Type 0 where
+  bound : most ≤ 65536
+  sized : size ≤ most
+  held : (q n : ℕ) → holds q ≡ Some n → n ≤ 65536
   small : AreSmall values
 
 abbrev IsNarrowObject : ℕ → DeskObject → Type 0
-IsNarrowObject most o = AreNarrowNames most o.names.many o.names.begun o.names.moment × AreNarrowSlots o.slots.pool.size o.slots.pool.held o.slots.values
+IsNarrowObject most o = AreNarrowNames most o.names.many o.names.begun o.names.moment × AreNarrowSlots o.slots.pool.most o.slots.pool.size o.slots.pool.held o.slots.values
 
-narrow_fresh : (most size : ℕ) → size ≤ 64 → IsNarrowObject most (fresh_desk_object size)
-narrow_fresh most size few = (
+narrow_fresh : (most : ℕ) (start : PoolStart) → start.size ≤ start.most → start.most ≤ 65536 → IsNarrowObject most (fresh_desk_object start)
+narrow_fresh most start sized few = (
   record { who = []; as_many = refl; room = omega arith; listed = λ q e. absurd (cc); narrow = λ q e. absurd (cc); shown = λ i q n e. absurd (cc) },
-  record { sized = few; held = λ q n e. absurd (cc); small = All-replicate IsSmall size 0 (omega arith) },
+  record { bound = few; sized = sized; held = λ q n e. absurd (cc); small = All-replicate IsSmall start.size 0 (omega arith) },
 )
 
 -- who is let in is not 0, and there is room
@@ -113,7 +114,7 @@ may_step o p e = elim (o.begun p) as (λ b. o.begun p ≡ b → o.begun p ≡ tr
   | false ↦ λ is. absurd (let no : Some NotBegun ≡ None = rw is at e in cc)
 ] refl
 
-module _ (terms : RenameTerms) (fits : terms.most ≤ 64) where
+module _ (terms : RenameTerms) (fits : terms.most ≤ 64) (kind : WorldKind) where
   -- ---- one call
 
   module _ (o : DeskObject) (h : IsNarrowObject terms.most o) where
@@ -166,37 +167,39 @@ module _ (terms : RenameTerms) (fits : terms.most ≤ 64) where
       | inr past ↦ h.0.shown i q m (rw past.0 at e)
     ]
 
-    got_held : (p n : ℕ) → n ≤ o.slots.pool.size → (q m : ℕ) → set_at o.slots.pool.held p (Some n) q ≡ Some m → m ≤ 64
+    got_held : (p n : ℕ) → n ≤ o.slots.pool.size → (q m : ℕ) → set_at o.slots.pool.held p (Some n) q ≡ Some m → m ≤ 65536
     got_held p n most q m e = elim (eqb_tells q p) [
       | inl own ↦
           let is : Some n ≡ Some m = rw own.0 at e in
           let same : n ≡ m = cc in
+          let bound = h.1.bound in
           let sized = h.1.sized in
           omega arith
       | inr other ↦ h.1.held q m (rw other.0 at e)
     ]
 
-    left_held : (p q m : ℕ) → set_at o.slots.pool.held p None q ≡ Some m → m ≤ 64
+    left_held : (p q m : ℕ) → set_at o.slots.pool.held p None q ≡ Some m → m ≤ 65536
     left_held p q m e = elim (eqb_tells q p) [
       | inl own ↦ absurd (let no : None ≡ Some m = rw own.0 at e in cc)
       | inr other ↦ h.1.held q m (rw other.0 at e)
     ]
 
-    keeps : (call : DeskCall) → IsNarrowEvent (exchange_of call).event → AllowsCall terms o call → IsNarrowObject terms.most (after_call o call)
+    keeps : (call : DeskCall) → IsNarrowEvent kind (exchange_of call).event → AllowsCall terms o call → IsNarrowObject terms.most (after_call o call)
     keeps (Renamed (Began p (Ok done))) e a = begun_keeps p e a
     keeps (Renamed (Stepped p (Ok (step.Proposed n)))) e a =
         let shown = proposed_shown p n (may_step o.names p a.0) (few_names n a.1.small) in
         (record { who = h.0.who; as_many = h.0.as_many; room = h.0.room; listed = h.0.listed; narrow = h.0.narrow; shown = shown }, h.1)
-    keeps (Slotted (Pooled (Probed p (Ok (probe.Got n))))) e a = (h.0, record { sized = h.1.sized; held = got_held p n a.0.1.last; small = h.1.small })
-    keeps (Slotted (Pooled (Left p (Ok n)))) e a = (h.0, record { sized = h.1.sized; held = left_held p; small = h.1.small })
+    keeps (Slotted (Pooled (Probed p (Ok (probe.Got n))))) e a = (h.0, record { bound = h.1.bound; sized = h.1.sized; held = got_held p n a.0.1.last; small = h.1.small })
+    keeps (Slotted (Pooled (Sought p (Ok n)))) e a = (h.0, record { bound = h.1.bound; sized = h.1.sized; held = got_held p n a.0.1.last; small = h.1.small })
+    keeps (Slotted (Pooled (Left p (Ok n)))) e a = (h.0, record { bound = h.1.bound; sized = h.1.sized; held = left_held p; small = h.1.small })
     keeps (Slotted (Pooled (Entered p (Ok done)))) e a = h
     keeps (Slotted (Pooled (Widened more answer))) e a = absurd a.0
     keeps (Slotted (Stored p value answer)) e a =
-        (h.0, record { sized = h.1.sized; held = h.1.held; small = stored_small (number_in o.slots.pool p) value o.slots.values h.1.small e.1 })
+        (h.0, record { bound = h.1.bound; sized = h.1.sized; held = h.1.held; small = stored_small (number_in o.slots.pool p) value o.slots.values h.1.small e.1 })
     keeps (Slotted (Extended more v (Ok done))) e a =
         let zero_is : v ≡ 0 = a.1 in
         let small = All-append IsSmall o.slots.values (replicate (more - length o.slots.values) v) h.1.small (All-replicate IsSmall (more - length o.slots.values) v (omega arith)) in
-        (h.0, record { sized = (may_widen o.slots.pool.size more (none_by _ a.0)).1; held = h.1.held; small = small })
+        (h.0, record { bound = h.1.bound; sized = (may_widen o.slots.pool.most o.slots.pool.size more (none_by _ a.0)).1; held = h.1.held; small = small })
     keeps call e a = h
 
     -- the number that is given back is one of the pool's
@@ -224,7 +227,8 @@ module _ (terms : RenameTerms) (fits : terms.most ≤ 64) where
     reply_narrow (Renamed (Began p answer)) a f = done_narrow answer
     reply_narrow (Renamed (Stepped p (Ok said))) a f = said_narrow p said a.1 f
     reply_narrow (Slotted (Pooled (Entered p answer))) a f = done_narrow answer
-    reply_narrow (Slotted (Pooled (Probed p (Ok (probe.Got n))))) a f = (let last = a.0.1.last in let sized = h.1.sized in omega arith)
+    reply_narrow (Slotted (Pooled (Probed p (Ok (probe.Got n))))) a f = (let last = a.0.1.last in let sized = h.1.sized in let bound = h.1.bound in omega arith)
+    reply_narrow (Slotted (Pooled (Sought p (Ok n)))) a f = (let last = a.0.1.last in let sized = h.1.sized in let bound = h.1.bound in omega arith)
     reply_narrow (Slotted (Pooled (Left p (Ok n)))) a f = left_number p n a.0
     reply_narrow (Slotted (Pooled (Widened more answer))) a f = done_narrow answer
     reply_narrow (Slotted (Stored p value answer)) a f = done_narrow answer
@@ -233,11 +237,11 @@ module _ (terms : RenameTerms) (fits : terms.most ≤ 64) where
     reply_narrow call a f = tt
 
   -- ---- and any calls
-  calls_narrow : (o end : DeskObject) (calls : List DeskCall) → IsNarrowObject terms.most o → Run after_call (AllowsCall terms) o calls end → AreWritable (map exchange_of calls) → AreNarrowExchanges (map exchange_of calls)
+  calls_narrow : (o end : DeskObject) (calls : List DeskCall) → IsNarrowObject terms.most o → Run after_call (AllowsCall terms) o calls end → AreWritable kind (map exchange_of calls) → AreNarrowExchanges kind (map exchange_of calls)
   calls_narrow o end [] h r w = tt
   calls_narrow o end (call ∷ calls) h r w = (w.0, reply_narrow o h call r.0 w.1, calls_narrow (after_call o call) end calls (keeps o h call w.0 r.0) r.1 w.2)
 
-  pub run_narrow : (size : ℕ) → size ≤ 64 → (r : List Exchange) → IsObjectRun terms size r → AreWritable r → AreNarrowExchanges r
-  run_narrow size few r run w =
-      subst (λ (x : List Exchange). AreNarrowExchanges x) run.spelled
-      (calls_narrow (fresh_desk_object size) run.object run.calls (narrow_fresh terms.most size few) run.run (subst (λ (x : List Exchange). AreWritable x) (sym run.spelled) w))
+  pub run_narrow : (start : PoolStart) → start.size ≤ start.most → start.most ≤ 65536 → (r : List Exchange) → IsObjectRun terms start r → AreWritable kind r → AreNarrowExchanges kind r
+  run_narrow start sized few r run w =
+      subst (λ (x : List Exchange). AreNarrowExchanges kind x) run.spelled
+      (calls_narrow (fresh_desk_object start) run.object run.calls (narrow_fresh terms.most start sized few) run.run (subst (λ (x : List Exchange). AreWritable kind x) (sym run.spelled) w))

@@ -2,6 +2,7 @@
 use Rattle.std.specs.Prelude.{◌≡◌, ℕ, ◌<◌, ◌≤◌, ◌^◌, List, [], ◌∷◌, ◌++◌, length, take, slice_get, Option, Some, None, Result, Ok, Err}
 use Rattle.model_asked.specs.declared.event.Event.{Event}
 use Rattle.model_pool.specs.PoolObject.{no_entry, no_probe, number_in}
+use Rattle.model_pool.specs.PoolState.{PoolStart}
 use Rattle.model_pool.specs.Widening.{widen_refusal}
 use Rattle.model_renaming.specs.RenameObject.{RenameTerms, no_begin, no_step}
 use Rattle.text_checker.specs.declared.checker.Checker.{Checker}
@@ -69,41 +70,41 @@ HoldsNumber id terms o = why_of (number_in o.slots.pool id) ≡ None
 
 -- nor where the pool widens
 abbrev pub MayWiden : ℕ → RenameTerms → DeskObject → Type 0
-MayWiden more terms o = widen_refusal o.slots.pool.size more ≡ None
+MayWiden more terms o = widen_refusal o.slots.pool.most o.slots.pool.size more ≡ None
 
 abbrev pub IsDueSo : Event → Reported → RenameTerms → DeskObject → Type 0
 IsDueSo e t terms o = IsRefusedAsDue terms o e t
 
 -- these lines were taken: each can follow those before it, and what is kept is of the objects after them
-pub record HasTaken (terms : RenameTerms) (size : ℕ) (lines : List Line) (c : Checker) : Type 0 where
+pub record HasTaken (terms : RenameTerms) (start : PoolStart) (lines : List Line) (c : Checker) : Type 0 where
   pub object : DeskObject
-  pub run : Follow terms size lines object
+  pub run : Follow terms start lines object
   pub held : HoldsDesk terms c object
   pub few : object.names.last ≤ length lines
 
 -- these lines can follow one another, and after them this is the least reason for which this line can't follow
-pub record IsFaultAfter (terms : RenameTerms) (size : ℕ) (lines : List Line) (l : Line) (why : Reason) : Type 0 where
+pub record IsFaultAfter (terms : RenameTerms) (start : PoolStart) (lines : List Line) (l : Line) (why : Reason) : Type 0 where
   pub object : DeskObject
-  pub run : Follow terms size lines object
+  pub run : Follow terms start lines object
   pub least : IsLeastReason terms object l.event l.reported why
 
 -- one more line is taken, or it is the first at fault
-abbrev pub TakesOn : RenameTerms → ℕ → List Line → Line → Option Reason → Checker → Type 0
-TakesOn terms size lines l None new = HasTaken terms size (lines ++ l ∷ []) new
-TakesOn terms size lines l (Some why) new = IsFaultAfter terms size lines l why
+abbrev pub TakesOn : RenameTerms → PoolStart → List Line → Line → Option Reason → Checker → Type 0
+TakesOn terms start lines l None new = HasTaken terms start (lines ++ l ∷ []) new
+TakesOn terms start lines l (Some why) new = IsFaultAfter terms start lines l why
 
 -- the first line that can't follow, from 0, with the least reason that fits it
-pub record IsFirstFault (terms : RenameTerms) (size : ℕ) (lines : List Line) (k : ℕ) (why : Reason) : Type 0 where
+pub record IsFirstFault (terms : RenameTerms) (start : PoolStart) (lines : List Line) (k : ℕ) (why : Reason) : Type 0 where
   pub line : Line
   pub at : slice_get lines k ≡ Some line
-  pub fault : IsFaultAfter terms size (take k lines) line why
+  pub fault : IsFaultAfter terms start (take k lines) line why
 
 -- after any lines that were taken this one is, or it is the first at fault
 abbrev pub TakesMore : Line → Checker → Option Reason → Checker → Type 0
 TakesMore l old said new =
-    (terms : RenameTerms) (size : ℕ) (lines : List Line) → HasTaken terms size lines old → length lines < 2 ^ 62 → TakesOn terms size lines l said new
+    (terms : RenameTerms) (start : PoolStart) (lines : List Line) → HasTaken terms start lines old → length lines < 2 ^ 62 → TakesOn terms start lines l said new
 
 -- the first line that can't follow, or that the lines are those of a run
-abbrev pub IsFirstFaultOrNone : RenameTerms → ℕ → List Line → Option (ℕ × Reason) → Type 0
-IsFirstFaultOrNone terms size lines None = AreLinesOfRun terms size lines
-IsFirstFaultOrNone terms size lines (Some fault) = IsFirstFault terms size lines fault.0 fault.1
+abbrev pub IsFirstFaultOrNone : RenameTerms → PoolStart → List Line → Option (ℕ × Reason) → Type 0
+IsFirstFaultOrNone terms start lines None = AreLinesOfRun terms start lines
+IsFirstFaultOrNone terms start lines (Some fault) = IsFirstFault terms start lines fault.0 fault.1

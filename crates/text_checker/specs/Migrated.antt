@@ -10,6 +10,7 @@ use Rattle.model_asked.specs.declared.exchange.Exchange.{Exchange}
 use Rattle.model_asked.specs.Replies.{ShownReply}
 use Rattle.model_asked.specs.declared.reply.Reply.TheVariants as reply
 use Rattle.text_worlds.specs.desk.DeskCalls.{DeskCall, exchange_of}
+use Rattle.text_worlds.specs.desk.Start.{pool_start}
 use Rattle.text_lines.specs.Written.{HasPartOf}
 use Rattle.text_lines.specs.declared.fault.Fault.{Fault}
 use Rattle.text_lines.specs.declared.fault.Fault.TheVariants.{Write}
@@ -68,7 +69,7 @@ pub record IsMigration (c : Config) (lines : List Line) (text : List ℕ) : Type
   pub tellings : List Telling
   pub lines_are : map (λ t. t.line) tellings ≡ lines
   pub object : DeskObject
-  pub run : Run after_telling (IsTelling (terms_of c)) (fresh_desk_object c.k) tellings object
+  pub run : Run after_telling (IsTelling (terms_of c)) (fresh_desk_object (pool_start c)) tellings object
   pub text_is : text ≡ record_text c (exchanges_in tellings)
 
 -- a record of a run, and the text to which it is migrated, which is a record of a run too

@@ -9,6 +9,7 @@ use Rattle.model_steps.specs.declared.refusal.Refusal.{Refusal}
 use Rattle.model_steps.specs.declared.refusal.Refusal.TheVariants.{NoMemory}
 use Rattle.model_renaming.specs.Reply.{StepReply}
 use Rattle.model_renaming.specs.RenameObject.{RenameTerms, RenameObject, new_object, no_begin, no_step, AllowsStep, after}
+use Rattle.model_pool.specs.PoolState.{PoolStart}
 use Rattle.model_pool.specs.slots.SlotsObject.{SlotsObject, fresh_slots, SlotAnswers, slots_after}
 use Rattle.model_asked.specs.declared.exchange.Exchange.{Exchange}
 use Rattle.text_worlds.specs.desk.DeskCalls.{DeskCall, exchange_of, BeginsSlots}
@@ -19,9 +20,9 @@ pub record DeskObject : Type 0 where
   pub names : RenameObject
   pub slots : SlotsObject ℕ
 
--- nothing was done, with so many numbers at the start; each slot holds 0
-abbrev pub fresh_desk_object : ℕ → DeskObject
-fresh_desk_object size = record { names = new_object; slots = fresh_slots size (replicate size 0) }
+-- nothing was done, and the pool begins so; each slot holds 0
+abbrev pub fresh_desk_object : PoolStart → DeskObject
+fresh_desk_object start = record { names = new_object; slots = fresh_slots start (replicate start.size 0) }
 
 -- a growth may be refused to a step where the world grows and no other refusal is due
 pub record MayLackMemory (terms : RenameTerms) (o : RenameObject) (p : ℕ) (why : Refusal) : Type 0 where
@@ -46,12 +47,12 @@ after_call o (Renamed h) = record { names = after o.names h; slots = o.slots }
 after_call o (Slotted h) = record { names = o.names; slots = slots_after o.slots h }
 
 -- the objects, begun fresh, may answer these calls so, and are then in this state
-abbrev pub AreCallsOf : RenameTerms → ℕ → List DeskCall → DeskObject → Type 0
-AreCallsOf terms size calls o = Run after_call (AllowsCall terms) (fresh_desk_object size) calls o
+abbrev pub AreCallsOf : RenameTerms → PoolStart → List DeskCall → DeskObject → Type 0
+AreCallsOf terms start calls o = Run after_call (AllowsCall terms) (fresh_desk_object start) calls o
 
 -- the objects, begun fresh, can answer each event with its reply, in order
-pub record IsObjectRun (terms : RenameTerms) (size : ℕ) (r : List Exchange) : Type 0 where
+pub record IsObjectRun (terms : RenameTerms) (start : PoolStart) (r : List Exchange) : Type 0 where
   pub calls : List DeskCall
   pub spelled : map exchange_of calls ≡ r
   pub object : DeskObject
-  pub run : AreCallsOf terms size calls object
+  pub run : AreCallsOf terms start calls object

@@ -8,7 +8,7 @@ use Rattle.model_pool.specs.Widening.{widen_refusal}
 use Rattle.model_pool.specs.slots.Slots.{IsFetched}
 use Rattle.model_pool.specs.slots.SlotsObject.{SlotsObject}
 use Rattle.model_asked.specs.declared.event.Event.{Event}
-use Rattle.model_asked.specs.declared.event.Event.TheVariants.{Begin, Step, Enter, Probe, Leave, Put, Get, Widen}
+use Rattle.model_asked.specs.declared.event.Event.TheVariants.{Begin, Step, Enter, Probe, Seek, Leave, Put, Get, Widen}
 use Rattle.text_checker.specs.declared.reason.Reason.{Reason}
 use Rattle.text_checker.specs.declared.reason.Reason.TheVariants as reason
 use Rattle.text_records.specs.declared.reported.Reported.{Reported}
@@ -36,10 +36,11 @@ refusal_due terms o (Begin p) = no_begin terms o.names p
 refusal_due terms o (Step p) = no_step o.names p
 refusal_due terms o (Enter p) = no_entry o.slots.pool p
 refusal_due terms o (Probe p) = no_probe o.slots.pool p
+refusal_due terms o (Seek p) = no_probe o.slots.pool p
 refusal_due terms o (Leave p) = why_of (number_in o.slots.pool p)
 refusal_due terms o (Put p value) = why_of (number_in o.slots.pool p)
 refusal_due terms o (Get p) = why_of (number_in o.slots.pool p)
-refusal_due terms o (Widen more) = widen_refusal o.slots.pool.size more
+refusal_due terms o (Widen more) = widen_refusal o.slots.pool.most o.slots.pool.size more
 
 -- where none is due, an allocation failure may be told of a step in a world that grows
 abbrev pub is_reported_rightly : Option Refusal → Bool → ℕ → Bool

@@ -1,5 +1,6 @@
 -- what was read and taken of the lines of a record so far
 use Rattle.std.specs.Prelude.{◌≡◌, ◌≢◌, ℕ, ◌+◌, ◌<◌, ◌≤◌, true, List, ◌∷◌, ◌++◌, length, None}
+use Rattle.text_worlds.specs.desk.Start.{pool_start}
 use Rattle.text_records.specs.declared.header.Header.{Header}
 use Rattle.text_records.specs.declared.line.Line.{Line}
 use Rattle.text_records.specs.declared.line.Row.{Row}
@@ -21,7 +22,7 @@ pub record RowsSoFar (h : Header) (rows left : List (List ℕ)) (checker : Check
   pub read : AreRead h.config.world h.version before lines
   pub many : length lines ≡ length before
   pub few : length before ≤ 1000000
-  pub taken : HasTaken (terms_of h.config) h.config.k lines checker
+  pub taken : HasTaken (terms_of h.config) (pool_start h.config) lines checker
   pub at : number ≡ length before + 2
 
 -- a row that is not one too many was read as this line, and that is taken

@@ -1,5 +1,6 @@
 -- what is said of a record
 use Rattle.std.specs.Prelude.{◌≡◌, ◌⊎◌, ℕ, ◌+◌, ◌<◌, ◌≤◌, List, [], ◌∷◌, ◌++◌, length}
+use Rattle.text_worlds.specs.desk.Start.{pool_start}
 use Rattle.text_records.specs.declared.header.Header.{Header}
 use Rattle.text_records.specs.declared.line.Line.{Line}
 use Rattle.text_checker.specs.declared.reason.Reason.{Reason}
@@ -16,7 +17,7 @@ pub record SpellRun (h : Header) (rows : List (List ℕ)) : Type 0 where
   pub lines : List Line
   pub read : AreRead h.config.world h.version rows lines
   pub few : length rows ≤ 1000000
-  pub run : AreLinesOfRun (terms_of h.config) h.config.k lines
+  pub run : AreLinesOfRun (terms_of h.config) (pool_start h.config) lines
 
 -- the line of this number is the first at fault: those before it are read and follow one another, and this is the least reason
 -- for which it can't
@@ -30,7 +31,7 @@ pub record IsFaultyRow (h : Header) (rows : List (List ℕ)) (number : ℕ) (why
   pub few : length before < 1000000
   pub line : Line
   pub says : IsEventLine h.config.world h.version row line
-  pub fault : IsFaultAfter (terms_of h.config) h.config.k lines line why
+  pub fault : IsFaultAfter (terms_of h.config) (pool_start h.config) lines line why
   pub at : number ≡ length before + 2
 
 -- the line of this number is the first that is none: those before it, at most a million, are read and follow one another, and
@@ -43,7 +44,7 @@ pub record IsBadRow (h : Header) (rows : List (List ℕ)) (number : ℕ) : Type 
   pub lines : List Line
   pub read : AreRead h.config.world h.version before lines
   pub few : length before ≤ 1000000
-  pub run : AreLinesOfRun (terms_of h.config) h.config.k lines
+  pub run : AreLinesOfRun (terms_of h.config) (pool_start h.config) lines
   pub bad : length before < 1000000 → (l : Line) → IsEventLine h.config.world h.version row l → ⊥
   pub at : number ≡ length before + 2
 

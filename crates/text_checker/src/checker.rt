@@ -5,6 +5,7 @@ ghost use Rattle.std.specs.Option.{option_copied};
 ghost use Rattle.model_renaming.specs.RenameObject.{RenameTerms};
 ghost use Rattle.model_asked.specs.declared.event.Event.TheVariants as event;
 ghost use Rattle.text_records.specs.declared.reported.Reported.TheVariants as reported;
+ghost use Rattle.text_worlds.specs.desk.Start.{pool_start};
 ghost use Rattle.text_checker.specs.Config.{terms_of};
 ghost use Rattle.text_checker.specs.ObjectRun.{DeskObject};
 ghost use Rattle.text_records.specs.Reported.{is_step};
@@ -67,10 +68,10 @@ impl Checker {
     ///
     /// `AllocError`: the allocation failed.
     pub fn new(alloc: Global, config: Config, lines: usize) -> Result<Checker, AllocError>
-        ensures { IfOk result (HasTaken (terms_of config) config.k []) }
+        ensures { IfOk result (HasTaken (terms_of config) (pool_start config) []) }
     {
         Ok(Checker {
-            stays: Stays::new(alloc, config.k)?,
+            stays: Stays::new(alloc, config.world.most_numbers(), config.k)?,
             names: Names::new(alloc, config.m, config.limit, lines)?,
             grows: config.world.is_tree(),
         })
@@ -84,7 +85,7 @@ impl Checker {
             Event::Begin(id) => self.names.begin_refusal(id),
             Event::Step(id) => self.names.step_refusal(id),
             Event::Enter(id) => self.stays.enter_refusal(id),
-            Event::Probe(id) => self.stays.probe_refusal(id),
+            Event::Probe(id) | Event::Seek(id) => self.stays.probe_refusal(id),
             Event::Leave(id) => self.stays.number_of(id).err(),
             Event::Put(id, _) => self.stays.number_of(id).err(),
             Event::Get(id) => self.stays.number_of(id).err(),
@@ -185,9 +186,10 @@ impl Checker {
         Ok(())
     }
 
-    /// Judges that an identity, which may probe, gets a number.
+    /// Judges that an identity, which may probe, gets a number, by one probe or by as many as it takes.
     fn gain(&mut self, id: u64, number: u64) -> Result<(), Fault>
-        ensures { Judges (MayProbe id) self.old (line (event.Probe id) (reported.Got number)) result self.new }
+        ensures probe { Judges (MayProbe id) self.old (line (event.Probe id) (reported.Got number)) result self.new }
+        ensures seek { Judges (MayProbe id) self.old (line (event.Seek id) (reported.Got number)) result self.new }
     {
         if !self.stays.is_free(number) {
             return Err(Fault::Unlawful(Reason::Pool));
@@ -282,6 +284,10 @@ impl Checker {
                 _ => Ok(()),
             },
             Event::Probe(id) => self.probe(id, reported),
+            Event::Seek(id) => match reported {
+                Reported::Got(number) => self.gain(id, *number),
+                _ => Ok(()),
+            },
             Event::Leave(id) => match reported {
                 Reported::Left(number) => self.leave(id, *number),
                 _ => Ok(()),

@@ -11,7 +11,7 @@
 //! From `text_checker/src/checker.rt`:
 //!
 //! ```text
-//! stays: Stays::new(alloc, config.k)?,
+//! stays: Stays::new(alloc, MOST_NUMBERS as u64, config.k)?,
 //! names: Names::new(alloc, config.m, config.limit, lines)?,
 //! ..
 //! if !self.stays.is_free(number) {

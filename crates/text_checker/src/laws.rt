@@ -2,6 +2,7 @@
 
 ghost use Rattle.std.specs.Prelude.{◌≡◌, ◌↔◌, ◌∷◌, ◌++◌, ℕ, List, Bool, map};
 ghost use Rattle.model_renaming.specs.RenameObject.{RenameTerms};
+ghost use Rattle.model_pool.specs.PoolState.{PoolStart};
 ghost use Rattle.text_worlds.specs.desk.DeskCalls.{DeskCall, exchange_of};
 ghost use Rattle.text_records.specs.declared.line.Line.{Line};
 ghost use Rattle.text_records.specs.Lines.{IsLineOf, line_of};
@@ -36,10 +37,12 @@ pub fn law_of_reasons()
 /// If one after these is at fault, they and it are not those of a run, whatever comes after. A call leaves the objects
 /// as its line does.
 pub fn law_of_followed_lines()
-    ensures run { (terms : RenameTerms) (size : ℕ) (lines : List Line) → AreLinesOfRun terms size lines → (o : DeskObject) × Follow terms size lines o }
-    ensures follow { (terms : RenameTerms) (size : ℕ) (lines : List Line) (o : DeskObject) → Follow terms size lines o → AreLinesOfRun terms size lines }
-    ensures fault { (terms : RenameTerms) (size : ℕ) (before : List Line) (l : Line) (more : List Line) (why : Reason) →
-        IsFaultAfter terms size before l why → AreLinesOfRun terms size (before ++ l ∷ more) → ⊥ }
+    ensures run { (terms : RenameTerms) (start : PoolStart) (lines : List Line) →
+        AreLinesOfRun terms start lines → (o : DeskObject) × Follow terms start lines o }
+    ensures follow { (terms : RenameTerms) (start : PoolStart) (lines : List Line) (o : DeskObject) →
+        Follow terms start lines o → AreLinesOfRun terms start lines }
+    ensures fault { (terms : RenameTerms) (start : PoolStart) (before : List Line) (l : Line) (more : List Line) (why : Reason) →
+        IsFaultAfter terms start before l why → AreLinesOfRun terms start (before ++ l ∷ more) → ⊥ }
     ensures call { (terms : RenameTerms) (o : DeskObject) (c : DeskCall) (l : Line) →
         IsLineOf (exchange_of c) l → AllowsCall terms o c → after_call o c ≡ after_line o l }
 {}
@@ -50,10 +53,12 @@ pub fn law_of_followed_lines()
 /// If one after these is at fault, they and it are not those of a run, whatever comes after. A record with the verdict
 /// `Yes` has no other.
 pub fn law_of_records()
-    ensures run { (terms : RenameTerms) (size : ℕ) (lines : List Line) → AreLinesOfRun terms size lines → (o : DeskObject) × Follow terms size lines o }
-    ensures follow { (terms : RenameTerms) (size : ℕ) (lines : List Line) (o : DeskObject) → Follow terms size lines o → AreLinesOfRun terms size lines }
-    ensures fault { (terms : RenameTerms) (size : ℕ) (before : List Line) (l : Line) (more : List Line) (why : Reason) →
-        IsFaultAfter terms size before l why → AreLinesOfRun terms size (before ++ l ∷ more) → ⊥ }
+    ensures run { (terms : RenameTerms) (start : PoolStart) (lines : List Line) →
+        AreLinesOfRun terms start lines → (o : DeskObject) × Follow terms start lines o }
+    ensures follow { (terms : RenameTerms) (start : PoolStart) (lines : List Line) (o : DeskObject) →
+        Follow terms start lines o → AreLinesOfRun terms start lines }
+    ensures fault { (terms : RenameTerms) (start : PoolStart) (before : List Line) (l : Line) (more : List Line) (why : Reason) →
+        IsFaultAfter terms start before l why → AreLinesOfRun terms start (before ++ l ∷ more) → ⊥ }
     ensures yes { (lines : List (List ℕ)) (v : Verdict) → IsSaidAfter lines Yes → IsSaid lines v → v ≡ Yes }
 {}
 
@@ -61,10 +66,10 @@ pub fn law_of_records()
 ///
 /// So their lines are those of a run, with the views by which names were given or without them.
 pub fn law_of_desk_runs()
-    ensures object { (terms : RenameTerms) (bounds : SnapBounds) (size : ℕ) (r : List Exchange) →
-        IsDeskRun terms bounds size r → IsObjectRun terms size r }
-    ensures lines { (terms : RenameTerms) (bounds : SnapBounds) (size : ℕ) (r : List Exchange) →
-        IsDeskRun terms bounds size r → (shows : Bool) → AreLinesOfRun terms size (map (line_of shows) r) }
+    ensures object { (terms : RenameTerms) (bounds : SnapBounds) (start : PoolStart) (r : List Exchange) →
+        IsDeskRun terms bounds start r → IsObjectRun terms start r }
+    ensures lines { (terms : RenameTerms) (bounds : SnapBounds) (start : PoolStart) (r : List Exchange) →
+        IsDeskRun terms bounds start r → (shows : Bool) → AreLinesOfRun terms start (map (line_of shows) r) }
 {}
 
 /// A law of the worlds with names, of the record of a transcript with at most a million events.

@@ -1,6 +1,7 @@
 //! Judges a list of lines.
 
 ghost use Rattle.std.specs.Prelude.{◌≡◌, ◌≤◌, ◌↔◌, length, IfOk, None};
+ghost use Rattle.text_worlds.specs.desk.Start.{pool_start};
 ghost use Rattle.text_checker.specs.Config.{terms_of};
 ghost use Rattle.text_checker.specs.Lines.{AreLinesOfRun};
 ghost use Rattle.text_checker.specs.Judged.{IsFirstFaultOrNone};
@@ -24,10 +25,10 @@ pub fn first_fault(
     lines: &[Line],
 ) -> Result<Option<(usize, Reason)>, AllocError>
     requires { length lines.now ≤ 1000000 }
-    ensures fault { IfOk result (IsFirstFaultOrNone (terms_of config) config.k lines.now) }
+    ensures fault { IfOk result (IsFirstFaultOrNone (terms_of config) (pool_start config) lines.now) }
 
     // None is found if and only if the lines are those of a run.
-    ensures none { IfOk result (λ r. (r ≡ None) ↔ AreLinesOfRun (terms_of config) config.k lines.now) }
+    ensures none { IfOk result (λ r. (r ≡ None) ↔ AreLinesOfRun (terms_of config) (pool_start config) lines.now) }
 {
     let mut checker = Checker::new(alloc, config, lines.len())?;
     for (i, line) in lines.iter().enumerate() {

@@ -8,6 +8,7 @@ event_words (event.Begin id) = codes "begin " ++ decimal id
 event_words (event.Step id) = codes "step " ++ decimal id
 event_words (event.Enter id) = codes "enter " ++ decimal id
 event_words (event.Probe id) = codes "probe " ++ decimal id
+event_words (event.Seek id) = codes "seek " ++ decimal id
 event_words (event.Leave id) = codes "leave " ++ decimal id
 event_words (event.Put id value) = (codes "put " ++ decimal id) ++ codes " " ++ decimal value
 event_words (event.Get id) = codes "get " ++ decimal id

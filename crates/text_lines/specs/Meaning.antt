@@ -1,11 +1,11 @@
 -- the meaning of a line: a command, or why it is none
 use Rattle.std.specs.Prelude.{ℕ, ◌+◌, ◌*◌, ◌-◌, ◌^◌, ◌==◌, nat_lt, nat_le, if◌then◌else◌, Bool, true, false, ◌&&◌, not, List, [], ◌∷◌, length, Option, Some, None, Result, Ok, Err, codes}
 use Rattle.std.specs.List.{list_all}
-use Rattle.model_asked.specs.Config.{gives_names}
+use Rattle.model_asked.specs.Config.{gives_names, is_wide}
 use Rattle.model_asked.specs.declared.bad.Bad.{Bad}
 use Rattle.model_asked.specs.declared.bad.Bad.TheVariants.{TooLong, NotPrintable, UnknownWord, WrongCount, BadNumber}
 use Rattle.model_asked.specs.declared.event.Event.{Event}
-use Rattle.model_asked.specs.declared.event.Event.TheVariants.{Begin, Step, Enter, Probe, Leave, Put, Get, Widen}
+use Rattle.model_asked.specs.declared.event.Event.TheVariants.{Begin, Step, Enter, Probe, Seek, Leave, Put, Get, Widen}
 use Rattle.model_asked.specs.declared.command.Command.{Command}
 use Rattle.model_asked.specs.declared.command.Command.TheVariants as command
 use Rattle.model_asked.specs.declared.kind.WorldKind.{WorldKind}
@@ -77,22 +77,28 @@ abbrev pub quit_of : List (List ℕ) → Result Command Bad
 quit_of [] = Ok command.Quit
 quit_of (word ∷ more) = Err WrongCount
 
--- the words of slots, and those that ask for more numbers or for an owner
-abbrev pub slot_command_of : List ℕ → List (List ℕ) → Result Command Bad
-slot_command_of word others =
+-- `seek`, which only the wide world knows
+abbrev pub seek_of : Bool → List (List ℕ) → Result Command Bad
+seek_of true others = event_of_one Seek others
+seek_of false others = Err UnknownWord
+
+-- the words of slots, and those that ask for more numbers or for an owner; and `seek`
+abbrev pub slot_command_of : WorldKind → List ℕ → List (List ℕ) → Result Command Bad
+slot_command_of world word others =
     if same_bytes word (codes "put") then event_of_two Put others
     else if same_bytes word (codes "get") then event_of_one Get others
     else if same_bytes word (codes "widen") then event_of_one Widen others
     else if same_bytes word (codes "owner") then command_of_one command.Owner others
+    else if same_bytes word (codes "seek") then seek_of (is_wide world) others
     else Err UnknownWord
 
 -- the words that only a desk knows
-abbrev pub desk_command_of : List ℕ → List (List ℕ) → Result Command Bad
-desk_command_of word others =
+abbrev pub desk_command_of : WorldKind → List ℕ → List (List ℕ) → Result Command Bad
+desk_command_of world word others =
     if same_bytes word (codes "enter") then event_of_one Enter others
     else if same_bytes word (codes "probe") then event_of_one Probe others
     else if same_bytes word (codes "leave") then event_of_one Leave others
-    else slot_command_of word others
+    else slot_command_of world word others
 
 -- by the first word, and the others
 abbrev pub command_of : WorldKind → List ℕ → List (List ℕ) → Result Command Bad
@@ -100,7 +106,7 @@ command_of world word others =
     if same_bytes word (codes "begin") then event_of_one Begin others
     else if same_bytes word (codes "step") then event_of_one Step others
     else if same_bytes word (codes "quit") then quit_of others
-    else if gives_names world then desk_command_of word others
+    else if gives_names world then desk_command_of world word others
     else Err UnknownWord
 
 abbrev pub command_in : WorldKind → List (List ℕ) → Result Command Bad

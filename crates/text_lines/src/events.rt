@@ -22,6 +22,7 @@ pub fn print_event<A: Allocator>(event: Event, out: &mut Replies<A>)
         Event::Step(id) => put_word(b"step ", id, out),
         Event::Enter(id) => put_word(b"enter ", id, out),
         Event::Probe(id) => put_word(b"probe ", id, out),
+        Event::Seek(id) => put_word(b"seek ", id, out),
         Event::Leave(id) => put_word(b"leave ", id, out),
         Event::Put(id, value) => {
             put_word(b"put ", id, out);

@@ -1,17 +1,18 @@
 //! The lines that ask for the holders of numbers, and the answers to them.
 //!
-//! `held` asks for each number that is held, with its holder and the value of its slot. `held ID` asks for the number
+//! `held` asks for each number that is held, with its holder and the value of its slot. Where a pool has more than 64
+//! numbers it is answered in pages: `held from N` asks for the page that begins with a number. `held ID` asks for the number
 //! of one identity. These are no commands of the language (`text_lines`), which does not know their word. A server
 //! that answers them checks for them first (`held_query`). The answer is that of a pool with its slots (`put_held`),
 //! and changes nothing.
 //!
-//! From `service_host/src/holders.rt`:
+//! From `service_host/src/persisters.rt`:
 //!
 //! ```text
-//! put_held(hall.slots(), HeldQuery::All, &mut text);
+//! put_held(reading.service.slots(), query, out);
 //! ```
 pub mod query;
 pub mod telling;
 
 pub use query::{HeldQuery, QUERY_MAX, held_query};
-pub use telling::{HELD_ROOM, put_held};
+pub use telling::{HELD_ROOM, PAGE, put_held, put_lines};

@@ -53,14 +53,14 @@ fn command_of(word: &[u8], others: Option<&[u8]>, world: WorldKind) -> Result<Co
         return Ok(Command::Quit);
     }
     if world.gives_names() {
-        return desk_command_of(word, others);
+        return desk_command_of(word, others, world);
     }
     Err(Bad::UnknownWord)
 }
 
 // The same for a first word that only a desk knows.
-fn desk_command_of(word: &[u8], others: Option<&[u8]>) -> Result<Command, Bad>
-    ensures { result ≡ desk_command_of word.now (words_left (option_copied others.entry)) }
+fn desk_command_of(word: &[u8], others: Option<&[u8]>, world: WorldKind) -> Result<Command, Bad>
+    ensures { result ≡ desk_command_of world word.now (words_left (option_copied others.entry)) }
 {
     if is_word(word, b"enter") {
         return Ok(Command::Event(Event::Enter(only_number(others)?)));
@@ -71,12 +71,12 @@ fn desk_command_of(word: &[u8], others: Option<&[u8]>) -> Result<Command, Bad>
     if is_word(word, b"leave") {
         return Ok(Command::Event(Event::Leave(only_number(others)?)));
     }
-    slot_command_of(word, others)
+    slot_command_of(word, others, world)
 }
 
-// The same for the words of slots, and for those that ask for more numbers or for an owner.
-fn slot_command_of(word: &[u8], others: Option<&[u8]>) -> Result<Command, Bad>
-    ensures { result ≡ slot_command_of word.now (words_left (option_copied others.entry)) }
+// The same for the words of slots, and for those that ask for more numbers or for an owner; and for `seek`.
+fn slot_command_of(word: &[u8], others: Option<&[u8]>, world: WorldKind) -> Result<Command, Bad>
+    ensures { result ≡ slot_command_of world word.now (words_left (option_copied others.entry)) }
 {
     if is_word(word, b"put") {
         let (id, value) = two_numbers(others)?;
@@ -90,6 +90,9 @@ fn slot_command_of(word: &[u8], others: Option<&[u8]>) -> Result<Command, Bad>
     }
     if is_word(word, b"owner") {
         return Ok(Command::Owner(only_number(others)?));
+    }
+    if is_word(word, b"seek") && world.is_wide() {
+        return Ok(Command::Event(Event::Seek(only_number(others)?)));
     }
     Err(Bad::UnknownWord)
 }

@@ -67,16 +67,20 @@ pub fn print_words<A: Allocator>(reply: Reply<()>, view: &View, out: &mut Replie
 
 // Appends a word with its space, a small number in decimal, and an LF.
 #[inline(always)]
-fn put_small<A: Allocator>(word: &[u8], number: u8, out: &mut Replies<A>)
+fn put_small<A: Allocator>(word: &[u8], number: u32, out: &mut Replies<A>)
     requires { length out.old + (length word.now + 21) ≤ HELD_REPLIES }
     ensures text { out.new ≡ out.old ++ ((word.now ++ decimal number) ++ 10 ∷ []) }
     ensures len { length out.new ≤ length out.old + (length word.now + 21) }
 {
     out.put(word);
     if number < 10 {
-        out.put(&[b'0' + number, b'\n']);
+        out.put(&[b'0' + number as u8, b'\n']);
     } else if number < 100 {
-        out.put(&[b'0' + number / 10, b'0' + number % 10, b'\n']);
+        out.put(&[
+            b'0' + (number / 10) as u8,
+            b'0' + (number % 10) as u8,
+            b'\n',
+        ]);
     } else {
         put_number(u64::from(number), out);
         out.put(b"\n");
@@ -90,7 +94,7 @@ fn put_refusal<A: Allocator>(refusal: Refusal, out: &mut Replies<A>)
     ensures text { out.new ≡ out.old ++ reply_text (reply.Refused refusal) }
     ensures short { length out.new ≤ length out.old + 29 }
 {
-    put_small(b"refused ", refusal.number(), out);
+    put_small(b"refused ", u32::from(refusal.number()), out);
 }
 
 /// Appends the answer to a bad line, one line with its LF.

@@ -79,7 +79,7 @@ fn put_replied<A: Allocator>(reply: Reply<()>, view: &View, out: &mut Replies<A>
         Reply::Got(number) => put_small_end(b"\",\"reply\":\"got ", number, out),
         Reply::Left(number) => put_small_end(b"\",\"reply\":\"left ", number, out),
         Reply::Refused(refusal) => {
-            put_small_end(b"\",\"reply\":\"refused ", refusal.number(), out);
+            put_small_end(b"\",\"reply\":\"refused ", u32::from(refusal.number()), out);
         }
         _ => put_any_replied(reply, view, out),
     }
@@ -87,16 +87,22 @@ fn put_replied<A: Allocator>(reply: Reply<()>, view: &View, out: &mut Replies<A>
 
 /// Appends these bytes, a number of few digits in decimal, and the end of a line that shows no view.
 #[inline(always)]
-fn put_small_end<A: Allocator>(front: &[u8], number: u8, out: &mut Replies<A>)
+fn put_small_end<A: Allocator>(front: &[u8], number: u32, out: &mut Replies<A>)
     requires { length out.old + (length front.now + 23) ≤ HELD_REPLIES }
     ensures text { out.new ≡ out.old ++ ((front.now ++ decimal number) ++ codes "\"}\n") }
     ensures len { length out.new ≤ length out.old + (length front.now + 23) }
 {
     out.put(front);
     if number < 10 {
-        out.put(&[b'0' + number, b'"', b'}', b'\n']);
+        out.put(&[b'0' + number as u8, b'"', b'}', b'\n']);
     } else if number < 100 {
-        out.put(&[b'0' + number / 10, b'0' + number % 10, b'"', b'}', b'\n']);
+        out.put(&[
+            b'0' + (number / 10) as u8,
+            b'0' + (number % 10) as u8,
+            b'"',
+            b'}',
+            b'\n',
+        ]);
     } else {
         put_number(u64::from(number), out);
         out.put(b"\"}\n");

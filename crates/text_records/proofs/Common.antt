@@ -13,10 +13,10 @@ pub use Rattle.serde_json.specs.View.{view}
 pub use Rattle.serde_json.specs.Data.{Data}
 pub use Rattle.json.proofs.Printed.Utf8.{are_ascii, IsUtf8-are_ascii}
 pub use Rattle.model_steps.specs.View.{inserted}
-pub use Rattle.model_asked.specs.Config.{gives_names}
+pub use Rattle.model_asked.specs.Config.{is_wide, gives_names}
 pub use Rattle.model_asked.specs.declared.kind.WorldKind.{WorldKind}
 pub use Rattle.model_asked.specs.declared.event.Event.{Event}
-pub use Rattle.model_asked.specs.declared.event.Event.TheVariants.{Begin, Step, Enter, Probe, Leave, Put, Get, Widen}
+pub use Rattle.model_asked.specs.declared.event.Event.TheVariants.{Begin, Step, Enter, Probe, Seek, Leave, Put, Get, Widen}
 pub use Rattle.model_asked.specs.lemmas.KindProofs.{named_apart}
 pub use Rattle.model_asked.specs.Replies.{ShownReply}
 pub use Rattle.text_lines.specs.Lines.{pieces_from, pieces_left, has_no_lf, with_ends}

@@ -1,8 +1,10 @@
 -- the numbers that a record can write, and those that are read of one
-use Rattle.std.specs.Prelude.{◌≢◌, ℕ, ◌^◌, ◌<◌, ◌≤◌, List, [], ◌∷◌, length, Result, Ok}
+use Rattle.std.specs.Prelude.{◌≡◌, true, ◌≢◌, ℕ, ◌^◌, ◌<◌, ◌≤◌, List, [], ◌∷◌, length, Result, Ok}
 use Rattle.model_steps.specs.View.{IsAbove, IsRising}
 use Rattle.model_asked.specs.declared.event.Event.{Event}
-use Rattle.model_asked.specs.declared.event.Event.TheVariants.{Begin, Step, Enter, Probe, Leave, Put, Get, Widen}
+use Rattle.model_asked.specs.declared.event.Event.TheVariants.{Begin, Step, Enter, Probe, Seek, Leave, Put, Get, Widen}
+use Rattle.model_asked.specs.Config.{is_wide}
+use Rattle.model_asked.specs.declared.kind.WorldKind.{WorldKind}
 use Rattle.model_asked.specs.Replies.{ShownReply}
 use Rattle.model_asked.specs.declared.reply.Reply.TheVariants as reply
 use Rattle.model_asked.specs.declared.bad.Bad.{Bad}
@@ -12,16 +14,17 @@ use Rattle.model_asked.specs.declared.exchange.Exchange.{Exchange}
 use Rattle.text_records.specs.declared.reported.Reported.{Reported}
 use Rattle.text_records.specs.declared.reported.Reported.TheVariants as reported
 
--- the numbers of an event are below 2^64
-abbrev pub IsNarrowEvent : Event → Type 0
-IsNarrowEvent (Begin p) = p < 2 ^ 64
-IsNarrowEvent (Step p) = p < 2 ^ 64
-IsNarrowEvent (Enter p) = p < 2 ^ 64
-IsNarrowEvent (Probe p) = p < 2 ^ 64
-IsNarrowEvent (Leave p) = p < 2 ^ 64
-IsNarrowEvent (Put p value) = (p < 2 ^ 64) × (value < 2 ^ 64)
-IsNarrowEvent (Get p) = p < 2 ^ 64
-IsNarrowEvent (Widen more) = more < 2 ^ 64
+-- the world knows the event, and its numbers are below 2^64
+abbrev pub IsNarrowEvent : WorldKind → Event → Type 0
+IsNarrowEvent kind (Begin p) = p < 2 ^ 64
+IsNarrowEvent kind (Step p) = p < 2 ^ 64
+IsNarrowEvent kind (Enter p) = p < 2 ^ 64
+IsNarrowEvent kind (Probe p) = p < 2 ^ 64
+IsNarrowEvent kind (Seek p) = (is_wide kind ≡ true) × (p < 2 ^ 64)
+IsNarrowEvent kind (Leave p) = p < 2 ^ 64
+IsNarrowEvent kind (Put p value) = (p < 2 ^ 64) × (value < 2 ^ 64)
+IsNarrowEvent kind (Get p) = p < 2 ^ 64
+IsNarrowEvent kind (Widen more) = more < 2 ^ 64
 
 -- and those of pairs
 abbrev pub AreNarrow : List (ℕ × ℕ) → Type 0
@@ -48,15 +51,15 @@ IsNarrowReply (reply.Value value) = value < 2 ^ 64
 IsNarrowReply (reply.Owner owner) = ⊥
 IsNarrowReply r = Unit {0}
 
--- exchanges with numbers that a record can write
-abbrev pub AreNarrowExchanges : List Exchange → Type 0
-AreNarrowExchanges [] = Unit {0}
-AreNarrowExchanges (x ∷ xs) = IsNarrowEvent x.event × IsNarrowReply x.reply × AreNarrowExchanges xs
+-- exchanges of a world, with numbers that a record can write
+abbrev pub AreNarrowExchanges : WorldKind → List Exchange → Type 0
+AreNarrowExchanges kind [] = Unit {0}
+AreNarrowExchanges kind (x ∷ xs) = IsNarrowEvent kind x.event × IsNarrowReply x.reply × AreNarrowExchanges kind xs
 
--- an event that is asked has numbers below 2^64
-abbrev pub IsNarrow : Result Command Bad → Type 0
-IsNarrow (Ok (command.Event e)) = IsNarrowEvent e
-IsNarrow r = Unit {0}
+-- an event that is asked is one of the world, with numbers below 2^64
+abbrev pub IsNarrow : WorldKind → Result Command Bad → Type 0
+IsNarrow kind (Ok (command.Event e)) = IsNarrowEvent kind e
+IsNarrow kind r = Unit {0}
 
 -- a place has at most 128 bits
 abbrev pub FitsReported : Reported → Type 0

@@ -31,6 +31,7 @@ pub fn put_event(event: Event, out: &mut Text) -> Result<(), AllocError>
         Event::Step(id) => out.put_word(b"step ", id),
         Event::Enter(id) => out.put_word(b"enter ", id),
         Event::Probe(id) => out.put_word(b"probe ", id),
+        Event::Seek(id) => out.put_word(b"seek ", id),
         Event::Leave(id) => out.put_word(b"leave ", id),
         Event::Put(id, value) => {
             out.put_word(b"put ", id)?;

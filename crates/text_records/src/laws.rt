@@ -27,9 +27,9 @@ pub fn law_of_lines()
         IsEventLine kind version row l → IsEventLine kind version row k → l ≡ k }
     ensures header { (head : List ℕ) (g h : Header) → IsHeaderLine head g → IsHeaderLine head h → AreSame g h }
     ensures names { (head : List ℕ) (h : Header) → IsHeaderLine head h → gives_names h.config.world ≡ true }
-    ensures asked { (kind : WorldKind) (line : List ℕ) → IsNarrow (meaning kind line) }
+    ensures asked { (kind : WorldKind) (line : List ℕ) → IsNarrow kind (meaning kind line) }
     ensures narrow { (kind : WorldKind) (version : Version) (row : List ℕ) (l : Line) →
-        IsEventLine kind version row l → IsNarrowEvent l.event × FitsReported l.reported }
+        IsEventLine kind version row l → IsNarrowEvent kind l.event × FitsReported l.reported }
 {}
 
 /// A law of the worlds with names, of what `record` of `text_worlds` writes of a transcript whose numbers fit.
@@ -37,7 +37,7 @@ pub fn law_of_lines()
 /// It is a header of version 2 and then a line for each exchange, in order. The line is read as that exchange, with the
 /// view of a name.
 pub fn law_of_written_records()
-    ensures { (c : Config) → gives_names c.world ≡ true → (ts : List Turn) → AreNarrowExchanges (exchanges ts) →
+    ensures { (c : Config) → gives_names c.world ≡ true → (ts : List Turn) → AreNarrowExchanges c.world (exchanges ts) →
         IsRecordOf c (exchanges ts) (record_of c ts) }
 {}
 

@@ -85,7 +85,7 @@ impl Reported {
             Reported::Named(_, _) => is_step(event),
             Reported::Spent => is_step(event),
             Reported::Missed => matches!(event, Event::Probe(_)),
-            Reported::Got(_) => matches!(event, Event::Probe(_)),
+            Reported::Got(_) => matches!(event, Event::Probe(_) | Event::Seek(_)),
             Reported::Left(_) => matches!(event, Event::Leave(_)),
             Reported::Value(_) => matches!(event, Event::Get(_)),
             Reported::Owner(_) => false,

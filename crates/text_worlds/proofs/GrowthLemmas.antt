@@ -20,7 +20,7 @@ use Rattle.model_pool.specs.Pool.{enter_refusal, probe_refusal_by, number_by}
 use Rattle.model_pool.specs.PoolState.{PoolState}
 use Rattle.model_pool.specs.Widening.{widen_refusal}
 use Rattle.model_asked.specs.declared.event.Event.{Event}
-use Rattle.model_asked.specs.declared.event.Event.TheVariants.{Begin, Step, Enter, Probe, Leave, Put, Get, Widen}
+use Rattle.model_asked.specs.declared.event.Event.TheVariants.{Begin, Step, Enter, Probe, Seek, Leave, Put, Get, Widen}
 use Rattle.model_asked.specs.Replies.{ShownReply}
 use Rattle.model_asked.specs.declared.reply.Reply.TheVariants as reply
 use Rattle.model_asked.specs.Config.{gives_names}
@@ -81,20 +81,21 @@ other_enter w p =
     other_if (p == 0) refusal.ZeroIdentity (cond (is_some (stay_of p w.competitors)) (Some refusal.AlreadyCompeting) crowded) refl
     (other_if (is_some (stay_of p w.competitors)) refusal.AlreadyCompeting crowded refl (other_if (nat_le w.size (length w.competitors)) refusal.Crowded None refl tt))
 
-other_widen : (size more : ℕ) → IsOther (widen_refusal size more)
-other_widen size more =
-    let above : Option Refusal = cond (nat_lt 64 more) (Some refusal.OutOfRange) None in
-    other_if (nat_le more size) refusal.OutOfRange above refl (other_if (nat_lt 64 more) refusal.OutOfRange None refl tt)
+other_widen : (most size more : ℕ) → IsOther (widen_refusal most size more)
+other_widen most size more =
+    let above : Option Refusal = cond (nat_lt most more) (Some refusal.OutOfRange) None in
+    other_if (nat_le more size) refusal.OutOfRange above refl (other_if (nat_lt most more) refusal.OutOfRange None refl tt)
 
 other_over : {S U K : Type 0} (w : DeskState S U K) (e : Event) → IsOther (refusal_over w e)
 other_over w (Begin p) = other_begin w.names.snap p
 other_over w (Step p) = other_step (program_of p w.names.rounds)
 other_over w (Enter p) = other_enter w.slots.pool p
 other_over w (Probe p) = other_probe (stay_of p w.slots.pool.competitors)
+other_over w (Seek p) = other_probe (stay_of p w.slots.pool.competitors)
 other_over w (Leave p) = other_number (stay_of p w.slots.pool.competitors)
 other_over w (Put p value) = other_number (stay_of p w.slots.pool.competitors)
 other_over w (Get p) = other_number (stay_of p w.slots.pool.competitors)
-other_over w (Widen more) = other_widen w.slots.pool.size more
+other_over w (Widen more) = other_widen w.slots.pool.most w.slots.pool.size more
 
 other_due : (w : DeskValue) (e : Event) → IsOther (desk_refusal w e)
 other_due (OverGrid w) e = other_over w e

@@ -30,4 +30,4 @@ transcript_of_run IsRun most fresh may lawful tells w u ts is_fresh run = record
 pub desk_transcript : (c : Config) (k : WorldKind) → gives_names k ≡ true → (w u : DeskValue) (ts : List Turn) → IsFreshDesk c w → Runs DeskWorldMay w ts u → IsTranscriptByKind k c ts
 desk_transcript c k named w u ts is_fresh run =
     let transcript = transcript_of_run (IsDeskRunOf c) c.m (IsFreshDesk c) DeskWorldMay (desk_lawful c) (desk_tells c) w u ts is_fresh run in
-    where_named (λ (x : WorldKind). IsTranscriptByKind x c ts) k named transcript transcript
+    where_named (λ (x : WorldKind). IsTranscriptByKind x c ts) k named transcript transcript transcript

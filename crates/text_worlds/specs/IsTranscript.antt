@@ -2,7 +2,7 @@
 use Rattle.std.specs.Prelude.{List}
 use Rattle.model_asked.specs.declared.config.Config.{Config}
 use Rattle.model_asked.specs.declared.kind.WorldKind.{WorldKind}
-use Rattle.model_asked.specs.declared.kind.WorldKind.TheVariants.{Splitter, Grid, Rename, Tree}
+use Rattle.model_asked.specs.declared.kind.WorldKind.TheVariants.{Splitter, Grid, Rename, Tree, Wide}
 use Rattle.text_worlds.specs.DeskWorld.{IsDeskTranscript}
 use Rattle.text_worlds.specs.GridWorld.{IsGridTranscript}
 use Rattle.text_worlds.specs.SplitterWorld.{IsSplitterTranscript}
@@ -14,6 +14,7 @@ IsTranscriptByKind Splitter config ts = IsSplitterTranscript config ts
 IsTranscriptByKind Grid config ts = IsGridTranscript config ts
 IsTranscriptByKind Rename config ts = IsDeskTranscript config ts
 IsTranscriptByKind Tree config ts = IsDeskTranscript config ts
+IsTranscriptByKind Wide config ts = IsDeskTranscript config ts
 
 -- and in one of the config's
 abbrev pub IsTranscript : Config → List Turn → Type 0

@@ -8,6 +8,7 @@ pub mod DeskRules
 pub mod Names
 pub mod NamedAlone
 pub mod NamedAmong
+pub mod Start
 pub mod Desk
 pub mod DeskParts
 pub mod Coming

@@ -32,6 +32,7 @@ impl<A: Allocator + Clone> Service<Unshared> for GridWorld<A> {
             Event::Step(id) => walk_reply(self.step(id)),
             Event::Enter(_)
             | Event::Probe(_)
+            | Event::Seek(_)
             | Event::Leave(_)
             | Event::Put(_, _)
             | Event::Get(_)

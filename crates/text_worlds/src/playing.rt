@@ -54,7 +54,7 @@ pub fn play<A: Allocator + Clone, R: Source, W: Sink>(
         WorldKind::Grid => play_in::<GridWorld<A>, _, A, R, W>(
             alloc, &Unshared, reader, writer, config,
         ),
-        WorldKind::Rename | WorldKind::Tree => play_in::<Desk<A>, _, A, R, W>(
+        WorldKind::Rename | WorldKind::Tree | WorldKind::Wide => play_in::<Desk<A>, _, A, R, W>(
             alloc, &Unshared, reader, writer, config,
         ),
     }

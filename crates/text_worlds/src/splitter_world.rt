@@ -32,6 +32,7 @@ impl<A: Allocator + Clone> Service<Unshared> for SplitterWorld<A> {
             Event::Step(id) => visit_reply(self.step(id)),
             Event::Enter(_)
             | Event::Probe(_)
+            | Event::Seek(_)
             | Event::Leave(_)
             | Event::Put(_, _)
             | Event::Get(_)

@@ -11,7 +11,7 @@ use Rattle.clap.specs.Simple.{is_simple}
 use Rattle.clap.specs.declared.error.kind.ErrorKind.{ErrorKind}
 use Rattle.clap.specs.declared.error.kind.ErrorKind.TheVariants.{OutOfMemory}
 use Rattle.clap.proofs.OnLiterals.{clap_on_literals}
-use Rattle.tool_work.specs.declared.asked.Ask.TheVariants.{Play, Check, Migrate, Show, Draw, Race, Serve, Host, Held}
+use Rattle.tool_work.specs.declared.asked.Ask.TheVariants.{Play, Show, Draw, Race, Serve, Host}
 use Rattle.tool_work.specs.declared.misuse.Misuse.{Misuse}
 use Rattle.tool_work.specs.declared.misuse.Misuse.TheVariants.{Help, Words, Memory}
 use Rattle.tool_work.specs.Asked.{AsksFor, GiveAsked, IsAsked, IsDrawingOf, IsHostingOf, IsPlayingOf, IsMisuse, IsMisuseOf, IsRefusal, IsRacingOf, IsServingOf, IsShowingOf, is_help, is_refusal, subcommand_name}

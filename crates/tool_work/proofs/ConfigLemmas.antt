@@ -1,11 +1,11 @@
 -- when no config, run or drawing has the matched options
-use Rattle.std.proofs.Common.{ap, sym, subst, ◌≡◌, ◌∙◌, ◌<◌, ◌^◌, ℕ, List, Option, Some, None, Result, Ok, Err, IfOk, IsOk, ◌↔◌, Bool, MatchOption, IfSome, IsSome, codes, refl, true, false, arith, IfNone, ◌≢◌}
+use Rattle.std.proofs.Common.{ap, sym, subst, ◌≡◌, ◌∙◌, ◌<◌, ◌^◌, ℕ, List, Option, Some, None, Result, Ok, Err, IfOk, IsOk, ◌↔◌, Bool, MatchOption, IfSome, IsSome, codes, refl, true, false, arith, IfNone}
 use Rattle.tool_work.proofs.Common.{result_ok, same_Some, Config, Drawing, Playing, Racing, Serving, Showing}
 use Rattle.std.specs.Str.Parse.{ParsesUnsigned, digits_value, without_leading_plus}
 use Rattle.clap.specs.Words.{ReadsOne, Row, first_of, one_of}
-use Rattle.model_asked.specs.Config.{world_name}
+use Rattle.model_asked.specs.Config.{is_wide, world_name}
 use Rattle.model_asked.specs.Ranges.{IsConfigRange}
-use Rattle.model_asked.specs.lemmas.ConfigProofs.{few_take_part}
+use Rattle.model_asked.specs.lemmas.ConfigProofs.{few_numbers, few_take_part}
 use Rattle.model_steps.specs.declared.refusal.Refusal.{Refusal}
 use Rattle.model_asked.specs.declared.kind.WorldKind.{WorldKind}
 use Rattle.tool_work.specs.Asked.{HasNumber, HasWorld, IsConfigOf, IsDrawingOf, IsPlayingOf, IsRacingOf, IsServingOf, IsShowingOf, asks_flag}
@@ -17,14 +17,14 @@ unless_some o P Q e p = subst (λ w. MatchOption w P Q) (sym e) p
 
 -- no name is matched, so no world's is
 pub no_world : (rows : List Row) → None ≡ first_of (codes "world") rows → (w : WorldKind) → HasWorld rows w → ⊥
-no_world rows none w h = let bad : None ≡ Some (world_name w) = none ∙ h in cc
+no_world rows none w h = let bad : None ≡ Some (world_name w) = none ∙ h.0 in cc
 
 -- what the matched name gives is the world, if there is one
 pub world_reported : (rows : List Row) (word : List ℕ) (r : Option WorldKind) → Some word ≡ first_of (codes "world") rows
-    → IfSome r (λ kind. world_name kind ≡ word) → IfNone r ((kind : WorldKind) → world_name kind ≢ word)
+    → IfSome r (λ w. (world_name w ≡ word) × (is_wide w ≡ false)) → IfNone r ((w : WorldKind) → world_name w ≡ word → is_wide w ≡ false → ⊥)
     → MatchOption r ((w : WorldKind) → HasWorld rows w → ⊥) (HasWorld rows)
-world_reported rows word None matched some none = λ w h. none w (sym (same_Some word (world_name w) (matched ∙ h)))
-world_reported rows word (Some w) matched some none = sym matched ∙ ap Some (sym some)
+world_reported rows word None matched some none = λ w h. none w (sym (same_Some word (world_name w) (matched ∙ h.0))) h.1
+world_reported rows word (Some w) matched some none = (sym matched ∙ ap Some (sym some.0), some.1)
 
 -- what `get_one` reads as a `u64`
 abbrev pub Reads : {E : Type 0} → (List ℕ → Result ℕ E → Type 0) → Type 0
@@ -69,11 +69,15 @@ same_number rows id m n h g =
 
 -- two worlds that are matched there are one
 pub same_world : (rows : List Row) (w u : WorldKind) → HasWorld rows w → HasWorld rows u → w ≡ u
-same_world rows w u h g = named_apart w u (same_Some (world_name w) (world_name u) (sym h ∙ g))
+same_world rows w u h g = named_apart w u (same_Some (world_name w) (world_name u) (sym h.0 ∙ g.0))
 
 -- a config's most participants are a number that is read
 pub most_fits : (c : Config) → c.m < 2 ^ 64
 most_fits c = let few = few_take_part c in omega arith
+
+-- and so is the size of its pool
+pub size_fits : (c : Config) → c.k < 2 ^ 64
+size_fits c = let few = few_numbers c in omega arith
 
 -- what is made of the matched world and numbers is the config, where there is one
 pub made : (rows : List Row) (w : WorldKind) (m k limit : ℕ) (r : Result Config Refusal)
@@ -81,7 +85,7 @@ pub made : (rows : List Row) (w : WorldKind) (m k limit : ℕ) (r : Result Confi
     → IfOk r (λ c. (c.world ≡ w) × (c.m ≡ m) × (c.k ≡ k) × (c.limit ≡ limit)) → (IsOk r ↔ IsConfigRange w m k limit)
     → MatchOption (result_ok r) ((c : Config) → IsConfigOf rows c → ⊥) (IsConfigOf rows)
 made rows w m k limit (Ok c) world has_m has_k has_limit values range = record {
-  world = world ∙ ap (λ kind. Some (world_name kind)) (sym values.0);
+  world = subst (λ (x : WorldKind). HasWorld rows x) (sym values.0) world;
   m = subst (λ x. HasNumber rows (codes "m") x) (sym values.1) has_m;
   k = subst (λ x. HasNumber rows (codes "k") x) (sym values.2) has_k;
   limit = subst (λ x. HasNumber rows (codes "limit") x) (sym values.3) has_limit;
@@ -129,7 +133,7 @@ drawn rows seed ids steps runs jobs m limit w c (Some d) has_seed has_ids has_st
   steps = subst (λ x. HasNumber rows (codes "steps") x) (sym values.2) has_steps;
   runs = subst (λ x. HasNumber rows (codes "runs") x) (sym values.3) has_runs;
   jobs = subst (λ x. HasNumber rows (codes "jobs") x) (sym values.4) has_jobs;
-  world = world ∙ ap (λ kind. Some (world_name kind)) (sym (ap (λ (x : Config). x.world) values.5 ∙ sizes.0));
+  world = subst (λ (x : WorldKind). HasWorld rows x) (sym (ap (λ (x : Config). x.world) values.5 ∙ sizes.0)) world;
   m = subst (λ x. HasNumber rows (codes "m") x) (sym (ap (λ (x : Config). x.m) values.5 ∙ sizes.1)) has_m;
   limit = subst (λ x. HasNumber rows (codes "limit") x) (sym (ap (λ (x : Config). x.limit) values.5 ∙ sizes.3)) has_limit;
   k = ap (λ (x : Config). x.k) values.5 ∙ sizes.2;

@@ -1,5 +1,5 @@
 -- when no hosting has the matched options
-use Rattle.std.proofs.Common.{ap, arith, inl, inr, refl, sym, subst, ◌≡◌, ◌∙◌, ◌<◌, ◌≤◌, ◌^◌, ℕ, List, Option, Some, None, Result, Ok, Err, ◌↔◌, ◌≢◌, Bool, MatchOption, IfOk, IfSome, IfNone, IsOk, IsSome, codes, true, false}
+use Rattle.std.proofs.Common.{ap, arith, inl, inr, refl, sym, subst, ◌≡◌, ◌∙◌, ◌<◌, ◌≤◌, ◌^◌, ℕ, List, Option, Some, None, Result, Ok, Err, ◌↔◌, Bool, MatchOption, IfOk, IfSome, IfNone, IsOk, IsSome, codes, true, false}
 use Rattle.tool_work.proofs.Common.{result_ok, same_Some, Row, first_of, Config, Hosting}
 use Rattle.std.specs.Borrow.{Bor}
 use Rattle.std.specs.Net.Grammar.{IsIpText, Parses}
@@ -14,14 +14,14 @@ use Rattle.tool_work.specs.declared.asked.Holding.{Holding}
 use Rattle.tool_work.specs.declared.asked.Holding.TheVariants.{Forever, Connection}
 use Rattle.tool_work.specs.declared.asked.Keeping.TheVariants.{Nothing, Journal, NewJournal, Log}
 use Rattle.tool_work.specs.declared.asked.LogWords.{LogWords}
-use Rattle.model_asked.specs.Config.{world_name}
+use Rattle.model_asked.specs.Config.{is_wide, world_name}
 use Rattle.model_asked.specs.Ranges.{IsConfigRange}
 use Rattle.std.specs.Option.{unwrap_or}
 use Rattle.model_asked.specs.declared.kind.WorldKind.{WorldKind}
 use Rattle.model_asked.specs.declared.kind.WorldKind.TheVariants.{Rename}
 use Rattle.model_asked.specs.lemmas.KindProofs.{named_apart}
 use Rattle.model_steps.specs.declared.refusal.Refusal.{Refusal}
-use Rattle.tool_work.specs.Asked.{world_word}
+use Rattle.tool_work.specs.Asked.{hall_world, world_word}
 use Rattle.tool_work.proofs.ConfigLemmas.{same_number}
 
 -- no text is matched there, so no address is
@@ -99,41 +99,50 @@ same_idle_by rows a b m n held held' small small' (inr h) (inr k) = h.1 ∙ same
 
 -- what the word of the world names is the world of the hall, if there is one
 hall_world_reported : (rows : List Row) (word : List ℕ) (r : Option WorldKind) → word ≡ world_word rows
-    → IfSome r (λ kind. world_name kind ≡ word) → IfNone r ((kind : WorldKind) → world_name kind ≢ word)
+    → IfSome r (λ w. (world_name w ≡ word) × (is_wide w ≡ false)) → IfNone r ((w : WorldKind) → world_name w ≡ word → is_wide w ≡ false → ⊥)
     → MatchOption r ((w : WorldKind) → HasHallWorld rows w → ⊥) (HasHallWorld rows)
-hall_world_reported rows word None matched some none = λ w h. none w (sym (matched ∙ h))
-hall_world_reported rows word (Some w) matched some none = sym matched ∙ sym some
+hall_world_reported rows word None matched some none = λ w h. none w (sym (matched ∙ h.0)) h.1
+hall_world_reported rows word (Some w) matched some none = (sym matched ∙ sym some.0, some.1)
 
 pub hall_world_named : (rows : List Row) (word : List ℕ) (r : Option WorldKind) → Some word ≡ first_of (codes "world") rows
-    → IfSome r (λ kind. world_name kind ≡ word) → IfNone r ((kind : WorldKind) → world_name kind ≢ word)
+    → IfSome r (λ w. (world_name w ≡ word) × (is_wide w ≡ false)) → IfNone r ((w : WorldKind) → world_name w ≡ word → is_wide w ≡ false → ⊥)
     → MatchOption r ((w : WorldKind) → HasHallWorld rows w → ⊥) (HasHallWorld rows)
 hall_world_named rows word r matched some none = hall_world_reported rows word r (ap (λ (o : Option (List ℕ)). unwrap_or o (codes "rename")) matched) some none
 
 -- where no world is named it is `rename`
 pub hall_world_absent : (rows : List Row) → None ≡ first_of (codes "world") rows → HasHallWorld rows Rename
-hall_world_absent rows none = sym (ap (λ (o : Option (List ℕ)). unwrap_or o (codes "rename")) none)
+hall_world_absent rows none = (sym (ap (λ (o : Option (List ℕ)). unwrap_or o (codes "rename")) none), refl)
 
--- two worlds of the hall are one
+-- two worlds that are asked for are one
 same_hall_world : (rows : List Row) (w u : WorldKind) → HasHallWorld rows w → HasHallWorld rows u → w ≡ u
-same_hall_world rows w u h g = named_apart w u (sym h ∙ g)
+same_hall_world rows w u h g = named_apart w u (sym h.0 ∙ g.0)
+
+-- and so are those of two halls
+same_hall : (rows : List Row) (c d : Config) → IsHallOf rows c → IsHallOf rows d → c.world ≡ d.world
+same_hall rows c d h g =
+    let same_k : c.k ≡ d.k = same_number rows (codes "k") c.k d.k h.k g.k in
+    h.world ∙ ap (λ w. hall_world w c.k) (same_hall_world rows h.asked g.asked h.names g.names) ∙ ap (hall_world g.asked) same_k ∙ sym g.world
 
 -- what is made of the world of the hall and the matched numbers is its config, where there is one
-pub hall_made : (rows : List Row) (w : WorldKind) (m k limit : ℕ) (r : Result Config Refusal)
-    → HasHallWorld rows w → HasNumber rows (codes "m") m → HasNumber rows (codes "k") k → HasNumber rows (codes "limit") limit
+pub hall_made : (rows : List Row) (asked w : WorldKind) (m k limit : ℕ) (r : Result Config Refusal)
+    → HasHallWorld rows asked → w ≡ hall_world asked k → HasNumber rows (codes "m") m → HasNumber rows (codes "k") k → HasNumber rows (codes "limit") limit
     → IfOk r (λ c. (c.world ≡ w) × (c.m ≡ m) × (c.k ≡ k) × (c.limit ≡ limit)) → (IsOk r ↔ IsConfigRange w m k limit)
     → MatchOption (result_ok r) ((c : Config) → IsHallOf rows c → ⊥) (IsHallOf rows)
-hall_made rows w m k limit (Ok c) world has_m has_k has_limit values range = record {
-  world = world ∙ ap world_name (sym values.0);
+hall_made rows asked w m k limit (Ok c) names by_size has_m has_k has_limit values range = record {
+  asked = asked;
+  names = names;
+  world = values.0 ∙ by_size ∙ ap (hall_world asked) (sym values.2);
   m = subst (λ x. HasNumber rows (codes "m") x) (sym values.1) has_m;
   k = subst (λ x. HasNumber rows (codes "k") x) (sym values.2) has_k;
   limit = subst (λ x. HasNumber rows (codes "limit") x) (sym values.3) has_limit;
 }
-hall_made rows w m k limit (Err e) world has_m has_k has_limit values range = λ c h.
+hall_made rows asked w m k limit (Err e) names by_size has_m has_k has_limit values range = λ c h.
     let same_m : c.m ≡ m = same_number rows (codes "m") c.m m h.m has_m in
     let same_k : c.k ≡ k = same_number rows (codes "k") c.k k h.k has_k in
     let same_limit : c.limit ≡ limit = same_number rows (codes "limit") c.limit limit h.limit has_limit in
     let fits = c.in_range in
-    let bad : false ≡ true = range.1 (rw (same_hall_world rows c.world w h.world world, same_m, same_k, same_limit) at fits) in
+    let same_kind : c.world ≡ w = h.world ∙ ap (λ a. hall_world a c.k) (same_hall_world rows h.asked asked h.names names) ∙ ap (hall_world asked) same_k ∙ sym by_size in
+    let bad : false ≡ true = range.1 (rw (same_kind, same_m, same_k, same_limit) at fits) in
     cc
 
 -- what is made of the matched values is the hosting, where there is one
@@ -158,7 +167,7 @@ hosted rows c admissions endpoints clients idle holding stores keeping verbose l
 hosted rows c admissions endpoints clients idle holding stores keeping verbose log None config has_admissions has_endpoints has_clients has_idle has_holding has_reads has_keeping asks has_log sizes others logs admits range small = λ h is.
     let same_clients : h.clients ≡ clients = same_number rows (codes "clients") h.clients clients is.clients has_clients in
     let same_idle : h.idle ≡ idle = same_idle_by rows h.holding holding h.idle idle is.holding has_holding (let fits = h.in_range in omega arith) small is.idle has_idle in
-    let same_kind : h.config.world ≡ c.world = same_hall_world rows h.config.world c.world is.config.world config.world in
+    let same_kind : h.config.world ≡ c.world = same_hall rows h.config c is.config config in
     let fits = h.in_range in
     let bad : false ≡ true = range.1 (rw (same_clients, same_idle, same_kind) at fits) in
     cc

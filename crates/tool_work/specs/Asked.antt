@@ -1,5 +1,5 @@
 -- what words ask for
-use Rattle.std.specs.Prelude.{◌≡◌, ◌⊎◌, ◌||◌, ◌<◌, ◌≤◌, ◌^◌, MatchOption, ℕ, Bool, true, false, not, ⊤, List, [], Option, Some, None, is_some, codes, Result, Ok, Err}
+use Rattle.std.specs.Prelude.{◌≡◌, ◌⊎◌, ◌||◌, ◌<◌, ◌≤◌, ◌^◌, MatchOption, ℕ, nat_le, if◌then◌else◌, Bool, true, false, not, ⊤, List, [], Option, Some, None, is_some, codes, Result, Ok, Err}
 use Rattle.std.specs.Str.{bytes_eq}
 use Rattle.std.specs.Str.Parse.{IsNumeral, digits_value, without_leading_plus}
 use Rattle.std.specs.List.{list_any}
@@ -11,9 +11,10 @@ use Rattle.clap.specs.Faults.{fault_of}
 use Rattle.clap.specs.Words.{Kinds, Row, first_of, one_of, subcommand_of}
 use Rattle.clap.specs.declared.error.kind.ErrorKind.{ErrorKind}
 use Rattle.clap.specs.declared.error.kind.ErrorKind.TheVariants.{DisplayHelp, DisplayHelpOnMissingArgumentOrSubcommand, DisplayVersion, OutOfMemory}
-use Rattle.model_asked.specs.Config.{world_name}
+use Rattle.model_asked.specs.Config.{is_wide, world_name}
 use Rattle.model_asked.specs.declared.config.Config.{Config}
 use Rattle.model_asked.specs.declared.kind.WorldKind.{WorldKind}
+use Rattle.model_asked.specs.declared.kind.WorldKind.TheVariants.{Rename, Wide}
 use Rattle.tool_work.specs.CommandLine.{slotctl_app}
 use Rattle.tool_work.specs.declared.asked.Ask.{Ask}
 use Rattle.tool_work.specs.declared.asked.Ask.TheVariants.{Play, Check, Migrate, Show, Draw, Race, Serve, Host, Held}
@@ -41,9 +42,9 @@ WritesNumber text n = IsNumeral 10 (without_leading_plus text) × (digits_value 
 abbrev pub HasNumber : List Row → List ℕ → ℕ → Type 0
 HasNumber rows id n = (text : List ℕ) × (one_of id rows ≡ Some text) × WritesNumber text n
 
--- the world's name is among what clap matched
+-- the world's name is among what clap matched; `wide` is no world for anybody who types it
 abbrev pub HasWorld : List Row → WorldKind → Type 0
-HasWorld rows world = first_of (codes "world") rows ≡ Some (world_name world)
+HasWorld rows world = (first_of (codes "world") rows ≡ Some (world_name world)) × (is_wide world ≡ false)
 
 -- the config that the options of `play` and of `serve` give: the world's name and the numbers as clap matched them, each number in its
 -- range
@@ -175,12 +176,21 @@ StoreReads rows false = first_of (codes "reads") rows ≡ Some (codes "plain")
 abbrev pub world_word : List Row → List ℕ
 world_word rows = unwrap_or (first_of (codes "world") rows) (codes "rename")
 
+-- the world that is asked for by that word, and here too `wide` is none
 abbrev pub HasHallWorld : List Row → WorldKind → Type 0
-HasHallWorld rows world = world_word rows ≡ world_name world
+HasHallWorld rows world = (world_word rows ≡ world_name world) × (is_wide world ≡ false)
 
--- the config of the hall that is hosted: its world and the numbers as clap matched them, each number in its range
+-- the world of the hall, where this world and so many numbers are asked for: above 64 numbers `rename` becomes `wide`
+abbrev pub hall_world : WorldKind → ℕ → WorldKind
+hall_world Rename k = if nat_le k 64 then Rename else Wide
+hall_world asked k = asked
+
+-- the config of the hall that is hosted: its world by the one that is asked for and by the size of the pool, and the numbers as clap matched
+-- them, each number in its range
 pub record IsHallOf (rows : List Row) (c : Config) : Type 0 where
-  pub world : HasHallWorld rows c.world
+  pub asked : WorldKind
+  pub names : HasHallWorld rows asked
+  pub world : c.world ≡ hall_world asked c.k
   pub m : HasNumber rows (codes "m") c.m
   pub k : HasNumber rows (codes "k") c.k
   pub limit : HasNumber rows (codes "limit") c.limit

@@ -81,6 +81,10 @@ k_option = number_option (codes "k") 1 64 (codes "4")
 abbrev pub limit_option : Rule
 limit_option = number_option (codes "limit") 1 1000000 (codes "1000")
 
+-- `--k NUMBER` of a hall that is hosted, from 1 to 65,536 (to 64 in the world `tree`, which the config says), or 4
+abbrev pub hall_k_option : Rule
+hall_k_option = number_option (codes "k") 1 65536 (codes "4")
+
 -- `--port NUMBER`, of 16 bits, or 0
 abbrev pub port_option : Rule
 port_option = number_option (codes "port") 0 65535 (codes "0")
@@ -122,7 +126,7 @@ serve_app = with_options (codes "serve") (world_option ∷ m_option ∷ k_option
 -- bits, or none; `--metrics-address ADDRESS`, or 127.0.0.1; `--clients NUMBER`, from 1 to 1,000,000, or 10000; `--idle NUMBER`, at most 31,536,000, or none; `--hold
 -- HOW`, or forever; `--grace NUMBER`, from 1 to 86,400, or none; `--reads HOW`, or plain; `--journal FILE`, and with it `--new`; `--etcd MEMBERS` and `--prefix NAME`, or none; `--patience NUMBER`, from 1 to 3,600, or 10; `--log FILE`, or none
 abbrev pub host_app : App
-host_app = with_options (codes "host") (text_option (codes "world") ∷ m_option ∷ k_option ∷ limit_option
+host_app = with_options (codes "host") (text_option (codes "world") ∷ m_option ∷ hall_k_option ∷ limit_option
     ∷ text_option (codes "admit") ∷ chosen_option (codes "address") (codes "127.0.0.1") ∷ some_number_option (codes "port") 0 65535
     ∷ text_option (codes "unix") ∷ chosen_option (codes "mode") (codes "660")
     ∷ some_number_option (codes "metrics") 0 65535 ∷ chosen_option (codes "metrics-address") (codes "127.0.0.1") ∷ number_option (codes "clients") 1 1000000 (codes "10000")

@@ -262,8 +262,8 @@ const HOST: Manual = Manual {
         MOST_PARTICIPANTS,
         Choice {
             name: "k",
-            takes: Takes::Number(1, 64, "4"),
-            help: "the size of the pool, from 1 to 64; a smaller one that is there is widened, and a larger one is refused",
+            takes: Takes::Number(1, 65_536, "4"),
+            help: "the size of the pool, from 1 to 65536, or to 64 in the world tree; a smaller one that is there is widened, and a larger one is refused",
         },
         PROPOSAL_LIMIT,
         Choice {

@@ -1,8 +1,9 @@
 //! What the words of a command line ask for.
 
-ghost use Rattle.std.specs.Prelude.{◌≡◌, ℕ, Bool, true, ◌<◌, ◌^◌, MatchOption, Some, map};
+ghost use Rattle.std.specs.Prelude.{◌≡◌, ℕ, Bool, true, false, ◌<◌, ◌^◌, IfNone, IfSome, MatchOption, Some, map};
 ghost use Rattle.clap.specs.Words.{found_of, kind_of, rows_of, subcommand_rows_of};
-ghost use Rattle.tool_work.specs.Asked.{AreAdmitted, AreEndpointsOf, HasHallWorld, HasMode, HasNumber, HasWorld, IsAsked, IsConfigOf, IsHallOf, HasAddress, HasText, MayHavePort, IsDrawingOf, IsGraceOf, IsHoldingOf, IsHostingOf, IsIdleOf, IsKeepingOf, IsLogOf, IsMisuseOf, IsPlayingOf, IsRacingOf, IsRead, IsRefusal, IsServingOf, IsShowingOf, StoreReads, asks_flag, asks_log};
+ghost use Rattle.tool_work.specs.Asked.{AreAdmitted, AreEndpointsOf, HasHallWorld, HasMode, HasNumber, HasWorld, IsAsked, IsConfigOf, IsHallOf, HasAddress, HasText, MayHavePort, IsDrawingOf, IsGraceOf, IsHoldingOf, IsHostingOf, IsIdleOf, IsKeepingOf, IsLogOf, IsMisuseOf, IsPlayingOf, IsRacingOf, IsRead, IsRefusal, IsServingOf, IsShowingOf, StoreReads, asks_flag, asks_log, hall_world};
+ghost use Rattle.model_asked.specs.Config.{is_wide, world_name};
 ghost use Rattle.model_asked.specs.declared.config.Config.{Config};
 ghost use Rattle.model_asked.specs.declared.kind.WorldKind.{WorldKind};
 ghost use Rattle.tool_work.specs.declared.asked.Admissions.{Admissions};
@@ -31,11 +32,22 @@ use std::alloc::Global;
 use std::convert::AsStr;
 use std::net::IpAddr;
 
+// The world with this name, where it is one that may be typed: the wide world is none.
+fn typed_world(name: &str) -> Option<WorldKind>
+    ensures some { IfSome result (λ w. (world_name w ≡ name.now) × (is_wide w ≡ false)) }
+    ensures none { IfNone result ((w : WorldKind) → world_name w ≡ name.now → is_wide w ≡ false → ⊥) }
+{
+    match WorldKind::named(name) {
+        Some(world) if !world.is_wide() => Some(world),
+        _ => None,
+    }
+}
+
 // The world that is matched.
 fn world_given(matches: &ArgMatches<'_>) -> Option<WorldKind>
     ensures { MatchOption result ((w : WorldKind) → HasWorld (rows_of (found_of matches.now)) w → ⊥) (HasWorld (rows_of (found_of matches.now))) }
 {
-    WorldKind::named(matches.get_str("world")?)
+    typed_world(matches.get_str("world")?)
 }
 
 // The number that is matched for an option.
@@ -268,14 +280,24 @@ fn reads_given(matches: &ArgMatches<'_>) -> Option<bool>
     }
 }
 
-// The world of the hall that the options of `host` give.
+// The world that the options of `host` ask for.
 #[tactic(auto, using(crate::proofs::HostLemmas::hall_world_absent))]
 fn hall_world_given(matches: &ArgMatches<'_>) -> Option<WorldKind>
     ensures { MatchOption result ((w : WorldKind) → HasHallWorld (rows_of (found_of matches.now)) w → ⊥) (HasHallWorld (rows_of (found_of matches.now))) }
 {
     match text_given(matches, "world") {
-        Some(name) => WorldKind::named(name),
+        Some(name) => typed_world(name),
         None => Some(WorldKind::Rename),
+    }
+}
+
+// The world of the hall, where this world and so many numbers are asked for.
+fn hall_world(asked: WorldKind, k: u64) -> WorldKind
+    ensures { result ≡ hall_world asked k }
+{
+    match asked {
+        WorldKind::Rename if asked.most_numbers() < k => WorldKind::Wide,
+        _ => asked,
     }
 }
 
@@ -283,11 +305,11 @@ fn hall_world_given(matches: &ArgMatches<'_>) -> Option<WorldKind>
 fn hall_given(matches: &ArgMatches<'_>) -> Option<Config>
     ensures { MatchOption result ((c : Config) → IsHallOf (rows_of (found_of matches.now)) c → ⊥) (IsHallOf (rows_of (found_of matches.now))) }
 {
-    let world = hall_world_given(matches)?;
+    let asked = hall_world_given(matches)?;
     let m = number_given(matches, "m")?;
     let k = number_given(matches, "k")?;
     let limit = number_given(matches, "limit")?;
-    Config::new(world, m, k, limit).ok()
+    Config::new(hall_world(asked, k), m, k, limit).ok()
 }
 
 // What the options of `host` have clients ask for, where they say so.
@@ -380,6 +402,9 @@ fn asked<'a>(matches: &ArgMatches<'a>) -> Option<Ask<'a>>
 fn why_nothing_in(world: WorldKind, options: &ArgMatches<'_>) -> &'static str {
     if world.most() < number_given(options, "m").unwrap_or(0) {
         return "error: '--m' is at most 16, or 64 in the world tree\n";
+    }
+    if world.is_tree() && world.most_numbers() < number_given(options, "k").unwrap_or(0) {
+        return "error: '--k' is at most 64 in the world tree\n";
     }
     if !world.gives_names() {
         return "error: no names are given in this world: '--record', draw, serve and host want rename or tree\n";

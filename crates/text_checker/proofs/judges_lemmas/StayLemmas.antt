@@ -70,13 +70,15 @@ module _ (s s' : Stays) (o : SlotsObject ℕ) (p : ℕ) (new : Option Stay) (com
   abbrev seen : ℕ → Option Stay
   seen = set_at (λ v. program_of v s.competitors) p new
 
-  holds_so : ((q : ℕ) → program_of q s'.competitors ≡ seen q) → s'.size ≡ s.size → s'.values ≡ s.values → competing ≡ identities s'.competitors → AreDistinct s'.competitors →
+  holds_so : ((q : ℕ) → program_of q s'.competitors ≡ seen q) → s'.most ≡ s.most → s'.size ≡ s.size → s'.values ≡ s.values → competing ≡ identities s'.competitors → AreDistinct s'.competitors →
       ((q : ℕ) → held q ≡ held_by (seen q)) → MatchOption new (Unit {0}) (λ stay. IsStay o.pool.size (probes p) stay) → ((q : ℕ) → q ≢ p → probes q ≡ o.pool.probes q) →
-      HoldsSlots s' (record { pool = record { size = o.pool.size; competing = competing; held = held; probes = probes }; values = o.values })
-  holds_so who size values competing_is distinct held_is own other = record {
+      HoldsSlots s' (record { pool = record { most = o.pool.most; size = o.pool.size; competing = competing; held = held; probes = probes }; values = o.values })
+  holds_so who most size values competing_is distinct held_is own other = record {
+    most_is = most ∙ h.most_is;
     size_is = size ∙ h.size_is;
     low = h.low;
     high = h.high;
+    bound = h.bound;
     competing = competing_is;
     competes = λ q. ap (list_any (λ x. x == q)) competing_is ∙ competes_is s'.competitors q;
     crowd = ap length competing_is ∙ length-map s'.competitors (λ v. v.identity);
@@ -106,29 +108,29 @@ may_enter s o p h none = elim (cases_Bool (p == 0)) [
 ]
 
 pub entered : (s s' : Stays) (o : SlotsObject ℕ) (p : ℕ) → HoldsSlots s o → no_entry o.pool p ≡ None → s'.competitors ≡ s.competitors ++ beginner p (record { probes = 0; held = None }) ∷ [] →
-    s'.size ≡ s.size → s'.values ≡ s.values → HoldsSlots s' (slots_after o (Pooled (Entered p (Ok tt))))
-entered s s' o p h none items size values =
+    s'.most ≡ s.most → s'.size ≡ s.size → s'.values ≡ s.values → HoldsSlots s' (slots_after o (Pooled (Entered p (Ok tt))))
+entered s s' o p h none items most size values =
     let cs : List (Participant Stay) = s.competitors in
     let new : Stay = record { probes = 0; held = None } in
     let free = may_enter s o p h none in
     let stay : IsStay o.pool.size (set_at o.pool.probes p 0 p) new = record { counted = set_at-same o.pool.probes p 0; few = λ _. omega arith; in_range = λ n e. absurd (cc) } in
-    holds_so s s' o p (Some new) (o.pool.competing ++ p ∷ []) o.pool.held (set_at o.pool.probes p 0) h (λ q. ap (program_of q) items ∙ program_of-push cs p new free q) size values
+    holds_so s s' o p (Some new) (o.pool.competing ++ p ∷ []) o.pool.held (set_at o.pool.probes p 0) h (λ q. ap (program_of q) items ∙ program_of-push cs p new free q) most size values
     (ap (λ ids. ids ++ p ∷ []) h.competing ∙ sym (identities-push cs (beginner p new)) ∙ sym (ap identities items)) (rw items (distinct_push cs (beginner p new) (none_kept (participant_of p cs) free) h.apart))
     (seen_kept held_by o.pool.held (λ v. program_of v cs) p (Some new) h.held (ap held_by free)) stay (set_at-other o.pool.probes p 0)
 
-pub left : (s s' : Stays) (o : SlotsObject ℕ) (p n : ℕ) → HoldsSlots s o → s'.competitors ≡ without p s.competitors → s'.size ≡ s.size → s'.values ≡ s.values →
+pub left : (s s' : Stays) (o : SlotsObject ℕ) (p n : ℕ) → HoldsSlots s o → s'.competitors ≡ without p s.competitors → s'.most ≡ s.most → s'.size ≡ s.size → s'.values ≡ s.values →
     HoldsSlots s' (slots_after o (Pooled (Left p (Ok n))))
-left s s' o p n h items size values =
+left s s' o p n h items most size values =
     let cs : List (Participant Stay) = s.competitors in
     let who : (q : ℕ) → program_of q s'.competitors ≡ set_at (λ v. program_of v cs) p None q =
     (λ q. ap (program_of q) items ∙ ap (option_map (λ v. v.program)) (participant_of-without cs p q) ∙ set_at-map (option_map (λ v. v.program)) (λ v. participant_of v cs) p None q) in
-    holds_so s s' o p None (filter (λ q. not (q == p)) o.pool.competing) (set_at o.pool.held p None) o.pool.probes h who size values
+    holds_so s s' o p None (filter (λ q. not (q == p)) o.pool.competing) (set_at o.pool.held p None) o.pool.probes h who most size values
     (ap (filter (λ q. not (q == p))) h.competing ∙ sym (identities-without cs p) ∙ sym (ap identities items)) (rw items (distinct_without cs p h.apart))
     (seen_set held_by o.pool.held (λ v. program_of v cs) p None None h.held refl) tt (λ q d. refl)
 
 -- one who may probe, and of whom one probe more is counted
 module _ (s s' : Stays) (o : SlotsObject ℕ) (p : ℕ) (old : Stay) (probes : ℕ) (h : HoldsSlots s o) (is : program_of p s.competitors ≡ Some old) (none : no_probe o.pool p ≡ None)
-    (counts : old.probes < 64 → probes ≡ old.probes + 1) (size : s'.size ≡ s.size) (values : s'.values ≡ s.values) where
+    (counts : old.probes < 65536 → probes ≡ old.probes + 1) (most : s'.most ≡ s.most) (size : s'.size ≡ s.size) (values : s'.values ≡ s.values) where
   unheld : old.held ≡ None
   unheld = elim (cases_Bool (competes o.pool p)) [
     | inl b ↦ elim (cases_Bool (is_some (o.pool.held p))) [
@@ -140,7 +142,7 @@ module _ (s s' : Stays) (o : SlotsObject ℕ) (p : ℕ) (old : Stay) (probes : �
 
   -- it has not made so many probes that one more would not fit
   one_more : probes ≡ old.probes + 1
-  one_more = let few = h.few p old is unheld in let high = h.high in counts (omega arith)
+  one_more = let few = h.few p old is unheld in let high = h.high in let bound = h.bound in counts (omega arith)
 
   probed : (holds : Option ℕ) (held : ℕ → Option ℕ) → s'.competitors ≡ with_participant (beginner p (record { probes = probes; held = holds })) s.competitors →
       ((q : ℕ) → held q ≡ held_by (set_at (λ v. program_of v s.competitors) p (Some (record { probes = probes; held = holds })) q)) →
@@ -155,7 +157,7 @@ module _ (s s' : Stays) (o : SlotsObject ℕ) (p : ℕ) (old : Stay) (probes : �
         few = λ e. rw one_more (few e);
         in_range = in_range;
       } in
-      holds_so s s' o p (Some new) o.pool.competing held more h (λ q. ap (program_of q) items ∙ program_of-put cs p old new is q) size values
+      holds_so s s' o p (Some new) o.pool.competing held more h (λ q. ap (program_of q) items ∙ program_of-put cs p old new is q) most size values
       (h.competing ∙ sym (identities-put cs (beginner p new)) ∙ sym (ap identities items)) (rw items (distinct_put cs (beginner p new) h.apart)) held_is stay (set_at-other o.pool.probes p (o.pool.probes p + 1))
 
   pub missed : o.pool.probes p + 1 ≢ last_probe o.pool.size → s'.competitors ≡ with_participant (beginner p (record { probes = probes; held = None })) s.competitors →
@@ -173,19 +175,21 @@ module _ (s s' : Stays) (o : SlotsObject ℕ) (p : ℕ) (old : Stay) (probes : �
 
 -- ---- a pool that gets more numbers, each with a slot that holds 0
 
-pub widened : (s s' : Stays) (o : SlotsObject ℕ) (more : ℕ) → HoldsSlots s o → widen_refusal o.pool.size more ≡ None → s'.competitors ≡ s.competitors →
-    s'.size ≡ more → s'.values.items ≡ take more s.values.items ++ replicate (more - length s.values.items) 0 → HoldsSlots s' (widened_to more o)
-widened s s' o more h none items size values =
-    let may = may_widen o.pool.size more none in
+pub widened : (s s' : Stays) (o : SlotsObject ℕ) (more : ℕ) → HoldsSlots s o → widen_refusal o.pool.most o.pool.size more ≡ None → s'.competitors ≡ s.competitors →
+    s'.most ≡ s.most → s'.size ≡ more → s'.values.items ≡ take more s.values.items ++ replicate (more - length s.values.items) 0 → HoldsSlots s' (widened_to more o)
+widened s s' o more h none items most size values =
+    let may = may_widen o.pool.most o.pool.size more none in
     let wider : o.pool.size < more = may.0 in
     let low = h.low in
     let many : length o.values ≡ o.pool.size = h.many in
     let old : s.values.items ≡ o.values = sym h.values in
     let who : (q : ℕ) → program_of q s'.competitors ≡ program_of q s.competitors = (λ q. ap (program_of q) items) in
     record {
+      most_is = most ∙ h.most_is;
       size_is = size;
       low = omega arith;
       high = may.1;
+      bound = h.bound;
       competing = h.competing ∙ sym (ap identities items);
       competes = (λ q. h.competes q ∙ sym (ap is_some (who q)));
       crowd = h.crowd ∙ sym (ap length items);

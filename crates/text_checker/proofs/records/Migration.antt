@@ -1,6 +1,6 @@
 -- lines are migrated, one after the other
 use Rattle.std.proofs.Common.{◌≡◌, ℕ, Bool, true, false, List, [], ◌∷◌, ◌++◌, map, flat_map, Option, Some, None, Ok, Err, refl, sym, ap, ◌∙◌, subst, append_assoc}
-use Rattle.text_checker.proofs.Common.{Began, Stepped, Run, run_more, run_one, run_splits, Config, RenameTerms, RenameObject, IsRecent, ShowsSole, Entered, Probed, Left, Widened, Pooled, Stored, Fetched, Extended, Exchange, DeskCall, exchange_of, Renamed, Slotted, header_line, exchange_line, Firsts, Line, Migration, terms_of, IsShown, reported_of, line_of, IsLineOf, CanFollow, after_line, Gathers, DeskObject, fresh_desk_object, AllowsCall, after_call}
+use Rattle.text_checker.proofs.Common.{Began, Stepped, Run, run_more, run_one, run_splits, Config, RenameTerms, RenameObject, IsRecent, ShowsSole, Entered, Probed, Sought, Left, Widened, Pooled, Stored, Fetched, Extended, Exchange, DeskCall, exchange_of, Renamed, Slotted, header_line, exchange_line, Firsts, pool_start, Line, Migration, terms_of, IsShown, reported_of, line_of, IsLineOf, CanFollow, after_line, Gathers, DeskObject, fresh_desk_object, AllowsCall, after_call}
 use Rattle.std.specs.Prelude.{MatchOption, unwrap_or}
 use Rattle.std.proofs.lemmas.List.{map-append, append-nil}
 use Rattle.std.proofs.lemmas.Grind.{flat_map-append}
@@ -49,6 +49,7 @@ module _ (terms : RenameTerms) (o : DeskObject) (f : Firsts) (h : HoldsFirsts f 
   choose_for (Renamed (Began p (Err why))) b a = plain (Renamed (Began p (Err why))) b a tt tt
   choose_for (Slotted (Pooled (Entered p (Err why)))) b a = plain (Slotted (Pooled (Entered p (Err why)))) b a tt tt
   choose_for (Slotted (Pooled (Probed p (Ok probe.Missed)))) b a = plain (Slotted (Pooled (Probed p (Ok probe.Missed)))) b a tt tt
+  choose_for (Slotted (Pooled (Sought p (Err why)))) b a = plain (Slotted (Pooled (Sought p (Err why)))) b a tt tt
   choose_for (Slotted (Pooled (Left p (Err why)))) b a = plain (Slotted (Pooled (Left p (Err why)))) b a tt tt
   choose_for (Slotted (Pooled (Widened more (Err why)))) b a = plain (Slotted (Pooled (Widened more (Err why)))) b a tt tt
   choose_for (Slotted (Stored p value (Err why))) b a = plain (Slotted (Stored p value (Err why))) b a tt tt
@@ -129,7 +130,7 @@ pub gathers_more : (l : Line) (m m' : Migration) → PutsLine m.firsts l m.text 
 gathers_more l m m' text goes c lines o h follows =
     let s = h.so_far in
     let terms = terms_of c in
-    let start = fresh_desk_object c.k in
+    let start = fresh_desk_object (pool_start c) in
     let parts = run_splits after_line (CanFollow terms) start lines (l ∷ []) o follows in
     let so_far : Run after_line (CanFollow terms) start lines s.object = subst (λ (x : List Line). Run after_line (CanFollow terms) start x s.object) s.lines_are (tellings_follow terms start s.object s.tellings s.run) in
     let same : parts.0 ≡ s.object = run_one after_line (CanFollow terms) start lines parts.0 s.object parts.1 so_far in

@@ -1,7 +1,7 @@
 -- of a record that spells a run nothing else is said
 use Rattle.std.proofs.Common.{◌≡◌, ℕ, List, [], ◌∷◌, ◌++◌, length, refl, sym, ap, ◌∙◌, subst, inl, inr, arith, length-append}
-use Rattle.text_checker.proofs.Common.{WorldKind, RenameTerms, Header, Version, Line, Verdict, terms_of, AreLinesOfRun, IsEventLine, IsHeaderLine, SpellRun, IsFaultyRow, IsBadRow, IsSaidOfRows, IsSaidAfter, LacksHeader, IsSaid}
-use Rattle.model_asked.specs.Config.{is_tree}
+use Rattle.text_checker.proofs.Common.{WorldKind, RenameTerms, PoolStart, Header, Version, Line, pool_start, Verdict, terms_of, AreLinesOfRun, IsEventLine, IsHeaderLine, SpellRun, IsFaultyRow, IsBadRow, IsSaidOfRows, IsSaidAfter, LacksHeader, IsSaid}
+use Rattle.model_asked.specs.Config.{is_tree, numbers_in}
 use Rattle.text_checker.specs.declared.verdict.Verdict.TheVariants.{Yes, No, BadRecord, NoMemory}
 use Rattle.text_records.specs.Records.{AreRead, AreSame}
 use Rattle.text_records.proofs.cited.Once.{line_once, header_once}
@@ -35,7 +35,7 @@ module _ (h : Header) (rows : List (List ℕ)) (s : SpellRun h rows) where
   no_fault number why f =
       let read : AreRead h.config.world h.version (f.before ++ f.row ∷ f.after) s.lines = subst (λ (x : List (List ℕ)). AreRead h.config.world h.version x s.lines) (sym f.is) s.read in
       let k = read_on h.config.world h.version f.before f.row f.after s.lines f.lines f.line read f.read f.says in
-      at_fault (terms_of h.config) h.config.k f.lines f.line k.0 why f.fault (subst (λ (x : List Line). AreLinesOfRun (terms_of h.config) h.config.k x) k.1 s.run)
+      at_fault (terms_of h.config) (pool_start h.config) f.lines f.line k.0 why f.fault (subst (λ (x : List Line). AreLinesOfRun (terms_of h.config) (pool_start h.config) x) k.1 s.run)
 
   none_bad : (number : ℕ) → IsBadRow h rows number → ⊥
   none_bad number b =
@@ -59,11 +59,13 @@ spelled_too g h rows e s =
     let m = e.m in
     let limit = e.limit in
     let terms : terms_of g.config ≡ terms_of h.config = λ i. record { most = m i; limit = limit i; grows = is_tree (world i) } in
+    let k = e.k in
+    let start : pool_start g.config ≡ pool_start h.config = λ i. record { most = numbers_in (world i); size = k i } in
     record {
       lines = s.lines;
       read = subst (λ (x : Version). AreRead h.config.world x rows s.lines) version (subst (λ (x : WorldKind). AreRead x g.version rows s.lines) world s.read);
       few = s.few;
-      run = subst (λ (x : ℕ). AreLinesOfRun (terms_of h.config) x s.lines) e.k (subst (λ (x : RenameTerms). AreLinesOfRun x g.config.k s.lines) terms s.run);
+      run = subst (λ (x : PoolStart). AreLinesOfRun (terms_of h.config) x s.lines) start (subst (λ (x : RenameTerms). AreLinesOfRun x (pool_start g.config) s.lines) terms s.run);
     }
 
 first_same : (a b : List ℕ) (xs ys : List (List ℕ)) → a ∷ xs ≡ b ∷ ys → (a ≡ b) × (xs ≡ ys)

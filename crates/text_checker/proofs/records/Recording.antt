@@ -1,6 +1,7 @@
 -- what `record` writes spells the run that was played
 use Rattle.std.proofs.Common.{◌≡◌, ℕ, true, List, [], ◌∷◌, map, length, Option, Some, Ok, Err, inl, inr, refl, sym, ap, ◌∙◌, subst, arith, ◌≤◌}
-use Rattle.text_checker.proofs.Common.{Appends, Config, record_of, Answered, Reported, Ended, Misread, Yes, terms_of, IsRecordOf, record_lines, IsSaid, IsSaidAfter, few_take_part, record_is, length-map, Exchange, line_of, IsObjectRun}
+use Rattle.text_checker.proofs.Common.{Appends, Config, record_of, Answered, Reported, Ended, Misread, pool_start, Yes, terms_of, IsRecordOf, record_lines, IsSaid, IsSaidAfter, few_take_part, record_is, length-map, Exchange, line_of, IsObjectRun}
+use Rattle.model_asked.specs.Config.{facts_of}
 use Rattle.text_worlds.specs.lemmas.desk.DeskLaws as desk
 use Rattle.text_lines.specs.Lines.{lines}
 use Rattle.text_player.specs.declared.summary.Summary.{Summary}
@@ -19,7 +20,7 @@ use Rattle.text_checker.proofs.records.Transcribing.{asked_narrow, turns_fit}
 use Rattle.text_records.specs.declared.header.Version.TheVariants.{Two}
 
 -- where the exchanges are a run that is not too long, their record spells one
-pub record_said : (c : Config) (r : List Exchange) (bytes : List ℕ) → IsRecordOf c r bytes → IsObjectRun (terms_of c) c.k r → length r ≤ 1000000 → IsSaidAfter (record_lines bytes) Yes
+pub record_said : (c : Config) (r : List Exchange) (bytes : List ℕ) → IsRecordOf c r bytes → IsObjectRun (terms_of c) (pool_start c) r → length r ≤ 1000000 → IsSaidAfter (record_lines bytes) Yes
 record_said c r bytes b run few = record {
   head = b.head;
   rows = b.rows;
@@ -39,14 +40,14 @@ pub transcript_record : (c : Config) (ls : List (List ℕ)) (ts : List Turn) →
 transcript_record c ls ts t =
     let transcript = is_desk_transcript c c.world t.names ts t.transcript in
     let start = desk.fresh c transcript.could.start transcript.could.is_fresh in
-    let fit : AreWritable (exchanges ts) = turns_fit c transcript.could.start transcript.could.last [] ts start transcript.could.run (asked_narrow c.world ls ts t.asked_is) in
-    record_is c t.names ts (run_narrow (terms_of c) (few_take_part c) c.k c.in_range.3 (exchanges ts) (desk_run (terms_of c) _ c.k (exchanges ts) transcript.run) fit)
+    let fit : AreWritable c.world (exchanges ts) = turns_fit c transcript.could.start transcript.could.last [] ts start transcript.could.run (asked_narrow c.world ls ts t.asked_is) in
+    record_is c t.names ts (run_narrow (terms_of c) (few_take_part c) c.world (pool_start c) c.in_range.3 (facts_of c.world).numbers.1 (exchanges ts) (desk_run (terms_of c) _ (pool_start c) (exchanges ts) transcript.run) fit)
 
 -- and is one of a run
 said_by : (c : Config) (ls : List (List ℕ)) (ts : List Turn) (bytes : List ℕ) → IsShortTranscript c ls ts → IsRecordOf c (exchanges ts) bytes → IsSaidAfter (record_lines bytes) Yes
 said_by c ls ts bytes t b =
     let transcript = is_desk_transcript c c.world t.names ts t.transcript in
-    record_said c (exchanges ts) bytes b (desk_run (terms_of c) _ c.k (exchanges ts) transcript.run) t.few
+    record_said c (exchanges ts) bytes b (desk_run (terms_of c) _ (pool_start c) (exchanges ts) transcript.run) t.few
 
 pub transcript_said : (c : Config) (ls : List (List ℕ)) (ts : List Turn) → IsShortTranscript c ls ts → IsSaid (record_lines (record_of c ts)) Yes
 transcript_said c ls ts t = inl (said_by c ls ts (record_of c ts) t (transcript_record c ls ts t))

@@ -20,23 +20,23 @@ use Rattle.text_records.specs.Narrow.{IsNarrow}
 
 -- ---- what lines ask
 
-abbrev AreNarrowAsked : List (Result Command Bad) → Type 0
-AreNarrowAsked [] = Unit {0}
-AreNarrowAsked (m ∷ ms) = IsNarrow m × AreNarrowAsked ms
+abbrev AreNarrowAsked : WorldKind → List (Result Command Bad) → Type 0
+AreNarrowAsked kind [] = Unit {0}
+AreNarrowAsked kind (m ∷ ms) = IsNarrow kind m × AreNarrowAsked kind ms
 
-quit_narrowly : (ms : List (Result Command Bad)) → AreNarrowAsked ms → AreNarrowAsked (until_quit ms)
-quit_narrowly [] h = tt
-quit_narrowly (Err bad ∷ ms) h = (tt, quit_narrowly ms h.1)
-quit_narrowly (Ok (command.Event e) ∷ ms) h = (h.0, quit_narrowly ms h.1)
-quit_narrowly (Ok (command.Owner n) ∷ ms) h = (tt, quit_narrowly ms h.1)
-quit_narrowly (Ok command.Quit ∷ ms) h = (tt, tt)
+quit_narrowly : (kind : WorldKind) (ms : List (Result Command Bad)) → AreNarrowAsked kind ms → AreNarrowAsked kind (until_quit ms)
+quit_narrowly kind [] h = tt
+quit_narrowly kind (Err bad ∷ ms) h = (tt, quit_narrowly kind ms h.1)
+quit_narrowly kind (Ok (command.Event e) ∷ ms) h = (h.0, quit_narrowly kind ms h.1)
+quit_narrowly kind (Ok (command.Owner n) ∷ ms) h = (tt, quit_narrowly kind ms h.1)
+quit_narrowly kind (Ok command.Quit ∷ ms) h = (tt, tt)
 
-lines_narrow : (kind : WorldKind) (ls : List (List ℕ)) → AreNarrowAsked (map (meaning kind) ls)
+lines_narrow : (kind : WorldKind) (ls : List (List ℕ)) → AreNarrowAsked kind (map (meaning kind) ls)
 lines_narrow kind [] = tt
 lines_narrow kind (l ∷ ls) = (line_narrow kind l, lines_narrow kind ls)
 
-pub asked_narrow : (kind : WorldKind) (ls : List (List ℕ)) (ts : List Turn) → map asked ts ≡ asked_by kind ls → AreNarrowAsked (map asked ts)
-asked_narrow kind ls ts is = subst AreNarrowAsked (sym is) (quit_narrowly (map (meaning kind) ls) (lines_narrow kind ls))
+pub asked_narrow : (kind : WorldKind) (ls : List (List ℕ)) (ts : List Turn) → map asked ts ≡ asked_by kind ls → AreNarrowAsked kind (map asked ts)
+asked_narrow kind ls ts is = subst (AreNarrowAsked kind) (sym is) (quit_narrowly kind (map (meaning kind) ls) (lines_narrow kind ls))
 
 -- ---- what a desk answers
 
@@ -45,7 +45,7 @@ place_fits c w before a e (reply.Place place) u (inl m) = (let low : place < 2 ^
 place_fits c w before a e (reply.Place place) u (inr m) = absurd (let no = m.0 in cc)
 place_fits c w before a e r u m = tt
 
-pub turns_fit : (c : Config) (w u : DeskValue) (before : List DeskCall) (ts : List Turn) → IsAfterDesk c w before → Runs DeskWorldMay w ts u → AreNarrowAsked (map asked ts) → AreWritable (exchanges ts)
+pub turns_fit : (c : Config) (w u : DeskValue) (before : List DeskCall) (ts : List Turn) → IsAfterDesk c w before → Runs DeskWorldMay w ts u → AreNarrowAsked c.world (map asked ts) → AreWritable c.world (exchanges ts)
 turns_fit c w u before [] a run narrow = tt
 turns_fit c w u before (Answered x ∷ ts) a run narrow =
     let one = desk.goes_on c w before a x.event x.reply run.0 run.1 in

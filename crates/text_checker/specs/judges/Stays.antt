@@ -18,9 +18,11 @@ last_probe size = max 1 (size - 1)
 
 -- what is kept is of this pool and these slots
 pub record HoldsSlots (s : Stays) (o : SlotsObject ℕ) : Type 0 where
+  pub most_is : s.most ≡ o.pool.most
   pub size_is : s.size ≡ o.pool.size
   pub low : 1 ≤ o.pool.size
-  pub high : o.pool.size ≤ 64
+  pub high : o.pool.size ≤ o.pool.most
+  pub bound : o.pool.most ≤ 65536
   pub competing : o.pool.competing ≡ identities s.competitors
   pub competes : (q : ℕ) → competes o.pool q ≡ is_some (program_of q s.competitors)
   pub crowd : length o.pool.competing ≡ length s.competitors

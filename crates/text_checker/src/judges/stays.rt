@@ -28,6 +28,7 @@ pub struct Stay {
 /// The state of the pool and the slots: the competitors, what they hold, and the values in the slots.
 #[derive(Drop)]
 pub struct Stays {
+    most: u64,
     size: u64,
     competitors: People<Stay>,
     values: Vec<u64>,
@@ -43,16 +44,18 @@ fn is_taken(competitors: &[Participant<Stay>], number: u64) -> bool
 }
 
 impl Stays {
-    /// Makes the state in which nobody competes and each slot holds 0.
+    /// Makes the state in which nobody competes and each slot holds 0. The pool may get up to `most` numbers.
     ///
     /// # Errors
     ///
     /// `AllocError`: the allocation failed.
-    pub fn new(alloc: Global, size: u64) -> Result<Stays, AllocError>
-        ensures { IfOk result (λ s. 1 ≤ size → size ≤ 64 → HoldsSlots s (fresh_slots size (replicate size 0))) }
+    pub fn new(alloc: Global, most: u64, size: u64) -> Result<Stays, AllocError>
+        ensures { IfOk result (λ s. 1 ≤ size → size ≤ most → most ≤ 65536 →
+            HoldsSlots s (fresh_slots (record { most = most; size = size }) (replicate size 0))) }
     {
         let values = Vec::from_elem(alloc, 0u64, size as usize)?;
         Ok(Stays {
+            most,
             size,
             competitors: People::new(alloc),
             values,
@@ -109,9 +112,9 @@ impl Stays {
 
     /// Returns the error that a widening to `more` numbers must return, or `None`.
     pub fn widen_refusal(&self, more: u64) -> Option<Refusal>
-        ensures { OfSlots self.now (λ o. result ≡ widen_refusal o.pool.size more) }
+        ensures { OfSlots self.now (λ o. result ≡ widen_refusal o.pool.most o.pool.size more) }
     {
-        if more <= self.size || 64 < more {
+        if more <= self.size || self.most < more {
             Some(Refusal::OutOfRange)
         } else {
             None
@@ -216,7 +219,7 @@ impl Stays {
     ///
     /// `AllocError`: the allocation failed. The state is then of no use.
     pub fn widen(&mut self, more: u64) -> Result<(), AllocError>
-        ensures { OnOk result (OfSlots self.old (λ o. widen_refusal o.pool.size more ≡ None → HoldsSlots self.new (widened_to more o))) }
+        ensures { OnOk result (OfSlots self.old (λ o. widen_refusal o.pool.most o.pool.size more ≡ None → HoldsSlots self.new (widened_to more o))) }
     {
         self.values.resize(more as usize, 0)?;
         self.size = more;

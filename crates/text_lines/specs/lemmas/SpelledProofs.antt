@@ -9,13 +9,13 @@ use Rattle.model_asked.specs.declared.bad.Bad.{Bad}
 use Rattle.model_asked.specs.declared.command.Command.{Command}
 use Rattle.model_asked.specs.declared.event.Event.{Event}
 use Rattle.model_asked.specs.declared.kind.WorldKind.{WorldKind}
-use Rattle.model_asked.specs.declared.event.Event.TheVariants.{Begin, Step, Enter, Probe, Leave, Put, Get, Widen}
-use Rattle.model_asked.specs.Config.{gives_names}
+use Rattle.model_asked.specs.declared.event.Event.TheVariants.{Begin, Step, Enter, Probe, Seek, Leave, Put, Get, Widen}
+use Rattle.model_asked.specs.Config.{gives_names, is_wide}
 use Rattle.model_asked.specs.declared.bad.Bad.TheVariants.{TooLong, NotPrintable, UnknownWord}
 use Rattle.model_asked.specs.declared.command.Command.TheVariants as command
 use Rattle.text_lines.specs.Events.{event_words}
 use Rattle.text_lines.specs.Lines.{pieces_from}
-use Rattle.text_lines.specs.Meaning.{is_digit, is_printable, decimal_from, if_below, number_in, same_bytes, command_if, command_of_one, event_of_one, event_if_both, event_of_two, quit_of, desk_command_of, command_in, words, meaning}
+use Rattle.text_lines.specs.Meaning.{is_digit, is_printable, decimal_from, if_below, number_in, same_bytes, command_if, command_of_one, event_of_one, event_if_both, event_of_two, quit_of, seek_of, desk_command_of, command_in, words, meaning}
 use Rattle.text_lines.specs.lemmas.NumberProofs.{decimal_from-grows}
 
 -- texts that compare equal are
@@ -154,15 +154,20 @@ quit_spelled : (text : List ℕ) (others : List (List ℕ)) → IsSpelled text (
 quit_spelled text [] = tt
 quit_spelled text (word ∷ more) = tt
 
-desk_spelled : (word : List ℕ) (others : List (List ℕ)) → IsSpelled (after_spaces (word ∷ others)) (desk_command_of word others)
-desk_spelled word others =
+seek_spelled : (wide : Bool) (others : List (List ℕ)) → IsSpelled (after_spaces (codes "seek" ∷ others)) (seek_of wide others)
+seek_spelled true others = one_spelled Seek (codes "seek") others (omega arith) (λ n. refl)
+seek_spelled false others = tt
+
+desk_spelled : (kind : WorldKind) (word : List ℕ) (others : List (List ℕ)) → IsSpelled (after_spaces (word ∷ others)) (desk_command_of kind word others)
+desk_spelled kind word others =
     word_spelled (codes "enter") word others _ _ (one_spelled Enter (codes "enter") others (omega arith) (λ n. refl))
     (word_spelled (codes "probe") word others _ _ (one_spelled Probe (codes "probe") others (omega arith) (λ n. refl))
     (word_spelled (codes "leave") word others _ _ (one_spelled Leave (codes "leave") others (omega arith) (λ n. refl))
     (word_spelled (codes "put") word others _ _ (two_spelled others)
     (word_spelled (codes "get") word others _ _ (one_spelled Get (codes "get") others (omega arith) (λ n. refl))
     (word_spelled (codes "widen") word others _ _ (one_spelled Widen (codes "widen") others (omega arith) (λ n. refl))
-    (word_spelled (codes "owner") word others _ (Err UnknownWord) (owner_spelled _ others) tt))))))
+    (word_spelled (codes "owner") word others _ _ (owner_spelled _ others)
+    (word_spelled (codes "seek") word others _ (Err UnknownWord) (seek_spelled (is_wide kind) others) tt)))))))
 
 words_spelled : (kind : WorldKind) (ws : List (List ℕ)) → IsSpelled (after_spaces ws) (command_in kind ws)
 words_spelled kind [] = tt
@@ -170,7 +175,7 @@ words_spelled kind (word ∷ others) =
     word_spelled (codes "begin") word others _ _ (one_spelled Begin (codes "begin") others (omega arith) (λ n. refl))
     (word_spelled (codes "step") word others _ _ (one_spelled Step (codes "step") others (omega arith) (λ n. refl))
     (word_spelled (codes "quit") word others _ _ (quit_spelled _ others)
-    (either_spelled _ (gives_names kind) (desk_command_of word others) (Err UnknownWord) (λ is. desk_spelled word others) tt)))
+    (either_spelled _ (gives_names kind) (desk_command_of kind word others) (Err UnknownWord) (λ is. desk_spelled kind word others) tt)))
 
 -- a line that asks for an event has its words, and is short
 pub event-spelled : (kind : WorldKind) (line : List ℕ) (e : Event) → meaning kind line ≡ Ok (command.Event e) → (line ≡ event_words e) × (length line ≤ 45)

@@ -1,18 +1,20 @@
 //! The lines that ask for the holders of numbers.
 
 ghost use Rattle.std.specs.Prelude.{◌≡◌};
-ghost use Rattle.text_lines.specs.held.Held.{held_query, number_query};
+ghost use Rattle.text_lines.specs.held.Held.{held_query, number_query, page_query, query_of_one};
 
 use crate::words::{is_word, number};
 
 /// The most bytes of a line that asks for holders, without its LF.
-pub const QUERY_MAX: usize = 25;
+pub const QUERY_MAX: usize = 30;
 
 /// What a line asks for.
 #[derive(Clone, Copy, Debug, Drop, PartialEq, Eq)]
 pub enum HeldQuery {
-    /// `held`: all numbers that are held, with their holders.
+    /// `held`: the numbers that are held, from 1 on, with their holders.
     All,
+    /// `held from N`: those from this number on.
+    From(u64),
     /// `held ID`: the number that this identity holds.
     Of(u64),
 }
@@ -24,11 +26,32 @@ pub fn held_query(line: &[u8]) -> Option<HeldQuery>
     if is_word(line, b"held") {
         return Some(HeldQuery::All);
     }
+    let front = line.len().min(10);
+    if is_word(&line[..front], b"held from ") {
+        return page_query(&line[front..]);
+    }
+    query_of_one(line)
+}
+
+// Returns what a line asks for that may ask for the number of one identity.
+fn query_of_one(line: &[u8]) -> Option<HeldQuery>
+    ensures { result ≡ query_of_one line.now }
+{
     let front = line.len().min(5);
     if !is_word(&line[..front], b"held ") {
         return None;
     }
     number_query(&line[front..])
+}
+
+// Returns what a line asks for whose third word is this one.
+fn page_query(word: &[u8]) -> Option<HeldQuery>
+    ensures { result ≡ page_query word.now }
+{
+    match number(word) {
+        Some(first) => Some(HeldQuery::From(first)),
+        None => None,
+    }
 }
 
 // Returns what a line asks for whose second word is this one.

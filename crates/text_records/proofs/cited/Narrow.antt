@@ -1,9 +1,9 @@
 -- what lines ask and tell fits a record
-use Rattle.std.proofs.Common.{ℕ, suc, ◌^◌, ◌<◌, ◌==◌, Bool, true, false, List, [], ◌∷◌, length, Option, Some, None, Err, inl, inr, subst, arith, codes, nat_lt, if◌then◌else◌, not, option_map, option_and_then}
-use Rattle.text_records.proofs.Common.{list_all, leb_tells, WorldKind, Event, Begin, Step, Enter, Probe, Leave, Put, Get, Widen, gives_names, Version, One, Two, Line, Reported, IsEventLine}
+use Rattle.std.proofs.Common.{◌≡◌, refl, ℕ, suc, ◌^◌, ◌<◌, ◌==◌, Bool, true, false, List, [], ◌∷◌, length, Option, Some, None, Err, inl, inr, subst, arith, codes, nat_lt, if◌then◌else◌, not, option_map, option_and_then}
+use Rattle.text_records.proofs.Common.{list_all, leb_tells, WorldKind, Event, Begin, Step, Enter, Probe, Seek, Leave, Put, Get, Widen, gives_names, is_wide, Version, One, Two, Line, Reported, IsEventLine}
 use Rattle.model_asked.specs.declared.bad.Bad.TheVariants.{TooLong, NotPrintable, UnknownWord}
 use Rattle.model_asked.specs.declared.command.Command.TheVariants as command
-use Rattle.text_lines.specs.Meaning.{is_digit, is_printable, decimal_from, if_below, number_in, same_bytes, command_if, command_of_one, event_of_one, event_if_both, event_of_two, quit_of, desk_command_of, command_in, words, meaning, number_below}
+use Rattle.text_lines.specs.Meaning.{is_digit, is_printable, decimal_from, if_below, number_in, same_bytes, command_if, command_of_one, event_of_one, event_if_both, event_of_two, quit_of, seek_of, desk_command_of, command_in, words, meaning, number_below}
 use Rattle.text_records.specs.Narrow.{IsNarrowEvent, IsNarrow, FitsReported}
 use Rattle.text_records.specs.declared.reported.Reported.TheVariants as reported
 use Rattle.text_records.specs.ReplyText.{reported_in, reported_of_words, plain_of, word_alone, word_with, owner_of, saw_of, pairs_in, reported_with, reported_by}
@@ -33,61 +33,67 @@ word_below bound (b ∷ bs) some =
     (either (IsBelow bound) (b == 48) (if length bs == 0 then Some 0 else None) (if_below bound (decimal_from 0 (b ∷ bs))) (either (IsBelow bound) (length bs == 0) (Some 0) None some tt)
     (fits_below bound (decimal_from 0 (b ∷ bs)))) tt
 
-one_by : (event : ℕ → Event) → ((n : ℕ) → n < 2 ^ 64 → IsNarrowEvent (event n)) → (o : Option ℕ) → IsBelow (2 ^ 64) o → IsNarrow (command_if (λ n. command.Event (event n)) o)
-one_by event narrow None h = tt
-one_by event narrow (Some n) h = narrow n h
+module _ (kind : WorldKind) where
+  one_by : (event : ℕ → Event) → ((n : ℕ) → n < 2 ^ 64 → IsNarrowEvent kind (event n)) → (o : Option ℕ) → IsBelow (2 ^ 64) o → IsNarrow kind (command_if (λ n. command.Event (event n)) o)
+  one_by event narrow None h = tt
+  one_by event narrow (Some n) h = narrow n h
 
-one_narrow : (event : ℕ → Event) → ((n : ℕ) → n < 2 ^ 64 → IsNarrowEvent (event n)) → (others : List (List ℕ)) → IsNarrow (event_of_one event others)
-one_narrow event narrow [] = tt
-one_narrow event narrow (word ∷ []) = one_by event narrow (number_in word) (word_below (2 ^ 64) word (omega arith))
-one_narrow event narrow (word ∷ other ∷ more) = tt
+  one_narrow : (event : ℕ → Event) → ((n : ℕ) → n < 2 ^ 64 → IsNarrowEvent kind (event n)) → (others : List (List ℕ)) → IsNarrow kind (event_of_one event others)
+  one_narrow event narrow [] = tt
+  one_narrow event narrow (word ∷ []) = one_by event narrow (number_in word) (word_below (2 ^ 64) word (omega arith))
+  one_narrow event narrow (word ∷ other ∷ more) = tt
 
-both_by : (p value : Option ℕ) → IsBelow (2 ^ 64) p → IsBelow (2 ^ 64) value → IsNarrow (event_if_both Put p value)
-both_by None value h k = tt
-both_by (Some p) None h k = tt
-both_by (Some p) (Some value) h k = (h, k)
+  both_by : (p value : Option ℕ) → IsBelow (2 ^ 64) p → IsBelow (2 ^ 64) value → IsNarrow kind (event_if_both Put p value)
+  both_by None value h k = tt
+  both_by (Some p) None h k = tt
+  both_by (Some p) (Some value) h k = (h, k)
 
-two_narrow : (others : List (List ℕ)) → IsNarrow (event_of_two Put others)
-two_narrow [] = tt
-two_narrow (word ∷ []) = tt
-two_narrow (word ∷ other ∷ []) = both_by (number_in word) (number_in other) (word_below (2 ^ 64) word (omega arith)) (word_below (2 ^ 64) other (omega arith))
-two_narrow (word ∷ other ∷ third ∷ more) = tt
+  two_narrow : (others : List (List ℕ)) → IsNarrow kind (event_of_two Put others)
+  two_narrow [] = tt
+  two_narrow (word ∷ []) = tt
+  two_narrow (word ∷ other ∷ []) = both_by (number_in word) (number_in other) (word_below (2 ^ 64) word (omega arith)) (word_below (2 ^ 64) other (omega arith))
+  two_narrow (word ∷ other ∷ third ∷ more) = tt
 
-owner_by : (o : Option ℕ) → IsNarrow (command_if command.Owner o)
-owner_by None = tt
-owner_by (Some n) = tt
+  owner_by : (o : Option ℕ) → IsNarrow kind (command_if command.Owner o)
+  owner_by None = tt
+  owner_by (Some n) = tt
 
-owner_narrow : (others : List (List ℕ)) → IsNarrow (command_of_one command.Owner others)
-owner_narrow [] = tt
-owner_narrow (word ∷ []) = owner_by (number_in word)
-owner_narrow (word ∷ other ∷ more) = tt
+  owner_narrow : (others : List (List ℕ)) → IsNarrow kind (command_of_one command.Owner others)
+  owner_narrow [] = tt
+  owner_narrow (word ∷ []) = owner_by (number_in word)
+  owner_narrow (word ∷ other ∷ more) = tt
 
-quit_narrow : (others : List (List ℕ)) → IsNarrow (quit_of others)
-quit_narrow [] = tt
-quit_narrow (word ∷ more) = tt
+  quit_narrow : (others : List (List ℕ)) → IsNarrow kind (quit_of others)
+  quit_narrow [] = tt
+  quit_narrow (word ∷ more) = tt
 
-desk_narrow : (word : List ℕ) (others : List (List ℕ)) → IsNarrow (desk_command_of word others)
-desk_narrow word others =
-    either IsNarrow (same_bytes word (codes "enter")) (event_of_one Enter others) _ (one_narrow Enter (λ n h. h) others)
-    (either IsNarrow (same_bytes word (codes "probe")) (event_of_one Probe others) _ (one_narrow Probe (λ n h. h) others)
-    (either IsNarrow (same_bytes word (codes "leave")) (event_of_one Leave others) _ (one_narrow Leave (λ n h. h) others)
-    (either IsNarrow (same_bytes word (codes "put")) (event_of_two Put others) _ (two_narrow others)
-    (either IsNarrow (same_bytes word (codes "get")) (event_of_one Get others) _ (one_narrow Get (λ n h. h) others)
-    (either IsNarrow (same_bytes word (codes "widen")) (event_of_one Widen others) _ (one_narrow Widen (λ n h. h) others)
-    (either IsNarrow (same_bytes word (codes "owner")) (command_of_one command.Owner others) (Err UnknownWord) (owner_narrow others) tt))))))
+  seek_narrow : (wide : Bool) → is_wide kind ≡ wide → (others : List (List ℕ)) → IsNarrow kind (seek_of wide others)
+  seek_narrow true is others = one_narrow Seek (λ n h. (is, h)) others
+  seek_narrow false is others = tt
 
-words_narrow : (kind : WorldKind) (ws : List (List ℕ)) → IsNarrow (command_in kind ws)
-words_narrow kind [] = tt
-words_narrow kind (word ∷ others) =
-    either IsNarrow (same_bytes word (codes "begin")) (event_of_one Begin others) _ (one_narrow Begin (λ n h. h) others)
-    (either IsNarrow (same_bytes word (codes "step")) (event_of_one Step others) _ (one_narrow Step (λ n h. h) others)
-    (either IsNarrow (same_bytes word (codes "quit")) (quit_of others) _ (quit_narrow others)
-    (either IsNarrow (gives_names kind) (desk_command_of word others) (Err UnknownWord) (desk_narrow word others) tt)))
+  desk_narrow : (word : List ℕ) (others : List (List ℕ)) → IsNarrow kind (desk_command_of kind word others)
+  desk_narrow word others =
+      either (IsNarrow kind) (same_bytes word (codes "enter")) (event_of_one Enter others) _ (one_narrow Enter (λ n h. h) others)
+      (either (IsNarrow kind) (same_bytes word (codes "probe")) (event_of_one Probe others) _ (one_narrow Probe (λ n h. h) others)
+      (either (IsNarrow kind) (same_bytes word (codes "leave")) (event_of_one Leave others) _ (one_narrow Leave (λ n h. h) others)
+      (either (IsNarrow kind) (same_bytes word (codes "put")) (event_of_two Put others) _ (two_narrow others)
+      (either (IsNarrow kind) (same_bytes word (codes "get")) (event_of_one Get others) _ (one_narrow Get (λ n h. h) others)
+      (either (IsNarrow kind) (same_bytes word (codes "widen")) (event_of_one Widen others) _ (one_narrow Widen (λ n h. h) others)
+      (either (IsNarrow kind) (same_bytes word (codes "owner")) (command_of_one command.Owner others) _ (owner_narrow others)
+      (either (IsNarrow kind) (same_bytes word (codes "seek")) (seek_of (is_wide kind) others) (Err UnknownWord) (seek_narrow (is_wide kind) refl others) tt)))))))
 
-pub line_narrow : (kind : WorldKind) (line : List ℕ) → IsNarrow (meaning kind line)
-line_narrow kind line =
-    either IsNarrow (nat_lt 100 (length line)) (Err TooLong) _ tt
-    (either IsNarrow (not (list_all is_printable line)) (Err NotPrintable) (command_in kind (words line)) tt (words_narrow kind (words line)))
+  words_narrow : (ws : List (List ℕ)) → IsNarrow kind (command_in kind ws)
+  words_narrow [] = tt
+  words_narrow (word ∷ others) =
+      either (IsNarrow kind) (same_bytes word (codes "begin")) (event_of_one Begin others) _ (one_narrow Begin (λ n h. h) others)
+      (either (IsNarrow kind) (same_bytes word (codes "step")) (event_of_one Step others) _ (one_narrow Step (λ n h. h) others)
+      (either (IsNarrow kind) (same_bytes word (codes "quit")) (quit_of others) _ (quit_narrow others)
+      (either (IsNarrow kind) (gives_names kind) (desk_command_of kind word others) (Err UnknownWord) (desk_narrow word others) tt)))
+
+  pub line_narrow : (line : List ℕ) → IsNarrow kind (meaning kind line)
+  line_narrow line =
+      either (IsNarrow kind) (nat_lt 100 (length line)) (Err TooLong) _ tt
+      (either (IsNarrow kind) (not (list_all is_printable line)) (Err NotPrintable) (command_in kind (words line)) tt (words_narrow (words line)))
 
 -- ---- what lines tell
 
@@ -157,5 +163,5 @@ reported_fits v text shown = by (reported_in text) (words_fit (words text))
     by (Some t) h = beside_fits v t shown h
 
 -- the numbers of an event's line
-pub line_fits : (kind : WorldKind) (v : Version) (row : List ℕ) (l : Line) → IsEventLine kind v row l → IsNarrowEvent l.event × FitsReported l.reported
-line_fits kind v row l h = (subst IsNarrow h.says.event_is (line_narrow kind h.says.asked), subst IfFits h.says.reported_is (reported_fits v h.says.replied h.says.shown))
+pub line_fits : (kind : WorldKind) (v : Version) (row : List ℕ) (l : Line) → IsEventLine kind v row l → IsNarrowEvent kind l.event × FitsReported l.reported
+line_fits kind v row l h = (subst (IsNarrow kind) h.says.event_is (line_narrow kind h.says.asked), subst IfFits h.says.reported_is (reported_fits v h.says.replied h.says.shown))

@@ -1,6 +1,6 @@
 -- what is read of texts without a reader of JSON is spelled as it is written
 use Rattle.std.proofs.Common.{◌≡◌, ℕ, suc, ◌+◌, ◌-◌, ◌*◌, ◌/◌, ◌%◌, ◌^◌, ◌<◌, ◌≤◌, ◌==◌, Bool, true, false, not, List, [], ◌∷◌, ◌++◌, length, Option, Some, None, Result, Ok, Err, inl, inr, if◌then◌else◌, decimal, codes, refl, sym, ap, ◌∙◌, subst, arith, append_assoc, nat_lt}
-use Rattle.text_records.proofs.Common.{false≢true, eqb_tells, leb_tells, and_parts, nat_tests, list_all, decimal_digit, WorldKind, Event, Begin, Step, Enter, Probe, Leave, Put, Get, Widen, gives_names, event_words, pieces_from, same_bytes, is_digit, is_printable, decimal_from, number_in, command_in, words, meaning, ShownReply, reply_words, Reported, reported_of}
+use Rattle.text_records.proofs.Common.{false≢true, eqb_tells, leb_tells, and_parts, nat_tests, list_all, decimal_digit, WorldKind, Event, Begin, Step, Enter, Probe, Seek, Leave, Put, Get, Widen, gives_names, is_wide, event_words, pieces_from, same_bytes, is_digit, is_printable, decimal_from, number_in, command_in, words, meaning, ShownReply, reply_words, Reported, reported_of}
 use Rattle.std.proofs.lemmas.Fmt.{decimal_step}
 use Rattle.std.proofs.lemmas.List.{append-nil}
 use Rattle.model_asked.specs.declared.bad.Bad.{Bad}
@@ -9,7 +9,7 @@ use Rattle.model_asked.specs.declared.command.Command.{Command}
 use Rattle.model_asked.specs.declared.command.Command.TheVariants as command
 use Rattle.model_asked.specs.declared.exchange.Exchange.{Exchange}
 use Rattle.model_asked.specs.declared.reply.Reply.TheVariants as reply
-use Rattle.text_lines.specs.Meaning.{if_below, command_if, command_of_one, event_of_one, event_if_both, event_of_two, quit_of, desk_command_of, slot_command_of}
+use Rattle.text_lines.specs.Meaning.{if_below, command_if, command_of_one, event_of_one, event_if_both, event_of_two, quit_of, seek_of, desk_command_of, slot_command_of}
 use Rattle.text_lines.specs.lemmas.NumberProofs.{decimal_from-grows}
 use Rattle.text_player.specs.Records.{name_view, exchange_line}
 use Rattle.text_records.specs.Lines.{line, IsCanonical}
@@ -159,14 +159,19 @@ module _ (line : List ℕ) where
     event_named : (event : ℕ → Event) (name : List ℕ) → ((n : ℕ) → event_words (event n) ≡ name ++ 32 ∷ decimal n) → same_bytes word name ≡ true → IsWordsOf line (event_of_one event others)
     event_named event name spells is = one event name others spells (named name is)
 
-    of_slots : IsWordsOf line (slot_command_of word others)
+    of_seek : (wide : Bool) → same_bytes word (codes "seek") ≡ true → IsWordsOf line (seek_of wide others)
+    of_seek true is = event_named Seek (codes "seek") (λ n. refl) is
+    of_seek false is = tt
+
+    of_slots : IsWordsOf line (slot_command_of kind word others)
     of_slots =
         either (IsWordsOf line) (same_bytes word (codes "put")) (event_of_two Put others) _ (λ is. two others (named (codes "put") is))
         (λ n. either (IsWordsOf line) (same_bytes word (codes "get")) (event_of_one Get others) _ (event_named Get (codes "get") (λ n. refl))
         (λ n. either (IsWordsOf line) (same_bytes word (codes "widen")) (event_of_one Widen others) _ (event_named Widen (codes "widen") (λ n. refl))
-        (λ n. either (IsWordsOf line) (same_bytes word (codes "owner")) (command_of_one command.Owner others) (Err UnknownWord) (λ is. owner others) (λ n. tt))))
+        (λ n. either (IsWordsOf line) (same_bytes word (codes "owner")) (command_of_one command.Owner others) _ (λ is. owner others)
+        (λ n. either (IsWordsOf line) (same_bytes word (codes "seek")) (seek_of (is_wide kind) others) (Err UnknownWord) (of_seek (is_wide kind)) (λ n. tt)))))
 
-    of_desk : IsWordsOf line (desk_command_of word others)
+    of_desk : IsWordsOf line (desk_command_of kind word others)
     of_desk =
         either (IsWordsOf line) (same_bytes word (codes "enter")) (event_of_one Enter others) _ (event_named Enter (codes "enter") (λ n. refl))
         (λ n. either (IsWordsOf line) (same_bytes word (codes "probe")) (event_of_one Probe others) _ (event_named Probe (codes "probe") (λ n. refl))
@@ -177,7 +182,7 @@ module _ (line : List ℕ) where
         either (IsWordsOf line) (same_bytes word (codes "begin")) (event_of_one Begin others) _ (event_named Begin (codes "begin") (λ n. refl))
         (λ n. either (IsWordsOf line) (same_bytes word (codes "step")) (event_of_one Step others) _ (event_named Step (codes "step") (λ n. refl))
         (λ n. either (IsWordsOf line) (same_bytes word (codes "quit")) (quit_of others) _ (λ is. quit others)
-        (λ n. either (IsWordsOf line) (gives_names kind) (desk_command_of word others) (Err UnknownWord) (λ is. of_desk) (λ n. tt))))
+        (λ n. either (IsWordsOf line) (gives_names kind) (desk_command_of kind word others) (Err UnknownWord) (λ is. of_desk) (λ n. tt))))
 
   of_words : (kind : WorldKind) (ws : List (List ℕ)) → 32 ∷ line ≡ spaced ws → IsWordsOf line (command_in kind ws)
   of_words kind [] h = tt

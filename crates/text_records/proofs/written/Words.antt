@@ -1,6 +1,6 @@
 -- the words of events and replies, as they are written, mean the event and tell the reply
 use Rattle.std.proofs.Common.{◌≡◌, ℕ, ◌^◌, ◌<◌, ◌≤◌, ◌==◌, Bool, true, false, not, List, [], ◌∷◌, ◌++◌, length, Result, Ok, codes, decimal, refl, ap, ◌∙◌, arith, append_assoc, length-append, nat_lt}
-use Rattle.text_records.proofs.Common.{list_all, and_parts, nat_tests, length-decimal-le_wide, list_all-append, WorldKind, Event, Begin, Step, Enter, Probe, Leave, Put, Get, Widen, gives_names, event_words, pieces_from, has_no_lf, is_digit, is_printable, words, command_in, meaning, lacks, pieces-last, pieces-cut, is_plain}
+use Rattle.text_records.proofs.Common.{list_all, and_parts, nat_tests, length-decimal-le_wide, list_all-append, WorldKind, Event, Begin, Step, Enter, Probe, Seek, Leave, Put, Get, Widen, gives_names, event_words, pieces_from, has_no_lf, is_digit, is_printable, words, command_in, meaning, lacks, pieces-last, pieces-cut, is_plain}
 use Rattle.model_asked.specs.declared.bad.Bad.{Bad}
 use Rattle.model_asked.specs.declared.command.Command.{Command}
 use Rattle.model_asked.specs.declared.command.Command.TheVariants as command
@@ -90,11 +90,12 @@ is_put kind desk p value hp hv =
     (ap (λ (k : List (List ℕ)). codes "put" ∷ k) (two_words p value (omega arith) (omega arith))) (rw (desk, number_in-decimal p hp, number_in-decimal value hv) refl)
 
 -- the words of an event mean it
-pub event_means : (kind : WorldKind) → gives_names kind ≡ true → (e : Event) → IsNarrowEvent e → meaning kind (event_words e) ≡ Ok (command.Event e)
+pub event_means : (kind : WorldKind) → gives_names kind ≡ true → (e : Event) → IsNarrowEvent kind e → meaning kind (event_words e) ≡ Ok (command.Event e)
 event_means kind desk (Begin p) h = means_one kind p h (codes "begin") (Ok (command.Event (Begin p))) refl refl (omega arith) (rw (number_in-decimal p h) refl)
 event_means kind desk (Step p) h = means_one kind p h (codes "step") (Ok (command.Event (Step p))) refl refl (omega arith) (rw (number_in-decimal p h) refl)
 event_means kind desk (Enter p) h = means_one kind p h (codes "enter") (Ok (command.Event (Enter p))) refl refl (omega arith) (rw (desk, number_in-decimal p h) refl)
 event_means kind desk (Probe p) h = means_one kind p h (codes "probe") (Ok (command.Event (Probe p))) refl refl (omega arith) (rw (desk, number_in-decimal p h) refl)
+event_means kind desk (Seek p) h = means_one kind p h.1 (codes "seek") (Ok (command.Event (Seek p))) refl refl (omega arith) (rw (desk, h.0, number_in-decimal p h.1) refl)
 event_means kind desk (Leave p) h = means_one kind p h (codes "leave") (Ok (command.Event (Leave p))) refl refl (omega arith) (rw (desk, number_in-decimal p h) refl)
 event_means kind desk (Put p value) h = is_put kind desk p value h.0 h.1
 event_means kind desk (Get p) h = means_one kind p h (codes "get") (Ok (command.Event (Get p))) refl refl (omega arith) (rw (desk, number_in-decimal p h) refl)
@@ -104,22 +105,24 @@ event_means kind desk (Widen more) h = means_one kind more h (codes "widen") (Ok
 pub word_plain : (word : List ℕ) (n : ℕ) → list_all is_plain word ≡ true → n < 10 ^ 64 → list_all is_plain (word ++ decimal n) ≡ true
 word_plain word n h small = plain_both word (decimal n) h (plain_decimal n small)
 
-pub event_plain : (e : Event) → IsNarrowEvent e → list_all is_plain (event_words e) ≡ true
-event_plain (Begin p) h = word_plain (codes "begin ") p refl (omega arith)
-event_plain (Step p) h = word_plain (codes "step ") p refl (omega arith)
-event_plain (Enter p) h = word_plain (codes "enter ") p refl (omega arith)
-event_plain (Probe p) h = word_plain (codes "probe ") p refl (omega arith)
-event_plain (Leave p) h = word_plain (codes "leave ") p refl (omega arith)
-event_plain (Put p value) h = put_plain p value (let l = h.0 in omega arith) (let l = h.1 in omega arith)
-event_plain (Get p) h = word_plain (codes "get ") p refl (omega arith)
-event_plain (Widen more) h = word_plain (codes "widen ") more refl (omega arith)
+pub event_plain : (kind : WorldKind) (e : Event) → IsNarrowEvent kind e → list_all is_plain (event_words e) ≡ true
+event_plain kind (Begin p) h = word_plain (codes "begin ") p refl (omega arith)
+event_plain kind (Step p) h = word_plain (codes "step ") p refl (omega arith)
+event_plain kind (Enter p) h = word_plain (codes "enter ") p refl (omega arith)
+event_plain kind (Probe p) h = word_plain (codes "probe ") p refl (omega arith)
+event_plain kind (Seek p) h = word_plain (codes "seek ") p refl (let l = h.1 in omega arith)
+event_plain kind (Leave p) h = word_plain (codes "leave ") p refl (omega arith)
+event_plain kind (Put p value) h = put_plain p value (let l = h.0 in omega arith) (let l = h.1 in omega arith)
+event_plain kind (Get p) h = word_plain (codes "get ") p refl (omega arith)
+event_plain kind (Widen more) h = word_plain (codes "widen ") more refl (omega arith)
 
-pub event_short : (e : Event) → IsNarrowEvent e → length (event_words e) ≤ 45
-event_short (Begin p) h = omega (arith, short_decimal p h)
-event_short (Step p) h = omega (arith, short_decimal p h)
-event_short (Enter p) h = omega (arith, short_decimal p h)
-event_short (Probe p) h = omega (arith, short_decimal p h)
-event_short (Leave p) h = omega (arith, short_decimal p h)
-event_short (Put p value) h = put_short p value h.0 h.1
-event_short (Get p) h = omega (arith, short_decimal p h)
-event_short (Widen more) h = omega (arith, short_decimal more h)
+pub event_short : (kind : WorldKind) (e : Event) → IsNarrowEvent kind e → length (event_words e) ≤ 45
+event_short kind (Begin p) h = omega (arith, short_decimal p h)
+event_short kind (Step p) h = omega (arith, short_decimal p h)
+event_short kind (Enter p) h = omega (arith, short_decimal p h)
+event_short kind (Probe p) h = omega (arith, short_decimal p h)
+event_short kind (Seek p) h = omega (arith, short_decimal p h.1)
+event_short kind (Leave p) h = omega (arith, short_decimal p h)
+event_short kind (Put p value) h = put_short p value h.0 h.1
+event_short kind (Get p) h = omega (arith, short_decimal p h)
+event_short kind (Widen more) h = omega (arith, short_decimal more h)

@@ -193,7 +193,7 @@ two_left terms o p calls run h = record {
 }
 
 pub names_soon_alone : NamesSoonAlone
-names_soon_alone terms bounds size before more run p two alone =
+names_soon_alone terms bounds start before more run p two alone =
     let k = parts_of run.calls before more run.spelled in
     let whole : rename_calls k.first ++ rename_calls k.second ≡ rename_calls run.calls = sym (rename_parts k.first k.second) ∙ ap rename_calls k.is in
     let split = run_splits after (Allows terms) new_object (rename_calls k.first) (rename_calls k.second) run.names.object (subst (λ (x : List (Call StepReply)). IsRun terms x run.names.object) (sym whole) run.names.run) in
@@ -202,7 +202,7 @@ names_soon_alone terms bounds size before more run p two alone =
     elim (run.names.alone (rename_calls k.first) (rename_calls k.second) split.0 run.names.object p whole split.1 run.names.run front (calls_alone p k.second (subst (λ (x : List Exchange). StepsAlone p x) (sym k.goes_on) alone))) [
       | inl named ↦ inl (elim (run.names.object.name p) as (λ z. run.names.object.name p ≡ z → is_some z ≡ true → HasName p (before ++ more)) [
         | None ↦ λ e h. absurd (cc)
-        | Some n ↦ λ e h. (n, has_named terms bounds size (before ++ more) run p n e)
+        | Some n ↦ λ e h. (n, has_named terms bounds start (before ++ more) run p n e)
       ] refl named)
       | inr on ↦
           let few = on.1 in

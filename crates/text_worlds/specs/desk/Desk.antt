@@ -6,7 +6,7 @@ use Rattle.model_renaming.specs.over.Grid.{fresh_grid}
 use Rattle.model_renaming.specs.over.GridTies.{grid_places}
 use Rattle.model_renaming.specs.over.Tree.{new_tree}
 use Rattle.model_renaming.specs.over.TreeTies.{tree_places}
-use Rattle.model_asked.specs.Config.{is_tree}
+use Rattle.model_asked.specs.Config.{is_tree, IsOverGrid}
 use Rattle.model_asked.specs.declared.config.Config.{Config}
 use Rattle.model_asked.specs.declared.kind.WorldKind.{WorldKind}
 use Rattle.model_asked.specs.declared.kind.WorldKind.TheVariants.{Rename, Tree}
@@ -20,6 +20,7 @@ use Rattle.text_worlds.specs.desk.DeskState.{DeskState}
 use Rattle.text_worlds.specs.desk.DeskValue.{DeskValue}
 use Rattle.text_worlds.specs.desk.DeskValue.DeskValue.{OverGrid, OverTree}
 use Rattle.text_worlds.specs.desk.Rules.{Rules}
+use Rattle.text_worlds.specs.desk.Start.{pool_start}
 
 abbrev pub desk_reply : DeskValue → Event → ShownReply
 desk_reply (OverGrid w) e = reply_over grid_places w e
@@ -59,21 +60,21 @@ owner_reply (OverTree w) number = owner_over w number
 -- the desk of a config whose world gives names, before any call
 abbrev pub fresh_in : WorldKind → Config → DeskValue
 fresh_in kind config =
-    if is_tree kind then OverTree (fresh_over (new_tree config.m) config.m config.limit config.k)
-    else OverGrid (fresh_over (fresh_grid config.m) config.m config.limit config.k)
+    if is_tree kind then OverTree (fresh_over (new_tree config.m) config.m config.limit (pool_start config))
+    else OverGrid (fresh_over (fresh_grid config.m) config.m config.limit (pool_start config))
 
 abbrev pub fresh_desk : Config → DeskValue
 fresh_desk config = fresh_in config.world config
 
 -- this is the one desk of this config before any call
 abbrev pub IsFreshDesk : Config → DeskValue → Type 0
-IsFreshDesk config (OverGrid w) = (config.world ≡ Rename) × (w ≡ fresh_over (fresh_grid config.m) config.m config.limit config.k)
-IsFreshDesk config (OverTree w) = (config.world ≡ Tree) × (w ≡ fresh_over (new_tree config.m) config.m config.limit config.k)
+IsFreshDesk config (OverGrid w) = IsOverGrid config.world × (w ≡ fresh_over (fresh_grid config.m) config.m config.limit (pool_start config))
+IsFreshDesk config (OverTree w) = (config.world ≡ Tree) × (w ≡ fresh_over (new_tree config.m) config.m config.limit (pool_start config))
 
 -- a desk of this config after these calls
 abbrev pub IsAfterDesk : Config → DeskValue → List DeskCall → Type 0
-IsAfterDesk config (OverGrid w) calls = (config.world ≡ Rename) × ReachesDesk grid_places Rename config.m config.limit config.k w calls
-IsAfterDesk config (OverTree w) calls = (config.world ≡ Tree) × ReachesDesk tree_places Tree config.m config.limit config.k w calls
+IsAfterDesk config (OverGrid w) calls = IsOverGrid config.world × ReachesDesk grid_places Rename config.m config.limit (pool_start config) w calls
+IsAfterDesk config (OverTree w) calls = (config.world ≡ Tree) × ReachesDesk tree_places Tree config.m config.limit (pool_start config) w calls
 
 -- these calls, and then one call that is this exchange, lead to this desk
 pub record LeadsDesk (config : Config) (calls : List DeskCall) (e : Event) (r : ShownReply) (new : DeskValue) : Type 0 where

@@ -7,7 +7,8 @@ use Rattle.model_renaming.specs.Reply.{StepReply}
 use Rattle.model_asked.specs.declared.kind.WorldKind.{WorldKind}
 use Rattle.model_renaming.specs.Machine.{renaming}
 use Rattle.model_steps.specs.Machine.{Reaches}
-use Rattle.model_pool.specs.Calls.Call.{Entered, Probed, Left, Widened}
+use Rattle.model_pool.specs.Calls.Call.{Entered, Probed, Sought, Left, Widened}
+use Rattle.model_pool.specs.PoolState.{PoolStart}
 use Rattle.model_pool.specs.slots.SlotCalls.{SlotCall}
 use Rattle.model_pool.specs.slots.SlotCalls.SlotCall.{Pooled, Stored, Fetched, Extended}
 use Rattle.model_pool.specs.slots.Machine.{slots}
@@ -15,7 +16,7 @@ use Rattle.model_asked.specs.declared.event.Event.{Event}
 use Rattle.model_asked.specs.declared.event.Event.TheVariants as event
 use Rattle.model_asked.specs.declared.exchange.Exchange.{Exchange}
 use Rattle.model_asked.specs.Replies.{ShownReply, done_reply, left_reply, value_reply}
-use Rattle.text_worlds.specs.desk.Replies.{step_reply, probe_reply}
+use Rattle.text_worlds.specs.desk.Replies.{step_reply, probe_reply, seek_reply}
 use Rattle.text_worlds.specs.desk.DeskState.{DeskState}
 
 -- a call of the renaming world, or of the slots, with its reply
@@ -44,6 +45,7 @@ exchange_of (Renamed (Began p answer)) = exchange (event.Begin p) (done_reply an
 exchange_of (Renamed (Stepped p answer)) = exchange (event.Step p) (step_reply answer)
 exchange_of (Slotted (Pooled (Entered p answer))) = exchange (event.Enter p) (done_reply answer)
 exchange_of (Slotted (Pooled (Probed p answer))) = exchange (event.Probe p) (probe_reply answer)
+exchange_of (Slotted (Pooled (Sought p answer))) = exchange (event.Seek p) (seek_reply answer)
 exchange_of (Slotted (Pooled (Left p answer))) = exchange (event.Leave p) (left_reply answer)
 exchange_of (Slotted (Stored p value answer)) = exchange (event.Put p value) (done_reply answer)
 exchange_of (Slotted (Fetched p answer)) = exchange (event.Get p) (value_reply answer)
@@ -60,17 +62,17 @@ abbrev pub BeginSlots : List (SlotCall ℕ) → Type 0
 BeginSlots [] = Unit {0}
 BeginSlots (h ∷ r) = BeginsSlots h × BeginSlots r
 
--- these calls lead to the desk, with these bounds on participants, rounds and numbers at the start. The calls of
+-- these calls lead to the desk, with these bounds on participants and rounds, from a pool that begins so. The calls of
 -- renaming lead to its renaming world, and the others to its slots, each of which holds 0 when it is new
-pub record ReachesDesk {S R V U K : Type 0} (W : KnownPlaces S R V U K) (kind : WorldKind) (most limit size : ℕ) (w : DeskState S U K) (calls : List DeskCall) : Type 0 where
+pub record ReachesDesk {S R V U K : Type 0} (W : KnownPlaces S R V U K) (kind : WorldKind) (most limit : ℕ) (start : PoolStart) (w : DeskState S U K) (calls : List DeskCall) : Type 0 where
   pub first : S
   pub room : W.most_of first ≡ most
   pub names : Reaches (renaming W kind) (first, limit) w.names (rename_calls calls)
-  pub slots : Reaches slots (size, replicate size 0) w.slots (slot_calls calls)
+  pub slots : Reaches slots (start, replicate start.size 0) w.slots (slot_calls calls)
   pub new_slots : BeginSlots (slot_calls calls)
 
 -- these calls, and then one call that is this exchange, lead to this desk
-pub record LeadsBy {S R V U K : Type 0} (W : KnownPlaces S R V U K) (kind : WorldKind) (most limit size : ℕ) (calls : List DeskCall) (e : Event) (r : ShownReply) (new : DeskState S U K) : Type 0 where
+pub record LeadsBy {S R V U K : Type 0} (W : KnownPlaces S R V U K) (kind : WorldKind) (most limit : ℕ) (start : PoolStart) (calls : List DeskCall) (e : Event) (r : ShownReply) (new : DeskState S U K) : Type 0 where
   pub call : DeskCall
   pub spelled : exchange_of call ≡ exchange e r
-  pub after : ReachesDesk W kind most limit size new (calls ++ call ∷ [])
+  pub after : ReachesDesk W kind most limit start new (calls ++ call ∷ [])

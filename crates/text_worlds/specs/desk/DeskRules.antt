@@ -7,13 +7,15 @@ use Rattle.model_snapshot.specs.Places.{KnownPlaces}
 use Rattle.model_renaming.specs.Machine.{next}
 use Rattle.model_renaming.specs.RenameWorld.{fresh_world, rename_answer, step_refusal, may_lack}
 use Rattle.model_pool.specs.Pool.{enter_refusal, enter_answer, probe_refusal, probe_answer, number_answer, widen_answer, fresh_pool}
+use Rattle.model_pool.specs.Sought.{seek_answer}
 use Rattle.model_pool.specs.Widening.{widen_refusal}
-use Rattle.model_pool.specs.Calls.Call.{Entered, Probed, Left}
+use Rattle.model_pool.specs.PoolState.{PoolStart}
+use Rattle.model_pool.specs.Calls.Call.{Entered, Probed, Sought, Left}
 use Rattle.model_pool.specs.slots.SlotCalls.SlotCall.{Pooled, Stored, Fetched, Extended}
 use Rattle.model_pool.specs.slots.Slots.{stored_reply}
 use Rattle.model_pool.specs.slots.Machine.{slots_next}
 use Rattle.model_asked.specs.declared.event.Event.{Event}
-use Rattle.model_asked.specs.declared.event.Event.TheVariants.{Begin, Step, Enter, Probe, Leave, Put, Get, Widen}
+use Rattle.model_asked.specs.declared.event.Event.TheVariants.{Begin, Step, Enter, Probe, Seek, Leave, Put, Get, Widen}
 use Rattle.model_asked.specs.Replies.{ShownReply}
 use Rattle.text_worlds.specs.desk.DeskCalls.{DeskCall, exchange_of}
 use Rattle.text_worlds.specs.desk.DeskCalls.DeskCall.{Renamed, Slotted}
@@ -36,11 +38,11 @@ grows_by None may = may
 grows_by (Some why) may = false
 
 module _ {S U K : Type 0} where
-  -- a desk over these places before any call, for this many participants, rounds and numbers. Each slot holds 0
-  abbrev pub fresh_over : S → ℕ → ℕ → ℕ → DeskState S U K
-  fresh_over first most limit size = record {
+  -- a desk over these places before any call, for this many participants and rounds, whose pool begins so. Each slot holds 0
+  abbrev pub fresh_over : S → ℕ → ℕ → PoolStart → DeskState S U K
+  fresh_over first most limit start = record {
     names = fresh_world first most limit;
-    slots = record { pool = fresh_pool size; values = replicate size 0 };
+    slots = record { pool = fresh_pool start; values = replicate start.size 0 };
   }
 
   -- why an event would be refused, failed allocations aside
@@ -49,10 +51,11 @@ module _ {S U K : Type 0} where
   refusal_over w (Step p) = step_refusal w.names p
   refusal_over w (Enter p) = enter_refusal w.slots.pool p
   refusal_over w (Probe p) = probe_refusal w.slots.pool p
+  refusal_over w (Seek p) = probe_refusal w.slots.pool p
   refusal_over w (Leave p) = refusal_of (number_answer w.slots.pool p)
   refusal_over w (Put p value) = refusal_of (number_answer w.slots.pool p)
   refusal_over w (Get p) = refusal_of (number_answer w.slots.pool p)
-  refusal_over w (Widen more) = widen_refusal w.slots.pool.size more
+  refusal_over w (Widen more) = widen_refusal w.slots.pool.most w.slots.pool.size more
 
 module _ {S R V U K : Type 0} (W : KnownPlaces S R V U K) where
   -- the call that an event is, with its reply if no allocation fails
@@ -61,6 +64,7 @@ module _ {S R V U K : Type 0} (W : KnownPlaces S R V U K) where
   call_for w (Step p) = Renamed (Stepped p (rename_answer W w.names p))
   call_for w (Enter p) = Slotted (Pooled (Entered p (enter_answer w.slots.pool p)))
   call_for w (Probe p) = Slotted (Pooled (Probed p (probe_answer w.slots.pool p)))
+  call_for w (Seek p) = Slotted (Pooled (Sought p (seek_answer w.slots.pool p)))
   call_for w (Leave p) = Slotted (Pooled (Left p (number_answer w.slots.pool p)))
   call_for w (Put p value) = Slotted (Stored p value (stored_reply (number_answer w.slots.pool p)))
   call_for w (Get p) = Slotted (Fetched p (fetched w.slots.values (number_answer w.slots.pool p)))

@@ -16,6 +16,7 @@ use Rattle.text_worlds.specs.desk.DeskRun.{IsDeskRun, IsDeskRunOf}
 use Rattle.text_worlds.specs.desk.DeskValue.{DeskValue}
 use Rattle.text_worlds.specs.desk.Names.{IsOwnerReply}
 use Rattle.text_worlds.specs.desk.Rules.{may_by}
+use Rattle.model_pool.specs.PoolState.{PoolStart}
 
 -- the config's world gives names, and this is its fresh desk
 pub record IsThisDesk (c : Config) (w : DeskValue) : Type 0 where
@@ -63,4 +64,4 @@ IsDeskDetermined = (w u v : DeskValue) (e : Event) (a b : ShownReply) → may_by
 
 -- this holds of the exchanges of each run
 abbrev pub InEachRun : (List Exchange → Type 0) → Type 0
-InEachRun Holds = (terms : RenameTerms) (bounds : SnapBounds) (size : ℕ) (r : List Exchange) → IsDeskRun terms bounds size r → Holds r
+InEachRun Holds = (terms : RenameTerms) (bounds : SnapBounds) (start : PoolStart) (r : List Exchange) → IsDeskRun terms bounds start r → Holds r

@@ -11,6 +11,7 @@ use Rattle.text_worlds.specs.desk.DeskCalls.{exchange}
 use Rattle.text_worlds.specs.desk.DeskRun.{IsDeskRun}
 use Rattle.text_worlds.specs.desk.Names.{WasNamed}
 use Rattle.model_asked.specs.Replies.{ShownReply, is_refusal}
+use Rattle.model_pool.specs.PoolState.{PoolStart}
 
 -- this exchange is among these
 abbrev pub IsAmong : Exchange → List Exchange → Type 0
@@ -73,5 +74,5 @@ IsNamedWithin most p before more = HasName p (before ++ more) ⊎ ((WasSpent p (
 -- cut each run in two at any point. A participant that has two proposals left there, and then runs solo, is named at
 -- its `steps_alone`-th step after the cut, or earlier
 abbrev pub NamesSoonAlone : Type 0
-NamesSoonAlone = (terms : RenameTerms) (bounds : SnapBounds) (size : ℕ) (before more : List Exchange) → IsDeskRun terms bounds size (before ++ more) →
+NamesSoonAlone = (terms : RenameTerms) (bounds : SnapBounds) (start : PoolStart) (before more : List Exchange) → IsDeskRun terms bounds start (before ++ more) →
     (p : ℕ) → HasTwoLeft terms.limit p before → StepsAlone p more → IsNamedWithin (steps_alone bounds) p before more

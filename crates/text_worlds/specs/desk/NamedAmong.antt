@@ -16,6 +16,7 @@ use Rattle.text_worlds.specs.desk.DeskCalls.{exchange}
 use Rattle.text_worlds.specs.desk.DeskRun.{IsDeskRun}
 use Rattle.text_worlds.specs.desk.NamedAlone.{IsAmong, HasBegun, WasSpent, HasName, steps_of}
 use Rattle.text_worlds.specs.desk.Names.{begun_in}
+use Rattle.model_pool.specs.PoolState.{PoolStart}
 
 -- one more, where this is a proposal of anybody
 abbrev pub all_more : Event → ShownReply → ℕ → ℕ
@@ -50,4 +51,4 @@ pub record EndsSoon (terms : RenameTerms) (bounds : SnapBounds) (r : List Exchan
 
 -- so in each run
 abbrev pub NamesSoonAmong : Type 0
-NamesSoonAmong = (terms : RenameTerms) (bounds : SnapBounds) (size : ℕ) (r : List Exchange) → IsDeskRun terms bounds size r → EndsSoon terms bounds r
+NamesSoonAmong = (terms : RenameTerms) (bounds : SnapBounds) (start : PoolStart) (r : List Exchange) → IsDeskRun terms bounds start r → EndsSoon terms bounds r

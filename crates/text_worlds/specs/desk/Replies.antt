@@ -1,5 +1,5 @@
 -- what outcomes of steps and probes are answered as
-use Rattle.std.specs.Prelude.{Result, Ok, Err}
+use Rattle.std.specs.Prelude.{ℕ, Result, Ok, Err}
 use Rattle.model_steps.specs.declared.refusal.Refusal.{Refusal}
 use Rattle.model_pool.specs.declared.probe.Probe.{Probe}
 use Rattle.model_pool.specs.declared.probe.Probe.TheVariants as probe
@@ -28,3 +28,7 @@ shown_probe (probe.Got number) = reply.Got number
 abbrev pub probe_reply : Result Probe Refusal → ShownReply
 probe_reply (Ok said) = shown_probe said
 probe_reply (Err refusal) = reply.Refused refusal
+
+abbrev pub seek_reply : Result ℕ Refusal → ShownReply
+seek_reply (Ok number) = reply.Got number
+seek_reply (Err refusal) = reply.Refused refusal

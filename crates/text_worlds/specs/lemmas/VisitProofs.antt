@@ -7,7 +7,7 @@ use Rattle.model_steps.specs.Calls.{Call}
 use Rattle.model_steps.specs.Calls.Call.{Began, Stepped}
 use Rattle.model_asked.specs.declared.kind.WorldKind.{WorldKind}
 use Rattle.model_asked.specs.declared.event.Event.{Event}
-use Rattle.model_asked.specs.declared.event.Event.TheVariants.{Begin, Step, Enter, Probe, Leave, Put, Get, Widen}
+use Rattle.model_asked.specs.declared.event.Event.TheVariants.{Begin, Step, Enter, Probe, Seek, Leave, Put, Get, Widen}
 use Rattle.model_asked.specs.declared.exchange.Exchange.{Exchange}
 use Rattle.model_asked.specs.declared.reply.Reply.TheVariants as reply
 use Rattle.text_worlds.specs.desk.Names.{IsOwnerReply}
@@ -54,8 +54,8 @@ visit_of_words kind none [] = tt
 visit_of_words kind none (word ∷ others) =
     let begin : Result Command Bad = command_of_one (λ n. command.Event (Begin n)) others in
     let step : Result Command Bad = command_of_one (λ n. command.Event (Step n)) others in
-    let rest : Result Command Bad = cond (gives_names kind) (desk_command_of word others) (Err UnknownWord) in
-    let unknown : IsVisit rest = subst (λ b. IsVisit (cond b (desk_command_of word others) (Err UnknownWord))) (sym none) tt in
+    let rest : Result Command Bad = cond (gives_names kind) (desk_command_of kind word others) (Err UnknownWord) in
+    let unknown : IsVisit rest = subst (λ b. IsVisit (cond b (desk_command_of kind word others) (Err UnknownWord))) (sym none) tt in
     let quit : Result Command Bad = cond (same_bytes word (codes "quit")) (quit_of others) rest in
     visit_if (same_bytes word (codes "begin")) begin (cond (same_bytes word (codes "step")) step quit) (visit_of_one Begin (λ n. refl) others)
     (visit_if (same_bytes word (codes "step")) step quit (visit_of_one Step (λ n. refl) others)
@@ -124,6 +124,7 @@ module _ {T X : Type 0} (rules : VisitRules T X) where
   one_visit w u v (Take (Step p)) a b x y na nb = one_step w u v p a b x y na nb
   one_visit w u v (Take (Enter p)) a b x y na nb = absurd x
   one_visit w u v (Take (Probe p)) a b x y na nb = absurd x
+  one_visit w u v (Take (Seek p)) a b x y na nb = absurd x
   one_visit w u v (Take (Leave p)) a b x y na nb = absurd x
   one_visit w u v (Take (Put p value)) a b x y na nb = absurd x
   one_visit w u v (Take (Get p)) a b x y na nb = absurd x
@@ -164,6 +165,7 @@ module _ {T X : Type 0} (rules : VisitRules T X) where
     one_call w u before (Step p) a after m = one_step_call w u before p a after m
     one_call w u before (Enter p) a after m = absurd m
     one_call w u before (Probe p) a after m = absurd m
+    one_call w u before (Seek p) a after m = absurd m
     one_call w u before (Leave p) a after m = absurd m
     one_call w u before (Put p value) a after m = absurd m
     one_call w u before (Get p) a after m = absurd m

@@ -1,8 +1,8 @@
-//! The replies for the outcomes of steps and probes.
+//! The replies for the outcomes of steps, and of one probe or many.
 
 ghost use Rattle.std.specs.Prelude.{◌≡◌, ℕ, List};
 ghost use Rattle.model_asked.specs.Replies.{with_view};
-ghost use Rattle.text_worlds.specs.desk.Replies.{step_reply, probe_reply};
+ghost use Rattle.text_worlds.specs.desk.Replies.{step_reply, probe_reply, seek_reply};
 ghost use Rattle.model_renaming.specs.Reply.{outcome_with};
 
 use model_asked::Reply;
@@ -32,6 +32,16 @@ pub(crate) fn of_probe(outcome: Result<Probe, Refusal>) -> Reply<()>
     match outcome {
         Ok(Probe::Missed) => Reply::Missed,
         Ok(Probe::Got(number)) => Reply::Got(number),
+        Err(refusal) => Reply::Refused(refusal),
+    }
+}
+
+/// The reply for the outcome of probes until a number is had.
+pub(crate) fn of_seek(outcome: Result<u32, Refusal>) -> Reply<()>
+    ensures { (view : List (ℕ × ℕ)) → with_view result view ≡ seek_reply outcome }
+{
+    match outcome {
+        Ok(number) => Reply::Got(number),
         Err(refusal) => Reply::Refused(refusal),
     }
 }

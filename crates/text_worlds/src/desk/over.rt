@@ -5,13 +5,14 @@ ghost use Rattle.model_pool.specs.Pool.{fresh_pool};
 ghost use Rattle.text_worlds.specs.desk.Desk.{owner_over};
 ghost use Rattle.text_worlds.specs.desk.DeskRules.{fresh_over, rules_over, refusal_over};
 ghost use Rattle.text_worlds.specs.desk.Coming.{next_over};
+ghost use Rattle.text_worlds.specs.desk.Start.{pool_start};
 ghost use Rattle.model_asked.specs.Replies.{with_view};
 ghost use Rattle.text_worlds.specs.desk.Rules.{may_by};
 ghost use Rattle.model_asked.specs.Config.{is_played_over};
 ghost use Rattle.model_snapshot.specs.SnapWorld.{place_in};
 ghost use Rattle.model_renaming.specs.RenameWorld.{name_in};
 
-use crate::desk::outcomes::{of_probe, of_step};
+use crate::desk::outcomes::{of_probe, of_seek, of_step};
 use model_asked::{Config, Event, Reply};
 use model_pool::Pool;
 use model_pool::slots::Slots;
@@ -36,16 +37,20 @@ impl<W: RenamePlaces<A>, A: Allocator> Model for DeskOver<W, A> {
     ghost view = { λ d. record { names = d.names; slots = d.slots } };
 }
 
-/// Slots over a pool of `size` numbers, each of which holds 0. The pool is made last, so that a failed allocation drops
+/// Slots over a pool of `size` numbers, which may get `most`. Each holds 0. The pool is made last, so that a failed allocation drops
 /// the values alone.
-fn zero_slots<A: Allocator + Clone>(alloc: &A, size: u64) -> Result<Slots<u64, A>, Refusal>
+fn zero_slots<A: Allocator + Clone>(
+    alloc: &A,
+    most: u64,
+    size: u64,
+) -> Result<Slots<u64, A>, Refusal>
     requires some { 1 ≤ size }
-    requires few { size ≤ 64 }
-    ensures made { IfOk result (λ s. s ≡ record { pool = fresh_pool size; values = replicate size 0 }) }
+    requires few { (size ≤ most) × (most ≤ 65536) }
+    ensures made { IfOk result (λ s. s ≡ record { pool = fresh_pool (record { most = most; size = size }); values = replicate size 0 }) }
     ensures no_memory { IfErr result (λ why. why ≡ Refusal.NoMemory) }
 {
     let values = Vec::from_elem(alloc.clone()?, 0u64, size as usize)?;
-    match Pool::new(alloc.clone()?, size) {
+    match Pool::new(alloc.clone()?, most, size) {
         Ok(pool) => match Slots::new(pool, values) {
             Ok(slots) => Ok(slots),
             Err(NoMemory) => Err(Refusal::NoMemory),
@@ -64,14 +69,14 @@ where
     ///
     /// `OutOfRange` if the places are not those of the configuration's world, then `NoMemory` if an allocation failed.
     pub(crate) fn new(alloc: A, config: Config) -> Result<Self, Refusal>
-        ensures fresh { IfOk result (λ d. d ≡ fresh_over (W.empty_for config.m) config.m config.limit config.k) }
+        ensures fresh { IfOk result (λ d. d ≡ fresh_over (W.empty_for config.m) config.m config.limit (pool_start config)) }
         ensures out_of_range { result ≡ Err Refusal.OutOfRange ↔ (is_played_over config.world W.world ≡ false) }
         ensures only { IfErr result (λ why. (why ≡ Refusal.NoMemory) ⊎ (why ≡ Refusal.OutOfRange)) }
     {
         if !config.world.is_played_over(W::world()) {
             return Err(Refusal::OutOfRange);
         }
-        let Ok(slots) = zero_slots(&alloc, config.k) else {
+        let Ok(slots) = zero_slots(&alloc, config.world.most_numbers(), config.k) else {
             return Err(Refusal::NoMemory);
         };
         match RenameWorld::new(alloc, config) {
@@ -98,7 +103,7 @@ impl<W: RenamePlaces<A>, A: Allocator> DeskOver<W, A> {
             Event::Begin(id) => self.names.begin_refusal(id),
             Event::Step(id) => self.names.step_refusal(id),
             Event::Enter(id) => pool.enter_refusal(id),
-            Event::Probe(id) => pool.probe_refusal(id),
+            Event::Probe(id) | Event::Seek(id) => pool.probe_refusal(id),
             Event::Leave(id) | Event::Put(id, _) | Event::Get(id) => pool.number_of(id).err(),
             Event::Widen(size) => pool.widen_refusal(size),
         }
@@ -145,6 +150,7 @@ where
             Event::Step(id) => of_step(self.names.step_short(id, view)),
             Event::Enter(id) => Reply::of_done(self.slots.enter(id)),
             Event::Probe(id) => of_probe(self.slots.probe(id)),
+            Event::Seek(id) => of_seek(self.slots.seek(id)),
             Event::Leave(id) => Reply::of_leave(self.slots.leave(id)),
             Event::Put(id, value) => Reply::of_done(self.slots.put(id, value)),
             Event::Get(id) => Reply::of_value(self.slots.get(id).copied()),

@@ -88,6 +88,7 @@ events (event.Begin p) = word (codes "begin ") p refl
 events (event.Step p) = word (codes "step ") p refl
 events (event.Enter p) = word (codes "enter ") p refl
 events (event.Probe p) = word (codes "probe ") p refl
+events (event.Seek p) = word (codes "seek ") p refl
 events (event.Leave p) = word (codes "leave ") p refl
 events (event.Put p value) = three (codes "put " ++ decimal p) (codes " ") (decimal value) (word (codes "put ") p refl) refl (number value)
 events (event.Get p) = word (codes "get ") p refl

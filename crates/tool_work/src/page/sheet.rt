@@ -25,6 +25,7 @@ use text_worlds::desk::Desk;
 /// A page so far: up to its rows, the state before them, and the items that come after. Beside it a desk on which the lines so far
 /// were replayed, with what it did at the last of them, who has begun, and which places were reached.
 pub(crate) struct Sheet {
+    alloc: Global,
     desk: Desk<Global>,
     begun: Vec<u64>,
     reached: Vec<Place>,
@@ -40,6 +41,7 @@ pub(crate) struct Sheet {
 impl Drop for Sheet {
     fn drop(self) {
         let Sheet {
+            alloc: _,
             desk: _,
             begun: _,
             reached: _,
@@ -77,6 +79,7 @@ fn put_closing_data(before: &Text, events: u64, out: &mut Text) -> Result<(), Al
 
 /// Appends what stands after the last row: of which texts, and of which desk.
 fn put_ending(
+    alloc: Global,
     before: &Text,
     desk: &Desk<Global>,
     begun: &[u64],
@@ -89,7 +92,7 @@ fn put_ending(
 {
     put_closing_data(before, events, out)?;
     out.put(middle())?;
-    put_state(Form::Item, desk, begun, reached, out)?;
+    put_state(alloc, Form::Item, desk, begun, reached, out)?;
     out.put(between())?;
     out.put(listed.as_slice())?;
     out.put(tail())?;
@@ -114,6 +117,7 @@ impl Sheet {
         let mut text = Text::new(alloc);
         put_opening(config, stretch, &mut text)?;
         Ok(Sheet {
+            alloc,
             // the last that may be refused, since a desk is taken apart at each way out behind it
             desk: fresh(alloc, config)?,
             begun: Vec::new(alloc),
@@ -137,6 +141,7 @@ impl Sheet {
         }
         let is_past = self.stretch.is_past(self.seen);
         put_state_where_asked(
+            self.alloc,
             is_past,
             &self.desk,
             &self.begun,
@@ -144,6 +149,7 @@ impl Sheet {
             &mut self.before,
         )?;
         put_ending(
+            self.alloc,
             &self.before,
             &self.desk,
             &self.begun,
@@ -175,6 +181,7 @@ impl Gather for Sheet {
         let is_first = self.stretch.begins_after(self.seen);
         let is_shown = self.stretch.has(self.seen);
         put_state_where_asked(
+            self.alloc,
             is_first,
             &self.desk,
             &self.begun,

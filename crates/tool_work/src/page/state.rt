@@ -176,6 +176,7 @@ fn put_size(form: Form, size: u64, out: &mut Text) -> Result<(), AllocError>
 /// Appends all that a desk holds, on which these have begun and these places were reached. An error where a growth was
 /// refused.
 pub(crate) fn put_state(
+    alloc: Global,
     form: Form,
     desk: &Desk<Global>,
     begun: &[u64],
@@ -186,7 +187,10 @@ pub(crate) fn put_state(
 {
     let slots = desk.slots();
     put_people(form, desk, begun, out)?;
-    put_strangers(form, desk, slots.pool().competitors(), out)?;
+    let Ok(competitors) = slots.pool().competitors(alloc) else {
+        return Err(AllocError);
+    };
+    put_strangers(form, desk, &competitors, out)?;
     put_registers(form, desk, reached, out)?;
     put_names(form, desk, MOST_NAMES, out)?;
     put_slots(form, slots.values(), out)?;
@@ -195,6 +199,7 @@ pub(crate) fn put_state(
 
 /// Appends all that a desk holds, as data, where that is asked for. An error where a growth was refused.
 pub(crate) fn put_state_where_asked(
+    alloc: Global,
     is_asked: bool,
     desk: &Desk<Global>,
     begun: &[u64],
@@ -204,7 +209,7 @@ pub(crate) fn put_state_where_asked(
     ensures { OnOk result (out.new ≡ out.old ++ (if is_asked then state Data desk.now begun.now reached.now else [])) }
 {
     if is_asked {
-        put_state(Form::Data, desk, begun, reached, out)?;
+        put_state(alloc, Form::Data, desk, begun, reached, out)?;
     }
     Ok(())
 }

@@ -22,6 +22,7 @@ fn beginner_at(line: &Line) -> Option<u64>
         Event::Step(_) => None,
         Event::Enter(_) => None,
         Event::Probe(_) => None,
+        Event::Seek(_) => None,
         Event::Leave(_) => None,
         Event::Put(_, _) => None,
         Event::Get(_) => None,

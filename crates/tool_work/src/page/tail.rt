@@ -127,6 +127,7 @@ function deedWords(r) {
     case 'step': return r.id + ' ' + accessWords(r.access);
     case 'enter': return r.id + ' begins to compete for the pool';
     case 'probe': return r.id + ' probes the next number';
+    case 'seek': return r.id + ' probes until it has a number';
     case 'leave': return r.id + ' gives its number back';
     case 'put': return r.id + ' puts ' + r.value + ' into its slot';
     case 'get': return r.id + ' gets what is in its slot';

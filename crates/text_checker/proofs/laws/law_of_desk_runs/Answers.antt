@@ -5,4 +5,4 @@ pub returns-clause-object : goal.returns-clause-object
 returns-clause-object c = desk_run
 
 pub returns-clause-lines : goal.returns-clause-lines
-returns-clause-lines c = λ terms bounds size r d shows. record { exchanges = r; spelled = lines_of_all shows r; run = desk_run terms bounds size r d }
+returns-clause-lines c = λ terms bounds start r d shows. record { exchanges = r; spelled = lines_of_all shows r; run = desk_run terms bounds start r d }

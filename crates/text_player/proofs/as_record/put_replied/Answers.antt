@@ -16,7 +16,7 @@ returns-in-Left-clause-text g c = rw c.in-Left.is (c.put_small_end-in-Left.ensur
 
 pub returns-in-Refused-clause-text : goal.returns-in-Refused-clause-text
 returns-in-Refused-clause-text g c =
-    rw c.in-Refused.is ((rw c.number.ensures at c.put_small_end-in-Refused.ensures.text) ∙ ap (λ l. c.args.out.now ++ (codes "\",\"reply\":\"refused " ++ l)) (behind_number _))
+    rw c.in-Refused.is ((rw (c.from.ensures, c.number.ensures) at c.put_small_end-in-Refused.ensures.text) ∙ ap (λ l. c.args.out.now ++ (codes "\",\"reply\":\"refused " ++ l)) (behind_number _))
 
 pub returns-in-Ok-clause-text : goal.returns-in-Ok-clause-text
 returns-in-Ok-clause-text g c = rw c.in-Ok.is c.put.ensures

@@ -2,7 +2,7 @@
 use Rattle.std.proofs.Common.{◌≡◌, ℕ, ◌+◌, ◌^◌, ◌<◌, ◌≤◌, true, List, [], ◌∷◌, ◌++◌, length, map, flat_map, Option, Some, None, option_and_then, codes, decimal, IsUtf8, refl, ap, ◌∙◌, arith, append_assoc, length-append}
 use Rattle.text_records.proofs.Common.{list_all, nat_tests, IsUtf8-append, are_ascii, IsUtf8-are_ascii, WorldKind, ShownReply, event_words, has_no_lf, with_ends, reply_words, Two, reported_with, SaysSizes, is_plain, IsEventLine, IsHeaderLine, IsPlainView}
 use Rattle.model_asked.specs.declared.config.Config.{Config}
-use Rattle.model_asked.specs.lemmas.ConfigProofs.{few_take_part}
+use Rattle.model_asked.specs.lemmas.ConfigProofs.{few_numbers, few_take_part}
 use Rattle.model_asked.specs.declared.exchange.Exchange.{Exchange}
 use Rattle.model_asked.specs.declared.reply.Reply.TheVariants as reply
 use Rattle.model_asked.specs.Config.{facts_of, gives_names, world_name}
@@ -71,16 +71,16 @@ line_length c r shown = simp length-append (omega arith)
 
 -- the line of an exchange says it
 module _ (kind : WorldKind) (desk : gives_names kind ≡ true) where
-  row_says : (x : Exchange) → IsNarrowEvent x.event → IsNarrowReply x.reply → IsEventLine kind Two (row_of x) (line_of true x)
+  row_says : (x : Exchange) → IsNarrowEvent kind x.event → IsNarrowReply x.reply → IsEventLine kind Two (row_of x) (line_of true x)
   row_says x e r =
       let asked = event_words x.event in
       let replied = reply_words x.reply in
       let shown = shown_of x.reply in
-      let plain = event_plain x.event e in
+      let plain = event_plain kind x.event e in
       let reported = reply_plain x.reply r in
       let beside = shown_plain x.reply r in
       record {
-        short = omega (arith, line_length asked replied shown, event_short x.event e, reply_short x.reply r, shown_short x.reply r);
+        short = omega (arith, line_length asked replied shown, event_short kind x.event e, reply_short x.reply r, shown_short x.reply r);
         value = line_data asked replied shown;
         json = record { utf8 = line_holds IsUtf8 IsUtf8-append (λ xs a n. IsUtf8-are_ascii xs a) plain_utf8 asked replied shown plain reported beside; reads = read_line_text asked replied shown plain reported beside };
         says = record {
@@ -93,16 +93,16 @@ module _ (kind : WorldKind) (desk : gives_names kind ≡ true) where
         };
       }
 
-  rows_read : (r : List Exchange) → AreNarrowExchanges r → AreRead kind Two (map row_of r) (map (line_of true) r)
+  rows_read : (r : List Exchange) → AreNarrowExchanges kind r → AreRead kind Two (map row_of r) (map (line_of true) r)
   rows_read [] h = tt
   rows_read (x ∷ xs) h = (row_says x h.0 h.1, rows_read xs h.2)
 
-rows_no_lf : (r : List Exchange) → AreNarrowExchanges r → list_all has_no_lf (map row_of r) ≡ true
-rows_no_lf [] h = refl
-rows_no_lf (x ∷ xs) h =
+rows_no_lf : (kind : WorldKind) (r : List Exchange) → AreNarrowExchanges kind r → list_all has_no_lf (map row_of r) ≡ true
+rows_no_lf kind [] h = refl
+rows_no_lf kind (x ∷ xs) h =
     let one : has_no_lf (row_of x) ≡ true =
-    line_holds HasNoLf no_lf_both (λ xs a n. n) plain_has_no_lf (event_words x.event) (reply_words x.reply) (shown_of x.reply) (event_plain x.event h.0) (reply_plain x.reply h.1) (shown_plain x.reply h.1) in
-    rw one (rows_no_lf xs h.2)
+    line_holds HasNoLf no_lf_both (λ xs a n. n) plain_has_no_lf (event_words x.event) (reply_words x.reply) (shown_of x.reply) (event_plain kind x.event h.0) (reply_plain x.reply h.1) (shown_plain x.reply h.1) in
+    rw one (rows_no_lf kind xs h.2)
 
 -- the header says the config
 sizes_said : (kind : WorldKind) (m k limit : ℕ) → gives_names kind ≡ true → SaysSizes (header_data k limit m (world_name kind)) Two kind m k limit
@@ -116,7 +116,7 @@ header_length k limit m name hk hl hm = (let i = short_decimal k hk in let j = s
 
 module _ (c : Config) (named : gives_names c.world ≡ true) where
   k_fits : c.k < 2 ^ 64
-  k_fits = let h = c.in_range.3 in omega arith
+  k_fits = let h = few_numbers c in omega arith
 
   limit_fits : c.limit < 2 ^ 64
   limit_fits = let h = c.in_range.5 in omega arith
@@ -161,12 +161,12 @@ rows_plain : (r : List Exchange) → map opened_line (map row_of r) ≡ map row_
 rows_plain [] = refl
 rows_plain (x ∷ xs) = cc (left_other (row_of x) refl, rows_plain xs)
 
-module _ (c : Config) (named : gives_names c.world ≡ true) (ts : List Turn) (narrow : AreNarrowExchanges (exchanges ts)) where
+module _ (c : Config) (named : gives_names c.world ≡ true) (ts : List Turn) (narrow : AreNarrowExchanges c.world (exchanges ts)) where
   record_cut : record_lines (record_of c ts) ≡ head_of c ∷ map row_of (exchanges ts)
   record_cut =
       let start = codes "{\"format\":\"slot-record\",\"k\":" ++ decimal c.k ++ codes ",\"limit\":" ++ decimal c.limit ++ codes ",\"m\":" ++ decimal c.m ++ codes ",\"version\":2,\"world\":\"" ++ world_name c.world in
       let whole : record_of c ts ≡ with_ends (head_of c ∷ map row_of (exchanges ts)) = ap (λ (l : List ℕ). header_line c ++ l) (rows_ended ts) ∙ ended start (codes "\"}") (with_ends (map row_of (exchanges ts))) in
-      ap record_lines whole ∙ lines_cut (head_of c ∷ map row_of (exchanges ts)) (rw (head_no_lf c named) (rows_no_lf (exchanges ts) narrow))
+      ap record_lines whole ∙ lines_cut (head_of c ∷ map row_of (exchanges ts)) (rw (head_no_lf c named) (rows_no_lf c.world (exchanges ts) narrow))
       ∙ cc (left_other (head_of c) refl, rows_plain (exchanges ts))
 
   pub record_is : IsRecordOf c (exchanges ts) (record_of c ts)

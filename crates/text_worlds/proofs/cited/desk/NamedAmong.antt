@@ -18,6 +18,7 @@ use Rattle.text_worlds.specs.desk.Names.{begun_in}
 use Rattle.text_worlds.specs.desk.Replies.{shown_step}
 use Rattle.text_worlds.proofs.desk_lemmas.NamedAlone.{parts_of, rename_parts, is_of_names, of_slots, still_holds, spent_stays, has_begun, has_spent, was_spent, accepted, steps_are}
 use Rattle.text_worlds.specs.lemmas.desk.NamesGiven.{has_named, many_is}
+use Rattle.model_pool.specs.PoolState.{PoolStart}
 
 unproposed : (h : SlotCall ℕ) (n : ℕ) → all_more (exchange_of (Slotted h)).event (exchange_of (Slotted h)).reply n ≡ n
 unproposed (Pooled (Entered q a)) n = refl
@@ -125,14 +126,14 @@ refused_spent terms o o' p (Slotted h ∷ calls) run (inl x) = absurd (
     cc)
 refused_spent terms o o' p (Slotted h ∷ calls) run (inr later) = refused_spent terms o o' p calls run later
 
-module _ (terms : RenameTerms) (bounds : SnapBounds) (size : ℕ) (r : List Exchange) (run : IsDeskRun terms bounds size r) where
+module _ (terms : RenameTerms) (bounds : SnapBounds) (start : PoolStart) (r : List Exchange) (run : IsDeskRun terms bounds start r) where
   abbrev o : RenameObject
   o = run.names.object
 
   named_in : (p : ℕ) → is_some (o.name p) ≡ true → HasName p r
   named_in p h = (elim (o.name p) as (λ z. o.name p ≡ z → is_some z ≡ true → HasName p r) [
     | None ↦ λ e k. absurd (cc)
-    | Some n ↦ λ e k. (n, has_named terms bounds size r run p n e)
+    | Some n ↦ λ e k. (n, has_named terms bounds start r run p n e)
   ]) refl h
 
   spent_in : (p : ℕ) → o.spent p ≡ true → WasSpent p r
@@ -145,7 +146,7 @@ module _ (terms : RenameTerms) (bounds : SnapBounds) (size : ℕ) (r : List Exch
   in_spent p reported = has_spent terms new_object o p run.calls run.names.run (subst (λ (x : List Exchange). WasSpent p x) (sym run.spelled) reported)
 
   many : o.many ≡ begun_in r
-  many = many_is terms bounds size r run
+  many = many_is terms bounds start r run
 
   all_are : o.last ≡ all_proposals r
   all_are = last_is terms new_object o run.calls run.names.run ∙ zero-add (all_proposals (map exchange_of run.calls)) ∙ ap all_proposals run.spelled
@@ -190,13 +191,13 @@ module _ (terms : RenameTerms) (bounds : SnapBounds) (size : ℕ) (r : List Exch
         ]
 
 pub names_soon_among : NamesSoonAmong
-names_soon_among terms bounds size r run = record {
-  roomy = let a = run.names.ends.roomy in let e = many terms bounds size r run in omega arith;
-  few = few terms bounds size r run;
-  ended = λ b p l. ended terms bounds size r run b l p;
-  early = λ b p before said l. early terms bounds size r run b l p before said;
-  unspent = λ b p l under reported. never_spent terms bounds size r run b l p under (in_spent terms bounds size r run p reported);
-  unrefused = λ b p l under reported. never_spent terms bounds size r run b l p under (refused_spent terms new_object run.names.object p run.calls run.names.run (subst (λ (x : List Exchange). IsAmong (exchange (event.Step p) (reply.Refused refusal.Spent)) x) (sym run.spelled) reported));
-  sure = λ b p l under reported. surely_unspent terms bounds size r run b l p under (in_spent terms bounds size r run p reported);
-  sure_unrefused = λ b p l under reported. surely_unspent terms bounds size r run b l p under (refused_spent terms new_object run.names.object p run.calls run.names.run (subst (λ (x : List Exchange). IsAmong (exchange (event.Step p) (reply.Refused refusal.Spent)) x) (sym run.spelled) reported));
+names_soon_among terms bounds start r run = record {
+  roomy = let a = run.names.ends.roomy in let e = many terms bounds start r run in omega arith;
+  few = few terms bounds start r run;
+  ended = λ b p l. ended terms bounds start r run b l p;
+  early = λ b p before said l. early terms bounds start r run b l p before said;
+  unspent = λ b p l under reported. never_spent terms bounds start r run b l p under (in_spent terms bounds start r run p reported);
+  unrefused = λ b p l under reported. never_spent terms bounds start r run b l p under (refused_spent terms new_object run.names.object p run.calls run.names.run (subst (λ (x : List Exchange). IsAmong (exchange (event.Step p) (reply.Refused refusal.Spent)) x) (sym run.spelled) reported));
+  sure = λ b p l under reported. surely_unspent terms bounds start r run b l p under (in_spent terms bounds start r run p reported);
+  sure_unrefused = λ b p l under reported. surely_unspent terms bounds start r run b l p under (refused_spent terms new_object run.names.object p run.calls run.names.run (subst (λ (x : List Exchange). IsAmong (exchange (event.Step p) (reply.Refused refusal.Spent)) x) (sym run.spelled) reported));
 }

@@ -24,5 +24,6 @@ returns-in-Rename-clause-every g c =
     (writing g.W.Write.contents g.W.Sink.failed c.args.writer.now c.play_in-in-Rename.new.writer) c.play_in-in-Rename.result in
     elim c.in-Rename.is as (λ _. Played config.world) [
       | inl is ↦ subst Played (sym is) c.play_in-in-Rename.ensures
-      | inr is ↦ subst Played (sym is) c.play_in-in-Rename.ensures
+      | inr (inl is) ↦ subst Played (sym is) c.play_in-in-Rename.ensures
+      | inr (inr is) ↦ subst Played (sym is) c.play_in-in-Rename.ensures
     ]

@@ -13,7 +13,7 @@ pub use Rattle.model_snapshot.specs.Places.{KnownPlaces}
 pub use Rattle.model_snapshot.specs.Snapshot.{SnapBounds}
 pub use Rattle.model_renaming.specs.Reply.{StepReply}
 pub use Rattle.model_renaming.specs.declared.reply.Reply.TheVariants.{Quiet, Placed, Proposed, Saw, Named, Spent}
-pub use Rattle.model_pool.specs.Calls.Call.{Entered, Probed, Left}
+pub use Rattle.model_pool.specs.Calls.Call.{Entered, Probed, Sought, Left}
 pub use Rattle.model_pool.specs.slots.SlotCalls.{SlotCall}
 pub use Rattle.model_pool.specs.slots.SlotCalls.SlotCall.{Pooled, Stored, Fetched, Extended}
 pub use Rattle.text_worlds.specs.desk.DeskState.{DeskState}

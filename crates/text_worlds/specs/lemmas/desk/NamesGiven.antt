@@ -4,10 +4,11 @@ use Rattle.text_worlds.specs.lemmas.desk.Common.{eqb_tells, Decides-eqb, Run, Ca
 use Rattle.std.proofs.lemmas.Bool.{cases_Bool}
 use Rattle.model_steps.specs.declared.refusal.Refusal.TheVariants.{NotBegun, Finished}
 use Rattle.model_renaming.specs.RenameObject.{RenameTerms, RenameObject, new_object, no_step, Allows, after, after_step, IsOwner}
-use Rattle.model_pool.specs.Calls.Call.{Entered, Probed, Left, Widened}
+use Rattle.model_pool.specs.Calls.Call.{Entered, Probed, Sought, Left, Widened}
 use Rattle.model_asked.specs.declared.event.Event.TheVariants as event
 use Rattle.model_asked.specs.declared.reply.Reply.TheVariants as reply
 use Rattle.text_worlds.specs.desk.Names.{IsNaming, WasNamed, IsOwnerIn, begun_in}
+use Rattle.model_pool.specs.PoolState.{PoolStart}
 
 -- this call names p so
 pub record IsNamingCall (p n : ℕ) (h : Call StepReply) : Type 0 where
@@ -111,6 +112,7 @@ given_by p n (Renamed (Stepped q (Ok said)) ∷ calls) (inl x) = inl (naming_ste
 given_by p n (Renamed (Stepped q (Err why)) ∷ calls) (inl x) = absurd (let e = (stepped_by p n q (reply.Refused why) x).1 in cc)
 given_by p n (Slotted (Pooled (Entered q a)) ∷ calls) (inl x) = absurd (other_event p n (event.Enter q) _ (λ e. cc) x)
 given_by p n (Slotted (Pooled (Probed q a)) ∷ calls) (inl x) = absurd (other_event p n (event.Probe q) _ (λ e. cc) x)
+given_by p n (Slotted (Pooled (Sought q a)) ∷ calls) (inl x) = absurd (other_event p n (event.Seek q) _ (λ e. cc) x)
 given_by p n (Slotted (Pooled (Left q a)) ∷ calls) (inl x) = absurd (other_event p n (event.Leave q) _ (λ e. cc) x)
 given_by p n (Slotted (Stored q v a) ∷ calls) (inl x) = absurd (other_event p n (event.Put q v) _ (λ e. cc) x)
 given_by p n (Slotted (Fetched q a) ∷ calls) (inl x) = absurd (other_event p n (event.Get q) _ (λ e. cc) x)
@@ -152,13 +154,14 @@ begun_shown (Renamed (Stepped q (Ok said)) ∷ calls) = begun_shown calls
 begun_shown (Renamed (Stepped q (Err why)) ∷ calls) = begun_shown calls
 begun_shown (Slotted (Pooled (Entered q a)) ∷ calls) = begun_shown calls
 begun_shown (Slotted (Pooled (Probed q a)) ∷ calls) = begun_shown calls
+begun_shown (Slotted (Pooled (Sought q a)) ∷ calls) = begun_shown calls
 begun_shown (Slotted (Pooled (Left q a)) ∷ calls) = begun_shown calls
 begun_shown (Slotted (Stored q v a) ∷ calls) = begun_shown calls
 begun_shown (Slotted (Fetched q a) ∷ calls) = begun_shown calls
 begun_shown (Slotted (Pooled (Widened more a)) ∷ calls) = begun_shown calls
 begun_shown (Slotted (Extended more v a) ∷ calls) = begun_shown calls
 
-module _ (terms : RenameTerms) (bounds : SnapBounds) (size : ℕ) (r : List Exchange) (run : IsDeskRun terms bounds size r) where
+module _ (terms : RenameTerms) (bounds : SnapBounds) (start : PoolStart) (r : List Exchange) (run : IsDeskRun terms bounds start r) where
   -- who was named has the name
   pub named_has : (p n : ℕ) → WasNamed p n r → run.names.object.name p ≡ Some n
   named_has p n w =

@@ -12,13 +12,14 @@ use Rattle.model_pool.specs.declared.stay.Stay.{Stay}
 use Rattle.model_pool.specs.declared.stay.Stay.TheVariants.{Seeking, Settled}
 use Rattle.model_pool.specs.Competitors.{stay_of}
 use Rattle.model_pool.specs.Pool.{enter_refusal, probe_answer_by, probe_refusal_by, number_answer}
+use Rattle.model_pool.specs.Sought.{seek_answer_by}
 use Rattle.model_pool.specs.PoolState.{PoolState}
 use Rattle.model_pool.specs.Widening.{widen_refusal}
 use Rattle.model_pool.specs.slots.Slots.{stored_reply}
-use Rattle.model_asked.specs.declared.event.Event.TheVariants.{Begin, Step, Enter, Probe as Probing, Leave, Put, Get, Widen}
+use Rattle.model_asked.specs.declared.event.Event.TheVariants.{Begin, Step, Enter, Probe as Probing, Seek, Leave, Put, Get, Widen}
 use Rattle.model_asked.specs.declared.reply.Reply.TheVariants.{Refused}
 use Rattle.model_asked.specs.Replies.{ShownReply, done_reply, left_reply, value_reply}
-use Rattle.text_worlds.specs.desk.Replies.{shown_step, step_reply, shown_probe, probe_reply}
+use Rattle.text_worlds.specs.desk.Replies.{shown_step, step_reply, shown_probe, probe_reply, seek_reply}
 use Rattle.text_worlds.specs.desk.DeskRules.{fetched, refusal_of, refusal_over, reply_over}
 
 -- this reply is a refusal just where there is a reason for one
@@ -50,6 +51,11 @@ said_probe w None why = (λ e. cc, λ e. cc)
 said_probe w (Some (Seeking next)) why = (λ e. absurd (no_refused_probe _ why e), λ e. cc)
 said_probe w (Some (Settled number)) why = (λ e. cc, λ e. cc)
 
+said_seek : (w : PoolState) (stay : Option Stay) → IsSaid (seek_reply (seek_answer_by w stay)) (probe_refusal_by stay)
+said_seek w None why = (λ e. cc, λ e. cc)
+said_seek w (Some (Seeking next)) why = (λ e. cc, λ e. cc)
+said_seek w (Some (Settled number)) why = (λ e. cc, λ e. cc)
+
 no_refused_step : (said : StepReply) (why : Refusal) → shown_step said ≡ Refused why → ⊥
 no_refused_step Quiet why e = cc
 no_refused_step said why e = cc
@@ -80,7 +86,8 @@ module _ {S R V U K : Type 0} (W : KnownPlaces S R V U K) (w : DeskState S U K) 
   refuses_as_said (Step p) = said_step (rename_answer W w.names p) (step_refusal w.names p) (answered p) (refused_step W w.names p)
   refuses_as_said (Enter p) = said_done (enter_refusal w.slots.pool p)
   refuses_as_said (Probing p) = said_probe w.slots.pool (stay_of p w.slots.pool.competitors)
+  refuses_as_said (Seek p) = said_seek w.slots.pool (stay_of p w.slots.pool.competitors)
   refuses_as_said (Leave p) = said_left (number_answer w.slots.pool p)
   refuses_as_said (Put p value) = said_stored (number_answer w.slots.pool p)
   refuses_as_said (Get p) = said_fetched w.slots.values (number_answer w.slots.pool p)
-  refuses_as_said (Widen more) = said_done (widen_refusal w.slots.pool.size more)
+  refuses_as_said (Widen more) = said_done (widen_refusal w.slots.pool.most w.slots.pool.size more)

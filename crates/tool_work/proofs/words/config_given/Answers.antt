@@ -1,6 +1,6 @@
 use Rattle.std.proofs.Common.{arith}
 use Rattle.clap.specs.Words.{found_of, rows_of}
-use Rattle.tool_work.proofs.ConfigLemmas.{made, most_fits, unless_some}
+use Rattle.tool_work.proofs.ConfigLemmas.{made, most_fits, size_fits, unless_some}
 use Rattle.tool_work.proofs.words.config_given.Goals as goal
 
 pub returns-in_err-world : goal.returns-in_err-world
@@ -10,7 +10,7 @@ pub returns-in_err-m : goal.returns-in_err-m
 returns-in_err-m c = unless_some c.from_residual-in_err-m.result _ _ c.from_residual-in_err-m.ensures (λ given h. c.in_err-m.ensures given.m (most_fits given) h.m)
 
 pub returns-in_err-k : goal.returns-in_err-k
-returns-in_err-k c = unless_some c.from_residual-in_err-k.result _ _ c.from_residual-in_err-k.ensures (λ given h. c.in_err-k.ensures given.k (let fits = given.in_range in omega arith) h.k)
+returns-in_err-k c = unless_some c.from_residual-in_err-k.result _ _ c.from_residual-in_err-k.ensures (λ given h. c.in_err-k.ensures given.k (size_fits given) h.k)
 
 pub returns-in_err-limit : goal.returns-in_err-limit
 returns-in_err-limit c = unless_some c.from_residual-in_err-limit.result _ _ c.from_residual-in_err-limit.ensures (λ given h. c.in_err-limit.ensures given.limit (let fits = given.in_range in omega arith) h.limit)

@@ -3,4 +3,4 @@ use Rattle.tool_work.proofs.HostLemmas.{hall_world_named}
 use Rattle.tool_work.proofs.words.hall_world_given.Goals as goal
 
 pub returns-in-Some : goal.returns-in-Some
-returns-in-Some c = hall_world_named (rows_of (found_of c.args.matches.now)) c.in-Some.name.now c.named.result c.in-Some.ensures c.named.ensures.some c.named.ensures.none
+returns-in-Some c = hall_world_named (rows_of (found_of c.args.matches.now)) c.in-Some.name.now c.typed_world.result c.in-Some.ensures c.typed_world.ensures.some c.typed_world.ensures.none

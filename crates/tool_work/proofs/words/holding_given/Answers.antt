@@ -1,4 +1,4 @@
-use Rattle.std.proofs.Common.{arith, codes, Some, ◌≡◌}
+use Rattle.std.proofs.Common.{arith}
 use Rattle.tool_work.proofs.Common.{found_of, rows_of}
 use Rattle.tool_work.proofs.ConfigLemmas.{unless_some}
 use Rattle.tool_work.proofs.HostLemmas.{no_forever, no_connection}

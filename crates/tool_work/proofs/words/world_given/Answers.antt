@@ -13,4 +13,4 @@ pub returns : goal.returns
 returns c =
     let rows = rows_of (found_of c.args.matches.now) in
     let matched : Some c.in_ok-get_str.field-0.now ≡ first_of (codes "world") rows = rw c.in_ok-get_str.was at c.get_str.ensures ∙ first_value-rows (found_of c.args.matches.now) (codes "world") in
-    world_reported rows _ c.named.result matched c.named.ensures.some c.named.ensures.none
+    world_reported rows _ c.typed_world.result matched c.typed_world.ensures.some c.typed_world.ensures.none

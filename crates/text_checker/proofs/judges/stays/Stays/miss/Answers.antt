@@ -5,5 +5,5 @@ use Rattle.text_checker.proofs.judges.stays.Stays.miss.Goals as goal
 
 pub returns : goal.returns
 returns c = λ o h none more.
-    missed c.args.self.now (record { size = c.args.self.now.size; competitors = c.put.new.self; values = c.args.self.now.values }) o c.args.id c.in-Some.stay c.saturating_add.result h
-    (there c.args.id c.find.ensures refl c.in-Some.is) none (λ few. grind (arith, c.saturating_add.ensures, few)) refl refl more c.put.ensures
+    missed c.args.self.now (record { most = c.args.self.now.most; size = c.args.self.now.size; competitors = c.put.new.self; values = c.args.self.now.values }) o c.args.id c.in-Some.stay c.saturating_add.result h
+    (there c.args.id c.find.ensures refl c.in-Some.is) none (λ few. grind (arith, c.saturating_add.ensures, few)) refl refl refl more c.put.ensures

@@ -7,4 +7,4 @@ returns c = λ o h none.
     let many : vec_len c.args.self.now.values ≡ length c.args.self.now.values.items = omega (arith, c.args.self.now.values.ok.0) in
     let values : c.resize.new.self.items ≡ take c.args.more c.args.self.now.values.items ++ replicate (c.args.more - length c.args.self.now.values.items) 0 =
     c.in_ok-resize.ensures.items ∙ ap (λ n. take c.args.more c.args.self.now.values.items ++ replicate (c.args.more - n) 0) many in
-    widened c.args.self.now (record { size = c.args.more; competitors = c.args.self.now.competitors; values = c.resize.new.self }) o c.args.more h none refl refl values
+    widened c.args.self.now (record { most = c.args.self.now.most; size = c.args.more; competitors = c.args.self.now.competitors; values = c.resize.new.self }) o c.args.more h none refl refl refl values

@@ -13,7 +13,7 @@ returns c =
     let reached = c.keep_reached.new.places in
     let number = c.in-Some.seen in
     let before = c.put_state_where_asked.new.out in
-    let last : Sheet = record { desk = c.replay.new.desk; begun = begun; reached = reached; done = c.replay.new.done; stretch = first.stretch; seen = number; before = before; text = c.put_where_shown.new.out; listed = c.put_item_where_shown.new.out } in
+    let last : Sheet = record { alloc = first.alloc; desk = c.replay.new.desk; begun = begun; reached = reached; done = c.replay.new.done; stretch = first.stretch; seen = number; before = before; text = c.put_where_shown.new.out; listed = c.put_item_where_shown.new.out } in
     let reached_is =
     c.in_ok-keep_reached.ensures
     ∙ ap (λ (a : Option Coming). with_reached first.reached.items a) c.access_in.ensures
