@@ -3,7 +3,7 @@ use Rattle.std.proofs.Common.{◌≡◌, ◌&&◌, Bool, true, false, List, [], 
 use Rattle.std.specs.List.{list_all}
 use Rattle.service_follow.proofs.Common.{append-nil, Config, ShownReply, Request, Take, OwnerOf, Runs, Turn, Answered, Reported, Ended, Misread, HallState, WorldKind, TakesBytes, ReplyQueueReplies, said, ReplyQueueState}
 use Rattle.model_asked.specs.declared.event.Event.{Event}
-use Rattle.model_asked.specs.declared.event.Event.TheVariants.{Begin, Step, Enter, Probe, Leave, Put, Get, Widen}
+use Rattle.model_asked.specs.declared.event.Event.TheVariants.{Begin, Step, Enter, Probe, Seek, Leave, Put, Get, Widen}
 use Rattle.text_player.specs.Progress.{after_bytes, at_start}
 use Rattle.text_player.specs.ResponderState.{ResponderState}
 use Rattle.text_player.specs.Says.{IsSilent}
@@ -128,6 +128,7 @@ serves_get h (Begin p) r read reply = absurd (let no_way : false ≡ true = read
 serves_get h (Step p) r read reply = absurd (let no_way : false ≡ true = read in cc)
 serves_get h (Enter p) r read reply = absurd (let no_way : false ≡ true = read in cc)
 serves_get h (Probe p) r read reply = absurd (let no_way : false ≡ true = read in cc)
+serves_get h (Seek p) r read reply = absurd (let no_way : false ≡ true = read in cc)
 serves_get h (Leave p) r read reply = absurd (let no_way : false ≡ true = read in cc)
 serves_get h (Put p value) r read reply = absurd (let no_way : false ≡ true = read in cc)
 serves_get h (Widen size) r read reply = absurd (let no_way : false ≡ true = read in cc)

@@ -2,7 +2,7 @@
 use Rattle.std.specs.Prelude.{ℕ, Bool, true, false, not, ◌==◌, nat_eq, nat_le, if◌then◌else◌, List, [], ◌∷◌, ◌++◌, filter, length, map, take, replicate}
 use Rattle.std.specs.Cmp.Lexicographic.{pointwise}
 use Rattle.model_steps.specs.declared.refusal.Refusal.TheVariants as refusal
-use Rattle.model_asked.specs.declared.event.Event.TheVariants.{Begin, Step, Enter, Probe, Leave, Put, Get, Widen}
+use Rattle.model_asked.specs.declared.event.Event.TheVariants.{Begin, Step, Enter, Probe, Seek, Leave, Put, Get, Widen}
 use Rattle.model_asked.specs.declared.reply.Reply.TheVariants as reply
 use Rattle.model_asked.specs.Replies.{ShownReply}
 use Rattle.model_asked.specs.Requests.{Request}
@@ -46,6 +46,7 @@ kept_after token place kept (Take (Leave p), r) = if leaves r then without p kep
 kept_after token place kept (Take (Begin p), r) = kept
 kept_after token place kept (Take (Step p), r) = kept
 kept_after token place kept (Take (Probe p), r) = kept
+kept_after token place kept (Take (Seek p), r) = kept
 kept_after token place kept (Take (Put p v), r) = kept
 kept_after token place kept (Take (Get p), r) = kept
 kept_after token place kept (Take (Widen p), r) = kept

@@ -98,6 +98,7 @@ fn line_of(alloc: Global, event: Event) -> Result<String, AllocError> {
         Event::Step(id) => format!(in alloc; "step {id}\n"),
         Event::Enter(id) => format!(in alloc; "enter {id}\n"),
         Event::Probe(id) => format!(in alloc; "probe {id}\n"),
+        Event::Seek(id) => format!(in alloc; "seek {id}\n"),
         Event::Leave(id) => format!(in alloc; "leave {id}\n"),
         Event::Put(id, value) => format!(in alloc; "put {id} {value}\n"),
         Event::Get(id) => format!(in alloc; "get {id}\n"),

@@ -83,6 +83,7 @@ impl Keeping {
                 Event::Begin(_)
                 | Event::Step(_)
                 | Event::Probe(_)
+                | Event::Seek(_)
                 | Event::Put(_, _)
                 | Event::Get(_)
                 | Event::Widen(_),

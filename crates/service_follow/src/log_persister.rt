@@ -733,7 +733,7 @@ impl<S: Store, T: Pause> LogPersister<S, T> {
     fn ends_held(&self) -> bool {
         self.terms_before() == HallTerms::Forever
             && self.terms != HallTerms::Forever
-            && !self.log.hall().slots().pool().competitors().is_empty()
+            && self.log.hall().slots().pool().count() > 0
     }
 
     // Offers a change of the terms to its own for the next place, once.

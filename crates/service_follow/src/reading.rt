@@ -38,6 +38,7 @@ impl Read {
             | Event::Step(_)
             | Event::Enter(_)
             | Event::Probe(_)
+            | Event::Seek(_)
             | Event::Leave(_)
             | Event::Put(_, _)
             | Event::Widen(_) => None,

@@ -4,16 +4,13 @@ use model_asked::Reply;
 use service_hall::{Hall, MOST_EVENTS};
 use service_loop::Tally;
 
-/// The most numbers of a pool.
-const MOST_NUMBERS: u8 = 64;
-
 // How many numbers of the pool nobody holds.
 fn numbers_free(hall: &Hall) -> u64 {
     let pool = hall.slots().pool();
+    let size = pool.size() as u32;
     let mut free: u64 = 0;
-    for at in 0..MOST_NUMBERS {
-        let number = at + 1;
-        if u64::from(number) <= pool.size() && pool.holder_of(number).is_none() {
+    for before in 0..size {
+        if pool.holder_of(before + 1).is_none() {
             free = free.saturating_add(1);
         }
     }
@@ -37,7 +34,7 @@ pub fn tally_of(hall: &Hall) -> Tally {
     let events = hall.len();
     Tally {
         events_left: Some(MOST_EVENTS.saturating_sub(events) as u64),
-        competitors: Some(hall.slots().pool().competitors().len() as u64),
+        competitors: Some(hall.slots().pool().count()),
         numbers_free: Some(numbers_free(hall)),
         names_given: Some(names_given(hall)),
         ..Tally::of_events(events as u64)

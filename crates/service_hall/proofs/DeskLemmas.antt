@@ -1,7 +1,7 @@
 -- a desk's renaming world depends on its renaming events alone, and its pool and slots on the others
 use Rattle.std.proofs.Common.{◌≡◌, ℕ, true, false, None, refl, sym, ap, ◌∙◌}
 use Rattle.model_asked.specs.declared.event.Event.{Event}
-use Rattle.model_asked.specs.declared.event.Event.TheVariants.{Begin, Step, Enter, Probe, Leave, Put, Get, Widen}
+use Rattle.model_asked.specs.declared.event.Event.TheVariants.{Begin, Step, Enter, Probe, Seek, Leave, Put, Get, Widen}
 use Rattle.model_pool.specs.slots.SlotsState.{SlotsState}
 use Rattle.text_worlds.specs.desk.Desk.{desk_reply, desk_after, desk_refusal}
 use Rattle.text_worlds.specs.desk.DeskValue.{DeskValue}
@@ -39,6 +39,7 @@ slots_go_on (OverGrid w) (Begin p) = refl
 slots_go_on (OverGrid w) (Step p) = refl
 slots_go_on (OverGrid w) (Enter p) = refl
 slots_go_on (OverGrid w) (Probe p) = refl
+slots_go_on (OverGrid w) (Seek p) = refl
 slots_go_on (OverGrid w) (Leave p) = refl
 slots_go_on (OverGrid w) (Put p value) = refl
 slots_go_on (OverGrid w) (Get p) = refl
@@ -47,6 +48,7 @@ slots_go_on (OverTree w) (Begin p) = refl
 slots_go_on (OverTree w) (Step p) = refl
 slots_go_on (OverTree w) (Enter p) = refl
 slots_go_on (OverTree w) (Probe p) = refl
+slots_go_on (OverTree w) (Seek p) = refl
 slots_go_on (OverTree w) (Leave p) = refl
 slots_go_on (OverTree w) (Put p value) = refl
 slots_go_on (OverTree w) (Get p) = refl
@@ -57,12 +59,14 @@ names_stay w (Begin p) h = absurd (cc)
 names_stay w (Step p) h = absurd (cc)
 names_stay (OverGrid w) (Enter p) h = refl
 names_stay (OverGrid w) (Probe p) h = refl
+names_stay (OverGrid w) (Seek p) h = refl
 names_stay (OverGrid w) (Leave p) h = refl
 names_stay (OverGrid w) (Put p value) h = refl
 names_stay (OverGrid w) (Get p) h = refl
 names_stay (OverGrid w) (Widen more) h = refl
 names_stay (OverTree w) (Enter p) h = refl
 names_stay (OverTree w) (Probe p) h = refl
+names_stay (OverTree w) (Seek p) h = refl
 names_stay (OverTree w) (Leave p) h = refl
 names_stay (OverTree w) (Put p value) h = refl
 names_stay (OverTree w) (Get p) h = refl

@@ -18,6 +18,7 @@ use Rattle.text_worlds.specs.desk.DeskCalls.{exchange}
 use Rattle.text_worlds.specs.desk.DeskRules.{fresh_over}
 use Rattle.text_worlds.specs.desk.DeskValue.{DeskValue}
 use Rattle.text_worlds.specs.desk.DeskValue.DeskValue.{OverGrid, OverTree}
+use Rattle.text_worlds.specs.desk.Start.{pool_start}
 use Rattle.service_hall.specs.Halls.{hall_of, desk_of, SatisfiesSpec, hall_refusal, full_unless, longer, reply_unless, after_unless, HallMay}
 use Rattle.service_hall.specs.HallState.{HallState}
 use Rattle.service_hall.specs.Replay.{replay, AreAccepted}
@@ -89,14 +90,14 @@ copied_on h e c d ok follow is =
     follow lets ∙ ap (λ (s : SlotsState ℕ). slots_after s e) is ∙ sym (slots_go_on (desk_of h) e) ∙ ap slots_of (sym (desk_longer h e))
 
 -- the hall of a config with no event
-fresh_slots_in : (w : WorldKind) (c : Config) → slots_of (fresh_in w c) ≡ record { pool = fresh_pool c.k; values = replicate c.k 0 }
+fresh_slots_in : (w : WorldKind) (c : Config) → slots_of (fresh_in w c) ≡ record { pool = fresh_pool (pool_start c); values = replicate c.k 0 }
 fresh_slots_in w c =
-    let new : SlotsState ℕ = record { pool = fresh_pool c.k; values = replicate c.k 0 } in
-    let over_grid : DeskValue = OverGrid (fresh_over (fresh_grid c.m) c.m c.limit c.k) in
-    let over_tree : DeskValue = OverTree (fresh_over (new_tree c.m) c.m c.limit c.k) in
+    let new : SlotsState ℕ = record { pool = fresh_pool (pool_start c); values = replicate c.k 0 } in
+    let over_grid : DeskValue = OverGrid (fresh_over (fresh_grid c.m) c.m c.limit (pool_start c)) in
+    let over_tree : DeskValue = OverTree (fresh_over (new_tree c.m) c.m c.limit (pool_start c)) in
     elim (is_tree w) as (λ b. slots_of (cond b over_tree over_grid) ≡ new) [ true ↦ refl | false ↦ refl ]
 
-pub fresh_copied : (c : Config) (s : SlotsCopy) → slots_in s ≡ record { pool = fresh_pool c.k; values = replicate c.k 0 } → IsCopied (hall_of c []) s
+pub fresh_copied : (c : Config) (s : SlotsCopy) → slots_in s ≡ record { pool = fresh_pool (pool_start c); values = replicate c.k 0 } → IsCopied (hall_of c []) s
 fresh_copied c s is = is ∙ sym (fresh_slots_in c.world c)
 
 -- by the same renaming
@@ -129,7 +130,7 @@ goes_along a b c x y = record { same = renaming_along a.hall b.hall c.hall x.sam
 
 -- nothing is sorted yet
 pub none_sorted : (h : HallState) (new : Rebuilding) (old : SlotsCopy) → new.hall ≡ hall_of h.config [] → IsCopied new.hall new.slots →
-    slots_in old ≡ record { pool = fresh_pool h.config.k; values = replicate h.config.k 0 } → IsSorted h 0 new old
+    slots_in old ≡ record { pool = fresh_pool (pool_start h.config); values = replicate h.config.k 0 } → IsSorted h 0 new old
 none_sorted h new old is copied fresh = record {
   same = subst (λ (u : HallState). HasRenaming (hall_of h.config []) u) (sym is) (renaming_self (hall_of h.config []));
   copied = copied;

@@ -11,12 +11,13 @@ use Rattle.model_renaming.specs.RenameWorld.{begun_unless, refusal_by, after_by,
 use Rattle.model_pool.specs.declared.stay.Stay.{Stay}
 use Rattle.model_pool.specs.declared.stay.Stay.TheVariants.{Seeking, Settled}
 use Rattle.model_pool.specs.Competitors.{stay_of}
+use Rattle.model_pool.specs.Sought.{after_seek_by}
 use Rattle.model_pool.specs.Pool.{entered_unless, probe_refusal_by, after_probe_by, number_by, after_leave_by, widened_unless}
 use Rattle.model_pool.specs.PoolState.{PoolState}
 use Rattle.model_pool.specs.slots.Slots.{stored_in, extended_in}
 use Rattle.model_steps.specs.Participant.{program_of}
 use Rattle.model_steps.specs.World.{done_unless}
-use Rattle.model_asked.specs.declared.event.Event.TheVariants.{Begin, Step, Enter, Probe, Leave, Put, Get, Widen}
+use Rattle.model_asked.specs.declared.event.Event.TheVariants.{Begin, Step, Enter, Probe, Seek, Leave, Put, Get, Widen}
 use Rattle.text_worlds.specs.desk.DeskRules.{refusal_of, refusal_over, after_over}
 use Rattle.text_worlds.specs.desk.DeskState.{DeskState}
 
@@ -28,6 +29,11 @@ probed : (w : PoolState) (p : ℕ) (stay : Option Stay) (why : Refusal) → prob
 probed w p None why is = refl
 probed w p (Some (Seeking next)) why is = cc
 probed w p (Some (Settled number)) why is = refl
+
+sought : (w : PoolState) (p : ℕ) (stay : Option Stay) (why : Refusal) → probe_refusal_by stay ≡ Some why → after_seek_by w p stay ≡ w
+sought w p None why is = refl
+sought w p (Some (Seeking next)) why is = cc
+sought w p (Some (Settled number)) why is = refl
 
 left : (w : PoolState) (p : ℕ) (stay : Option Stay) (why : Refusal) → refusal_of (number_by stay) ≡ Some why → after_leave_by w p stay ≡ w
 left w p None why is = refl
@@ -55,6 +61,7 @@ module _ {S R V U K : Type 0} (W : KnownPlaces S R V U K) where
       (either (lacked_memory (rename_answer W w.names p)) w.names (after_rename_step W w.names p) (stepped w.names p (program_of p w.names.rounds) why is))
   stays_over w (Enter p) why is = with_pool w (ap (λ o. entered_unless o w.slots.pool p) is)
   stays_over w (Probe p) why is = with_pool w (probed w.slots.pool p (stay_of p w.slots.pool.competitors) why is)
+  stays_over w (Seek p) why is = with_pool w (sought w.slots.pool p (stay_of p w.slots.pool.competitors) why is)
   stays_over w (Leave p) why is = with_pool w (left w.slots.pool p (stay_of p w.slots.pool.competitors) why is)
   stays_over w (Put p value) why is = with_values w (stored (number_by (stay_of p w.slots.pool.competitors)) value w.slots.values why is)
   stays_over w (Get p) why is = refl

@@ -9,6 +9,6 @@ bits_in bits = record { first = tt; values = []; bits = bits }
 
 abbrev pub slots_in : SlotsCopy → SlotsState ℕ
 slots_in c = record {
-  pool = record { size = c.size; bits = bits_in c.bits.items; competitors = c.competitors.items };
+  pool = record { most = c.most; size = c.size; bits = bits_in c.bits.items; competitors = c.competitors.items };
   values = c.values.items;
 }

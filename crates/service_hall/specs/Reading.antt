@@ -2,7 +2,7 @@
 use Rattle.std.specs.Prelude.{◌≡◌, ℕ, List, [], ◌∷◌, Bool, true, false, if◌then◌else◌}
 use Rattle.model_steps.specs.declared.refusal.Refusal.TheVariants as refusal
 use Rattle.model_asked.specs.declared.event.Event.{Event}
-use Rattle.model_asked.specs.declared.event.Event.TheVariants.{Begin, Step, Enter, Probe, Leave, Put, Get, Widen}
+use Rattle.model_asked.specs.declared.event.Event.TheVariants.{Begin, Step, Enter, Probe, Seek, Leave, Put, Get, Widen}
 use Rattle.model_asked.specs.declared.reply.Reply.TheVariants as reply
 use Rattle.model_asked.specs.Replies.{ShownReply}
 use Rattle.model_asked.specs.Requests.{Request}
@@ -40,6 +40,7 @@ way_of rules (Begin p) = applied_if rules.naming
 way_of rules (Step p) = applied_if rules.naming
 way_of rules (Enter p) = Applied
 way_of rules (Probe p) = Applied
+way_of rules (Seek p) = Applied
 way_of rules (Leave p) = Applied
 way_of rules (Put p value) = Applied
 way_of rules (Get p) = way_of_read rules.reads p

@@ -24,6 +24,7 @@ fn is_renaming(event: Event) -> bool
         Event::Step(_) => true,
         Event::Enter(_) => false,
         Event::Probe(_) => false,
+        Event::Seek(_) => false,
         Event::Leave(_) => false,
         Event::Put(_, _) => false,
         Event::Get(_) => false,
@@ -60,7 +61,7 @@ fn sort_all(alloc: Global, hall: &Hall) -> Result<Sorted, Stuck>
 {
     let config = hall.config();
     let mut new = Rebuilding::new(alloc, config)?;
-    let mut old = SlotsCopy::new(alloc, config.k)?;
+    let mut old = SlotsCopy::new(alloc, config.world.most_numbers(), config.k)?;
     for place in 0..hall.len() {
         sort(hall, place, &mut new, &mut old)?;
     }
@@ -143,6 +144,7 @@ fn is_same_world(one: WorldKind, other: WorldKind) -> bool
         (WorldKind::Grid, WorldKind::Grid) => true,
         (WorldKind::Rename, WorldKind::Rename) => true,
         (WorldKind::Tree, WorldKind::Tree) => true,
+        (WorldKind::Wide, WorldKind::Wide) => true,
         _ => false,
     }
 }

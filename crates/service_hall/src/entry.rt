@@ -16,8 +16,8 @@ pub(crate) enum Short {
     Quiet,
     Proposed(u64),
     Missed,
-    Got(u8),
-    Left(u8),
+    Got(u32),
+    Left(u32),
     Value(u64),
     Apart(usize),
 }

@@ -72,6 +72,7 @@ pub mod rules;
 pub mod same;
 mod slots_copy;
 mod stuck;
+mod wide_plan;
 
 pub use compacting::{compacted, is_compacted};
 pub use compactor::Compactor;

@@ -7,19 +7,20 @@ use crate::helpers::Helpers;
 use crate::rebuilding::Rebuilding;
 use crate::slots_copy::SlotsCopy;
 use crate::stuck::Stuck;
-use model_asked::{Event, Reply};
-use model_pool::{Competitor, MOST_NUMBERS, Stay};
+use crate::wide_plan::lead_wide;
+use model_asked::{Event, MOST_NUMBERS, Reply};
+use model_pool::{Competitor, Stay};
 use std::alloc::Global;
 
 /// A helper with the number that it holds.
 #[derive(Clone, Copy, Drop)]
 struct Held {
     id: u64,
-    number: u8,
+    number: u32,
 }
 
 /// Probes until this competitor gets a number, and returns the number.
-fn settle(new: &mut Rebuilding, id: u64) -> Result<u8, Stuck>
+fn settle(new: &mut Rebuilding, id: u64) -> Result<u32, Stuck>
     ensures { OnOk result (GoesOn new.old new.new) }
 {
     for _ in 0..MOST_NUMBERS {
@@ -31,7 +32,7 @@ fn settle(new: &mut Rebuilding, id: u64) -> Result<u8, Stuck>
 }
 
 /// Probes until the next probe of this competitor is of this number.
-fn seek(new: &mut Rebuilding, id: u64, number: u8) -> Result<(), Stuck>
+fn seek(new: &mut Rebuilding, id: u64, number: u32) -> Result<(), Stuck>
     ensures { OnOk result (GoesOn new.old new.new) }
 {
     for _ in 1..number {
@@ -63,7 +64,7 @@ fn dismiss(new: &mut Rebuilding, helpers: &[Held]) -> Result<(), Stuck>
 fn put(new: &mut Rebuilding, helper: Held, values: &[u64]) -> Result<(), Stuck>
     ensures { OnOk result (GoesOn new.old new.new) }
 {
-    let at = usize::from(helper.number).saturating_sub(1);
+    let at = (helper.number as usize).saturating_sub(1);
     match values.get(at) {
         Some(0) => Ok(()),
         Some(value) => {
@@ -86,7 +87,7 @@ fn put_all(new: &mut Rebuilding, helpers: &[Held], values: &[u64]) -> Result<(),
 
 /// Returns the number of the last slot with a value other than 0, or 0. Not proved: compaction compares the result as a
 /// whole.
-fn last_value(values: &[u64]) -> usize {
+pub(crate) fn last_value(values: &[u64]) -> usize {
     let mut last = 0;
     for (i, value) in values.iter().enumerate() {
         if *value != 0 {
@@ -114,7 +115,7 @@ fn fill(
 }
 
 /// Lets a helper take this number, if it is free and all below are held.
-fn hold(new: &mut Rebuilding, id: u64, number: u8, held: &mut Vec<Held>) -> Result<(), Stuck>
+fn hold(new: &mut Rebuilding, id: u64, number: u32, held: &mut Vec<Held>) -> Result<(), Stuck>
     ensures { OnOk result (GoesOn new.old new.new) }
 {
     if new.slots.holds(number) {
@@ -130,7 +131,7 @@ fn hold_below(
     new: &mut Rebuilding,
     old: &SlotsCopy,
     helpers: &mut Helpers,
-    number: u8,
+    number: u32,
 ) -> Result<Vec<Held>, Stuck>
     ensures { OnOk result (GoesOn new.old new.new) }
 {
@@ -143,7 +144,7 @@ fn hold_below(
 }
 
 /// Returns the number that a competitor holds or probes next. Not proved: compaction compares the result as a whole.
-fn place(stay: Stay) -> u8 {
+fn place(stay: Stay) -> u32 {
     match stay {
         Stay::Seeking(number) => number,
         Stay::Settled(number) => number,
@@ -181,7 +182,7 @@ fn enter(
 }
 
 /// Gives the pool as many numbers as this, if it has fewer.
-fn widen(new: &mut Rebuilding, size: u8) -> Result<(), Stuck>
+fn widen(new: &mut Rebuilding, size: u32) -> Result<(), Stuck>
     ensures { OnOk result (GoesOn new.old new.new) }
 {
     if new.slots.size < size {
@@ -194,8 +195,19 @@ fn widen(new: &mut Rebuilding, size: u8) -> Result<(), Stuck>
 pub(crate) fn lead(alloc: Global, new: &mut Rebuilding, old: &SlotsCopy) -> Result<(), Stuck>
     ensures { OnOk result (GoesOn new.old new.new) }
 {
-    let mut helpers = Helpers::new();
     widen(new, old.size)?;
+    if new.hall.config().world.is_wide() {
+        lead_wide(alloc, new, old)
+    } else {
+        lead_narrow(alloc, new, old)
+    }
+}
+
+/// Leads a fresh pool and slots of few numbers, which have as many, to the state of the others.
+fn lead_narrow(alloc: Global, new: &mut Rebuilding, old: &SlotsCopy) -> Result<(), Stuck>
+    ensures { OnOk result (GoesOn new.old new.new) }
+{
+    let mut helpers = Helpers::new();
     fill(alloc, new, old, &mut helpers)?;
     for competitor in &old.competitors {
         enter(alloc, new, old, &mut helpers, *competitor)?;

@@ -28,7 +28,7 @@ impl Rebuilding {
     {
         Ok(Rebuilding {
             hall: Hall::new(alloc, config)?,
-            slots: SlotsCopy::new(alloc, config.k)?,
+            slots: SlotsCopy::new(alloc, config.world.most_numbers(), config.k)?,
             view: View::new(),
         })
     }

@@ -65,7 +65,11 @@ impl Rules {
             Event::Begin(_) | Event::Step(_) => applied_if(self.naming),
             Event::Widen(_) => applied_if(self.widening),
             Event::Get(id) => way_of_read(self.reads, id),
-            Event::Enter(_) | Event::Probe(_) | Event::Leave(_) | Event::Put(_, _) => Way::Applied,
+            Event::Enter(_)
+            | Event::Probe(_)
+            | Event::Seek(_)
+            | Event::Leave(_)
+            | Event::Put(_, _) => Way::Applied,
         }
     }
 }

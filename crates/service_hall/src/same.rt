@@ -14,6 +14,7 @@ pub fn is_same_event(a: Event, b: Event) -> bool
         (Event::Step(p), Event::Step(q)) => p == q,
         (Event::Enter(p), Event::Enter(q)) => p == q,
         (Event::Probe(p), Event::Probe(q)) => p == q,
+        (Event::Seek(p), Event::Seek(q)) => p == q,
         (Event::Leave(p), Event::Leave(q)) => p == q,
         (Event::Put(p, value), Event::Put(q, other)) => p == q && value == other,
         (Event::Get(p), Event::Get(q)) => p == q,

@@ -1,4 +1,4 @@
--- how a hall answers `leave` and `probe`, and that whoever was released competes no more, but for want of room
+-- how a hall answers `leave`, `probe` and `seek`, and that whoever was released competes no more, but for want of room
 use Rattle.std.proofs.Common.{◌≡◌, ◌⊎◌, ◌≤◌, ◌<◌, ◌+◌, ℕ, zero, suc, Bool, true, false, cond, nat_le, List, [], ◌∷◌, ◌++◌, Option, Some, None, length, replicate, is_some, inl, inr, refl, sym, ap, subst, ◌∙◌, arith}
 use Rattle.std.proofs.lemmas.Bool.Decides.{eqb_tells, leb_tells}
 use Rattle.model_steps.specs.declared.access.Answer.{Answer}
@@ -10,12 +10,12 @@ use Rattle.model_steps.proofs.cited.Roster.{seen-put}
 use Rattle.model_pool.specs.declared.competitor.Competitor.{Competitor}
 use Rattle.model_pool.specs.declared.stay.Stay.{Stay}
 use Rattle.model_pool.specs.declared.stay.Stay.TheVariants.{Seeking, Settled}
-use Rattle.model_pool.specs.declared.pool.TheConstants.{MOST_NUMBERS}
 use Rattle.model_pool.specs.Competitors.{stay_of, with_stay, without}
 use Rattle.model_pool.specs.Pool.{after_leave_by, after_probe_by, got_by, number_by, probe_answer_by, probe_refusal_by}
+use Rattle.model_pool.specs.Sought.{after_seek_by, seek_answer_by, sought_on}
 use Rattle.model_pool.specs.Stay.{probe_reply as answer_in, stay_found}
 use Rattle.model_asked.specs.declared.event.Event.{Event}
-use Rattle.model_asked.specs.declared.event.Event.TheVariants.{Probe, Leave}
+use Rattle.model_asked.specs.declared.event.Event.TheVariants.{Probe, Seek, Leave}
 use Rattle.model_asked.specs.declared.reply.Reply.TheVariants as reply
 use Rattle.model_asked.specs.Replies.{ShownReply, left_reply}
 use Rattle.model_asked.specs.Requests.{Request}
@@ -29,16 +29,17 @@ use Rattle.text_worlds.specs.desk.DeskRules.{refusal_of}
 use Rattle.text_worlds.specs.desk.DeskValue.{DeskValue}
 use Rattle.text_worlds.specs.desk.DeskValue.DeskValue.{OverGrid, OverTree}
 use Rattle.text_worlds.specs.desk.Held.{slots_of}
-use Rattle.text_worlds.specs.desk.Replies.{probe_reply, shown_probe}
+use Rattle.text_worlds.specs.desk.Replies.{probe_reply, seek_reply, shown_probe}
 use Rattle.service_hall.specs.HallState.{HallState}
 use Rattle.service_hall.specs.Halls.{HallMay, after_unless, desk_of, full_unless, reply_unless}
 use Rattle.service_hall.specs.Reading.{Serves}
 use Rattle.service_hall.specs.Serving.{wants_room}
 use Rattle.service_hall.specs.declared.rules.Rules.{Rules}
 use Rattle.service_hall.proofs.cited.Histories.{replay_push}
-use Rattle.service_loop.specs.Releasing.{AreProbes, IsReleaseBy, ReleasesFree, TellsOfStays, is_freed, is_missed, lacks_number, leave_of, probe_of}
+use Rattle.service_loop.specs.Releasing.{AreProbes, IsReleaseBy, ReleasesFree, TellsOfStays, is_freed, is_missed, lacks_number, leave_of}
+use Rattle.service_loop.specs.Searching.{most_said, searched, searching}
 use Rattle.service_loop.proofs.cited.ReleaseLemmas.{AreSaid, said_releases}
-use Rattle.service_host.specs.Freeing.{FreesAll, ReleasesAsHall, WasRefusedRoom, competes_in, is_of_release}
+use Rattle.service_host.specs.Freeing.{FreesAll, IsRefusedRoom, ReleasesAsHall, WasRefusedRoom, competes_in, is_of_release}
 
 -- the competitors of a hall, and how many numbers its pool has
 abbrev crowd : HallState → List Competitor
@@ -89,6 +90,18 @@ probe_said (OverTree w) id = refl
 probe_pool : (w : DeskValue) (id : ℕ) → (slots_of (desk_after w (Probe id))).pool ≡ after_probe_by (slots_of w).pool id (stay_of id (slots_of w).pool.competitors)
 probe_pool (OverGrid w) id = refl
 probe_pool (OverTree w) id = refl
+
+seek_refusal : (w : DeskValue) (id : ℕ) → desk_refusal w (Seek id) ≡ probe_refusal_by (stay_of id (slots_of w).pool.competitors)
+seek_refusal (OverGrid w) id = refl
+seek_refusal (OverTree w) id = refl
+
+seek_said : (w : DeskValue) (id : ℕ) → desk_reply w (Seek id) ≡ seek_reply (seek_answer_by (slots_of w).pool (stay_of id (slots_of w).pool.competitors))
+seek_said (OverGrid w) id = refl
+seek_said (OverTree w) id = refl
+
+seek_pool : (w : DeskValue) (id : ℕ) → (slots_of (desk_after w (Seek id))).pool ≡ after_seek_by (slots_of w).pool id (stay_of id (slots_of w).pool.competitors)
+seek_pool (OverGrid w) id = refl
+seek_pool (OverTree w) id = refl
 
 -- a hall wanted room, or its desk refused, or it answered
 abbrev Seen : HallState → Event → ShownReply → HallState → Type 0
@@ -182,6 +195,36 @@ probe_seen h id r u may = elim (seen h (Probe id) r u may) [
       (ap (λ w. (slots_of w).pool) m.2 ∙ probe_pool (desk_of h) id)
 ]
 
+-- probes until a number is had were refused, or they gave one
+abbrev SeekSeen : HallState → ℕ → ShownReply → HallState → Type 0
+SeekSeen h id r u =
+    ((wants_room r ≡ true) × (u ≡ h)) ⊎
+    ((stay_of id (crowd h) ≡ None) × (is_missed r ≡ false) × (u ≡ h)) ⊎
+    ((n : ℕ) × (stay_of id (crowd h) ≡ Some (Settled n)) × (is_missed r ≡ false) × (u ≡ h)) ⊎
+    ((n m : ℕ) × (stay_of id (crowd h) ≡ Some (Seeking n)) × (is_missed r ≡ false) × (crowd u ≡ with_stay id (Settled m) (crowd h)) × (size_in u ≡ size_in h))
+
+seek_refused : (h : HallState) (id : ℕ) (r : ShownReply) (u : HallState) (o : Option Stay) (why : Refusal) → stay_of id (crowd h) ≡ o → probe_refusal_by o ≡ Some why →
+    r ≡ reply.Refused why → u ≡ h → SeekSeen h id r u
+seek_refused h id r u None why is due said same = inr (inl (is, ap is_missed said, same))
+seek_refused h id r u (Some (Seeking n)) why is due said same = absurd (cc)
+seek_refused h id r u (Some (Settled n)) why is due said same = inr (inr (inl (n, is, ap is_missed said, same)))
+
+seek_taken : (h : HallState) (id : ℕ) (r : ShownReply) (u : HallState) (o : Option Stay) → stay_of id (crowd h) ≡ o → probe_refusal_by o ≡ None →
+    r ≡ seek_reply (seek_answer_by (slots_of (desk_of h)).pool o) → (slots_of (desk_of u)).pool ≡ after_seek_by (slots_of (desk_of h)).pool id o → SeekSeen h id r u
+seek_taken h id r u None is due said after = absurd (cc)
+seek_taken h id r u (Some (Settled n)) is due said after = absurd (cc)
+seek_taken h id r u (Some (Seeking n)) is due said after =
+    let pool = (slots_of (desk_of h)).pool in
+    inr (inr (inr (n, (sought_on pool.size pool.size (Seeking n) pool.bits).0, is, ap is_missed said, ap (λ p. p.competitors) after, ap (λ p. p.size) after)))
+
+seek_seen : (h : HallState) (id : ℕ) (r : ShownReply) (u : HallState) → HallMay h (Seek id) r u → SeekSeen h id r u
+seek_seen h id r u may = elim (seen h (Seek id) r u may) [
+  | inl m ↦ inl m
+  | inr (inl m) ↦ seek_refused h id r u (stay_of id (crowd h)) m.0 refl (sym (seek_refusal (desk_of h) id) ∙ m.1) m.2 m.3
+  | inr (inr m) ↦ seek_taken h id r u (stay_of id (crowd h)) refl (sym (seek_refusal (desk_of h) id) ∙ m.0) (m.1 ∙ seek_said (desk_of h) id)
+      (ap (λ w. (slots_of w).pool) m.2 ∙ seek_pool (desk_of h) id)
+]
+
 -- no reply is both
 not_both : (r : ShownReply) → wants_room r ≡ true → is_freed r ≡ true → ⊥
 not_both (reply.Refused refusal.NoMemory) a b = absurd (cc)
@@ -238,6 +281,14 @@ absent_after_probe h u i id r may none = elim (probe_seen h i r u may) [
   | inr (inr (inr m)) ↦ ap (stay_of id) m.4 ∙ put_other (crowd h) i id (stay_found (size_in h) m.0 m.1) (ap is_some m.2) none
 ]
 
+absent_after_seek : (h u : HallState) (i id : ℕ) (r : ShownReply) → HallMay h (Seek i) r u → stay_of id (crowd h) ≡ None → stay_of id (crowd u) ≡ None
+absent_after_seek h u i id r may none = elim (seek_seen h i r u may) [
+  | inl m ↦ ap (λ (v : HallState). stay_of id (crowd v)) m.1 ∙ none
+  | inr (inl m) ↦ ap (λ (v : HallState). stay_of id (crowd v)) m.2 ∙ none
+  | inr (inr (inl m)) ↦ ap (λ (v : HallState). stay_of id (crowd v)) m.3 ∙ none
+  | inr (inr (inr m)) ↦ ap (stay_of id) m.4 ∙ put_other (crowd h) i id (Settled m.1) (ap is_some m.2) none
+]
+
 -- a probe that misses goes on to the next number, and there is a later one
 missed_on : (size next : ℕ) (got : Answer (Unit {0})) → is_missed (shown_probe (answer_in (stay_found size next got))) ≡ true →
     (stay_found size next got ≡ Seeking (next + 1)) × (next + 1 < size)
@@ -262,7 +313,37 @@ last_probe h u id k r may missed is = elim (probe_seen h id r u may) [
       contrary (is_missed r) (ap is_missed m.3 ∙ ap (λ (s : Stay). is_missed (shown_probe (answer_in s))) seeks) missed
 ]
 
--- `leave` and `probe` leave the size
+-- and so was `seek`, which never misses
+last_seek : (h u : HallState) (id k : ℕ) (r : ShownReply) → HallMay h (Seek id) r u → stay_of id (crowd u) ≡ Some (Seeking k) → wants_room r ≡ true
+last_seek h u id k r may is = elim (seek_seen h id r u may) [
+  | inl m ↦ m.0
+  | inr (inl m) ↦ absurd (let no : None ≡ Some (Seeking k) = sym (ap (λ (v : HallState). stay_of id (crowd v)) m.2 ∙ m.0) ∙ is in cc)
+  | inr (inr (inl m)) ↦ absurd (let no : Some (Settled m.0) ≡ Some (Seeking k) = sym (ap (λ (v : HallState). stay_of id (crowd v)) m.3 ∙ m.1) ∙ is in cc)
+  | inr (inr (inr m)) ↦ absurd (let no : Some (Settled m.1) ≡ Some (Seeking k) = sym (ap (stay_of id) m.4 ∙ put_own (crowd h) id (Settled m.1) (ap is_some m.2)) ∙ is in cc)
+]
+
+never_missed : (h u : HallState) (id : ℕ) → HallMay h (Seek id) reply.Missed u → ⊥
+never_missed h u id may = elim (seek_seen h id reply.Missed u may) [
+  | inl m ↦ absurd (let no : false ≡ true = m.0 in cc)
+  | inr (inl m) ↦ absurd (let no : true ≡ false = m.1 in cc)
+  | inr (inr (inl m)) ↦ absurd (let no : true ≡ false = m.2 in cc)
+  | inr (inr (inr m)) ↦ absurd (let no : true ≡ false = m.3 in cc)
+]
+
+last_search : (wide : Bool) (h u : HallState) (id k : ℕ) (r : ShownReply) → HallMay h (searching wide id) r u → is_missed r ≡ false → stay_of id (crowd u) ≡ Some (Seeking k) → wants_room r ≡ true
+last_search true h u id k r may missed is = last_seek h u id k r may is
+last_search false h u id k r may missed is = last_probe h u id k r may missed is
+
+-- either is an event of a release
+of_release : (wide : Bool) (id : ℕ) → is_of_release (searching wide id) ≡ true
+of_release true id = refl
+of_release false id = refl
+
+refused_so : (wide : Bool) (id : ℕ) (r : ShownReply) → wants_room r ≡ true → IsRefusedRoom id (searched wide id r)
+refused_so true id r wants = (inr (inr refl), wants)
+refused_so false id r wants = (inr (inl refl), wants)
+
+-- `leave`, `probe` and `seek` leave the size
 size_left : (pool : _) (id : ℕ) (o : Option Stay) → (after_leave_by pool id o).size ≡ pool.size
 size_left pool id None = refl
 size_left pool id (Some (Seeking n)) = refl
@@ -287,6 +368,18 @@ size_after_probe h u id r may = elim (seen h (Probe id) r u may) [
   | inr (inr m) ↦ ap (λ w. (slots_of w).pool.size) m.2 ∙ ap (λ p. p.size) (probe_pool (desk_of h) id) ∙ size_probed (slots_of (desk_of h)).pool id (stay_of id (crowd h))
 ]
 
+size_after_seek : (h u : HallState) (id : ℕ) (r : ShownReply) → HallMay h (Seek id) r u → size_in u ≡ size_in h
+size_after_seek h u id r may = elim (seek_seen h id r u may) [
+  | inl m ↦ ap size_in m.1
+  | inr (inl m) ↦ ap size_in m.2
+  | inr (inr (inl m)) ↦ ap size_in m.3
+  | inr (inr (inr m)) ↦ m.5
+]
+
+size_after_search : (wide : Bool) (h u : HallState) (id : ℕ) (r : ShownReply) → HallMay h (searching wide id) r u → size_in u ≡ size_in h
+size_after_search true = size_after_seek
+size_after_search false = size_after_probe
+
 -- who was refused room among these turns was so among more of them
 was_before : (id : ℕ) (ts us : List Turn) → WasRefusedRoom id ts → WasRefusedRoom id (ts ++ us)
 was_before id [] us was = absurd was
@@ -296,29 +389,30 @@ was_behind : (id : ℕ) (ts us : List Turn) → WasRefusedRoom id us → WasRefu
 was_behind id [] us was = was
 was_behind id (t ∷ ts) us was = inr (was_behind id ts us was)
 
-said_before : (ts us : List Turn) → AreSaid (ts ++ us) → AreSaid ts
-said_before [] us said = tt
-said_before (t ∷ ts) us said = (said.0, said_before ts us said.1)
+said_before : (wide : Bool) (ts us : List Turn) → AreSaid wide (ts ++ us) → AreSaid wide ts
+said_before wide [] us said = tt
+said_before wide (t ∷ ts) us said = (said.0, said_before wide ts us said.1)
 
-module _ {D : Type 0} (hall : D → HallState) (may : D → Request → ShownReply → D → Type 0) (so : ReleasesAsHall hall may) where
+module _ {D : Type 0} (wide : Bool) (hall : D → HallState) (may : D → Request → ShownReply → D → Type 0) (so : ReleasesAsHall hall may) where
   tells_so : TellsOfStays may (λ d. competes_in (hall d))
   tells_so = record {
     freed = λ w u id r said is. ap is_some (freed_after (hall w) (hall u) id r (so w u (Leave id) r refl said) is);
     leave = λ w u id i r said none. ap is_some (absent_after_leave (hall w) (hall u) i id r (so w u (Leave i) r refl said) (none_of_false _ none));
     probe = λ w u id i r said none. ap is_some (absent_after_probe (hall w) (hall u) i id r (so w u (Probe i) r refl said) (none_of_false _ none));
+    seek = λ w u id i r said none. ap is_some (absent_after_seek (hall w) (hall u) i id r (so w u (Seek i) r refl said) (none_of_false _ none));
   }
 
-  size_kept : (turns : List Turn) (w u : D) → AreSaid turns → Runs may w turns u → size_in (hall u) ≡ size_in (hall w)
+  size_kept : (turns : List Turn) (w u : D) → AreSaid wide turns → Runs may w turns u → size_in (hall u) ≡ size_in (hall w)
   size_kept [] w u said run = ap (λ d. size_in (hall d)) (sym run)
   size_kept (t ∷ ts) w u ((i, r, inl same), said) run =
       let on = subst (λ (x : Turn). Runs may w (x ∷ ts) u) same run in
       size_kept ts on.0 u said on.2 ∙ size_after_leave (hall w) (hall on.0) i r (so w on.0 (Leave i) r refl on.1)
   size_kept (t ∷ ts) w u ((i, r, inr same), said) run =
       let on = subst (λ (x : Turn). Runs may w (x ∷ ts) u) same run in
-      size_kept ts on.0 u said on.2 ∙ size_after_probe (hall w) (hall on.0) i r (so w on.0 (Probe i) r refl on.1)
+      size_kept ts on.0 u said on.2 ∙ size_after_search wide (hall w) (hall on.0) i r (so w on.0 (searching wide i) r (of_release wide i) on.1)
 
   -- who misses so often has as many numbers behind the next
-  misses : (k : ℕ) (w u : D) (id n : ℕ) → Runs may w (replicate k (probe_of id reply.Missed)) u → stay_of id (crowd (hall w)) ≡ Some (Seeking n) →
+  misses : (k : ℕ) (w u : D) (id n : ℕ) → Runs may w (replicate k (searched false id reply.Missed)) u → stay_of id (crowd (hall w)) ≡ Some (Seeking n) →
       (k ≡ 0) ⊎ (n + k < size_in (hall w))
   misses zero w u id n run is = inl refl
   misses (suc k) w u id n run is =
@@ -348,19 +442,26 @@ module _ {D : Type 0} (hall : D → HallState) (may : D → Request → ShownRep
   ]
 
   -- among the probes of an identity that holds no number behind them one was refused room
-  probes_refused : (id : ℕ) (probes : List Turn) (w u : D) (n k : ℕ) → AreProbes id probes → Runs may w probes u → size_in (hall w) ≤ 64 →
+  all_missed : (b : Bool) (id : ℕ) (w u : D) (n : ℕ) → Runs may w (replicate (most_said b) (searched b id reply.Missed)) u → (b ≡ false → size_in (hall w) ≤ 64) →
+      stay_of id (crowd (hall w)) ≡ Some (Seeking n) → ⊥
+  all_missed true id w u n run small before = never_missed (hall w) (hall run.0) id (so w run.0 (Seek id) reply.Missed refl run.1)
+  all_missed false id w u n run small before =
+      let few = small refl in
+      elim (misses 64 w u id n run before) [ inl none ↦ absurd (omega (arith, none)) | inr more ↦ absurd (omega (arith, more, few)) ]
+
+  probes_refused : (id : ℕ) (probes : List Turn) (w u : D) (n k : ℕ) → AreProbes wide id probes → Runs may w probes u → (wide ≡ false → size_in (hall w) ≤ 64) →
       stay_of id (crowd (hall w)) ≡ Some (Seeking n) → stay_of id (crowd (hall u)) ≡ Some (Seeking k) → WasRefusedRoom id probes
   probes_refused id probes w u n k (inl all) run small before behind =
-      elim (misses MOST_NUMBERS w u id n (subst (λ (ts : List Turn). Runs may w ts u) all run) before) [ inl none ↦ absurd (omega (arith, none)) | inr more ↦ absurd (omega (arith, more, small)) ]
+      absurd (all_missed wide id w u n (subst (λ (ts : List Turn). Runs may w ts u) all run) small before)
   probes_refused id probes w u n k (inr (j, r, lt, other, parts)) run small before behind =
-      let cut = runs-cut may w u (replicate j (probe_of id reply.Missed)) (probe_of id r ∷ []) (subst (λ (ts : List Turn). Runs may w ts u) parts run) in
-      let last = so cut.0 cut.2.0 (Probe id) r refl cut.2.1 in
+      let cut = runs-cut may w u (replicate j (searched wide id reply.Missed)) (searched wide id r ∷ []) (subst (λ (ts : List Turn). Runs may w ts u) parts run) in
+      let last = so cut.0 cut.2.0 (searching wide id) r (of_release wide id) cut.2.1 in
       let there : stay_of id (crowd (hall cut.2.0)) ≡ Some (Seeking k) = ap (λ (d : D). stay_of id (crowd (hall d))) cut.2.2 ∙ behind in
       subst (WasRefusedRoom id) (sym parts)
-      (was_behind id (replicate j (probe_of id reply.Missed)) (probe_of id r ∷ []) (inl (inr refl, last_probe (hall cut.0) (hall cut.2.0) id k r last other there)))
+      (was_behind id (replicate j (searched wide id reply.Missed)) (searched wide id r ∷ []) (inl (refused_so wide id r (last_search wide (hall cut.0) (hall cut.2.0) id k r last other there))))
 
   -- by a release that did not free it an identity was refused room
-  release_refused : (id : ℕ) (r : ShownReply) (one : List Turn) (w u : D) → IsReleaseBy id r one → is_freed r ≡ false → Runs may w one u → size_in (hall w) ≤ 64 → WasRefusedRoom id one
+  release_refused : (id : ℕ) (r : ShownReply) (one : List Turn) (w u : D) → IsReleaseBy wide id r one → is_freed r ≡ false → Runs may w one u → (wide ≡ false → size_in (hall w) ≤ 64) → WasRefusedRoom id one
   release_refused id r one w u (inl (parts, held)) freed run small =
       let on = subst (λ (ts : List Turn). Runs may w ts u) parts run in
       subst (WasRefusedRoom id) (sym parts) (elim (leave_seen (hall w) id r (hall on.0) (so w on.0 (Leave id) r refl on.1)) [
@@ -375,7 +476,7 @@ module _ {D : Type 0} (hall : D → HallState) (may : D → Request → ShownRep
       let cut = runs-cut may on.0 u probes (leave_of id r ∷ []) on.2 in
       let last = so cut.0 cut.2.0 (Leave id) r refl cut.2.1 in
       let sized = size_after_leave (hall w) (hall on.0) id first begun in
-      let smaller : size_in (hall on.0) ≤ 64 = omega (arith, sized, small) in
+      let smaller : wide ≡ false → size_in (hall on.0) ≤ 64 = λ narrow. let few = small narrow in omega (arith, sized, few) in
       let start = seeks_after (hall w) (hall on.0) id first begun lacks in
       subst (WasRefusedRoom id) (sym parts) (elim (leave_seen (hall cut.0) id r (hall cut.2.0) last) [
         | inl m ↦ inr (was_behind id probes (leave_of id r ∷ []) (inl (inl refl, m.0)))
@@ -384,15 +485,15 @@ module _ {D : Type 0} (hall : D → HallState) (may : D → Request → ShownRep
         | inr (inr (inr m)) ↦ contrary (is_freed r) m.0 freed
       ])
 
-  pub frees_all : ReleasesFree may → FreesAll hall may
+  pub frees_all : ReleasesFree wide may → FreesAll wide hall may
   frees_all free due w u released id small among = elim (free (λ d. competes_in (hall d)) due w u released id tells_so among) [
     | inl away ↦ inl away
     | inr kept ↦
         let cut = runs-cut may w.service u.service kept.before (kept.one ++ kept.after) (subst (λ (ts : List Turn). Runs may w.service ts u.service) kept.parts released.run) in
         let more = runs-cut may cut.0 u.service kept.one kept.after cut.2 in
-        let said = said_before kept.before (kept.one ++ kept.after) (subst AreSaid kept.parts (said_releases due released.turns released.each)) in
+        let said = said_before wide kept.before (kept.one ++ kept.after) (subst (AreSaid wide) kept.parts (said_releases wide due released.turns released.each)) in
         let sized = size_kept kept.before w.service cut.0 said cut.1 in
-        let smaller : size_in (hall cut.0) ≤ 64 = omega (arith, sized, small) in
+        let smaller : wide ≡ false → size_in (hall cut.0) ≤ 64 = λ narrow. let few = small narrow in omega (arith, sized, few) in
         let was = release_refused id kept.reply kept.one cut.0 more.0 kept.by kept.not more.1 smaller in
         inr (subst (WasRefusedRoom id) (sym kept.parts) (was_behind id kept.before (kept.one ++ kept.after) (was_before id kept.one kept.after was)))
   ]
@@ -401,4 +502,5 @@ module _ {D : Type 0} (hall : D → HallState) (may : D → Request → ShownRep
 pub as_hall : (rules : Rules) (h : HallState) (e : Event) (r : ShownReply) (u : HallState) → is_of_release e ≡ true → Serves rules h (Take e) r u → HallMay h e r u
 as_hall rules h (Leave p) r u is may = may
 as_hall rules h (Probe p) r u is may = may
+as_hall rules h (Seek p) r u is may = may
 as_hall rules h e r u is may = absurd (cc)

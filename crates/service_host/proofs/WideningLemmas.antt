@@ -21,21 +21,21 @@ use Rattle.service_host.specs.Sizes.{size_of}
 use Rattle.service_host.specs.Widened.{IsWider}
 
 -- the desk's answer to `widen`, and its pool then
-refusal_is : (w : DeskValue) (size : ℕ) → desk_refusal w (Widen size) ≡ widen_refusal (slots_of w).pool.size size
+refusal_is : (w : DeskValue) (size : ℕ) → desk_refusal w (Widen size) ≡ widen_refusal (slots_of w).pool.most (slots_of w).pool.size size
 refusal_is (OverGrid w) size = refl
 refusal_is (OverTree w) size = refl
 
-reply_is : (w : DeskValue) (size : ℕ) → desk_reply w (Widen size) ≡ done_reply (done_unless (widen_refusal (slots_of w).pool.size size))
+reply_is : (w : DeskValue) (size : ℕ) → desk_reply w (Widen size) ≡ done_reply (done_unless (widen_refusal (slots_of w).pool.most (slots_of w).pool.size size))
 reply_is (OverGrid w) size = refl
 reply_is (OverTree w) size = refl
 
-pool_is : (w : DeskValue) (size : ℕ) → (slots_of (desk_after w (Widen size))).pool ≡ widened_unless (widen_refusal (slots_of w).pool.size size) (slots_of w).pool size
+pool_is : (w : DeskValue) (size : ℕ) → (slots_of (desk_after w (Widen size))).pool ≡ widened_unless (widen_refusal (slots_of w).pool.most (slots_of w).pool.size size) (slots_of w).pool size
 pool_is (OverGrid w) size = refl
 pool_is (OverTree w) size = refl
 
 -- where it is not refused it is for more numbers
-more_than : (size more : ℕ) → widen_refusal size more ≡ None → size < more
-more_than size more is = elim (leb_tells more size) [
+more_than : (most size more : ℕ) → widen_refusal most size more ≡ None → size < more
+more_than most size more is = elim (leb_tells more size) [
   | inl w ↦ absurd (let no : Some refusal.OutOfRange ≡ None = rw w.0 at is in cc)
   | inr w ↦ w.1
 ]
@@ -44,14 +44,14 @@ module _ (h u : HallState) (size : ℕ) (r : ShownReply) where
   accepted_so : u ≡ longer h (Widen size) → desk_refusal (desk_of h) (Widen size) ≡ None → IsWider h size u
   accepted_so after free =
       let w = desk_of h in
-      let due : widen_refusal (size_of h) size ≡ None = sym (refusal_is w size) ∙ free in
+      let due : widen_refusal (slots_of w).pool.most (size_of h) size ≡ None = sym (refusal_is w size) ∙ free in
       let answer : desk_reply w (Widen size) ≡ reply.Ok = reply_is w size ∙ ap (λ (o : Option Refusal). done_reply (done_unless o)) due in
       let desk : desk_of u ≡ desk_after w (Widen size) = ap desk_of after ∙ replay_push (fresh_desk h.config) h.history (exchange (Widen size) (desk_reply w (Widen size))) in
       let pool : (slots_of (desk_of u)).pool ≡ widened_unless None (slots_of w).pool size =
       ap (λ (d : DeskValue). (slots_of d).pool) desk ∙ (pool_is w size ∙ ap (λ (o : Option Refusal). widened_unless o (slots_of w).pool size) due) in
       record {
         now = ap (λ p. p.size) pool;
-        more = more_than (size_of h) size due;
+        more = more_than (slots_of w).pool.most (size_of h) size due;
         config = ap (λ (x : HallState). x.config) after;
         history = ap (λ (x : HallState). x.history) after ∙ ap (λ (a : ShownReply). h.history ++ exchange (Widen size) a ∷ []) answer;
         competitors = ap (λ p. p.competitors) pool;

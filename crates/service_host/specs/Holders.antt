@@ -7,8 +7,7 @@ use Rattle.text_records.specs.declared.seals.LineForm.TheVariants.{Plain}
 use Rattle.text_worlds.specs.desk.Held.{slots_of}
 use Rattle.service_hall.specs.HallState.{HallState}
 use Rattle.service_hall.specs.Halls.{desk_of}
-use Rattle.text_lines.specs.held.Held.{held_text}
-use Rattle.text_lines.specs.declared.held.query.HeldQuery.TheVariants.{All}
+use Rattle.text_lines.specs.held.Held.{all_held}
 use Rattle.model_asked.specs.declared.config.Config.{Config}
 use Rattle.service_journal.specs.Openings.{IsRecovered}
 
@@ -20,4 +19,4 @@ IsOfHall hall bytes = (config : Config) × (whole : ℕ) × IsRecovered config (
 pub record TellsHolders (record_bytes before now : Option (List ℕ)) : Type 0 where
   pub hall : HallState
   pub recorded : IfSome record_bytes (IsOfHall hall)
-  pub reported : Appends before now (held_text (slots_of (desk_of hall)) All)
+  pub reported : Appends before now (all_held (slots_of (desk_of hall)))

@@ -1,5 +1,6 @@
 //! Who competes in a hall once stays were released.
 
+ghost use Rattle.std.specs.Prelude.{Bool};
 ghost use Rattle.service_hall.specs.HallState.{HallState};
 ghost use Rattle.service_journal.specs.WriteAheadState.{WriteAheadState};
 ghost use Rattle.service_host.specs.declared.reading.Reading.{Reading};
@@ -12,12 +13,12 @@ use text_player::Service;
 /// A law, which runs nothing, of the stays that `service_loop::host` releases over a hall: once what was due is released, none of the due competes, unless
 /// one of its own events was refused, since an allocation failed or the history was full. Then it is due again.
 pub fn law_of_freed_stays<R, D: Service<R>>()
-    ensures { (hall : D → HallState) → ReleasesAsHall hall D.may → FreesAll hall D.may }
+    ensures { (wide : Bool) (hall : D → HallState) → ReleasesAsHall hall D.may → FreesAll wide hall D.may }
 {
     law_of_releases::<R, D>();
 }
 
-/// A law, which runs nothing: a hall that is hosted, without a journal or with one, answers `leave` and `probe` as the hall may, by whatever rules. So
+/// A law, which runs nothing: a hall that is hosted, without a journal or with one, answers `leave`, `probe` and `seek` as the hall may, by whatever rules. So
 /// `law_of_freed_stays` is true of both.
 pub fn law_of_hosted_releases()
     ensures alone { ReleasesAsHall (λ (w : Reading HallState). w.service) HallReads }

@@ -1,23 +1,22 @@
 //! Who holds numbers by the record of a hall.
 
-ghost use Rattle.std.specs.Prelude.{IfOk, IfSome, OnOk, ◌≡◌, ◌++◌};
+ghost use Rattle.std.specs.Prelude.{IfOk, IfSome, OnOk, ◌≡◌, ◌++◌, ◌≤◌, ◌+◌, []};
 ghost use Rattle.text_lines.specs.Lines.{rest_of};
 ghost use Rattle.text_records.specs.Seals.{lines_in};
 ghost use Rattle.text_records.specs.declared.seals.LineForm.TheVariants.{Plain};
 ghost use Rattle.std.specs.Io.KnownBytes.{Appends};
-ghost use Rattle.text_lines.specs.held.Held.{held_text};
-ghost use Rattle.text_lines.specs.declared.held.query.HeldQuery.TheVariants.{All};
+ghost use Rattle.text_lines.specs.held.Held.{all_held, lines_behind};
 ghost use Rattle.text_worlds.specs.desk.Held.{slots_of};
 ghost use Rattle.service_hall.specs.Halls.{desk_of};
 ghost use Rattle.service_host.specs.Holders.{IsOfHall, TellsHolders};
 
 use crate::failure::HostFailure;
 use model_asked::Config;
+use model_pool::slots::Slots;
 use service_hall::Hall;
 use service_journal::opening::recovered;
 use std::alloc::Global;
 use std::io::{Read, Write};
-use text_lines::held::{HeldQuery, put_held};
 use text_player::{Replies, print_header};
 use text_records::{LineForm, Text, put_lines, read_header};
 
@@ -75,19 +74,48 @@ fn recorded_hall(alloc: Global, bytes: &[u8]) -> Result<Hall, HostFailure>
     }
 }
 
-// Writes who holds numbers in a hall.
-fn write_held<W: Write>(alloc: Global, hall: &Hall, output: &mut W) -> Result<(), HostFailure>
-    ensures { OnOk result (Appends (W.contents output.old) (W.contents output.new) (held_text (slots_of (desk_of hall.now)) All)) }
+// Writes the lines of so many numbers behind this one that are held.
+fn write_page<W: Write>(
+    slots: &Slots<u64, Global>,
+    before: u32,
+    count: u32,
+    text: &mut Replies<Global>,
+    output: &mut W,
+) -> Result<(), HostFailure>
+    requires few { (count ≤ 64) × (before + count ≤ 65536) }
+    requires empty { text.old ≡ [] }
+    ensures empty { text.new ≡ [] }
+    ensures written { OnOk result (Appends (W.contents output.old) (W.contents output.new) (lines_behind slots.now before count)) }
 {
-    let mut text = Replies::new(alloc)?;
-    put_held(hall.slots(), HeldQuery::All, &mut text);
-    match output.write_all(text.as_slice()) {
+    text_lines::held::put_lines(slots, before, count, text);
+    let written = output.write_all(text.as_slice());
+    text.clear();
+    match written {
         Ok(()) => Ok(()),
         Err(_) => Err(HostFailure::Output),
     }
 }
 
-/// Writes who holds numbers in the hall whose record a reader gives, as `held` is answered of that hall: a last line that was cut off is dropped,
+// Writes who holds numbers in a hall.
+fn write_held<W: Write>(alloc: Global, hall: &Hall, output: &mut W) -> Result<(), HostFailure>
+    ensures { OnOk result (Appends (W.contents output.old) (W.contents output.new) (all_held (slots_of (desk_of hall.now)))) }
+{
+    let slots = hall.slots();
+    let size = slots.pool().size() as u32;
+    let mut text = Replies::new(alloc)?;
+    let mut told = 0;
+    while told < size {
+        let count = (size - told).min(64);
+        write_page(slots, told, count, &mut text, output)?;
+        told += count;
+    }
+    match output.write_all(b"ok\n") {
+        Ok(()) => Ok(()),
+        Err(_) => Err(HostFailure::Output),
+    }
+}
+
+/// Writes who holds numbers in the hall whose record a reader gives, as `held` is answered of that hall, all in one page: a last line that was cut off is dropped,
 /// as at the opening of a journal.
 ///
 /// # Errors

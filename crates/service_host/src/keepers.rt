@@ -35,6 +35,7 @@ pub fn stays_at_start(alloc: Global, hall: &Hall, grace: Option<u64>) -> Result<
     if grace.is_none() {
         return Ok(Stays::new(alloc));
     }
-    let ids = identities_of(alloc, hall.slots().pool().competitors())?;
+    let competitors = hall.slots().pool().competitors(alloc)?;
+    let ids = identities_of(alloc, &competitors)?;
     Ok(Stays::all_gone(alloc, &ids, START)?)
 }

@@ -1,18 +1,18 @@
 //! How many numbers the pool of a hall has, and how many it is to have.
 
 ghost use Rattle.std.specs.Prelude.{◌≡◌, true, IfOk, IfSome};
-ghost use Rattle.service_host.specs.Sizes.{IsAlikeButSize, size_of, sizing_of};
+ghost use Rattle.service_host.specs.Sizes.{AreAlikeWorlds, IsAlikeButSize, size_of, sizing_of};
 
 use crate::failure::HostFailure;
-use model_asked::Config;
+use model_asked::{Config, WorldKind};
 use service_follow::log_persister::is_first_line;
 use service_follow::{LogFault, Pause};
 use service_hall::Hall;
 use service_log::{Store, StoreFault};
 use std::alloc::{AllocError, Global};
 
-/// The most numbers of a pool.
-const MOST_NUMBERS: u64 = 64;
+/// What stands before the size of the pool in the first entry of a log.
+const SIZE_NAME: &[u8] = b" k ";
 
 /// How often a store is asked for one entry, at most; a `Pause` ends it before.
 const MOST_TRIES: u32 = 1_000_000;
@@ -54,21 +54,50 @@ pub fn choose_sizing(hall: &Hall, asked: u64, by_clients: bool) -> Sizing
     Sizing::Exceeds
 }
 
-/// Returns true only if two configs are the same, but for the size of the pool.
+// Whether names are given in both worlds or in none, and over places of one kind.
+fn are_alike_worlds(kind: WorldKind, other: WorldKind) -> bool
+    ensures { result ≡ true → AreAlikeWorlds kind other }
+{
+    other.gives_names() == kind.gives_names() && other.is_tree() == kind.is_tree()
+}
+
+/// Returns true only if two configs are the same, but for the pool: its size, and whether it may have many numbers.
 pub(crate) fn are_alike_but_size(config: Config, other: Config) -> bool
     ensures { result ≡ true → IsAlikeButSize config other }
 {
-    other.world == config.world && other.m == config.m && other.limit == config.limit
+    are_alike_worlds(config.world, other.world)
+        && other.m == config.m
+        && other.limit == config.limit
 }
 
-// A config that is this one, but for the size of the pool.
-fn resized(config: Config, size: u64) -> Option<Config>
+// A config of this world, whose pool has this size, and which is else like another.
+fn resized(config: Config, world: WorldKind, size: u64) -> Option<Config>
     ensures { IfSome result (IsAlikeButSize config) }
 {
-    match Config::new(config.world, config.m, size, config.limit) {
-        Ok(resized) => Some(resized),
-        Err(_) => None,
+    match Config::new(world, config.m, size, config.limit) {
+        Ok(resized) if are_alike_but_size(config, resized) => Some(resized),
+        _ => None,
     }
+}
+
+// The number behind the name of the size, where the entry tells one. The caller compares the whole entry.
+fn size_told(entry: &[u8]) -> u64 {
+    let at = entry
+        .windows(SIZE_NAME.len())
+        .position(|name| name == SIZE_NAME);
+    let Some(at) = at else {
+        return 0;
+    };
+    let mut size: u64 = 0;
+    for byte in &entry[at + SIZE_NAME.len()..] {
+        if !byte.is_ascii_digit() {
+            break;
+        }
+        size = size
+            .saturating_mul(10)
+            .saturating_add(u64::from(*byte - b'0'));
+    }
+    size
 }
 
 // Whether an entry is the first one of a log of halls of such a config.
@@ -79,8 +108,8 @@ fn begins(alloc: Global, config: Option<Config>, entry: &[u8]) -> Result<bool, A
     }
 }
 
-/// Returns the config that the hall of a log was made with, as the first entry of the log tells. Returns `None` if that differs from this one in more than the
-/// size of the pool.
+/// Returns the config that the hall of a log was made with, as the first entry of the log tells. Returns `None` if that differs from this one in more than
+/// the pool.
 ///
 /// # Errors
 ///
@@ -92,8 +121,9 @@ pub fn config_of_log(
 ) -> Result<Option<Config>, AllocError>
     ensures { IfOk result (λ found. IfSome found (IsAlikeButSize config)) }
 {
-    for size in 1..=MOST_NUMBERS {
-        let tried = resized(config, size);
+    let size = size_told(entry);
+    for world in [config.world, WorldKind::Rename, WorldKind::Wide] {
+        let tried = resized(config, world, size);
         if begins(alloc, tried, entry)? {
             return Ok(tried);
         }

@@ -15,7 +15,7 @@ use crate::reading::Reading;
 use crate::sizes::{are_alike_but_size, config_in};
 use crate::terms::{followed_any, terms_by, warn_of_none};
 use crate::widening::{SizeAsked, check_size, widen_followed, widen_recorded};
-use model_asked::Config;
+use model_asked::{Config, WorldKind};
 use model_pool::stays::Stays;
 use service_follow::{HallTerms, LogPersister, Pause, ReplyQueue};
 use service_hall::{Compactor, Hall, Rules};
@@ -69,10 +69,10 @@ pub struct HostPlan<'a> {
 }
 
 impl HostPlan<'_> {
-    // What the loop serves.
-    fn options(&self) -> HostOptions {
+    // What the loop serves, over a hall of this world.
+    fn options(&self, kind: WorldKind) -> HostOptions {
         HostOptions {
-            kind: self.config.world,
+            kind,
             clients: self.clients,
             idle: self.idle,
             grace: self.grace,
@@ -218,6 +218,7 @@ fn host_recorded<R: Net + Wait + Clock + Files, D: Disk, L: AuditLog, W: Write, 
         Ok(stays) => stays,
         Err(failure) => return Err(failure),
     };
+    let kind = reading.service.hall().config().world;
     let mut attended = Attended::new(reading, stays, plan.grace.is_some(), plan.audit(alloc));
     let Listening { listeners, file } = match listen(rt, alloc, plan.listen) {
         Ok(listening) => listening,
@@ -226,7 +227,7 @@ fn host_recorded<R: Net + Wait + Clock + Files, D: Disk, L: AuditLog, W: Write, 
     let hosted = host(
         rt,
         alloc,
-        plan.options(),
+        plan.options(kind),
         listeners,
         &mut attended,
         &mut persister,
@@ -266,7 +267,7 @@ fn host_unrecorded<R: Net + Wait + Clock + Files, L: AuditLog, W: Write, E: Writ
     let hosted = host(
         rt,
         alloc,
-        plan.options(),
+        plan.options(plan.config.world),
         listeners,
         &mut attended,
         &mut persister,
@@ -372,6 +373,7 @@ where
         Err(fault) => return Err(HostFailure::from(fault)),
     };
     persister.choose_rules(plan.rules);
+    let kind = persister.hall().config().world;
     let mut attended = Attended::new(
         reply_queue,
         Stays::new(alloc),
@@ -381,7 +383,7 @@ where
     let hosted = host(
         rt,
         alloc,
-        plan.options(),
+        plan.options(kind),
         listeners,
         &mut attended,
         &mut persister,

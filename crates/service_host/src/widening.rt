@@ -1,12 +1,12 @@
 //! How a hall gets more numbers before it is served.
 
-ghost use Rattle.std.specs.Prelude.{◌≡◌, ◌⊎◌, true, false, ℕ, IfErr, IfOk, IfSome, OnOk};
+ghost use Rattle.std.specs.Prelude.{◌≡◌, ◌≤◌, ◌<◌, ◌⊎◌, true, false, ℕ, IfErr, IfOk, IfSome, OnOk};
 ghost use Rattle.model_asked.specs.Requests.Request.{Take};
 ghost use Rattle.model_asked.specs.Replies.{ShownReply, is_refusal};
 ghost use Rattle.model_asked.specs.declared.event.Event.{Event};
 ghost use Rattle.service_hall.specs.HallState.{HallState};
 ghost use Rattle.service_hall.specs.Halls.{HallMay};
-ghost use Rattle.service_host.specs.Sizes.{size_of, sizing_of};
+ghost use Rattle.service_host.specs.Sizes.{most_of, size_of, sizing_of};
 ghost use Rattle.service_host.specs.declared.sizes.Sizing.TheVariants.{Exceeds, Fits, Widens};
 ghost use Rattle.service_host.specs.Widened.{IsAskedFor, IsWider, widen_line};
 
@@ -37,18 +37,27 @@ pub struct SizeAsked {
     pub by_clients: bool,
 }
 
-/// Returns an error if the pool of a hall has more numbers than are asked for.
+/// Returns an error if the pool of a hall has more numbers than are asked for, or may not get as many.
 ///
 /// # Errors
 ///
-/// `Wider`: it has.
+/// - `Wider`: it has more.
+/// - `AtMost`: it may not get as many.
 pub(crate) fn check_size(hall: &Hall, asked: SizeAsked) -> Result<(), HostFailure>
-    ensures taken { OnOk result ((sizing_of hall.now asked.size asked.by_clients ≡ Fits) ⊎ (sizing_of hall.now asked.size asked.by_clients ≡ Widens)) }
-    ensures refused { IfErr result (λ why. (why ≡ HostFailure.Wider (size_of hall.now)) × (sizing_of hall.now asked.size asked.by_clients ≡ Exceeds)) }
+    ensures taken { OnOk result ((sizing_of hall.now asked.size asked.by_clients ≡ Fits) ⊎
+        ((sizing_of hall.now asked.size asked.by_clients ≡ Widens) × (asked.size ≤ most_of hall.now))) }
+    ensures refused { IfErr result (λ why. ((why ≡ HostFailure.Wider (size_of hall.now)) × (sizing_of hall.now asked.size asked.by_clients ≡ Exceeds)) ⊎
+        ((why ≡ HostFailure.AtMost (most_of hall.now)) × (sizing_of hall.now asked.size asked.by_clients ≡ Widens) × (most_of hall.now < asked.size))) }
 {
     match choose_sizing(hall, asked.size, asked.by_clients) {
         Sizing::Fits => Ok(()),
-        Sizing::Widens => Ok(()),
+        Sizing::Widens => {
+            let most = hall.slots().pool().most();
+            if most < asked.size {
+                return Err(HostFailure::AtMost(most));
+            }
+            Ok(())
+        }
         Sizing::Exceeds => Err(HostFailure::Wider(size_of(hall))),
     }
 }
@@ -116,7 +125,7 @@ fn tell_wider<E: Write>(
 ///
 /// # Errors
 ///
-/// - `Wider`: the pool has more numbers. Nothing changed.
+/// - `Wider`: the pool has more numbers. `AtMost`: it may not get as many. Nothing changed.
 /// - `NotWidened`: the history is full. Nothing changed.
 /// - Those of the journal, and `Memory`.
 pub(crate) fn widen_recorded<R, D: Disk, E: Write>(
@@ -127,6 +136,7 @@ pub(crate) fn widen_recorded<R, D: Disk, E: Write>(
     persister: &mut Recorded<D>,
     errors: &mut E,
 ) -> Result<(), HostFailure> {
+    check_size(reading.service.hall(), asked)?;
     let size = size_of(reading.service.hall());
     match choose_sizing(reading.service.hall(), asked.size, asked.by_clients) {
         Sizing::Fits => return Ok(()),
@@ -145,7 +155,7 @@ pub(crate) fn widen_recorded<R, D: Disk, E: Write>(
 ///
 /// # Errors
 ///
-/// - `Wider`: the pool has more numbers. Nothing changed.
+/// - `Wider`: the pool has more numbers. `AtMost`: it may not get as many. Nothing changed.
 /// - `NotWidened`: the history is full. Nothing changed.
 /// - Those of the log, and `Memory`.
 pub(crate) fn widen_followed<R, S: Store, P: Pause, E: Write>(
@@ -156,6 +166,7 @@ pub(crate) fn widen_followed<R, S: Store, P: Pause, E: Write>(
     persister: &mut LogPersister<S, P>,
     errors: &mut E,
 ) -> Result<(), HostFailure> {
+    check_size(persister.hall(), asked)?;
     let line = widen_line(alloc, asked.size)?;
     for _ in 0..MOST_TRIES {
         let size = size_of(persister.hall());

@@ -28,6 +28,7 @@ event_text (event.Begin p) = word_text (codes "begin ") p refl
 event_text (event.Step p) = word_text (codes "step ") p refl
 event_text (event.Enter p) = word_text (codes "enter ") p refl
 event_text (event.Probe p) = word_text (codes "probe ") p refl
+event_text (event.Seek p) = word_text (codes "seek ") p refl
 event_text (event.Leave p) = word_text (codes "leave ") p refl
 event_text (event.Put p value) = word_text ((codes "put " ++ decimal p) ++ codes " ") value (both_text (codes "put " ++ decimal p) (codes " ") (word_text (codes "put ") p refl) refl)
 event_text (event.Get p) = word_text (codes "get ") p refl

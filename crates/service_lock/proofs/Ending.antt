@@ -14,6 +14,7 @@ use Rattle.text_worlds.specs.desk.DeskRun.{IsDeskRunOf, desk_bounds, desk_terms}
 use Rattle.text_worlds.specs.desk.NamedAlone.{stepped_more, steps_of}
 use Rattle.text_worlds.specs.desk.NamedAmong.{goes_on, EndsSoon}
 use Rattle.text_worlds.specs.desk.Names.{begun_in}
+use Rattle.text_worlds.specs.desk.Start.{pool_start}
 use Rattle.text_worlds.proofs.cited.desk.NamedAmong.{names_soon_among}
 use Rattle.service_hall.specs.Halls.{hall_of, SatisfiesSpec}
 use Rattle.service_hall.specs.GoesOn.{GoesOn}
@@ -72,7 +73,7 @@ module _ (c : Config) (id turns : ℕ) (t : CallerState) where
   ends_soon : SatisfiesSpec (hall_of c t.seen) → EndsSoon (desk_terms c.m c.limit (is_tree c.world)) (desk_bounds (is_tree c.world) c.m) t.seen
   ends_soon lawful =
       let run : IsDeskRunOf c t.seen = history_run (hall_of c t.seen) lawful in
-      names_soon_among (desk_terms c.m c.limit (is_tree c.world)) (desk_bounds (is_tree c.world) c.m) c.k t.seen run
+      names_soon_among (desk_terms c.m c.limit (is_tree c.world)) (desk_bounds (is_tree c.world) c.m) (pool_start c) t.seen run
 
   pub fewer : (b : ℕ) → GoesOnSo c id turns t → begun_in t.seen ≤ b → turns_among c b ≤ turns → ⊥
   fewer b (inl none) few enough = absurd (let some = some_steps (desk_bounds (is_tree c.world) c.m) b in omega arith)

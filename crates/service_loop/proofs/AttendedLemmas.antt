@@ -14,14 +14,14 @@ use Rattle.service_loop.specs.declared.attended.Attended.{Attended}
 use Rattle.service_loop.specs.declared.attended.Ending.{Ending}
 use Rattle.service_loop.specs.Attending.{AttendedMay, Hears, act_of_ending, after_ending, acts_in, acts_of, acts_of_turn, gives_back, heard, keeps_by}
 use Rattle.service_loop.specs.Releasing.{is_freed, is_missed, lacks_number}
-use Rattle.service_loop.specs.Taking.{wants_probe}
+use Rattle.service_loop.specs.Taking.{wants_search}
 
--- what a reply tells of stays, and of `probe`
+-- what a reply tells of stays, and of `probe` and `seek`
 abbrev pub Tells : Type 0
 Tells = record { keeps : Bool; gives : Bool; freed : Bool; lacks : Bool; missed : Bool; wants : Bool }
 
 abbrev pub tells : {V : Type 0} → Reply V → Tells
-tells r = record { keeps = keeps_by r; gives = gives_back r; freed = is_freed r; lacks = lacks_number r; missed = is_missed r; wants = wants_probe r }
+tells r = record { keeps = keeps_by r; gives = gives_back r; freed = is_freed r; lacks = lacks_number r; missed = is_missed r; wants = wants_search r }
 
 -- it tells the same whatever view it shows
 pub shown : {V W : Type 0} (r : Reply V) (v : W) → tells (with_view r v) ≡ tells r
@@ -53,6 +53,7 @@ heard_shown c (event.Begin id) r v = refl
 heard_shown c (event.Step id) r v = refl
 heard_shown c (event.Enter id) r v = rw (keeps_shown r v) refl
 heard_shown c (event.Probe id) r v = refl
+heard_shown c (event.Seek id) r v = refl
 heard_shown c (event.Leave id) r v = rw (gives_shown r v) refl
 heard_shown c (event.Put id value) r v = refl
 heard_shown c (event.Get id) r v = refl

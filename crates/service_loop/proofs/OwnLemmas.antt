@@ -39,14 +39,14 @@ lacks_take c (suc n) (x ∷ xs) h =
     let parts = and_parts (not (x == c)) (lacks c xs) h in
     and_from (not (x == c)) (lacks c (take n xs)) parts.0 (lacks_take c n xs parts.1)
 
-own_by : (line : List ℕ) → same_bytes line (codes "terms") ≡ false → same_bytes line (codes "held") ≡ false → same_bytes (take 5 line) (codes "held ") ≡ false →
-    same_bytes (take 5 line) (codes "take ") ≡ false → is_own line ≡ false
-own_by line t h g k = rw (t, h, g, k) refl
+own_by : (line : List ℕ) → same_bytes line (codes "terms") ≡ false → same_bytes line (codes "held") ≡ false → same_bytes (take 10 line) (codes "held from ") ≡ false →
+    same_bytes (take 5 line) (codes "held ") ≡ false → same_bytes (take 5 line) (codes "take ") ≡ false → is_own line ≡ false
+own_by line t h p g k = rw (t, h, p, g, k) refl
 
 -- a line that lacks these letters is none
 lacking : (line : List ℕ) → lacks 104 line ≡ true → lacks 107 line ≡ true → lacks 109 line ≡ true → is_own line ≡ false
 lacking line h k m = own_by line (not_same 109 line (codes "terms") m refl) (not_same 104 line (codes "held") h refl)
-    (not_same 104 (take 5 line) (codes "held ") (lacks_take 104 5 line h) refl) (not_same 107 (take 5 line) (codes "take ") (lacks_take 107 5 line k) refl)
+    (not_same 104 (take 10 line) (codes "held from ") (lacks_take 104 10 line h) refl) (not_same 104 (take 5 line) (codes "held ") (lacks_take 104 5 line h) refl) (not_same 107 (take 5 line) (codes "take ") (lacks_take 107 5 line k) refl)
 
 first_other : (b c : ℕ) (bs cs : List ℕ) → (b == c) ≡ false → same_bytes (b ∷ bs) (c ∷ cs) ≡ false
 first_other b c bs cs e = rw e refl
@@ -57,7 +57,7 @@ begins_other [] h = refl
 begins_other (b ∷ bs) h =
     let parts = or_parts (b == 104) (b == 116) h in
     own_by (b ∷ bs) (first_other b 116 bs (drop 1 (codes "terms")) parts.1) (first_other b 104 bs (drop 1 (codes "held")) parts.0)
-    (first_other b 104 (take 4 bs) (drop 1 (codes "held ")) parts.0) (first_other b 116 (take 4 bs) (drop 1 (codes "take ")) parts.1)
+    (first_other b 104 (take 9 bs) (drop 1 (codes "held from ")) parts.0) (first_other b 104 (take 4 bs) (drop 1 (codes "held ")) parts.0) (first_other b 116 (take 4 bs) (drop 1 (codes "take ")) parts.1)
 
 pub begins_cut : (n : ℕ) (bytes : List ℕ) → begins bytes ≡ false → begins (take n bytes) ≡ false
 begins_cut zero bytes h = refl

@@ -10,6 +10,7 @@ pub mod Asking
 pub mod Answering
 pub mod Attending
 pub mod AttendingProofs
+pub mod Searching
 pub mod Releasing
 pub mod Losing
 pub mod Taking

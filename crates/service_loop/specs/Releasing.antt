@@ -4,7 +4,6 @@ use Rattle.std.specs.List.{Contains}
 use Rattle.model_steps.specs.declared.refusal.Refusal.{Refusal}
 use Rattle.model_steps.specs.declared.refusal.Refusal.TheVariants as refusal
 use Rattle.model_pool.specs.Competitors.{stay_of}
-use Rattle.model_pool.specs.declared.pool.TheConstants.{MOST_NUMBERS}
 use Rattle.model_pool.specs.slots.SlotsState.{SlotsState}
 use Rattle.model_asked.specs.declared.event.Event.{Event}
 use Rattle.model_asked.specs.declared.event.Event.TheVariants as event
@@ -20,13 +19,11 @@ use Rattle.model_pool.specs.stays.Stays.{Act}
 use Rattle.model_pool.specs.stays.Stays.Act.{Left}
 use Rattle.service_loop.specs.declared.attended.Attended.{Attended}
 use Rattle.service_loop.specs.Attending.{Hears}
+use Rattle.service_loop.specs.Searching.{most_said, searched}
 
--- `leave` of an identity was answered so, and `probe`
+-- `leave` of an identity was answered so
 abbrev pub leave_of : ℕ → ShownReply → Turn
 leave_of id r = Answered (record { event = event.Leave id; reply = r })
-
-abbrev pub probe_of : ℕ → ShownReply → Turn
-probe_of id r = Answered (record { event = event.Probe id; reply = r })
 
 -- the identity competes and holds no number, by the reply to `leave`
 abbrev pub is_not_holding : Refusal → Bool
@@ -42,22 +39,23 @@ abbrev pub is_missed : {V : Type 0} → Reply V → Bool
 is_missed reply.Missed = true
 is_missed _ = false
 
--- `probe` of an identity, missed but for the last, or missed as often as there may be numbers
-abbrev pub AreProbes : ℕ → List Turn → Type 0
-AreProbes id turns =
-    (turns ≡ replicate MOST_NUMBERS (probe_of id reply.Missed)) ⊎
-    ((n : ℕ) × (r : ShownReply) × (n < MOST_NUMBERS) × (is_missed r ≡ false) × (turns ≡ replicate n (probe_of id reply.Missed) ++ probe_of id r ∷ []))
+-- `seek` or `probe` of an identity, missed but for the last, or missed as often as it may be said
+abbrev pub AreProbes : Bool → ℕ → List Turn → Type 0
+AreProbes wide id turns =
+    (turns ≡ replicate (most_said wide) (searched wide id reply.Missed)) ⊎
+    ((n : ℕ) × (r : ShownReply) × (n < most_said wide) × (is_missed r ≡ false) × (turns ≡ replicate n (searched wide id reply.Missed) ++ searched wide id r ∷ []))
 
--- These turns release an identity: `leave`, or, where it holds no number, `probe` and `leave` once more. This is the reply to the last `leave`
-abbrev pub IsReleaseBy : ℕ → ShownReply → List Turn → Type 0
-IsReleaseBy id r turns =
+-- These turns release an identity: `leave`, or, where it holds no number, `seek` or `probe`, and `leave` once more. This is the reply to the last
+-- `leave`
+abbrev pub IsReleaseBy : Bool → ℕ → ShownReply → List Turn → Type 0
+IsReleaseBy wide id r turns =
     ((turns ≡ leave_of id r ∷ []) × (lacks_number r ≡ false)) ⊎
-    ((first : ShownReply) × (probes : List Turn) × (lacks_number first ≡ true) × AreProbes id probes × (turns ≡ leave_of id first ∷ probes ++ leave_of id r ∷ []))
+    ((first : ShownReply) × (probes : List Turn) × (lacks_number first ≡ true) × AreProbes wide id probes × (turns ≡ leave_of id first ∷ probes ++ leave_of id r ∷ []))
 
 -- they release these identities, one after another
-abbrev pub AreReleases : List ℕ → List Turn → Type 0
-AreReleases [] turns = turns ≡ []
-AreReleases (id ∷ ids) turns = (one rest : List Turn) × (r : ShownReply) × (turns ≡ one ++ rest) × IsReleaseBy id r one × AreReleases ids rest
+abbrev pub AreReleases : Bool → List ℕ → List Turn → Type 0
+AreReleases wide [] turns = turns ≡ []
+AreReleases wide (id ∷ ids) turns = (one rest : List Turn) × (r : ShownReply) × (turns ≡ one ++ rest) × IsReleaseBy wide id r one × AreReleases wide ids rest
 
 -- the identity does not compete any more, by the reply to `leave`: it was accepted, or refused for that
 abbrev pub is_not_competing : Refusal → Bool
@@ -85,16 +83,16 @@ freed_in turns = flat_map freed_of turns
 
 -- These identities were released, one after another, by turns of the service that say nothing else. Of who keeps stays nothing changed but that the
 -- stay of each is forgotten that does not compete any more, by the reply to it
-pub record Released {D : Type 0} (may : D → Request → ShownReply → D → Type 0) (due : List ℕ) (w u : Attended D) : Type 0 where
+pub record Released {D : Type 0} (wide : Bool) (may : D → Request → ShownReply → D → Type 0) (due : List ℕ) (w u : Attended D) : Type 0 where
   pub turns : List Turn
   pub run : Runs may w.service turns u.service
-  pub each : AreReleases due turns
+  pub each : AreReleases wide due turns
   pub heard : Hears (freed_in turns) w u
 
 -- the stays of these identities were released, and what the service tells of it is kept
-pub record ReleasedAndKept {D K : Type 0} (may : D → Request → ShownReply → D → Type 0) (persists : K → D → K → D → Type 0) (due : List ℕ) (k : K) (w : Attended D) (l : K) (u : Attended D) : Type 0 where
+pub record ReleasedAndKept {D K : Type 0} (wide : Bool) (may : D → Request → ShownReply → D → Type 0) (persists : K → D → K → D → Type 0) (due : List ℕ) (k : K) (w : Attended D) (l : K) (u : Attended D) : Type 0 where
   pub reported : Attended D
-  pub released : Released may due w reported
+  pub released : Released wide may due w reported
   pub kept : persists k reported.service l u.service
   pub same : Hears [] reported u
 
@@ -115,28 +113,29 @@ pub record WaitedAndForgot {D K : Type 0} (waits : K → D → K → D → Type 
   pub forgot : Forgot (holds l reached.service) due reached u
 
 -- Where the persister shares stays it went on by itself. Else these are none, and nothing was done; or these were released
-abbrev pub EndsDue : {D K : Type 0} → (D → Request → ShownReply → D → Type 0) → (K → D → K → D → Type 0) → (K → D → K → D → Type 0) → (K → Bool) → (K → D → SlotsState ℕ) → List ℕ → K → Attended D → K → Attended D → Type 0
-EndsDue may persists waits shares holds due k w l u =
+abbrev pub EndsDue : {D K : Type 0} → Bool → (D → Request → ShownReply → D → Type 0) → (K → D → K → D → Type 0) → (K → D → K → D → Type 0) → (K → Bool) → (K → D → SlotsState ℕ) → List ℕ → K → Attended D → K → Attended D → Type 0
+EndsDue wide may persists waits shares holds due k w l u =
     ((shares k ≡ true) × WaitedAndForgot waits holds due k w l u) ⊎
-    ((shares k ≡ false) × (((due ≡ []) × (l ≡ k) × (u ≡ w)) ⊎ ReleasedAndKept may persists due k w l u))
+    ((shares k ≡ false) × (((due ≡ []) × (l ≡ k) × (u ≡ w)) ⊎ ReleasedAndKept wide may persists due k w l u))
 
--- what a service tells of who competes: not who was freed, and nobody enters by `leave` or `probe`
+-- what a service tells of who competes: not who was freed, and nobody enters by `leave`, `probe` or `seek`
 pub record TellsOfStays {D : Type 0} (may : D → Request → ShownReply → D → Type 0) (competes : D → ℕ → Bool) : Type 0 where
   pub freed : (w u : D) (id : ℕ) (r : ShownReply) → may w (Take (event.Leave id)) r u → is_freed r ≡ true → competes u id ≡ false
   pub leave : (w u : D) (id i : ℕ) (r : ShownReply) → may w (Take (event.Leave i)) r u → competes w id ≡ false → competes u id ≡ false
   pub probe : (w u : D) (id i : ℕ) (r : ShownReply) → may w (Take (event.Probe i)) r u → competes w id ≡ false → competes u id ≡ false
+  pub seek : (w u : D) (id i : ℕ) (r : ShownReply) → may w (Take (event.Seek i)) r u → competes w id ≡ false → competes u id ≡ false
 
 -- among these turns is a release of an identity whose last `leave` did not free it
-pub record IsNotFreed (id : ℕ) (turns : List Turn) : Type 0 where
+pub record IsNotFreed (wide : Bool) (id : ℕ) (turns : List Turn) : Type 0 where
   pub before : List Turn
   pub one : List Turn
   pub after : List Turn
   pub parts : turns ≡ before ++ (one ++ after)
   pub reply : ShownReply
-  pub by : IsReleaseBy id reply one
+  pub by : IsReleaseBy wide id reply one
   pub not : is_freed reply ≡ false
 
 -- of a service that tells so, each of these does not compete once it was released, but where its last `leave` did not free it
-abbrev pub ReleasesFree : {D : Type 0} → (D → Request → ShownReply → D → Type 0) → Type 0
-ReleasesFree {D = D} may = (competes : D → ℕ → Bool) (due : List ℕ) (w u : Attended D) (released : Released may due w u) (id : ℕ) → TellsOfStays may competes →
-    Contains due id → (competes u.service id ≡ false) ⊎ IsNotFreed id released.turns
+abbrev pub ReleasesFree : {D : Type 0} → Bool → (D → Request → ShownReply → D → Type 0) → Type 0
+ReleasesFree {D = D} wide may = (competes : D → ℕ → Bool) (due : List ℕ) (w u : Attended D) (released : Released wide may due w u) (id : ℕ) → TellsOfStays may competes →
+    Contains due id → (competes u.service id ≡ false) ⊎ IsNotFreed wide id released.turns

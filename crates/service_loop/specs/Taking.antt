@@ -1,6 +1,6 @@
--- numbers that a server takes for its connections: `take ID` is `enter ID`, and `probe ID` as often as it takes
+-- numbers that a server takes for its connections: `take ID` is `enter ID`, and then in the wide world one `seek ID`, elsewhere `probe ID` as often
+-- as it takes
 use Rattle.std.specs.Prelude.{◌≡◌, ◌⊎◌, ◌+◌, ℕ, replicate, Bool, true, false, List, [], ◌∷◌, ◌++◌, length, map, drop, get_or, Option, Some, None}
-use Rattle.model_pool.specs.declared.pool.TheConstants.{MOST_NUMBERS}
 use Rattle.model_asked.specs.declared.event.Event.{Event}
 use Rattle.model_asked.specs.declared.event.Event.TheVariants as event
 use Rattle.model_asked.specs.declared.reply.Reply.{Reply}
@@ -15,60 +15,59 @@ use Rattle.text_player.specs.Turns.Turn.{Answered}
 use Rattle.service_loop.specs.Asking.{IsTakingOf}
 use Rattle.service_loop.specs.BuffersState.{BuffersState}
 use Rattle.service_loop.specs.Reported.{IsAmong}
+use Rattle.service_loop.specs.Searching.{most_said, searched, searching}
 use Rattle.service_loop.specs.Seats.{RepliesSent, Seating}
 use Rattle.service_loop.specs.Waiting.{given_up, taken_for}
 
--- behind this reply `probe` is said: `enter` was accepted, or a `probe` missed
-abbrev pub wants_probe : {V : Type 0} → Reply V → Bool
-wants_probe reply.Ok = true
-wants_probe reply.Missed = true
-wants_probe _ = false
+-- behind this reply a number is searched for: `enter` was accepted, or a `probe` missed
+abbrev pub wants_search : {V : Type 0} → Reply V → Bool
+wants_search reply.Ok = true
+wants_search reply.Missed = true
+wants_search _ = false
 
 abbrev pub entered : ℕ → ShownReply → Turn
 entered id r = Answered (record { event = event.Enter id; reply = r })
 
-abbrev pub probed : ℕ → ShownReply → Turn
-probed id r = Answered (record { event = event.Probe id; reply = r })
-
--- from the first reply these lead to the last: behind each but that `probe` is said
+-- from the first reply these lead to the last: behind each but that it is searched on
 abbrev pub LeadTo : ShownReply → List ShownReply → ShownReply → Type 0
 LeadTo r [] last = last ≡ r
-LeadTo r (p ∷ ps) last = (wants_probe r ≡ true) × LeadTo p ps last
+LeadTo r (p ∷ ps) last = (wants_search r ≡ true) × LeadTo p ps last
 
--- `enter` of this identity, and then `probe` as long as a reply wants it, and no more often than there are numbers: the last reply is the answer
-pub record IsTaking (id : ℕ) (turns : List Turn) (answer : ShownReply) : Type 0 where
+-- `enter` of this identity, and then `seek` or `probe` as long as a reply wants it, and no more often than it may be said: the last reply is the
+-- answer
+pub record IsTaking (wide : Bool) (id : ℕ) (turns : List Turn) (answer : ShownReply) : Type 0 where
   pub first : ShownReply
   pub more : List ShownReply
-  pub turns_are : turns ≡ entered id first ∷ map (probed id) more
+  pub turns_are : turns ≡ entered id first ∷ map (searched wide id) more
   pub lead : LeadTo first more answer
-  pub enough : (wants_probe answer ≡ false) ⊎ (length more ≡ MOST_NUMBERS)
+  pub enough : (wants_search answer ≡ false) ⊎ (length more ≡ most_said wide)
 
--- the same, with so many more behind it that `probe` is said as often as there are numbers
-pub record IsTakingAhead (id : ℕ) (turns : List Turn) (answer : ShownReply) : Type 0 where
+-- the same, with so many more behind it that `seek` or `probe` is said as often as it may be
+pub record IsTakingAhead (wide : Bool) (id : ℕ) (turns : List Turn) (answer : ShownReply) : Type 0 where
   pub own : List Turn
-  pub taking : IsTaking id own answer
+  pub taking : IsTaking wide id own answer
   pub rest : List ShownReply
-  pub turns_are : turns ≡ own ++ map (probed id) rest
-  pub many : length taking.more + length rest ≡ MOST_NUMBERS
+  pub turns_are : turns ≡ own ++ map (searched wide id) rest
+  pub many : length taking.more + length rest ≡ most_said wide
 
 -- and by whether the answers were prefetched
-abbrev pub SaysTaking : Bool → ℕ → List Turn → ShownReply → Type 0
-SaysTaking false id turns answer = IsTaking id turns answer
-SaysTaking true id turns answer = IsTakingAhead id turns answer
+abbrev pub SaysTaking : Bool → Bool → ℕ → List Turn → ShownReply → Type 0
+SaysTaking wide false id turns answer = IsTaking wide id turns answer
+SaysTaking wide true id turns answer = IsTakingAhead wide id turns answer
 
--- the events of that, where the answers are prefetched: `probe` as often as there are numbers; none, where no number is taken
-abbrev pub events_for : Option ℕ → List Event
-events_for None = []
-events_for (Some id) = event.Enter id ∷ replicate MOST_NUMBERS (event.Probe id)
+-- the events of that, where the answers are prefetched: `seek` or `probe` as often as it may be said; none, where no number is taken
+abbrev pub events_for : Bool → Option ℕ → List Event
+events_for wide None = []
+events_for wide (Some id) = event.Enter id ∷ replicate (most_said wide) (searching wide id)
 
 -- The line that waits first takes a number: it is taken, and the answer waits behind what waited to be sent. The transcript, and whatever else waits, is
 -- as it was, but where it is at fault
-pub record TakesNumber (ahead : Bool) (turns : List Turn) (s s' : BuffersState) : Type 0 where
+pub record TakesNumber (wide ahead : Bool) (turns : List Turn) (s s' : BuffersState) : Type 0 where
   pub identity : ℕ
   pub count : ℕ
   pub asks : IsTakingOf s.inbox identity count
   pub answer : ShownReply
-  pub says : SaysTaking ahead identity turns answer
+  pub says : SaysTaking wide ahead identity turns answer
   pub responder_is : s'.responder ≡ s.responder
   pub ended_is : s'.ended ≡ s.ended
   pub in_line_is : s'.in_line ≡ s.in_line
@@ -76,8 +75,8 @@ pub record TakesNumber (ahead : Bool) (turns : List Turn) (s s' : BuffersState) 
   pub kept : s'.broken ≡ false → (s'.outbox ≡ s.outbox ++ reply_text answer) × (s.broken ≡ false)
 
 -- it does, or nothing is said and nothing changes
-abbrev pub MayTakeNumber : Bool → List Turn → BuffersState → BuffersState → Type 0
-MayTakeNumber ahead turns s s' = ((turns ≡ []) × (s' ≡ s)) ⊎ TakesNumber ahead turns s s'
+abbrev pub MayTakeNumber : Bool → Bool → List Turn → BuffersState → BuffersState → Type 0
+MayTakeNumber wide ahead turns s s' = ((turns ≡ []) × (s' ≡ s)) ⊎ TakesNumber wide ahead turns s s'
 
 module _ {C : Type 0} (on : Seating C) where
   -- for which identity the connection at a seat takes a number
@@ -86,9 +85,9 @@ module _ {C : Type 0} (on : Seating C) where
   seat_taken_for (Some c) = taken_for (on.buffers c)
 
   -- the events by which the connections at these seats take numbers, one after another
-  abbrev pub events_of : List (Option C) → List ℕ → List Event
-  events_of seats [] = []
-  events_of seats (key ∷ keys) = events_for (seat_taken_for (get_or seats key None)) ++ events_of seats keys
+  abbrev pub events_of : Bool → List (Option C) → List ℕ → List Event
+  events_of wide seats [] = []
+  events_of wide seats (key ∷ keys) = events_for wide (seat_taken_for (get_or seats key None)) ++ events_of wide seats keys
 
   -- a connection that takes a number is at fault, and nothing else changes; an empty seat stays empty
   abbrev pub SeatGivenUp : Option C → Option C → Type 0
@@ -102,13 +101,13 @@ module _ {C : Type 0} (on : Seating C) where
     pub each : (i : ℕ) → IsAmong i keys → SeatGivenUp (get_or seats i None) (get_or seats' i None)
     pub others : (i : ℕ) → (IsAmong i keys → ⊥) → get_or seats' i None ≡ get_or seats i None
 
-module _ {C : Type 0} (on : Seating C) (ahead : Bool) where
+module _ {C : Type 0} (on : Seating C) (wide ahead : Bool) where
   -- by these turns a connection may take a number, and nothing is read or sent; an empty seat stays empty
   abbrev pub SeatTakesNumber : List Turn → Option C → Option C → Type 0
   SeatTakesNumber turns None None = turns ≡ []
   SeatTakesNumber turns None (Some c) = ⊥
   SeatTakesNumber turns (Some c) None = ⊥
-  SeatTakesNumber turns (Some c) (Some d) = MayTakeNumber ahead turns (on.buffers c) (on.buffers d) × (on.left d ≡ on.left c) × (on.gone d ≡ on.gone c)
+  SeatTakesNumber turns (Some c) (Some d) = MayTakeNumber wide ahead turns (on.buffers c) (on.buffers d) × (on.left d ≡ on.left c) × (on.gone d ≡ on.gone c)
 
   module _ {T : Type 0} (may : T → Request → ShownReply → T → Type 0) where
     -- the turns of all connections, in the one order of this log, lead the service from w to u, and those of each seat are what its connection took

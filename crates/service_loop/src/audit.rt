@@ -192,7 +192,7 @@ impl Audit {
     }
 
     // Notes that a number was taken.
-    fn note_got(&mut self, speaker: u64, event: Event, number: u8) {
+    fn note_got(&mut self, speaker: u64, event: Event, number: u32) {
         let speaker = self.speaker(speaker);
         if let Asker::Taker { .. } = self.asker {
             self.asker = Asker::Taker { answered: true };
@@ -205,7 +205,7 @@ impl Audit {
     }
 
     // Notes that a number was given back.
-    fn note_left(&mut self, speaker: u64, event: Event, number: u8) {
+    fn note_left(&mut self, speaker: u64, event: Event, number: u32) {
         let speaker = self.speaker(speaker);
         let cause = match self.asker {
             Asker::Grace => Cause::Grace,

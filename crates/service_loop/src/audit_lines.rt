@@ -50,6 +50,7 @@ pub(crate) fn identity_of(event: Event) -> u64 {
         | Event::Step(id)
         | Event::Enter(id)
         | Event::Probe(id)
+        | Event::Seek(id)
         | Event::Leave(id)
         | Event::Put(id, _)
         | Event::Get(id)
@@ -64,6 +65,7 @@ fn word_of(event: Event) -> &'static str {
         Event::Step(_) => "step",
         Event::Enter(_) => "enter",
         Event::Probe(_) => "probe",
+        Event::Seek(_) => "seek",
         Event::Leave(_) => "leave",
         Event::Put(_, _) => "put",
         Event::Get(_) => "get",

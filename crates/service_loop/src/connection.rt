@@ -540,11 +540,12 @@ impl<S: Stream, A: Allocator> Connection<S, A> {
         rt: &R,
         service: &mut D,
         shared: &mut SharedBuffers<B>,
+        wide: bool,
         ahead: bool,
     )
         requires knows { (q : Request) → D.knows q ≡ true }
         requires room { AreShared shared.old }
-        ensures takes { (turns : List Turn) × Runs D.may service.old turns service.new × MayTakeNumber ahead turns self.old.buffers self.new.buffers }
+        ensures takes { (turns : List Turn) × Runs D.may service.old turns service.new × MayTakeNumber wide ahead turns self.old.buffers self.new.buffers }
         ensures stream { self.new.stream ≡ self.old.stream }
         ensures stage { self.new.stage ≡ ConnectionStage.Taken }
         ensures room { AreShared shared.new }
@@ -554,7 +555,7 @@ impl<S: Stream, A: Allocator> Connection<S, A> {
             return;
         }
         if let Some((identity, count)) = self.buffers.taking() {
-            let reply = say_taking(rt, service, &mut shared.view, identity, ahead);
+            let reply = say_taking(rt, service, &mut shared.view, identity, wide, ahead);
             print_reply(reply, &shared.view, &mut shared.replies);
             self.buffers.answer(count, &mut shared.replies);
         }

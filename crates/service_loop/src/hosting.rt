@@ -1,6 +1,7 @@
 //! A server in one thread, by the readiness of its sockets.
 
-ghost use Rattle.std.specs.Prelude.{◌≡◌, ◌⊎◌, ◌<◌, ◌≤◌, ◌+◌, ℕ, List, Option, true, not, OnOk};
+ghost use Rattle.std.specs.Prelude.{◌≡◌, ◌⊎◌, ◌<◌, ◌≤◌, ◌+◌, ℕ, Bool, List, Option, true, not, OnOk};
+ghost use Rattle.model_asked.specs.Config.{is_wide};
 ghost use Rattle.model_asked.specs.Requests.{Request};
 ghost use Rattle.service_watch.specs.durations.Histogram.{capped};
 ghost use Rattle.service_loop.specs.Attendance.{WasAttended};
@@ -207,16 +208,18 @@ where
     R: Net + Wait + Clock,
     requires { (q : Request) → D.knows q ≡ true }
     ensures served { OnOk result (WasServed D.may K.prefetches K.persists K.waits persister.old service.old.service persister.new service.new.service) }
-    ensures attended { OnOk result (WasAttended hosted D.may K.prefetches K.persists K.waits K.shares K.holds options.grace
+    ensures attended { OnOk result (WasAttended hosted (is_wide options.kind) D.may K.prefetches K.persists K.waits K.shares K.holds options.grace
         persister.old service.old persister.new service.new) }
 {
     let mut shared = SharedBuffers::new(alloc)?;
     let mut hosting = Hosting::new(rt, alloc, options, listeners, persister.most_prefetched())?;
     hosting.tell_listening(output)?;
     hosting.tell_trouble(persister.trouble(), errors);
+    let wide = options.kind.is_wide();
     for _ in rt.forever() {
         hosting.go_round(
             rt,
+            wide,
             options.grace,
             service,
             persister,
@@ -333,6 +336,7 @@ impl Hosting {
     fn go_round<R: Clock, D: Service<R>, K: Persist<D>, L: AuditLog, E: Write>(
         &mut self,
         rt: &R,
+        wide: bool,
         grace: Option<u64>,
         service: &mut Attended<D>,
         persister: &mut K,
@@ -343,14 +347,14 @@ impl Hosting {
         requires knows { (q : Request) → D.knows q ≡ true }
         requires room { AreShared shared.old }
         ensures room { AreShared shared.new }
-        ensures attended { OnOk result (WasAttended hosted D.may K.prefetches K.persists K.waits K.shares K.holds grace
+        ensures attended { OnOk result (WasAttended hosted wide D.may K.prefetches K.persists K.waits K.shares K.holds grace
             persister.old service.old persister.new service.new) }
     {
         self.wait(rt, &mut service.audit)?;
         self.accept_all(&mut service.audit)?;
         self.tell_full(errors);
         self.tell_tick(&mut service.service, persister)?;
-        self.serve_all(rt, grace, service, persister, shared)?;
+        self.serve_all(rt, wide, grace, service, persister, shared)?;
         self.tell_trouble(persister.trouble(), errors);
         self.tell_room(persister.lasting_tenths(), errors);
         self.tell_lost(errors);
@@ -531,6 +535,7 @@ impl Hosting {
     fn serve_all<R, D: Service<R>, K: Persist<D>>(
         &mut self,
         rt: &R,
+        wide: bool,
         grace: Option<u64>,
         service: &mut Attended<D>,
         persister: &mut K,
@@ -539,20 +544,21 @@ impl Hosting {
         requires knows { (q : Request) → D.knows q ≡ true }
         requires room { AreShared shared.old }
         ensures room { AreShared shared.new }
-        ensures attended { OnOk result (WasAttended hosted D.may K.prefetches K.persists K.waits K.shares K.holds grace
+        ensures attended { OnOk result (WasAttended hosted wide D.may K.prefetches K.persists K.waits K.shares K.holds grace
             persister.old service.old persister.new service.new) }
         ensures keepers { OnOk result ((heard : Attended D) × (seats : List (Option (Connection Socket Global))) ×
             Hears (acts_of_endings self.old.tick self.old.lost self.old.connections.ended.items) service.old heard ×
             SendsToKeepers sockets (K.may_answer persister.old) heard.stays self.old.connections.numbers.items self.old.connections.seats.items seats) }
     {
-        self.end_stays(rt, grace, service, persister, shared)?;
-        self.serve(rt, service, persister, shared)
+        self.end_stays(rt, wide, grace, service, persister, shared)?;
+        self.serve(rt, wide, service, persister, shared)
     }
 
     // Gives each connection that is due its turn.
     fn serve<R, D: Service<R>, K: Persist<D>>(
         &mut self,
         rt: &R,
+        wide: bool,
         service: &mut Attended<D>,
         persister: &mut K,
         shared: &mut SharedBuffers<Global>,
@@ -560,14 +566,14 @@ impl Hosting {
         requires knows { (q : Request) → D.knows q ≡ true }
         requires room { AreShared shared.old }
         ensures room { AreShared shared.new }
-        ensures attended { (grace : Option ℕ) → OnOk result (WasAttended hosted D.may K.prefetches K.persists K.waits K.shares K.holds grace
+        ensures attended { (grace : Option ℕ) → OnOk result (WasAttended hosted wide D.may K.prefetches K.persists K.waits K.shares K.holds grace
             persister.old service.old persister.new service.new) }
         ensures sent { OnOk result ((seats : List (Option (Connection Socket Global))) × HasSent sockets self.old.connections.seats.items seats) }
     {
         match self.iterate_all(rt, service, persister, shared) {
             Ok(called) => {
                 self.note_lost(called);
-                self.take_numbers(rt, service, persister, shared, called)?;
+                self.take_numbers(rt, wide, service, persister, shared, called)?;
                 self.answer(&service.service, persister, shared, called);
                 self.settle(called.count())
             }
@@ -586,7 +592,7 @@ impl Hosting {
         requires knows { (q : Request) → D.knows q ≡ true }
         requires room { AreShared shared.old }
         ensures room { AreShared shared.new }
-        ensures attended { (grace : Option ℕ) → OnOk result (WasAttended hosted D.may K.prefetches K.persists K.waits K.shares K.holds grace
+        ensures attended { (wide : Bool) (grace : Option ℕ) → OnOk result (WasAttended hosted wide D.may K.prefetches K.persists K.waits K.shares K.holds grace
             persister.old service.old persister.new service.new) }
         ensures sent { OnOk result (HasSent sockets self.old.connections.seats.items self.new.connections.seats.items) }
     {
@@ -614,6 +620,7 @@ impl Hosting {
     fn take_numbers<R, D: Service<R>, K: Persist<D>>(
         &mut self,
         rt: &R,
+        wide: bool,
         service: &mut Attended<D>,
         persister: &mut K,
         shared: &mut SharedBuffers<Global>,
@@ -622,7 +629,7 @@ impl Hosting {
         requires knows { (q : Request) → D.knows q ≡ true }
         requires room { AreShared shared.old }
         ensures room { AreShared shared.new }
-        ensures attended { (grace : Option ℕ) → OnOk result (WasAttended hosted D.may K.prefetches K.persists K.waits K.shares K.holds grace
+        ensures attended { (grace : Option ℕ) → OnOk result (WasAttended hosted wide D.may K.prefetches K.persists K.waits K.shares K.holds grace
             persister.old service.old persister.new service.new) }
         ensures sent { OnOk result (HasSent sockets self.old.connections.seats.items self.new.connections.seats.items) }
     {
@@ -632,7 +639,7 @@ impl Hosting {
         if !shared.waits {
             return Ok(());
         }
-        match self.take_numbers_of(rt, service, persister, shared, count) {
+        match self.take_numbers_of(rt, wide, service, persister, shared, count) {
             Ok(taken) => {
                 self.note_lost(taken);
                 Ok(())
@@ -645,6 +652,7 @@ impl Hosting {
     fn take_numbers_of<R, D: Service<R>, K: Persist<D>>(
         &mut self,
         rt: &R,
+        wide: bool,
         service: &mut Attended<D>,
         persister: &mut K,
         shared: &mut SharedBuffers<Global>,
@@ -653,7 +661,7 @@ impl Hosting {
         requires knows { (q : Request) → D.knows q ≡ true }
         requires room { AreShared shared.old }
         ensures room { AreShared shared.new }
-        ensures attended { (grace : Option ℕ) → OnOk result (WasAttended hosted D.may K.prefetches K.persists K.waits K.shares K.holds grace
+        ensures attended { (grace : Option ℕ) → OnOk result (WasAttended hosted wide D.may K.prefetches K.persists K.waits K.shares K.holds grace
             persister.old service.old persister.new service.new) }
         ensures sent { OnOk result (HasSent sockets self.old.connections.seats.items self.new.connections.seats.items) }
     {
@@ -670,11 +678,13 @@ impl Hosting {
         }
         match &mut self.batch {
             None => {
-                serve_takings(rt, service, persister, shared, seats, numbers, first, false)?;
+                serve_takings(
+                    rt, service, persister, shared, seats, numbers, first, wide, false,
+                )?;
                 Ok(Called::Served(count))
             }
             Some(batch) => prefetch_takings(
-                rt, service, persister, batch, shared, seats, numbers, first,
+                rt, service, persister, batch, shared, seats, numbers, first, wide,
             ),
         }
     }
@@ -714,6 +724,7 @@ impl Hosting {
     fn end_stays<R, D: Service<R>, K: Persist<D>>(
         &mut self,
         rt: &R,
+        wide: bool,
         grace: Option<u64>,
         service: &mut Attended<D>,
         persister: &mut K,
@@ -722,9 +733,9 @@ impl Hosting {
         requires knows { (q : Request) → D.knows q ≡ true }
         requires room { AreShared shared.old }
         ensures room { AreShared shared.new }
-        ensures attended { OnOk result (WasAttended hosted D.may K.prefetches K.persists K.waits K.shares K.holds grace
+        ensures attended { OnOk result (WasAttended hosted wide D.may K.prefetches K.persists K.waits K.shares K.holds grace
             persister.old service.old persister.new service.new) }
-        ensures ends { OnOk result (HearsAndEnds K.may_answer (EndsDue D.may K.persists K.waits K.shares K.holds) grace self.old.looks self.old.tick
+        ensures ends { OnOk result (HearsAndEnds K.may_answer (EndsDue wide D.may K.persists K.waits K.shares K.holds) grace self.old.looks self.old.tick
             (acts_of_endings self.old.tick self.old.lost self.old.connections.ended.items) self.old.connections.numbers.items self.new.connections.seats.items
             persister.old service.old persister.new service.new) }
         ensures unsent { OnOk result (Unsent sockets self.old.connections.seats.items self.new.connections.seats.items) }
@@ -732,13 +743,14 @@ impl Hosting {
         let ended = self.has_ended();
         self.connections.note_ended(service, self.lost, self.tick);
         self.connections.check_keepers(persister, &service.stays)?;
-        self.end_if_due(rt, grace, service, persister, shared, ended)
+        self.end_if_due(rt, wide, grace, service, persister, shared, ended)
     }
 
     // Ends the stays that are due, where a second has passed or connections have ended, and any are to end.
     fn end_if_due<R, D: Service<R>, K: Persist<D>>(
         &mut self,
         rt: &R,
+        wide: bool,
         grace: Option<u64>,
         service: &mut Attended<D>,
         persister: &mut K,
@@ -748,7 +760,7 @@ impl Hosting {
         requires knows { (q : Request) → D.knows q ≡ true }
         requires room { AreShared shared.old }
         ensures room { AreShared shared.new }
-        ensures ends { OnOk result (EndsAtTick (EndsDue D.may K.persists K.waits K.shares K.holds) grace self.old.looks self.old.tick
+        ensures ends { OnOk result (EndsAtTick (EndsDue wide D.may K.persists K.waits K.shares K.holds) grace self.old.looks self.old.tick
             persister.old service.old persister.new service.new) }
         ensures table { self.new.connections ≡ self.old.connections }
     {
@@ -768,6 +780,7 @@ impl Hosting {
             service,
             persister,
             &mut shared.view,
+            wide,
             grace,
             self.tick,
         )

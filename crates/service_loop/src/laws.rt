@@ -1,6 +1,6 @@
 //! Laws of what a connection takes, and of stays that a server ends.
 
-ghost use Rattle.std.specs.Prelude.{ℕ, Option};
+ghost use Rattle.std.specs.Prelude.{ℕ, Bool, Option};
 ghost use Rattle.service_loop.specs.Attendance.{KeepsGrace};
 ghost use Rattle.service_loop.specs.ConnectionBuffers.{NeedsLf};
 ghost use Rattle.service_loop.specs.Sendings.{hosted};
@@ -20,7 +20,7 @@ pub fn law_of_cut_lines()
 /// A stay that is due has been graced: among all that was heard since the start, its keeper said `quit`, or ended at a tick more than the grace time
 /// before, and nobody has kept it since. Or nobody kept it at the start, and it was due by the table that was there then.
 pub fn law_of_hosted_grace<R, D: Service<R>, K: Persist<D>>()
-    ensures { (grace : Option ℕ) → KeepsGrace hosted D.may K.prefetches K.persists K.waits K.shares K.holds grace }
+    ensures { (wide : Bool) (grace : Option ℕ) → KeepsGrace hosted wide D.may K.prefetches K.persists K.waits K.shares K.holds grace }
 {
     law_of_grace();
 }

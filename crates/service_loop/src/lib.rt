@@ -20,9 +20,9 @@
 //! A service is `Attended`: it notes which connection keeps each stay in the pool, by the numbers that connections have (`Hears`). `end_due` ends the stays
 //! that are due, and no others.
 //!
-//! After an iteration a line `take ID` that waits first takes a number (`serve_takings`): the server says `enter ID`, and `probe ID` as often as it takes, and
-//! answers the last reply. This is kept before it is answered, like all else. Where answers are prefetched, the lines of that are a batch of their own
-//! (`prefetch_takings`).
+//! After an iteration a line `take ID` that waits first takes a number (`serve_takings`): the server says `enter ID`, and then in the wide world one
+//! `seek ID`, elsewhere `probe ID` as often as it takes, and answers the last reply. This is kept before it is answered, like all else. Where answers
+//! are prefetched, the lines of that are a batch of their own (`prefetch_takings`).
 //!
 //! `host` is a whole server over sockets: it waits until some are ready (`mio`), gives those their turn, and closes who is at an end or idle. Its theorem
 //! (`WasAttended`): from its start to its end nothing else was done than such turns, each said of the numbers of its connections; what was heard
@@ -68,6 +68,7 @@ mod losing;
 pub mod peek;
 pub mod persist;
 pub mod releasing;
+mod searching;
 pub mod seat_numbers;
 pub mod shared;
 pub mod socket;

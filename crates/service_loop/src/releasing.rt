@@ -1,6 +1,6 @@
 //! Stays that a server ends.
 
-ghost use Rattle.std.specs.Prelude.{◌≡◌, ◌∷◌, [], List, true, OnOk};
+ghost use Rattle.std.specs.Prelude.{◌≡◌, ◌∷◌, [], Bool, List, true, OnOk};
 ghost use Rattle.model_asked.specs.Replies.{ShownReply, with_view};
 ghost use Rattle.model_asked.specs.Requests.{Request};
 ghost use Rattle.model_asked.specs.Requests.Request.{Take};
@@ -15,8 +15,8 @@ use crate::attended::Attended;
 use crate::audit::{Asker, Audit};
 use crate::host_fault::HostFault;
 use crate::persist::Persist;
+use crate::searching::{most_said, searching};
 use model_asked::{Event, Reply};
-use model_pool::MOST_NUMBERS;
 use model_steps::{Refusal, View};
 use std::alloc::Global;
 use text_player::Service;
@@ -35,18 +35,20 @@ fn lacks_number(reply: &Reply<()>) -> bool
     matches!(reply, Reply::Refused(Refusal::NotHolding))
 }
 
-// Says `probe` of an identity as often as it takes to hold a number, and no more often than there are numbers.
-fn probe_to_number<R, D: Service<R>>(
+// Searches for a number of an identity: says `seek` once in the wide world, elsewhere `probe` as often as it takes to hold one, and no more often than
+// there are numbers.
+fn search_to_number<R, D: Service<R>>(
     rt: &R,
     service: &mut Attended<D>,
     view: &mut View,
     identity: u64,
+    wide: bool,
 )
     requires { (q : Request) → D.knows q ≡ true }
-    ensures { (turns : List Turn) × AreProbes identity turns × Runs D.may service.old.service turns service.new.service × Hears [] service.old service.new }
+    ensures { (turns : List Turn) × AreProbes wide identity turns × Runs D.may service.old.service turns service.new.service × Hears [] service.old service.new }
 {
-    for _tries in 0..MOST_NUMBERS {
-        let reply = service.apply(rt, Event::Probe(identity), view);
+    for _tries in 0..most_said(wide) {
+        let reply = service.apply(rt, searching(wide, identity), view);
         if !is_missed(&reply) {
             break;
         }
@@ -71,15 +73,21 @@ fn say_leave<R, D: Service<R>>(
     reply
 }
 
-/// Ends the stay of an identity by events of the service: `leave`; or, where it competes and holds no number, `probe` until it holds one, and then
-/// `leave`. Where `leave` is refused since an allocation failed or the history is full, the stay goes on.
-pub fn release<R, D: Service<R>>(rt: &R, service: &mut Attended<D>, view: &mut View, identity: u64)
+/// Ends the stay of an identity by events of the service: `leave`; or, where it competes and holds no number, in the wide world one `seek`, elsewhere
+/// `probe` until it holds one, and then `leave`. Where `leave` is refused since an allocation failed or the history is full, the stay goes on.
+pub fn release<R, D: Service<R>>(
+    rt: &R,
+    service: &mut Attended<D>,
+    view: &mut View,
+    identity: u64,
+    wide: bool,
+)
     requires { (q : Request) → D.knows q ≡ true }
-    ensures { Released D.may (identity ∷ []) service.old service.new }
+    ensures { Released wide D.may (identity ∷ []) service.old service.new }
 {
     let reply = say_leave(rt, service, view, identity);
     if lacks_number(&reply) {
-        probe_to_number(rt, service, view, identity);
+        search_to_number(rt, service, view, identity, wide);
         say_leave(rt, service, view, identity);
     }
 }
@@ -90,12 +98,13 @@ pub fn release_all<R, D: Service<R>>(
     service: &mut Attended<D>,
     view: &mut View,
     due: &[u64],
+    wide: bool,
 )
     requires { (q : Request) → D.knows q ≡ true }
-    ensures { Released D.may due.now service.old service.new }
+    ensures { Released wide D.may due.now service.old service.new }
 {
     for identity in due {
-        release(rt, service, view, *identity);
+        release(rt, service, view, *identity, wide);
     }
 }
 
@@ -136,9 +145,10 @@ fn end_these<R, D: Service<R>, K: Persist<D>>(
     persister: &mut K,
     view: &mut View,
     due: &[u64],
+    wide: bool,
 ) -> Result<(), K::Fault>
     requires { (q : Request) → D.knows q ≡ true }
-    ensures { OnOk result (EndsDue D.may K.persists K.waits K.shares K.holds due.now persister.old service.old persister.new service.new) }
+    ensures { OnOk result (EndsDue wide D.may K.persists K.waits K.shares K.holds due.now persister.old service.old persister.new service.new) }
 {
     if persister.shares_stays() {
         note_due(&mut service.audit, &service.service, persister, due);
@@ -151,7 +161,7 @@ fn end_these<R, D: Service<R>, K: Persist<D>>(
         return Ok(());
     }
     service.audit.listen_to(Asker::Grace);
-    release_all(rt, service, view, due);
+    release_all(rt, service, view, due, wide);
     service.audit.listen_to(Asker::Client);
     persister.persist(&mut service.service)
 }
@@ -169,17 +179,18 @@ pub fn end_due<R, D: Service<R>, K: Persist<D>>(
     service: &mut Attended<D>,
     persister: &mut K,
     view: &mut View,
+    wide: bool,
     grace: u64,
     tick: u64,
 ) -> Result<(), HostFault<K::Fault>>
     requires { (q : Request) → D.knows q ≡ true }
-    ensures { OnOk result (EndsDue D.may K.persists K.waits K.shares K.holds
+    ensures { OnOk result (EndsDue wide D.may K.persists K.waits K.shares K.holds
         (all_due grace tick service.old.stays) persister.old service.old persister.new service.new) }
 {
     let Ok(due) = service.stays.due(alloc, grace, tick) else {
         return Err(HostFault::Memory);
     };
-    match end_these(rt, service, persister, view, &due) {
+    match end_these(rt, service, persister, view, &due, wide) {
         Ok(()) => Ok(()),
         Err(fault) => Err(HostFault::Persist(fault)),
     }
@@ -187,8 +198,8 @@ pub fn end_due<R, D: Service<R>, K: Persist<D>>(
 
 /// A law, which runs nothing, of stays that are released (`release`, `release_all`, and `end_due` where they are not shared).
 ///
-/// Of each service that frees whoever its replies to `leave` say is free, and by whose `leave` and `probe` nobody enters: once identities were
-/// released, each of them does not compete, unless its own release ended in a `leave` whose reply frees nobody.
+/// Of each service that frees whoever its replies to `leave` say is free, and by whose `leave`, `probe` and `seek` nobody enters: once identities
+/// were released, each of them does not compete, unless its own release ended in a `leave` whose reply frees nobody.
 pub fn law_of_releases<R, D: Service<R>>()
-    ensures { ReleasesFree D.may }
+    ensures { (wide : Bool) → ReleasesFree wide D.may }
 {}

@@ -1,7 +1,7 @@
-//! Lines that take a number, after a turn of the loop: `take ID` is `enter ID`, and `probe ID` as often as it takes.
+//! Lines that take a number, after a turn of the loop: `take ID` is `enter ID`, and then in the wide world one `seek ID`, elsewhere `probe ID` as often
+//! as it takes.
 
 ghost use Rattle.std.specs.Prelude.{◌≡◌, ◌⊎◌, ◌≤◌, ℕ, List, [], ◌∷◌, ◌++◌, if◌then◌else◌, Some, None, get_or, map, length, take, true, false, IfOk, OnOk, OnErr};
-ghost use Rattle.model_pool.specs.declared.pool.TheConstants.{MOST_NUMBERS};
 ghost use Rattle.model_asked.specs.Replies.{ShownReply, with_view};
 ghost use Rattle.model_asked.specs.Requests.{Request};
 ghost use Rattle.text_lines.specs.Events.{event_lines, event_words};
@@ -12,9 +12,10 @@ ghost use Rattle.text_player.specs.Turns.{Turn};
 ghost use Rattle.service_loop.specs.Attending.{Hears, acts_in, acts_of, number_at};
 ghost use Rattle.service_loop.specs.Gathering.{Gathered, count_of};
 ghost use Rattle.service_loop.specs.Losing.{lost_acts};
+ghost use Rattle.service_loop.specs.Searching.{most_said, searched};
 ghost use Rattle.service_loop.specs.Seats.{seats_of, NoneSent};
 ghost use Rattle.service_loop.specs.SharedBuffers.{AreShared};
-ghost use Rattle.service_loop.specs.Taking.{IsTaking, NumbersTaken, SaysTaking, SeatGivenUp, SeatTook, TakingsGivenUp, TakingsKept, TakingsPrefetched, events_for, events_of, probed, seat_taken_for, wants_probe};
+ghost use Rattle.service_loop.specs.Taking.{IsTaking, NumbersTaken, SaysTaking, SeatGivenUp, SeatTook, TakingsGivenUp, TakingsKept, TakingsPrefetched, events_for, events_of, seat_taken_for, wants_search};
 
 use crate::attended::Attended;
 use crate::audit::Asker;
@@ -22,11 +23,11 @@ use crate::connection::{Connection, ConnectionStage};
 use crate::gathering::{Batch, Called, prefetch};
 use crate::losing::note_lost;
 use crate::persist::{Persist, Prefetch};
+use crate::searching::{most_said, searching};
 use crate::shared::SharedBuffers;
 use crate::stream::Stream;
 use crate::turns::{number_at, send_replies};
 use model_asked::{Event, Reply};
-use model_pool::MOST_NUMBERS;
 use model_steps::View;
 use std::alloc::{AllocError, Allocator};
 use text_lines::{Replies, print_event};
@@ -35,68 +36,76 @@ use text_player::Service;
 /// What ends a line.
 const LF: u8 = 10;
 
-/// The most bytes of the lines that take a number: `enter`, and `probe` as often as there are numbers. Each has a word of 5 letters, a space, a number of
-/// at most 20 digits, and LF.
-const TAKING_ROOM: usize = 27 * (MOST_NUMBERS + 1);
+/// The most bytes of a line that takes a number: a word of 5 letters, a space, a number of at most 20 digits, and LF.
+const LINE_ROOM: usize = 27;
 
-// Whether `probe` is said behind this reply: `enter` was accepted, or a `probe` missed.
-fn wants_probe(reply: &Reply<()>) -> bool
-    ensures { result ≡ wants_probe reply.now }
+// Whether a number is searched for behind this reply: `enter` was accepted, or a `probe` missed.
+fn wants_search(reply: &Reply<()>) -> bool
+    ensures { result ≡ wants_search reply.now }
 {
     matches!(reply, Reply::Ok | Reply::Missed)
 }
 
-// What `take` of an identity said, and how often it said `probe`.
+// What `take` of an identity said, and how often it searched for a number.
 #[derive(Clone, Copy, Debug, Drop)]
 struct Took {
     answer: Reply<()>,
-    probes: usize,
+    searches: usize,
 }
 
-// Says `enter` of an identity, and then `probe` as long as a reply wants it, and no more often than there are numbers.
-fn take_one<R, D: Service<R>>(rt: &R, service: &mut D, view: &mut View, identity: u64) -> Took
+// Says `enter` of an identity, and then searches for a number as long as a reply wants it, and no more often than that may be said.
+fn take_one<R, D: Service<R>>(
+    rt: &R,
+    service: &mut D,
+    view: &mut View,
+    identity: u64,
+    wide: bool,
+) -> Took
     requires { (q : Request) → D.knows q ≡ true }
     ensures { (turns : List Turn) × Runs D.may service.old turns service.new ×
-        (taking : IsTaking identity turns (with_view result.answer view.new)) × (length taking.more ≡ result.probes) × (result.probes ≤ MOST_NUMBERS) }
+        (taking : IsTaking wide identity turns (with_view result.answer view.new)) × (length taking.more ≡ result.searches) × (result.searches ≤ most_said wide) }
 {
+    let most = most_said(wide);
     let mut answer = service.apply(rt, Event::Enter(identity), view);
-    let mut probes = 0;
-    while probes < MOST_NUMBERS && wants_probe(&answer) {
-        answer = service.apply(rt, Event::Probe(identity), view);
-        probes += 1;
+    let mut searches = 0;
+    while searches < most && wants_search(&answer) {
+        answer = service.apply(rt, searching(wide, identity), view);
+        searches += 1;
     }
-    Took { answer, probes }
+    Took { answer, searches }
 }
 
-// Says `probe` of an identity so many times, whatever is said to it.
-fn probe_on<R, D: Service<R>>(rt: &R, service: &mut D, identity: u64, count: usize)
+// Searches for a number of an identity so many times, whatever is said to it.
+fn search_on<R, D: Service<R>>(rt: &R, service: &mut D, identity: u64, wide: bool, count: usize)
     requires { (q : Request) → D.knows q ≡ true }
-    ensures { (rest : List ShownReply) × Runs D.may service.old (map (probed identity) rest) service.new × (length rest ≡ count) }
+    ensures { (rest : List ShownReply) × Runs D.may service.old (map (searched wide identity) rest) service.new × (length rest ≡ count) }
 {
     let mut view = View::new();
     let mut said = 0;
     while said < count {
-        service.apply(rt, Event::Probe(identity), &mut view);
+        service.apply(rt, searching(wide, identity), &mut view);
         said += 1;
     }
 }
 
-/// Takes a number for an identity by events of the service, one after another: `enter`; and then `probe` until it holds a number or is refused, and no
-/// more often than there are numbers. Returns the last reply: a refusal of `enter` is answered as it is, and nothing is probed. Where the answers were
-/// prefetched, so many more are said behind it, and answered to nobody, that `probe` is said as often as there are numbers.
+/// Takes a number for an identity by events of the service, one after another: `enter`; and then in the wide world one `seek`, elsewhere `probe` until
+/// it holds a number or is refused, and no more often than there are numbers. Returns the last reply: a refusal of `enter` is answered as it is, and no
+/// number is searched for. Where the answers were prefetched, so many more are said behind it, and answered to nobody, that `seek` is said once, or
+/// `probe` as often as there are numbers.
 pub fn say_taking<R, D: Service<R>>(
     rt: &R,
     service: &mut D,
     view: &mut View,
     identity: u64,
+    wide: bool,
     ahead: bool,
 ) -> Reply<()>
     requires { (q : Request) → D.knows q ≡ true }
-    ensures { (turns : List Turn) × Runs D.may service.old turns service.new × SaysTaking ahead identity turns (with_view result view.new) }
+    ensures { (turns : List Turn) × Runs D.may service.old turns service.new × SaysTaking wide ahead identity turns (with_view result view.new) }
 {
-    let took = take_one(rt, service, view, identity);
+    let took = take_one(rt, service, view, identity, wide);
     if ahead {
-        probe_on(rt, service, identity, MOST_NUMBERS - took.probes);
+        search_on(rt, service, identity, wide, most_said(wide) - took.searches);
     }
     took.answer
 }
@@ -109,12 +118,13 @@ fn take_number_at<R, D: Service<R>, S: Stream, A: Allocator, B: Allocator>(
     seats: &mut [Option<Connection<S, A>>],
     number: u64,
     key: usize,
+    wide: bool,
     ahead: bool,
 )
     requires knows { (q : Request) → D.knows q ≡ true }
     requires room { AreShared shared.old }
     ensures took { ((service.new ≡ service.old) × (seats.new ≡ seats.old)) ⊎
-        ((turn : SeatTook (seats_of S.left S.gone) ahead D.may (λ c. c.stage ≡ ConnectionStage.Idle) key service.old.service seats.old service.new.service seats.new) ×
+        ((turn : SeatTook (seats_of S.left S.gone) wide ahead D.may (λ c. c.stage ≡ ConnectionStage.Idle) key service.old.service seats.old service.new.service seats.new) ×
         Hears (acts_of number turn.turns) service.old service.new) }
     ensures room { AreShared shared.new }
 {
@@ -123,7 +133,7 @@ fn take_number_at<R, D: Service<R>, S: Stream, A: Allocator, B: Allocator>(
             if let ConnectionStage::Idle = connection.stage {
                 service.listen_to(number);
                 service.audit.listen_to(Asker::Taker { answered: false });
-                connection.take_number(rt, service, shared, ahead);
+                connection.take_number(rt, service, shared, wide, ahead);
                 service.audit.listen_to(Asker::Client);
             }
         }
@@ -144,11 +154,12 @@ fn take_numbers<R, D: Service<R>, K: Persist<D>, S: Stream, A: Allocator, B: All
     seats: &mut [Option<Connection<S, A>>],
     numbers: &[u64],
     called: &[usize],
+    wide: bool,
     ahead: bool,
 )
     requires knows { (q : Request) → D.knows q ≡ true }
     requires room { AreShared shared.old }
-    ensures taken { (log : TurnLog) × NumbersTaken (seats_of S.left S.gone) ahead D.may service.old.service seats.old log service.new.service seats.new ×
+    ensures taken { (log : TurnLog) × NumbersTaken (seats_of S.left S.gone) wide ahead D.may service.old.service seats.old log service.new.service seats.new ×
         Hears (acts_in (number_at numbers.now) log) service.old service.new }
     ensures room { AreShared shared.new }
 {
@@ -163,6 +174,7 @@ fn take_numbers<R, D: Service<R>, K: Persist<D>, S: Stream, A: Allocator, B: All
             seats,
             number_at(numbers, *key),
             *key,
+            wide,
             ahead,
         );
     }
@@ -183,18 +195,19 @@ pub fn serve_takings<R, D: Service<R>, K: Persist<D>, S: Stream, A: Allocator, B
     seats: &mut [Option<Connection<S, A>>],
     numbers: &[u64],
     called: &[usize],
+    wide: bool,
     ahead: bool,
 ) -> Result<(), K::Fault>
     requires knows { (q : Request) → D.knows q ≡ true }
     requires room { AreShared shared.old }
-    ensures turned { OnOk result ((turned : TakingsKept (seats_of S.left S.gone) ahead D.may K.persists
+    ensures turned { OnOk result ((turned : TakingsKept (seats_of S.left S.gone) wide ahead D.may K.persists
         persister.old service.old.service seats.old persister.new service.new.service seats.new) ×
         Hears (acts_in (number_at numbers.now) turned.log) service.old service.new) }
     ensures unsent { OnErr result (NoneSent (seats_of S.left S.gone) seats.old seats.new) }
     ensures room { AreShared shared.new }
 {
     take_numbers(
-        rt, service, persister, shared, seats, numbers, called, ahead,
+        rt, service, persister, shared, seats, numbers, called, wide, ahead,
     );
     persister.persist(&mut service.service)?;
     send_replies(seats, called);
@@ -221,21 +234,23 @@ fn add_event<B: Allocator>(
 }
 
 // The lines that take a number for an identity are added to others.
-#[tactic(auto, using(crate::proofs::TakingLemmas::lines_probed, crate::proofs::TakingLemmas::lines_entered))]
+#[tactic(auto, using(crate::proofs::TakingLemmas::lines_searched, crate::proofs::TakingLemmas::lines_entered))]
 fn add_taking<B: Allocator>(
     identity: u64,
+    wide: bool,
     words: &mut Replies<B>,
     lines: &mut Vec<u8, B>,
 ) -> Result<(), AllocError>
     requires { words.old ≡ [] }
     ensures empty { words.new ≡ [] }
-    ensures added { IfOk result (λ done. lines.new.items ≡ lines.old.items ++ event_lines (events_for (Some identity))) }
+    ensures added { IfOk result (λ done. lines.new.items ≡ lines.old.items ++ event_lines (events_for wide (Some identity))) }
     ensures kept { (more : List ℕ) × (lines.new.items ≡ lines.old.items ++ more) }
 {
+    let most = most_said(wide);
     add_event(Event::Enter(identity), words, lines)?;
     let mut said = 0;
-    while said < MOST_NUMBERS {
-        add_event(Event::Probe(identity), words, lines)?;
+    while said < most {
+        add_event(searching(wide, identity), words, lines)?;
         said += 1;
     }
     Ok(())
@@ -253,9 +268,14 @@ fn taking_at<S: Stream, A: Allocator>(seats: &[Option<Connection<S, A>>], key: u
     None
 }
 
+// The most bytes of the lines that take one number.
+fn taking_room(wide: bool) -> usize {
+    LINE_ROOM * (most_said(wide) + 1)
+}
+
 // Whether there is room in a batch for the lines that take one number more. In an empty one there is.
-fn has_room<B: Allocator>(batch: &Batch<B>) -> bool {
-    batch.lines.is_empty() || batch.lines.len() <= batch.most.saturating_sub(TAKING_ROOM)
+fn has_room<B: Allocator>(batch: &Batch<B>, wide: bool) -> bool {
+    batch.lines.is_empty() || batch.lines.len() <= batch.most.saturating_sub(taking_room(wide))
 }
 
 // The lines of the connection of a seat are added to the batch, where it takes a number. Says whether there was room for them, and memory.
@@ -264,20 +284,21 @@ fn add_taking_at<S: Stream, A: Allocator, B: Allocator>(
     words: &mut Replies<B>,
     seats: &[Option<Connection<S, A>>],
     key: usize,
+    wide: bool,
 ) -> bool
     requires { words.old ≡ [] }
     ensures empty { words.new ≡ [] }
     ensures lines { batch.new.lines.items ≡ batch.old.lines.items ++
-        (if result then event_lines (events_for (seat_taken_for (seats_of S.left S.gone) (get_or seats.now key None))) else []) }
+        (if result then event_lines (events_for wide (seat_taken_for (seats_of S.left S.gone) (get_or seats.now key None))) else []) }
 {
     let Some(identity) = taking_at(seats, key) else {
         return true;
     };
-    if !has_room(batch) {
+    if !has_room(batch, wide) {
         return false;
     }
     let before = batch.lines.len();
-    if add_taking(identity, words, &mut batch.lines).is_err() {
+    if add_taking(identity, wide, words, &mut batch.lines).is_err() {
         batch.lines.truncate(before);
         return false;
     }
@@ -290,16 +311,17 @@ fn gather_takings<S: Stream, A: Allocator, B: Allocator>(
     words: &mut Replies<B>,
     seats: &[Option<Connection<S, A>>],
     called: &[usize],
+    wide: bool,
 ) -> usize
     requires { words.old ≡ [] }
     ensures few { result ≤ length called.now }
-    ensures lines { batch.new.lines.items ≡ event_lines (events_of (seats_of S.left S.gone) seats.now (take result called.now)) }
+    ensures lines { batch.new.lines.items ≡ event_lines (events_of (seats_of S.left S.gone) wide seats.now (take result called.now)) }
     ensures empty { words.new ≡ [] }
 {
     batch.lines.clear();
     batch.holds = false;
     let mut seen = 0;
-    while seen < called.len() && add_taking_at(batch, words, seats, called[seen]) {
+    while seen < called.len() && add_taking_at(batch, words, seats, called[seen], wide) {
         seen += 1;
     }
     seen
@@ -332,7 +354,8 @@ fn give_up_takings<S: Stream, A: Allocator>(
 }
 
 /// Takes numbers as `serve_takings` does, over a service that prefetches its answers: the lines go to the persister first, for as many of the seats as there
-/// is room, one at least. `probe` is said as often as there are numbers, whatever is said to it: an identity that holds a number is refused more of them.
+/// is room, one at least. In the wide world `seek` is said once, elsewhere `probe` as often as there are numbers, whatever is said to it: an identity
+/// that holds a number is refused more of them.
 /// Where the answers are not prefetched in time, those whose lines went are at fault, and nothing is sent: of each `enter` it is noted that nobody keeps
 /// the stay, unless a connection does. The lines that went are those of the seats that are counted, in their order, and no others.
 ///
@@ -348,11 +371,12 @@ pub fn prefetch_takings<R, D: Service<R>, K: Persist<D>, S: Stream, A: Allocator
     seats: &mut [Option<Connection<S, A>>],
     numbers: &[u64],
     called: &[usize],
+    wide: bool,
 ) -> Result<Called, K::Fault>
     requires knows { (q : Request) → D.knows q ≡ true }
     requires room { AreShared shared.old }
     ensures served { (count : ℕ) → result ≡ Ok (Called.Served count) →
-        (turned : TakingsPrefetched (seats_of S.left S.gone) true D.may K.prefetches K.persists
+        (turned : TakingsPrefetched (seats_of S.left S.gone) wide true D.may K.prefetches K.persists
         persister.old service.old.service seats.old batch.new.lines.items persister.new service.new.service seats.new) ×
         Hears (acts_in (number_at numbers.now) turned.turn.log) service.old service.new }
     ensures unserved { (count : ℕ) → result ≡ Ok (Called.Unserved count) → Gathered (seats_of S.left S.gone) seats.old seats.new ×
@@ -360,16 +384,18 @@ pub fn prefetch_takings<R, D: Service<R>, K: Persist<D>, S: Stream, A: Allocator
     ensures lost { (count : ℕ) → result ≡ Ok (Called.Unserved count) → K.waits persister.old service.old.service persister.new service.new.service ×
         Hears (lost_acts batch.new.kind service.old.stays (whole_lines batch.new.lines.items)) service.old service.new }
     ensures lines { IfOk result (λ called_of. batch.new.lines.items ≡
-        event_lines (events_of (seats_of S.left S.gone) seats.old (take (count_of called_of) called.now))) }
+        event_lines (events_of (seats_of S.left S.gone) wide seats.old (take (count_of called_of) called.now))) }
     ensures unsent { OnErr result (NoneSent (seats_of S.left S.gone) seats.old seats.new) }
     ensures few { IfOk result (λ called_of. count_of called_of ≤ length called.now) }
     ensures room { AreShared shared.new }
 {
-    let seen = gather_takings(batch, &mut shared.replies, seats, called);
+    let seen = gather_takings(batch, &mut shared.replies, seats, called, wide);
     let few = &called[..seen];
     match prefetch(&mut service.service, persister, batch)? {
         Prefetch::Known => {
-            serve_takings(rt, service, persister, shared, seats, numbers, few, true)?;
+            serve_takings(
+                rt, service, persister, shared, seats, numbers, few, wide, true,
+            )?;
             Ok(Called::Served(seen))
         }
         Prefetch::Lost => {

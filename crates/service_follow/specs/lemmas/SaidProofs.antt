@@ -3,7 +3,7 @@ use Rattle.std.proofs.Common.{◌≡◌, ◌⊎◌, ◌==◌, ◌∙◌, ℕ, Bo
 use Rattle.std.proofs.lemmas.Bool.Decides.{eqb_tells}
 use Rattle.model_steps.specs.declared.refusal.Refusal.TheVariants as refusal
 use Rattle.model_asked.specs.Replies.{ShownReply}
-use Rattle.model_asked.specs.declared.event.Event.TheVariants.{Begin, Step, Enter, Probe, Leave, Put, Get, Widen}
+use Rattle.model_asked.specs.declared.event.Event.TheVariants.{Begin, Step, Enter, Probe, Seek, Leave, Put, Get, Widen}
 use Rattle.model_asked.specs.declared.reply.Reply.TheVariants as reply
 use Rattle.model_asked.specs.Requests.{Request}
 use Rattle.model_asked.specs.Requests.Request.{Take, OwnerOf}
@@ -29,7 +29,8 @@ kind (Take (Leave p)) = 4
 kind (Take (Put p v)) = 5
 kind (Take (Get p)) = 6
 kind (Take (Widen p)) = 7
-kind (OwnerOf n) = 8
+kind (Take (Seek p)) = 8
+kind (OwnerOf n) = 9
 
 named : Request → ℕ
 named (Take (Begin p)) = p
@@ -40,6 +41,7 @@ named (Take (Leave p)) = p
 named (Take (Put p v)) = p
 named (Take (Get p)) = p
 named (Take (Widen p)) = p
+named (Take (Seek p)) = p
 named (OwnerOf n) = n
 
 value : Request → ℕ
@@ -51,13 +53,14 @@ value (Take (Probe p)) = 0
 value (Take (Leave p)) = 0
 value (Take (Get p)) = 0
 value (Take (Widen p)) = 0
+value (Take (Seek p)) = 0
 value (OwnerOf n) = 0
 
 -- the request of these numbers
 made : ℕ → ℕ → ℕ → Request
 made k p v =
     if k == 0 then Take (Begin p) else if k == 1 then Take (Step p) else if k == 2 then Take (Enter p) else if k == 3 then Take (Probe p) else if k == 4 then Take (Leave p)
-    else if k == 5 then Take (Put p v) else if k == 6 then Take (Get p) else if k == 7 then Take (Widen p) else OwnerOf p
+    else if k == 5 then Take (Put p v) else if k == 6 then Take (Get p) else if k == 7 then Take (Widen p) else if k == 8 then Take (Seek p) else OwnerOf p
 
 made_back : (q : Request) → made (kind q) (named q) (value q) ≡ q
 unfolding made kind named value
@@ -69,6 +72,7 @@ made_back (Take (Leave p)) = refl
 made_back (Take (Put p v)) = refl
 made_back (Take (Get p)) = refl
 made_back (Take (Widen p)) = refl
+made_back (Take (Seek p)) = refl
 made_back (OwnerOf n) = refl
 
 -- two requests are one, or they are not

@@ -3,7 +3,7 @@ use Rattle.std.proofs.Common.{◌≡◌, ◌⊎◌, ◌++◌, ℕ, Bool, true, f
 use Rattle.service_hall.proofs.Common.{Config, Event, Exchange, DeskValue, OverGrid, OverTree, ShownReply, Runs, Turn, exchanges, Answered, Reported, Ended, Misread, desk_of, SatisfiesSpec, HallMay, HallState, hall_of}
 use Rattle.model_asked.specs.Config.{gives_names}
 use Rattle.model_asked.specs.Requests.Request.{Take}
-use Rattle.model_asked.specs.declared.event.Event.TheVariants.{Begin, Step, Enter, Probe, Leave, Put, Get, Widen}
+use Rattle.model_asked.specs.declared.event.Event.TheVariants.{Begin, Step, Enter, Probe, Seek, Leave, Put, Get, Widen}
 use Rattle.model_pool.specs.declared.stay.Stay.{Stay}
 use Rattle.model_pool.specs.declared.stay.Stay.TheVariants.{Seeking, Settled}
 use Rattle.model_pool.specs.Competitors.{stay_of}
@@ -37,6 +37,7 @@ desk_stays w (Begin p) h = absurd (cc)
 desk_stays w (Step p) h = absurd (cc)
 desk_stays w (Enter p) h = absurd (cc)
 desk_stays w (Probe p) h = absurd (cc)
+desk_stays w (Seek p) h = absurd (cc)
 desk_stays w (Leave p) h = absurd (cc)
 desk_stays w (Put p value) h = absurd (cc)
 desk_stays w (Widen more) h = absurd (cc)
@@ -53,6 +54,7 @@ never_wanting w (Begin p) h = absurd (cc)
 never_wanting w (Step p) h = absurd (cc)
 never_wanting w (Enter p) h = absurd (cc)
 never_wanting w (Probe p) h = absurd (cc)
+never_wanting w (Seek p) h = absurd (cc)
 never_wanting w (Leave p) h = absurd (cc)
 never_wanting w (Put p value) h = absurd (cc)
 never_wanting w (Widen more) h = absurd (cc)
@@ -72,6 +74,7 @@ read_is rules (Begin q) p h = absurd (if_reads rules.naming p h)
 read_is rules (Step q) p h = absurd (if_reads rules.naming p h)
 read_is rules (Enter q) p h = absurd (cc)
 read_is rules (Probe q) p h = absurd (cc)
+read_is rules (Seek q) p h = absurd (cc)
 read_is rules (Leave q) p h = absurd (cc)
 read_is rules (Put q value) p h = absurd (cc)
 read_is rules (Get q) p h = get_reads rules.reads q p h

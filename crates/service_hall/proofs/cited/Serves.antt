@@ -98,7 +98,7 @@ desk_runs h u (Misread bad ∷ ts) lawful run = desk_runs h u ts lawful run
 transcript_by : (c : Config) (k : WorldKind) → gives_names k ≡ true → (w u : DeskValue) (ts : List Turn) → IsFreshDesk c w → Runs DeskWorldMay w ts u → IsTranscriptByKind k c ts
 transcript_by c k named w u ts fresh run =
     let transcript : IsDeskTranscript c ts = record { run = desk_lawful c w u ts fresh run; owners = desk_tells c w u ts fresh run; could = record { start = w; last = u; is_fresh = fresh; run = run } } in
-    where_named (λ (x : WorldKind). IsTranscriptByKind x c ts) k named transcript transcript
+    where_named (λ (x : WorldKind). IsTranscriptByKind x c ts) k named transcript transcript transcript
 
 -- turns of a fresh desk of a config are a transcript of it
 pub transcript_of : (c : Config) → gives_names c.world ≡ true → (w : DeskValue) (ts : List Turn) → Runs DeskWorldMay (fresh_desk c) ts w → IsTranscript c ts

@@ -61,3 +61,8 @@ returns-clause-grows g c =
     let many : c.len.result ≡ length bytes = c.len.ensures ∙ c.in_ok-bytes.bytes.ok.0 in
     grown c.law_of_lines.ensures.cut c.law_of_lines.ensures.once c.args.config bytes hall whole r (state c.args.disk.now) (state c.read.new.self) (state c.mend.new.disk) c.in_ok-bytes.ensures
     (subst (λ (n : ℕ). Changes (GrowsFrom n whole) (state c.read.new.self) (state c.mend.new.disk)) many c.in_ok-mend.ensures.grows)
+
+pub returns-in_err-write_ahead-clause-spared : goal.returns-in_err-write_ahead-clause-spared
+returns-in_err-write_ahead-clause-spared g c =
+    let same : Changes (λ s t. t ≡ s) (g.D.Disk.state c.args.disk.now) (g.D.Disk.state c.read.new.self) = ((λ s is. let a = c.in_ok-bytes.ensures.0 s is in (a.0, a.1, a.2.0)), c.in_ok-bytes.ensures.1) in
+    spared c.law_of_lines.ensures.cut c.from_residual-in_err-write_ahead.result _ _ same

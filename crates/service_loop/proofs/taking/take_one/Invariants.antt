@@ -1,13 +1,13 @@
 use Rattle.std.proofs.Common.{◌-◌, ◌≤◌}
 use Rattle.model_asked.specs.Replies.{with_view}
-use Rattle.service_loop.proofs.TakingLemmas.{Probing}
+use Rattle.service_loop.proofs.TakingLemmas.{Searching}
 use Rattle.service_loop.proofs.taking.take_one.Given as goal
 
-abbrev pub invariant-loop-probes : goal.invariant-loop-probes
-invariant-loop-probes g l = record {
-  so : Probing g.D.Service.may l.identity l.fn.service l.service (with_view l.answer l.view) l.probes;
-  few : l.probes ≤ 64;
+abbrev pub invariant-loop-searches : goal.invariant-loop-searches
+invariant-loop-searches g l = record {
+  so : Searching g.D.Service.may l.wide l.identity l.fn.service l.service (with_view l.answer l.view) l.searches;
+  few : l.searches ≤ l.most;
 }
 
-abbrev pub decreases-loop-probes : goal.decreases-loop-probes
-decreases-loop-probes g l = 64 - l.probes
+abbrev pub decreases-loop-searches : goal.decreases-loop-searches
+decreases-loop-searches g l = l.most - l.searches

@@ -4,6 +4,7 @@ use Rattle.std.proofs.lemmas.Bool.{cases_lt}
 use Rattle.service_follow.specs.Hosted.{IsAtEnd}
 use Rattle.service_follow.proofs.Moves.{moved_self, moved_then}
 use Rattle.service_follow.proofs.log_persister.LogPersister.apply_all.Goals as goal
+use Rattle.service_follow.proofs.log_persister.LogPersister.apply_all.Goals.{else-loop-test, then-loop-test+in-Err+in_default-of_cause+then-not-again}
 
 at_end : (lacks : ℕ → Type 0) (from n place : ℕ) → place ≡ from + n → (n < 10000000000000000 → IsAtEnd lacks place) → IsAtEnd lacks place
 at_end lacks from n place count stopped =
@@ -24,3 +25,9 @@ loop-preserved g c = record {
   moved = moved_then g.S.Store.stands c.args.self.now.log c.loop.self.log c.catch_up.new.self c.loop.invariant.moved c.catch_up.ensures.moved;
   terms = c.loop.invariant.terms;
 }
+
+pub returns-clause-moved : goal.returns-clause-moved
+returns-clause-moved g c = elim c.loop-test.branch [
+  | else-loop-test w ↦ rw w.self-is c.loop.invariant.moved
+  | then-loop-test+in-Err+in_default-of_cause+then-not-again w ↦ rw w.self-is (moved_then g.S.Store.stands c.args.self.now.log c.loop.self.log w.catch_up.new.self c.loop.invariant.moved w.catch_up.ensures.moved)
+]

@@ -1,8 +1,8 @@
 use Rattle.std.proofs.Common.{◌≡◌, ◌++◌, [], ◌∷◌, None, inr, refl, ap, sym, subst, ◌∙◌, true, false}
-use Rattle.service_hall.proofs.Common.{desk_rules, desk_reply, exchange, DeskValue, ShownReply, is_refusal, with_view, may_by, HallState, hall_of, desk_of, hall_refusal}
-use Rattle.service_hall.proofs.cited.Histories.{none_of, refuses_so, grows, lacked}
+use Rattle.service_hall.proofs.Common.{desk_rules, desk_reply, exchange, DeskValue, ShownReply, is_refusal, with_view, may_by, HallState, hall_of, desk_of, hall_refusal, longer, HallMay}
+use Rattle.service_hall.proofs.cited.Histories.{Grows, none_of, refuses_so, grows, lacked}
 use Rattle.service_hall.proofs.hall.Hall.apply_short.Goals as goal
-use Rattle.service_hall.proofs.hall.Hall.apply_short.Goals.{After-is_refusal}
+use Rattle.service_hall.proofs.hall.Hall.apply_short.Goals.{After-is_refusal, After-push_reserved}
 
 -- what the desk answered
 abbrev answer : After-is_refusal → ShownReply
@@ -18,16 +18,38 @@ due c =
 may : (c : After-is_refusal) → may_by desk_rules (desk_of (hall_of c.self.inside.config c.self.inside.history.items)) c.args.event (answer c) c.apply_short-reply.new.self
 may c = subst (λ (w : DeskValue). may_by desk_rules w c.args.event (answer c) c.apply_short-reply.new.self) c.self.invariant.0 c.apply_short-reply.ensures
 
-pub invariant_of-self-then-not-is_refusal : goal.invariant_of-self-then-not-is_refusal
-invariant_of-self-then-not-is_refusal c =
-    let d = (goal.at.invariant_of-self-then-not-is_refusal c).After-is_refusal in
-    let i = c.self.inside in
-    let h = hall_of i.config i.history.items in
+-- the hall in which an event was accepted
+abbrev before : After-push_reserved → HallState
+before c = hall_of c.self.inside.config c.self.inside.history.items
+
+-- it grows by the event, which stands with its reply at the end of the history
+record IsAdded (c : After-push_reserved) : Type 0 where
+  grown : Grows (before c) c.args.event (with_view c.apply_short-reply.result c.apply_short-reply.new.view) c.apply_short-reply.new.self
+  items : c.push_reserved.new.self.items ≡ (before c).history ++ exchange c.args.event (desk_reply (desk_of (before c)) c.args.event) ∷ []
+
+added : (c : After-push_reserved) → IsAdded c
+added c =
+    let d = (goal.at.returns-then-not-is_refusal c).After-is_refusal in
+    let h = before c in
     let accepted : is_refusal (answer d) ≡ false = sym (d.is_refusal.ensures d.apply_short-reply.new.view) ∙ c.if-not-is_refusal.true in
     let k = grows h c.args.event (answer d) c.apply_short-reply.new.self c.self.invariant.1 (due d) (may d) accepted in
-    let items : c.push_reserved.new.self.items ≡ i.history.items ++ exchange c.args.event (desk_reply (desk_of h) c.args.event) ∷ [] =
-    c.push_reserved.ensures ∙ ap (λ xs. xs ++ exchange c.args.event (answer d) ∷ []) c.reserve.ensures.same ∙ ap (λ r. i.history.items ++ exchange c.args.event r ∷ []) k.reply in
-    rw items (k.desk, k.lawful)
+    record {
+      grown = k;
+      items =
+          c.push_reserved.ensures ∙ ap (λ xs. xs ++ exchange c.args.event (answer d) ∷ []) c.reserve.ensures.same
+          ∙ ap (λ r. h.history ++ exchange c.args.event r ∷ []) k.reply;
+    }
+
+pub invariant_of-self-then-not-is_refusal : goal.invariant_of-self-then-not-is_refusal
+invariant_of-self-then-not-is_refusal c = let a = added c in rw a.items (a.grown.desk, a.grown.lawful)
+
+pub returns-then-not-is_refusal : goal.returns-then-not-is_refusal
+returns-then-not-is_refusal c =
+    let a = added c in
+    let r = with_view c.apply_short-reply.result c.apply_short-reply.new.view in
+    let new : longer (before c) c.args.event ≡ hall_of c.self.inside.config c.push_reserved.new.self.items = ap (hall_of c.self.inside.config) (sym a.items) in
+    subst (λ (u : HallState). HallMay c.args.self.now c.args.event r u) new
+    (subst (λ (h : HallState). HallMay h c.args.event r (longer (before c) c.args.event)) c.self.view_is a.grown.may)
 
 pub invariant_of-self-else-not-is_refusal : goal.invariant_of-self-else-not-is_refusal
 invariant_of-self-else-not-is_refusal c =

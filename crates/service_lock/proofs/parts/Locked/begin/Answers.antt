@@ -1,6 +1,6 @@
-use Rattle.std.proofs.Common.{◌≡◌, Err, false, subst, refl, ap, ◌∙◌}
+use Rattle.std.proofs.Common.{◌≡◌, Err, false, inr, subst, refl, ap, ◌∙◌}
 use Rattle.model_steps.specs.declared.refusal.Refusal.TheVariants.{Full}
-use Rattle.service_lock.proofs.Common.{Begin, Ok, ShownReply, is_refusal, with_view, CallerState, HallMay, IsTaken}
+use Rattle.service_lock.proofs.Common.{Begin, Ok, Refused, ShownReply, is_refusal, with_view, CallerState, HallState, HallMay, IsTaken}
 use Rattle.service_hall.proofs.cited.Histories.{begins_ok}
 use Rattle.service_lock.proofs.Places.{opened}
 use Rattle.service_lock.proofs.Standing.{taken_by}
@@ -26,3 +26,13 @@ returns g c =
       full = λ all. let no : c.open.result ≡ Err Full = c.open.ensures.full.1 all in let was = c.in_ok-clerk.was in absurd cc;
       due = tt;
     }
+
+pub returns-in-Refused-clause-due : goal.returns-in-Refused-clause-due
+returns-in-Refused-clause-due g c = λ few.
+    let h = c.args.self.now.hall in
+    let u = c.apply-reply.new.self.hall in
+    let r = with_view c.apply-reply.result c.apply-reply.new.view in
+    let is : r ≡ Refused c.in-Refused.refusal = ap (λ q. with_view q c.apply-reply.new.view) c.in-Refused.is in
+    let same : u ≡ h = c.apply-reply.ensures.refused (ap is_refusal is) ∙ c.open.ensures.hall in
+    let may : HallMay h (Begin c.args.id) r u = subst (λ k. HallMay k (Begin c.args.id) r u) c.open.ensures.hall c.apply-reply.ensures.hall in
+    inr (subst (λ (v : HallState). HallMay h (Begin c.args.id) (Refused c.in-Refused.refusal) v) same (subst (λ (q : ShownReply). HallMay h (Begin c.args.id) q u) is may))

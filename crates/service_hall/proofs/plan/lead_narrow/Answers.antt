@@ -1,5 +1,5 @@
 use Rattle.service_hall.proofs.RebuiltLemmas.{goes_along, goes_self}
-use Rattle.service_hall.proofs.plan.lead.Goals as goal
+use Rattle.service_hall.proofs.plan.lead_narrow.Goals as goal
 
 pub loop-competitor-init : goal.loop-competitor-init
 loop-competitor-init c = goes_self _
@@ -8,4 +8,4 @@ pub loop-competitor-preserved : goal.loop-competitor-preserved
 loop-competitor-preserved c = goes_along _ _ _ c.loop-competitor.invariant c.in_ok-enter.ensures
 
 pub returns : goal.returns
-returns c = goes_along _ _ _ c.in_ok-widen.ensures (goes_along _ _ _ c.in_ok-fill.ensures c.loop-competitor.invariant)
+returns c = goes_along _ _ _ c.in_ok-fill.ensures c.loop-competitor.invariant

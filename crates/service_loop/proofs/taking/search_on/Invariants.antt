@@ -1,10 +1,10 @@
 use Rattle.std.proofs.Common.{◌-◌, ◌≤◌}
-use Rattle.service_loop.proofs.TakingLemmas.{ProbedOn}
-use Rattle.service_loop.proofs.taking.probe_on.Given as goal
+use Rattle.service_loop.proofs.TakingLemmas.{SearchedOn}
+use Rattle.service_loop.proofs.taking.search_on.Given as goal
 
 abbrev pub invariant-loop-said : goal.invariant-loop-said
 invariant-loop-said g l = record {
-  so : ProbedOn g.D.Service.may l.identity l.fn.service l.service l.said;
+  so : SearchedOn g.D.Service.may l.wide l.identity l.fn.service l.service l.said;
   few : l.said ≤ l.count;
 }
 

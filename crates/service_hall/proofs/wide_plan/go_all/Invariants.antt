@@ -1,5 +1,5 @@
 use Rattle.service_hall.specs.Rebuilt.{GoesOn}
-use Rattle.service_hall.proofs.plan.lead.Given as goal
+use Rattle.service_hall.proofs.wide_plan.go_all.Given as goal
 
 abbrev pub invariant-loop-competitor : goal.invariant-loop-competitor
 invariant-loop-competitor l = GoesOn l.initial.new l.new
