@@ -284,6 +284,7 @@ fn hosted(config: Config, bytes: &[u8], pieces: u64, most: usize) -> Vec<u8> {
                 &[1],
                 &[0],
                 false,
+                false,
             );
             assert!(taken.is_ok());
             answer_queries(

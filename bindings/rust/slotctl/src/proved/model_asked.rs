@@ -1,4 +1,4 @@
-// Erased by bindings/rust/erase from crates/model_asked/src/lib.rt, sha256 07a5fcd06e2263b3ca9327bd5faec8aa769dc36c66fe5079cf5dec8e998fc09e.
+// Erased by bindings/rust/erase from crates/model_asked/src/lib.rt, sha256 ab94a872e74c53faaec4513c939b561afb2d649616cad1a3ba54fa72f5f874bf.
 //! What is asked and answered: the vocabulary of all that is played.
 //!
 //! An *event* is an action of one participant, or the growth of the pool. A *command* is what a line asks for: an

@@ -1,4 +1,4 @@
-// Erased by bindings/rust/erase from crates/model_pool/src/lib.rt, sha256 3ef98a9b9d18004e17b4262181a8193ca529b3dfaee105e93535830f2936e89f.
+// Erased by bindings/rust/erase from crates/model_pool/src/lib.rt, sha256 55d824813798b6a58a7b39af2ea7eaff759091c1a81839217c076f9a0b9a55d1.
 //! A pool of numbers, taken and given back any number of times: long-lived renaming by test-and-set bits (Moir and
 //! Anderson 1995).
 //!
@@ -15,7 +15,7 @@
 //! - The probe numbered `max(1, k - 1)` of a competitor is never missed.
 //! - Widening changes the size, and no competitor's number.
 //! - Each error is returned if and only if it is due, and changes nothing.
-//! - After `new` no call allocates.
+//! - After `new` no call but `competitors` allocates.
 //!
 //! From `tests_model/src/pool_tests.rt`, for a pool of one number:
 //!
@@ -33,6 +33,7 @@
 //! ```
 
 pub mod competitor;
+mod entry;
 pub mod pool;
 pub mod probe;
 mod roster;

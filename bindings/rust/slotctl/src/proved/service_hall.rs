@@ -1,4 +1,4 @@
-// Erased by bindings/rust/erase from crates/service_hall/src/lib.rt, sha256 fe5b43a144d60823acc9b87e42bd7e43cc454eedcc48bedb9010bce395b694d4.
+// Erased by bindings/rust/erase from crates/service_hall/src/lib.rt, sha256 9e00a060ae2456bf53f6fe1cf645543e3bf37cf312e0012f64806bc92b1b2d51.
 //! One desk with the history of its events, and a shorter history for the same desk.
 //!
 //! A *hall* is a desk with the list of its accepted events and their replies. What is proved:
@@ -72,3 +72,4 @@ pub mod rules;
 pub mod same;
 mod slots_copy;
 mod stuck;
+mod wide_plan;

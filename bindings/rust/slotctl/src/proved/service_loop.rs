@@ -1,4 +1,4 @@
-// Erased by bindings/rust/erase from crates/service_loop/src/lib.rt, sha256 ebfe1060e63fcfdffc4c68f9fa23f8201cc950b21231fb77f2b31444d911025f.
+// Erased by bindings/rust/erase from crates/service_loop/src/lib.rt, sha256 7fb6734cca0d332cb68feb69874010af4d3f38e05412d8204d8d554bb4672628.
 //! Connections that share one service, in one thread.
 //!
 //! `Buffers` are a connection without its stream: one side of a transcript (`Responder`), what came and is not taken yet, and what was said and is not
@@ -21,9 +21,9 @@
 //! A service is `Attended`: it notes which connection keeps each stay in the pool, by the numbers that connections have (`Hears`). `end_due` ends the stays
 //! that are due, and no others.
 //!
-//! After an iteration a line `take ID` that waits first takes a number (`serve_takings`): the server says `enter ID`, and `probe ID` as often as it takes, and
-//! answers the last reply. This is kept before it is answered, like all else. Where answers are prefetched, the lines of that are a batch of their own
-//! (`prefetch_takings`).
+//! After an iteration a line `take ID` that waits first takes a number (`serve_takings`): the server says `enter ID`, and then in the wide world one
+//! `seek ID`, elsewhere `probe ID` as often as it takes, and answers the last reply. This is kept before it is answered, like all else. Where answers
+//! are prefetched, the lines of that are a batch of their own (`prefetch_takings`).
 //!
 //! `host` is a whole server over sockets: it waits until some are ready (`mio`), gives those their turn, and closes who is at an end or idle. Its theorem
 //! (`WasAttended`): from its start to its end nothing else was done than such turns, each said of the numbers of its connections; what was heard
@@ -67,6 +67,7 @@ mod losing;
 pub mod peek;
 pub mod persist;
 pub mod releasing;
+mod searching;
 pub mod seat_numbers;
 pub mod shared;
 pub mod socket;

@@ -1,8 +1,8 @@
-// Erased by bindings/rust/erase from crates/model_asked/src/event.rt, sha256 493c04228ff0933837544700395c53afb93499842295eb3fb940989498114d26.
+// Erased by bindings/rust/erase from crates/model_asked/src/event.rt, sha256 cb1365aafb7ed05be01571781102cabf59b3c15f22c2b23cdf9f0714ec8f1c6b.
 //! What a participant does, and the growth of the pool.
 
 /// One event: an action of one participant, or the growth of the pool, which is no participant's. It makes at most one
-/// access.
+/// access, but for `Seek`, which stands for probes that make one each.
 ///
 /// The identity is as it was written, 0 included.
 #[derive(Clone, Copy, Debug, PartialEq, Eq)]
@@ -15,6 +15,8 @@ pub enum Event {
     Enter(u64),
     /// The competitor makes its next access to the bits of the pool.
     Probe(u64),
+    /// The competitor probes until it has a number. The wide world alone knows it.
+    Seek(u64),
     /// The competitor gives its number back and stops competing.
     Leave(u64),
     /// The holder of a number puts a value into its slot.

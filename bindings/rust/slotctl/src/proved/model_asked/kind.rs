@@ -1,4 +1,4 @@
-// Erased by bindings/rust/erase from crates/model_asked/src/kind.rt, sha256 36bed9956a48cd452b19824f1d2ac10eb701589915f99aef0607f18e96ce9aa4.
+// Erased by bindings/rust/erase from crates/model_asked/src/kind.rt, sha256 cae57617c262323c10983aec65399cf0e3bfbe388072a4c14c303d18dab03cbd.
 //! The worlds.
 
 /// The worlds, as the help of a command line lists them.
@@ -15,6 +15,8 @@ pub enum WorldKind {
     Rename,
     /// Renaming over the places of a tree of splitters, which grows on demand.
     Tree,
+    /// Renaming as in `Rename`, beside a pool of many numbers. Servers alone play it.
+    Wide,
 }
 
 impl WorldKind {
@@ -25,6 +27,7 @@ impl WorldKind {
             WorldKind::Grid => "grid",
             WorldKind::Rename => "rename",
             WorldKind::Tree => "tree",
+            WorldKind::Wide => "wide",
         }
     }
 
@@ -38,6 +41,8 @@ impl WorldKind {
             Some(WorldKind::Rename)
         } else if word == WorldKind::Tree.name() {
             Some(WorldKind::Tree)
+        } else if word == WorldKind::Wide.name() {
+            Some(WorldKind::Wide)
         } else {
             None
         }
@@ -50,6 +55,7 @@ impl WorldKind {
             WorldKind::Grid => false,
             WorldKind::Rename => false,
             WorldKind::Tree => true,
+            WorldKind::Wide => false,
         }
     }
 
@@ -61,6 +67,7 @@ impl WorldKind {
             WorldKind::Grid => false,
             WorldKind::Rename => true,
             WorldKind::Tree => true,
+            WorldKind::Wide => true,
         }
     }
 
@@ -71,6 +78,30 @@ impl WorldKind {
             WorldKind::Grid => 16,
             WorldKind::Rename => 16,
             WorldKind::Tree => 64,
+            WorldKind::Wide => 16,
+        }
+    }
+
+    /// Returns the most numbers of its pool: 65,536 in the wide world, 64 otherwise.
+    pub fn most_numbers(self) -> u64 {
+        match self {
+            WorldKind::Splitter => 64,
+            WorldKind::Grid => 64,
+            WorldKind::Rename => 64,
+            WorldKind::Tree => 64,
+            WorldKind::Wide => 65_536,
+        }
+    }
+
+    /// Whether its pool may have many numbers, and `seek` is known.
+    #[inline(always)]
+    pub fn is_wide(self) -> bool {
+        match self {
+            WorldKind::Splitter => false,
+            WorldKind::Grid => false,
+            WorldKind::Rename => false,
+            WorldKind::Tree => false,
+            WorldKind::Wide => true,
         }
     }
 

@@ -1,4 +1,4 @@
-// Erased by bindings/rust/erase from crates/model_asked/src/reply.rt, sha256 326f28011482cfbc50531b3269877d63fac15ad6a5bc31a97210ede7854451a2.
+// Erased by bindings/rust/erase from crates/model_asked/src/reply.rt, sha256 b84f63f99f2f3ac53752e1a4ba73f97f5227f5df112c7a623fa8d9c950818930.
 //! The reply to an event.
 
 use crate::proved::model_steps::place::Place;
@@ -34,9 +34,9 @@ pub enum Reply<V> {
     /// The bit was set: the next probe is of the next bit.
     Missed,
     /// The competitor holds this number.
-    Got(u8),
+    Got(u32),
     /// The competitor has given this number back.
-    Left(u8),
+    Left(u32),
     /// The value in the slot of the number that is held.
     Value(u64),
     /// The identity that has the name, or `None` if no identity has it.
@@ -115,7 +115,7 @@ impl Reply<()> {
     }
 
     /// Returns the reply for the outcome of a call that gives a number back.
-    pub fn of_leave(outcome: Result<u8, Refusal>) -> Self {
+    pub fn of_leave(outcome: Result<u32, Refusal>) -> Self {
         match outcome {
             Ok(number) => Reply::Left(number),
             Err(refusal) => Reply::Refused(refusal),

@@ -1,53 +1,73 @@
-// Erased by bindings/rust/erase from crates/model_pool/src/pool.rt, sha256 7cfaa332efd8f0978c32f12d7c3bb1a66292abc71f423cae8db58ee565e0aaea.
+// Erased by bindings/rust/erase from crates/model_pool/src/pool.rt, sha256 870c88469fb9b8b129481f9c54cb067482c3cae7760ecaa96c8ab3d8beef5523.
 //! The pool.
 
 use crate::kit::alloc::Allocator;
 use crate::kit::Clone;
+use crate::kit::Vec;
 use crate::proved::model_pool::competitor::Competitor;
 use crate::proved::model_pool::probe::Probe;
 use crate::proved::model_pool::roster::Roster;
 use crate::proved::model_pool::stay::Stay;
-use crate::proved::model_steps::access::Access;
+use crate::proved::model_steps::access::{Access, Answer};
 use crate::proved::model_steps::memory::{Memory, StepMemory};
-use crate::proved::model_steps::refusal::Refusal;
+use crate::proved::model_steps::refusal::{NoMemory, Refusal};
 
-/// The most numbers that a pool may have, and the most competitors.
-pub const MOST_NUMBERS: usize = 64;
+/// The most numbers that any pool may have, and the most competitors.
+pub const MOST_NUMBERS: usize = 65_536;
 
 /// A pool of the numbers from 1 to its size (Moir and Anderson 1995).
 ///
-/// Each number below the size has a bit, which is set while the number is held. The last number has none.
+/// Each number below the size has a bit, which is set while the number is held. The last number has none. All bits below
+/// `low` are set. So probes from there on find what those from bit 1 on find.
 pub struct Pool<A: Allocator> {
-    size: u8,
+    size: u32,
+    low: u32,
     bits: Memory<(), A>,
     competitors: Roster<A>,
 }
 
-/// Returns the competitor that holds this number.
-fn holder(competitors: &[Competitor], number: u8) -> Option<u64> {
-    for competitor in competitors {
-        if competitor.stay.holds(number) {
-            return Some(competitor.identity);
+/// Whether a bit was clear, by the answer to a test-and-set.
+fn was_clear(got: Answer<()>) -> bool {
+    matches!(got, Answer::WasSet(false))
+}
+
+/// Probes the bits from `first` on, and returns the number that they give. Those below `from` are set, and are passed over.
+fn seek<A: Allocator>(bits: &mut Memory<(), A>, size: u32, _first: u32, from: u32) -> u32 {
+    for bit in from..size {
+        let got = bits.access(Access::TestAndSet(bit as usize)).unwrap();
+        if was_clear(got) {
+            return bit;
         }
     }
-    None
+    size
+}
+
+/// Returns the bit below which all are set, where all below `low` are, and all from `next` on below `number`.
+fn low_after(low: u32, next: u32, number: u32) -> u32 {
+    if next <= low {
+        number
+    } else {
+        low
+    }
 }
 
 impl<A: Allocator + Clone> Pool<A> {
-    /// Makes a pool of the numbers from 1 to `size`, for which nobody competes. No other call allocates.
+    /// Makes a pool of the numbers from 1 to `size`, which may get `most`, and for which nobody competes. No other call
+    /// but `competitors` allocates.
     ///
     /// # Errors
     ///
-    /// - `OutOfRange`: `size` is not from 1 to 64.
+    /// - `OutOfRange`: `size` is not from 1 to `most`, or `most` is above 65,536.
     /// - `NoMemory`: an allocation failed.
-    pub fn new(alloc: A, size: u64) -> Result<Self, Refusal> {
-        if size < 1 || size > MOST_NUMBERS as u64 {
+    pub fn new(alloc: A, most: u64, size: u64) -> Result<Self, Refusal> {
+        if size < 1 || size > most || most > MOST_NUMBERS as u64 {
             return Err(Refusal::OutOfRange);
         }
-        let bits = Memory::new(alloc.clone()?, (), 0, MOST_NUMBERS + 1)?;
-        let competitors = Roster::new(alloc)?;
+        let bits = Memory::new(alloc.clone()?, (), 0, most as usize + 1)?;
+        let competitors = Roster::new(alloc, most as usize)?;
         Ok(Pool {
-            size: size as u8,
+            size: size as u32,
+            low: 1,
             bits,
             competitors,
         })
@@ -55,22 +75,35 @@ impl<A: Allocator + Clone> Pool<A> {
 }
 
 impl<A: Allocator> Pool<A> {
-    /// Returns the present size, which is the largest number: from 1 to 64.
+    /// Returns the present size, which is the largest number: from 1 to the most.
     pub fn size(&self) -> u64 {
         u64::from(self.size)
     }
 
+    /// Returns the most numbers that the pool may get.
+    pub fn most(&self) -> u64 {
+        self.competitors.most() as u64
+    }
+
+    /// Returns how many compete.
+    pub fn count(&self) -> u64 {
+        self.competitors.len() as u64
+    }
+
     /// Returns the competitors, in the order in which they entered.
-    pub fn competitors(&self) -> &[Competitor] {
-        self.competitors.as_slice()
+    ///
+    /// # Errors
+    ///
+    /// `NoMemory`: an allocation failed.
+    pub fn competitors<B: Allocator>(&self, alloc: B) -> Result<Vec<Competitor, B>, NoMemory> {
+        let mut out = Vec::new(alloc);
+        self.competitors.copy(&mut out)?;
+        Ok(out)
     }
 
     /// Returns the state of a competitor, or `None` if the identity does not compete.
     pub fn stay_of(&self, id: u64) -> Option<Stay> {
-        let Some(i) = self.competitors.find(id) else {
-            return None;
-        };
-        Some(self.competitors.nth(i).stay)
+        self.competitors.stay_of(id)
     }
 
     /// Returns the number that `id` holds. This makes no access.
@@ -81,7 +114,7 @@ impl<A: Allocator> Pool<A> {
     ///
     /// - `NotCompeting`: `id` does not compete.
     /// - `NotHolding`: `id` competes and holds no number.
-    pub fn number_of(&self, id: u64) -> Result<u8, Refusal> {
+    pub fn number_of(&self, id: u64) -> Result<u32, Refusal> {
         match self.stay_of(id) {
             None => Err(Refusal::NotCompeting),
             Some(Stay::Seeking(_)) => Err(Refusal::NotHolding),
@@ -90,8 +123,8 @@ impl<A: Allocator> Pool<A> {
     }
 
     /// Returns the identity that holds this number, or `None` if no identity holds it.
-    pub fn holder_of(&self, number: u8) -> Option<u64> {
-        holder(self.competitors.as_slice(), number)
+    pub fn holder_of(&self, number: u32) -> Option<u64> {
+        self.competitors.holder(number)
     }
 
     /// Returns the error that `enter` would return, or `None` if it would succeed.
@@ -100,7 +133,7 @@ impl<A: Allocator> Pool<A> {
             Some(Refusal::ZeroIdentity)
         } else if self.stay_of(id).is_some() {
             Some(Refusal::AlreadyCompeting)
-        } else if usize::from(self.size) <= self.competitors.as_slice().len() {
+        } else if self.size as usize <= self.competitors.len() {
             Some(Refusal::Crowded)
         } else {
             None
@@ -148,17 +181,39 @@ impl<A: Allocator> Pool<A> {
     ///
     /// At most one access. A competitor has a number after at most `max(1, k - 1)` probes in a pool of size `k`.
     pub fn probe(&mut self, id: u64) -> Result<Probe, Refusal> {
-        let Some(i) = self.competitors.find(id) else {
+        let Some(stay) = self.competitors.stay_of(id) else {
             return Err(Refusal::NotCompeting);
         };
-        let stay = self.competitors.nth(i).stay;
         if let Stay::Settled(_) = stay {
             return Err(Refusal::Holding);
         }
         let got = self.bits.access(stay.probe_access(self.size)).unwrap();
         let stay = stay.probed(self.size, got);
-        self.competitors.put(i, id, stay);
+        self.competitors.put(id, stay);
         Ok(stay.probe_reply())
+    }
+
+    /// Probes in one call, until `id` has a number, and returns the number.
+    ///
+    /// # Errors
+    ///
+    /// Those of `probe`, in that order. An error changes nothing.
+    ///
+    /// # Steps
+    ///
+    /// Those of the probes that it stands for, each of one access: at most `max(1, k - 1)` in a pool of size `k`. The identity is
+    /// searched once, and bits that are known to be set are passed over.
+    pub fn seek(&mut self, id: u64) -> Result<u32, Refusal> {
+        let Some(stay) = self.competitors.stay_of(id) else {
+            return Err(Refusal::NotCompeting);
+        };
+        let Stay::Seeking(next) = stay else {
+            return Err(Refusal::Holding);
+        };
+        let number = seek(&mut self.bits, self.size, next, next.max(self.low));
+        self.low = low_after(self.low, next, number);
+        self.competitors.put(id, Stay::Settled(number));
+        Ok(number)
     }
 
     /// Gives back the number that `id` holds, and returns it. The identity then competes no more.
@@ -173,17 +228,18 @@ impl<A: Allocator> Pool<A> {
     /// # Steps
     ///
     /// At most one access, which clears the number's bit.
-    pub fn leave(&mut self, id: u64) -> Result<u8, Refusal> {
+    pub fn leave(&mut self, id: u64) -> Result<u32, Refusal> {
         let number = self.number_of(id)?;
         let access = Stay::Settled(number).leave_access(self.size);
         self.bits.access(access).unwrap();
         self.competitors.remove(id);
+        self.low = self.low.min(number);
         Ok(number)
     }
 
     /// Returns the error that `widen` would return, or `None` if it would succeed.
     pub fn widen_refusal(&self, size: u64) -> Option<Refusal> {
-        if size <= self.size() || size > MOST_NUMBERS as u64 {
+        if size <= self.size() || size > self.most() {
             Some(Refusal::OutOfRange)
         } else {
             None
@@ -196,7 +252,7 @@ impl<A: Allocator> Pool<A> {
     ///
     /// # Errors
     ///
-    /// `OutOfRange`: `size` is not above the present size, or is above 64. Nothing has changed.
+    /// `OutOfRange`: `size` is not above the present size, or is above the most. Nothing has changed.
     ///
     /// # Steps
     ///
@@ -205,13 +261,13 @@ impl<A: Allocator> Pool<A> {
         if let Some(refusal) = self.widen_refusal(size) {
             return Err(refusal);
         }
-        let access = if holder(self.competitors.as_slice(), self.size).is_some() {
-            Access::TestAndSet(usize::from(self.size))
+        let access = if self.competitors.holder(self.size).is_some() {
+            Access::TestAndSet(self.size as usize)
         } else {
             Access::Nothing
         };
         self.bits.access(access).unwrap();
-        self.size = size as u8;
+        self.size = size as u32;
         Ok(())
     }
 }

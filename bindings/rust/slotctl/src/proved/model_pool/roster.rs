@@ -1,138 +1,228 @@
-// Erased by bindings/rust/erase from crates/model_pool/src/roster.rt, sha256 b83bdf0909d95b93f4fd02bae3da6ec63cdac67f02c6ae66be7d28575eb5c4f2.
-//! The competitors, and the index at which a search for one starts.
+// Erased by bindings/rust/erase from crates/model_pool/src/roster.rt, sha256 21e72854cc23ba29664c38d15664ae3ad03d2a3959939a8ad039c8a087b623ab.
+//! The competitors, and an index of their identities.
 
 use crate::kit::alloc::Allocator;
+use crate::kit::Clone;
 use crate::kit::Vec;
 use crate::proved::model_pool::competitor::Competitor;
+use crate::proved::model_pool::entry::Entry;
 use crate::proved::model_pool::stay::Stay;
 use crate::proved::model_steps::refusal::NoMemory;
 
-/// The most competitors.
-pub(crate) const ROOM: usize = 64;
+/// Mixes the bits of an identity: 2^64 over the golden ratio.
+const MIX: u64 = 11_400_714_819_323_198_485;
 
-/// The note that no competitor has these bits.
-const NOWHERE: u8 = 64;
-
-/// Whether the competitor at this index is another one, so that the search for an identity goes on after it.
+/// Returns the bucket of an identity, of `width`.
 #[inline(always)]
-fn is_other(competitors: &[Competitor], at: usize, id: u64) -> bool {
-    competitors[at].identity != id
+fn bucket_of(width: usize, id: u64) -> usize {
+    let mixed = id.wrapping_mul(MIX) / 4_294_967_296;
+    (mixed * width as u64 / 4_294_967_296) as usize
 }
 
-/// Finds the index of an identity that no competitor before `start` has.
+/// Whether this is a competitor with this identity.
 #[inline(always)]
-fn search_from(competitors: &[Competitor], start: usize, id: u64) -> Option<usize> {
-    let mut at = start;
-    while at < competitors.len() {
-        if !is_other(competitors, at, id) {
-            return Some(at);
+fn is_of(entry: &Entry, id: u64) -> bool {
+    entry.identity == id && entry.stay.is_some()
+}
+
+/// Finds the entry of a competitor: goes through the identities of its bucket, from the last on.
+fn walk(entries: &[Entry], heads: &[u32], links: &[u32], id: u64) -> Option<usize> {
+    let mut at = heads[bucket_of(heads.len(), id)];
+    while at > 0 {
+        let i = (at - 1) as usize;
+        if is_of(&entries[i], id) {
+            return Some(i);
         }
-        at += 1;
+        at = links[i];
     }
     None
 }
 
-/// Finds the index of the competitor with an identity. One round of the loop compares four.
-fn search(competitors: &[Competitor], id: u64) -> Option<usize> {
-    let mut at = 0;
-    while at + 4 <= competitors.len() {
-        if !is_other(competitors, at, id) {
-            return Some(at);
-        }
-        if !is_other(competitors, at + 1, id) {
-            return Some(at + 1);
-        }
-        if !is_other(competitors, at + 2, id) {
-            return Some(at + 2);
-        }
-        if !is_other(competitors, at + 3, id) {
-            return Some(at + 3);
-        }
-        at += 4;
+/// Notes one more identity, which stands after those that are noted.
+fn note<A: Allocator>(heads: &mut Vec<u32, A>, links: &mut Vec<u32, A>, id: u64) {
+    let b = bucket_of(heads.len(), id);
+    links.push_reserved(heads[b]);
+    heads[b] = links.len() as u32;
+}
+
+/// Clears the heads of all buckets.
+fn clear<A: Allocator>(heads: &mut Vec<u32, A>) {
+    for b in 0..heads.len() {
+        heads[b] = 0;
     }
-    search_from(competitors, at, id)
 }
 
-/// Notes that the competitor with this identity is at this index.
-#[inline(always)]
-fn note(places: &mut [u8; 64], id: u64, at: usize) {
-    places[(id % 64) as usize] = (at % 64) as u8;
-}
-
-/// Makes the notes of these competitors.
-fn notes_of(competitors: &[Competitor]) -> [u8; 64] {
-    let mut places = [NOWHERE; 64];
-    for (at, competitor) in competitors.iter().enumerate() {
-        note(&mut places, competitor.identity, at);
+/// Notes the identities of all these entries anew.
+fn note_all<A: Allocator>(heads: &mut Vec<u32, A>, links: &mut Vec<u32, A>, entries: &[Entry]) {
+    clear(heads);
+    links.clear();
+    for entry in entries {
+        note(heads, links, entry.identity);
     }
-    places
 }
 
-/// The competitors, in the order in which they entered, with room for 64.
+/// Returns the competitor that holds this number.
+fn holder(entries: &[Entry], number: u32) -> Option<u64> {
+    for entry in entries {
+        if let Some(stay) = entry.stay {
+            if stay.holds(number) {
+                return Some(entry.identity);
+            }
+        }
+    }
+    None
+}
+
+/// Appends the competitors among these entries.
+fn copy<A: Allocator>(entries: &[Entry], out: &mut Vec<Competitor, A>) -> Result<(), NoMemory> {
+    for entry in entries {
+        if let Some(stay) = entry.stay {
+            let competitor = Competitor {
+                identity: entry.identity,
+                stay,
+            };
+            if out.push(competitor).is_err() {
+                return Err(NoMemory);
+            }
+        }
+    }
+    Ok(())
+}
+
+/// Drops the entries that have left.
+fn drop_left<A: Allocator>(entries: &mut Vec<Entry, A>) {
+    entries.retain(|entry| entry.stay.is_some());
+}
+
+/// Makes room for one more entry: where there is none, drops those that have left, and notes the others anew.
+fn make_room<A: Allocator>(
+    entries: &mut Vec<Entry, A>,
+    heads: &mut Vec<u32, A>,
+    links: &mut Vec<u32, A>,
+    most: usize,
+) {
+    if entries.len() < 2 * most {
+        return;
+    }
+    drop_left(entries);
+    note_all(heads, links, entries);
+}
+
+/// A vector of `n` zeros.
+fn zeros<A: Allocator>(alloc: A, n: usize) -> Result<Vec<u32, A>, NoMemory> {
+    let Ok(mut xs) = Vec::with_capacity(alloc, n) else {
+        return Err(NoMemory);
+    };
+    for _i in 0..n {
+        xs.push_reserved(0);
+    }
+    Ok(xs)
+}
+
+/// The competitors, in the order in which they entered, with room for `most`.
 ///
-/// There is a note for each value of an identity's lowest six bits. It is the index of the competitor with these bits
-/// that was added last, or says that there is none. A note may be of another identity. The search then goes through
-/// all, so that contracts see no note.
+/// An entry of one who leaves stays until there are twice `most`. Then those that have left are dropped, and the
+/// identities of the others are noted anew. So each call goes through those of one bucket, and of two times `most` calls
+/// one goes through all.
 pub(crate) struct Roster<A: Allocator> {
-    competitors: Vec<Competitor, A>,
-    places: [u8; 64],
+    most: usize,
+    many: usize,
+    entries: Vec<Entry, A>,
+    heads: Vec<u32, A>,
+    links: Vec<u32, A>,
+}
+
+impl<A: Allocator + Clone> Roster<A> {
+    /// Makes a roster with no competitor, and allocates room for `most`.
+    pub(crate) fn new(alloc: A, most: usize) -> Result<Self, NoMemory> {
+        let Ok(first) = alloc.clone() else {
+            return Err(NoMemory);
+        };
+        let Ok(second) = alloc.clone() else {
+            return Err(NoMemory);
+        };
+        let heads = zeros(first, 2 * most)?;
+        let Ok(links) = Vec::with_capacity(second, 2 * most) else {
+            return Err(NoMemory);
+        };
+        let Ok(entries) = Vec::with_capacity(alloc, 2 * most) else {
+            return Err(NoMemory);
+        };
+        Ok(Roster {
+            most,
+            many: 0,
+            entries,
+            heads,
+            links,
+        })
+    }
 }
 
 impl<A: Allocator> Roster<A> {
-    /// Makes a roster with no competitor, and allocates room for 64.
-    pub(crate) fn new(alloc: A) -> Result<Self, NoMemory> {
-        match Vec::with_capacity(alloc, ROOM) {
-            Ok(competitors) => Ok(Roster {
-                competitors,
-                places: [NOWHERE; 64],
-            }),
-            Err(_) => Err(NoMemory),
-        }
+    /// Returns the most competitors.
+    #[inline(always)]
+    pub(crate) fn most(&self) -> usize {
+        self.most
     }
 
-    /// Returns the competitors.
+    /// Returns how many compete.
     #[inline(always)]
-    pub(crate) fn as_slice(&self) -> &[Competitor] {
-        self.competitors.as_slice()
+    pub(crate) fn len(&self) -> usize {
+        self.many
     }
 
-    /// Returns the competitor at this index.
-    #[inline(always)]
-    pub(crate) fn nth(&self, at: usize) -> Competitor {
-        self.competitors[at]
+    /// Appends the competitors to a list.
+    pub(crate) fn copy<B: Allocator>(&self, out: &mut Vec<Competitor, B>) -> Result<(), NoMemory> {
+        copy(self.entries.as_slice(), out)
     }
 
-    /// Returns the index of the competitor with identity `id`, or `None` if it does not compete.
-    #[inline(always)]
-    pub(crate) fn find(&self, id: u64) -> Option<usize> {
-        let place = self.places[(id % 64) as usize];
-        if place == NOWHERE {
+    /// Returns the competitor that holds this number.
+    pub(crate) fn holder(&self, number: u32) -> Option<u64> {
+        holder(self.entries.as_slice(), number)
+    }
+
+    /// Returns the state of the competitor with identity `id`, or `None` if it does not compete.
+    pub(crate) fn stay_of(&self, id: u64) -> Option<Stay> {
+        let Some(at) = walk(&self.entries, &self.heads, &self.links, id) else {
             return None;
-        }
-        let at = usize::from(place);
-        if at < self.competitors.len() && self.nth(at).identity == id {
-            return Some(at);
-        }
-        search(&self.competitors, id)
+        };
+        self.entries[at].stay
     }
 
     /// Adds a competitor, which did not compete.
     pub(crate) fn add(&mut self, id: u64, stay: Stay) {
-        note(&mut self.places, id, self.competitors.len());
-        self.competitors
-            .push_reserved(Competitor { identity: id, stay });
+        make_room(
+            &mut self.entries,
+            &mut self.heads,
+            &mut self.links,
+            self.most,
+        );
+        note(&mut self.heads, &mut self.links, id);
+        self.entries.push_reserved(Entry {
+            identity: id,
+            stay: Some(stay),
+        });
+        self.many += 1;
     }
 
-    /// Replaces the state of the competitor at this index.
-    #[inline(always)]
-    pub(crate) fn put(&mut self, at: usize, id: u64, stay: Stay) {
-        self.competitors[at] = Competitor { identity: id, stay };
+    /// Replaces the state of the competitor with identity `id`.
+    pub(crate) fn put(&mut self, id: u64, stay: Stay) {
+        if let Some(at) = walk(&self.entries, &self.heads, &self.links, id) {
+            self.entries[at] = Entry {
+                identity: id,
+                stay: Some(stay),
+            };
+        }
     }
 
     /// Removes the competitor with identity `id`.
     pub(crate) fn remove(&mut self, id: u64) {
-        self.competitors
-            .retain(|competitor| competitor.identity != id);
-        self.places = notes_of(&self.competitors);
+        if let Some(at) = walk(&self.entries, &self.heads, &self.links, id) {
+            self.entries[at] = Entry {
+                identity: id,
+                stay: None,
+            };
+            self.many -= 1;
+        }
     }
 }

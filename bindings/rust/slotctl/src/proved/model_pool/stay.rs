@@ -1,4 +1,4 @@
-// Erased by bindings/rust/erase from crates/model_pool/src/stay.rt, sha256 a0fdbaf1bec188874d2a491b30c40740bc81201c8c81ef558ec7ef8f1800ece6.
+// Erased by bindings/rust/erase from crates/model_pool/src/stay.rt, sha256 4313e23ec3da3756a4b9375dc82264a499f2fce19118d29dfaef57de5dd6d2c6.
 //! The state of a competitor, from `enter` to `leave`.
 
 use crate::proved::model_pool::probe::Probe;
@@ -8,18 +8,18 @@ use crate::proved::model_steps::access::{Access, Answer};
 #[derive(Clone, Copy, Debug, PartialEq, Eq)]
 pub enum Stay {
     /// It holds no number, and missed each bit below this one. It probes this one next.
-    Seeking(u8),
+    Seeking(u32),
     /// It holds this number.
-    Settled(u8),
+    Settled(u32),
 }
 
 impl Stay {
     /// Returns the access of the next probe, in a pool of this size: the last number has no bit.
-    pub(crate) fn probe_access(self, size: u8) -> Access<usize, ()> {
+    pub(crate) fn probe_access(self, size: u32) -> Access<usize, ()> {
         match self {
             Stay::Seeking(next) => {
                 if next < size {
-                    Access::TestAndSet(usize::from(next))
+                    Access::TestAndSet(next as usize)
                 } else {
                     Access::Nothing
                 }
@@ -29,10 +29,10 @@ impl Stay {
     }
 
     /// Returns the state after the next probe, for this answer to its access.
-    pub(crate) fn probed(self, size: u8, got: Answer<()>) -> Stay {
+    pub(crate) fn probed(self, size: u32, got: Answer<()>) -> Stay {
         match (self, got) {
             (Stay::Seeking(next), Answer::WasSet(true)) => {
-                if u16::from(next) + 1 < u16::from(size) {
+                if u64::from(next) + 1 < u64::from(size) {
                     Stay::Seeking(next + 1)
                 } else {
                     Stay::Settled(size)
@@ -54,12 +54,12 @@ impl Stay {
     }
 
     /// Returns the access that gives the number back, in a pool of this size: the last number has no bit.
-    pub(crate) fn leave_access(self, size: u8) -> Access<usize, ()> {
+    pub(crate) fn leave_access(self, size: u32) -> Access<usize, ()> {
         match self {
             Stay::Seeking(_) => Access::Nothing,
             Stay::Settled(number) => {
                 if number < size {
-                    Access::Clear(usize::from(number))
+                    Access::Clear(number as usize)
                 } else {
                     Access::Nothing
                 }
@@ -68,7 +68,7 @@ impl Stay {
     }
 
     /// Whether it holds this number.
-    pub(crate) fn holds(self, number: u8) -> bool {
+    pub(crate) fn holds(self, number: u32) -> bool {
         match self {
             Stay::Seeking(_) => false,
             Stay::Settled(held) => held == number,

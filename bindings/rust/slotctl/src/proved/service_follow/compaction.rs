@@ -1,4 +1,4 @@
-// Erased by bindings/rust/erase from crates/service_follow/src/compaction.rt, sha256 22755e58c4fd791e35c26574b771030765c2c9661cb3484af7f3b333cf9a6f76.
+// Erased by bindings/rust/erase from crates/service_follow/src/compaction.rt, sha256 e2b96713d60af3e6bae0bd75591b7e9cfd1ef251050c9d54d88907275e2ff1a3.
 //! Compactions that a front end offers.
 
 use crate::kit::alloc::{AllocError, Global};
@@ -98,6 +98,7 @@ fn line_of(alloc: Global, event: Event) -> Result<String, AllocError> {
         Event::Step(id) => format!(in alloc; "step {id}\n"),
         Event::Enter(id) => format!(in alloc; "enter {id}\n"),
         Event::Probe(id) => format!(in alloc; "probe {id}\n"),
+        Event::Seek(id) => format!(in alloc; "seek {id}\n"),
         Event::Leave(id) => format!(in alloc; "leave {id}\n"),
         Event::Put(id, value) => format!(in alloc; "put {id} {value}\n"),
         Event::Get(id) => format!(in alloc; "get {id}\n"),

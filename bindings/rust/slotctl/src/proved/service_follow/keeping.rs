@@ -1,4 +1,4 @@
-// Erased by bindings/rust/erase from crates/service_follow/src/keeping.rt, sha256 57e814871a347e98edc9ac53ce8e1c618e303f848a65a522ee37ebe56331ac4e.
+// Erased by bindings/rust/erase from crates/service_follow/src/keeping.rt, sha256 cb8a968ffafc9c0cb9da179c9d6cabfc893cc139c6b019f1c13dc33c00ce6910.
 //! The front ends that keep stays in the pool, as a log tells.
 
 use crate::kit::alloc::{AllocError, Global};
@@ -65,6 +65,7 @@ impl Keeping {
                 Event::Begin(_)
                 | Event::Step(_)
                 | Event::Probe(_)
+                | Event::Seek(_)
                 | Event::Put(_, _)
                 | Event::Get(_)
                 | Event::Widen(_),

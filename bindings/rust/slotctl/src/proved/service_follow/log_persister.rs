@@ -1,4 +1,4 @@
-// Erased by bindings/rust/erase from crates/service_follow/src/log_persister.rt, sha256 d524a26e4042c6133056c8896e5ea0c9381eb0999e7d7092b9a7ebb64baec21e.
+// Erased by bindings/rust/erase from crates/service_follow/src/log_persister.rt, sha256 3be301ffe17a9551e049a5cc5e930b77834d431fb292eaec43869057c9fa047a.
 //! Serves the clients of one front end over a log.
 
 use crate::kit::alloc::{AllocError, Allocator, Global};
@@ -540,7 +540,7 @@ impl<S: Store, T: Pause> LogPersister<S, T> {
     fn ends_held(&self) -> bool {
         self.terms_before() == HallTerms::Forever
             && self.terms != HallTerms::Forever
-            && !self.log.hall().slots().pool().competitors().is_empty()
+            && self.log.hall().slots().pool().count() > 0
     }
 
     // Offers a change of the terms to its own for the next place, once.

@@ -1,4 +1,4 @@
-// Erased by bindings/rust/erase from crates/service_follow/src/reading.rt, sha256 a4838fd6dcc50d6d9db67574415a3d245215d5d8a9cd022da75d37e6f70fcd5d.
+// Erased by bindings/rust/erase from crates/service_follow/src/reading.rt, sha256 2a57790edd99e7605e4112530f6d1176cca5fedd540bcd39f88f704fb311796f.
 //! Reads that are answered with no entry of their own.
 
 use crate::kit::alloc::{AllocError, Global};
@@ -34,6 +34,7 @@ impl Read {
             | Event::Step(_)
             | Event::Enter(_)
             | Event::Probe(_)
+            | Event::Seek(_)
             | Event::Leave(_)
             | Event::Put(_, _)
             | Event::Widen(_) => None,

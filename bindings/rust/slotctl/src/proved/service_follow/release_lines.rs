@@ -1,4 +1,4 @@
-// Erased by bindings/rust/erase from crates/service_follow/src/release_lines.rt, sha256 e129a4ef21de63e2c8a16cbf8e6b0b70c355b90dbb166f9d4878ad6bc64ee4f5.
+// Erased by bindings/rust/erase from crates/service_follow/src/release_lines.rt, sha256 69e413fd9a9c7f51bf00913a1ec7b2fd716a0bae1e6c5c8063bff87347e5f13e.
 //! The lines by which stays end.
 
 use crate::kit::alloc::{AllocError, Global};
@@ -12,27 +12,37 @@ fn leave_line(alloc: Global, id: u64) -> Result<String, AllocError> {
     format!(in alloc; "leave {id}\n")
 }
 
-// The line that has an identity probe.
-fn probe_line(alloc: Global, id: u64) -> Result<String, AllocError> {
-    format!(in alloc; "probe {id}\n")
+// The line that has an identity look for a number, in the wide world or in another.
+fn search_line(alloc: Global, wide: bool, id: u64) -> Result<String, AllocError> {
+    if wide {
+        format!(in alloc; "seek {id}\n")
+    } else {
+        format!(in alloc; "probe {id}\n")
+    }
 }
 
-// How many probes have an identity hold a number, if it competes.
-fn probes_for(hall: &Hall, id: u64) -> u64 {
+// How many such lines have an identity hold a number, if it competes.
+fn searches_for(hall: &Hall, id: u64) -> u64 {
     let pool = hall.slots().pool();
     match pool.number_of(id) {
         Ok(_) => 0,
-        Err(_) => pool.size(),
+        Err(_) => {
+            if hall.config().world.is_wide() {
+                1
+            } else {
+                pool.size()
+            }
+        }
     }
 }
 
 // Appends a line so many times.
-fn push_probes(lines: &mut Vec<u8>, line: &[u8], count: u64) -> Result<(), AllocError> {
+fn push_searches(lines: &mut Vec<u8>, line: &[u8], count: u64) -> Result<(), AllocError> {
     if count == 0 {
         return Ok(());
     }
     lines.extend_from_slice(line)?;
-    push_probes(lines, line, count - 1)
+    push_searches(lines, line, count - 1)
 }
 
 // Appends the lines by which the stay of an identity ends.
@@ -42,15 +52,15 @@ fn push_release(
     hall: &Hall,
     id: u64,
 ) -> Result<(), AllocError> {
-    let probe = probe_line(alloc, id)?;
-    push_probes(lines, probe.as_bytes(), probes_for(hall, id))?;
+    let search = search_line(alloc, hall.config().world.is_wide(), id)?;
+    push_searches(lines, search.as_bytes(), searches_for(hall, id))?;
     let leave = leave_line(alloc, id)?;
     lines.extend_from_slice(leave.as_bytes())?;
     Ok(())
 }
 
-/// Returns the lines by which the stays of these identities end: `leave`, and before it as many `probe` as the pool has numbers, where the
-/// identity holds none.
+/// Returns the lines by which the stays of these identities end: `leave`, and before it `seek`, or as many `probe` as the pool has
+/// numbers, where the identity holds none.
 ///
 /// # Errors
 ///

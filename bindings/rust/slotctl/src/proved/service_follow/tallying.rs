@@ -1,20 +1,17 @@
-// Erased by bindings/rust/erase from crates/service_follow/src/tallying.rt, sha256 43ffeb7d83adc278bde2d9a662605903ddc2c8e1b03e1375152c3977d40ff3d5.
+// Erased by bindings/rust/erase from crates/service_follow/src/tallying.rt, sha256 5bb95959fb85884c4eb1d4375d0bd694a0545d8dcb6b81d282b89a8983037f17.
 //! How much there is of a hall.
 
 use crate::proved::model_asked::reply::Reply;
 use crate::proved::service_hall::hall::{Hall, MOST_EVENTS};
 use crate::proved::service_loop::persist::Tally;
 
-/// The most numbers of a pool.
-const MOST_NUMBERS: u8 = 64;
-
 // How many numbers of the pool nobody holds.
 fn numbers_free(hall: &Hall) -> u64 {
     let pool = hall.slots().pool();
+    let size = pool.size() as u32;
     let mut free: u64 = 0;
-    for at in 0..MOST_NUMBERS {
-        let number = at + 1;
-        if u64::from(number) <= pool.size() && pool.holder_of(number).is_none() {
+    for before in 0..size {
+        if pool.holder_of(before + 1).is_none() {
             free = free.saturating_add(1);
         }
     }
@@ -38,7 +35,7 @@ pub fn tally_of(hall: &Hall) -> Tally {
     let events = hall.len();
     Tally {
         events_left: Some(MOST_EVENTS.saturating_sub(events) as u64),
-        competitors: Some(hall.slots().pool().competitors().len() as u64),
+        competitors: Some(hall.slots().pool().count()),
         numbers_free: Some(numbers_free(hall)),
         names_given: Some(names_given(hall)),
         ..Tally::of_events(events as u64)

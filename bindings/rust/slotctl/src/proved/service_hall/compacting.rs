@@ -1,4 +1,4 @@
-// Erased by bindings/rust/erase from crates/service_hall/src/compacting.rt, sha256 90a5fcd31f037547ab456b4cba9ac796c16eea37f2499ccc5a47a2abc69444ee.
+// Erased by bindings/rust/erase from crates/service_hall/src/compacting.rt, sha256 a557f3645d2ca0c1a277e94637f0ce3c0bd7a232bffb1da60067d184ab840222.
 //! Compaction: a new hall with the same desk and fewer events.
 
 use crate::kit::alloc::Global;
@@ -19,6 +19,7 @@ fn is_renaming(event: Event) -> bool {
         Event::Step(_) => true,
         Event::Enter(_) => false,
         Event::Probe(_) => false,
+        Event::Seek(_) => false,
         Event::Leave(_) => false,
         Event::Put(_, _) => false,
         Event::Get(_) => false,
@@ -50,7 +51,7 @@ struct Sorted {
 fn sort_all(alloc: Global, hall: &Hall) -> Result<Sorted, Stuck> {
     let config = hall.config();
     let mut new = Rebuilding::new(alloc, config)?;
-    let mut old = SlotsCopy::new(alloc, config.k)?;
+    let mut old = SlotsCopy::new(alloc, config.world.most_numbers(), config.k)?;
     for place in 0..hall.len() {
         sort(hall, place, &mut new, &mut old)?;
     }
@@ -121,6 +122,7 @@ fn is_same_world(one: WorldKind, other: WorldKind) -> bool {
         (WorldKind::Grid, WorldKind::Grid) => true,
         (WorldKind::Rename, WorldKind::Rename) => true,
         (WorldKind::Tree, WorldKind::Tree) => true,
+        (WorldKind::Wide, WorldKind::Wide) => true,
         _ => false,
     }
 }

@@ -1,4 +1,4 @@
-// Erased by bindings/rust/erase from crates/service_hall/src/entry.rt, sha256 12a5e8757b3568adc3a25d9fe1542489adf37778813714dd74da750c04deb0a9.
+// Erased by bindings/rust/erase from crates/service_hall/src/entry.rt, sha256 9b4e1057cff4f8a94d79dbdda379b623ebb1101a5afac89b5a9aeff8794cea88.
 //! What a history stores of an exchange.
 
 use crate::kit::alloc::Allocator;
@@ -14,8 +14,8 @@ pub(crate) enum Short {
     Quiet,
     Proposed(u64),
     Missed,
-    Got(u8),
-    Left(u8),
+    Got(u32),
+    Left(u32),
     Value(u64),
     Apart(usize),
 }

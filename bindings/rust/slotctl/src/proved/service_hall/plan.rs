@@ -1,27 +1,28 @@
-// Erased by bindings/rust/erase from crates/service_hall/src/plan.rt, sha256 2766a1a39c4562eabff559fc3b53b992e333410aec13b5922f9bd5c0f87a824c.
+// Erased by bindings/rust/erase from crates/service_hall/src/plan.rt, sha256 6c7def88319ed998a6d0dcd40e491ea28886ebf69c9fede2c5cd7fd2ccb85bcb.
 //! The events that lead a fresh pool and slots to the state of others.
 
 use crate::kit::alloc::Global;
 use crate::kit::Vec;
+use crate::proved::model_asked::config::MOST_NUMBERS;
 use crate::proved::model_asked::event::Event;
 use crate::proved::model_asked::reply::Reply;
 use crate::proved::model_pool::competitor::Competitor;
-use crate::proved::model_pool::pool::MOST_NUMBERS;
 use crate::proved::model_pool::stay::Stay;
 use crate::proved::service_hall::helpers::Helpers;
 use crate::proved::service_hall::rebuilding::Rebuilding;
 use crate::proved::service_hall::slots_copy::SlotsCopy;
 use crate::proved::service_hall::stuck::Stuck;
+use crate::proved::service_hall::wide_plan::lead_wide;
 
 /// A helper with the number that it holds.
 #[derive(Clone, Copy)]
 struct Held {
     id: u64,
-    number: u8,
+    number: u32,
 }
 
 /// Probes until this competitor gets a number, and returns the number.
-fn settle(new: &mut Rebuilding, id: u64) -> Result<u8, Stuck> {
+fn settle(new: &mut Rebuilding, id: u64) -> Result<u32, Stuck> {
     for _ in 0..MOST_NUMBERS {
         if let Reply::Got(number) = new.take(Event::Probe(id))? {
             return Ok(number);
@@ -31,7 +32,7 @@ fn settle(new: &mut Rebuilding, id: u64) -> Result<u8, Stuck> {
 }
 
 /// Probes until the next probe of this competitor is of this number.
-fn seek(new: &mut Rebuilding, id: u64, number: u8) -> Result<(), Stuck> {
+fn seek(new: &mut Rebuilding, id: u64, number: u32) -> Result<(), Stuck> {
     for _ in 1..number {
         new.take(Event::Probe(id))?;
     }
@@ -55,7 +56,7 @@ fn dismiss(new: &mut Rebuilding, helpers: &[Held]) -> Result<(), Stuck> {
 
 /// Lets a helper put the value of its number, unless that is 0.
 fn put(new: &mut Rebuilding, helper: Held, values: &[u64]) -> Result<(), Stuck> {
-    let at = usize::from(helper.number).saturating_sub(1);
+    let at = (helper.number as usize).saturating_sub(1);
     match values.get(at) {
         Some(0) => Ok(()),
         Some(value) => {
@@ -76,7 +77,7 @@ fn put_all(new: &mut Rebuilding, helpers: &[Held], values: &[u64]) -> Result<(),
 
 /// Returns the number of the last slot with a value other than 0, or 0. Not proved: compaction compares the result as a
 /// whole.
-fn last_value(values: &[u64]) -> usize {
+pub(crate) fn last_value(values: &[u64]) -> usize {
     let mut last = 0;
     for (i, value) in values.iter().enumerate() {
         if *value != 0 {
@@ -102,7 +103,7 @@ fn fill(
 }
 
 /// Lets a helper take this number, if it is free and all below are held.
-fn hold(new: &mut Rebuilding, id: u64, number: u8, held: &mut Vec<Held>) -> Result<(), Stuck> {
+fn hold(new: &mut Rebuilding, id: u64, number: u32, held: &mut Vec<Held>) -> Result<(), Stuck> {
     if new.slots.holds(number) {
         return Ok(());
     }
@@ -116,7 +117,7 @@ fn hold_below(
     new: &mut Rebuilding,
     old: &SlotsCopy,
     helpers: &mut Helpers,
-    number: u8,
+    number: u32,
 ) -> Result<Vec<Held>, Stuck> {
     let mut held = Vec::new(alloc);
     for below in 1..number {
@@ -127,7 +128,7 @@ fn hold_below(
 }
 
 /// Returns the number that a competitor holds or probes next. Not proved: compaction compares the result as a whole.
-fn place(stay: Stay) -> u8 {
+fn place(stay: Stay) -> u32 {
     match stay {
         Stay::Seeking(number) => number,
         Stay::Settled(number) => number,
@@ -161,7 +162,7 @@ fn enter(
 }
 
 /// Gives the pool as many numbers as this, if it has fewer.
-fn widen(new: &mut Rebuilding, size: u8) -> Result<(), Stuck> {
+fn widen(new: &mut Rebuilding, size: u32) -> Result<(), Stuck> {
     if new.slots.size < size {
         new.take(Event::Widen(u64::from(size)))?;
     }
@@ -170,8 +171,17 @@ fn widen(new: &mut Rebuilding, size: u8) -> Result<(), Stuck> {
 
 /// Leads a fresh pool and slots to the state of the others. Only tested: that they reach it, which the caller compares.
 pub(crate) fn lead(alloc: Global, new: &mut Rebuilding, old: &SlotsCopy) -> Result<(), Stuck> {
-    let mut helpers = Helpers::new();
     widen(new, old.size)?;
+    if new.hall.config().world.is_wide() {
+        lead_wide(alloc, new, old)
+    } else {
+        lead_narrow(alloc, new, old)
+    }
+}
+
+/// Leads a fresh pool and slots of few numbers, which have as many, to the state of the others.
+fn lead_narrow(alloc: Global, new: &mut Rebuilding, old: &SlotsCopy) -> Result<(), Stuck> {
+    let mut helpers = Helpers::new();
     fill(alloc, new, old, &mut helpers)?;
     for competitor in &old.competitors {
         enter(alloc, new, old, &mut helpers, *competitor)?;

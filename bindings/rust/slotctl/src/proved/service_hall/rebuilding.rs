@@ -1,4 +1,4 @@
-// Erased by bindings/rust/erase from crates/service_hall/src/rebuilding.rt, sha256 2a374018d791cc74f0db01f4084f27e733c2589bd52dedcb1dd50c2e513b5039.
+// Erased by bindings/rust/erase from crates/service_hall/src/rebuilding.rt, sha256 3e85c7432127b82571d929af39d25b43c95eeacd8d49e8feb15a9e1b76f11f7f.
 //! A hall under construction.
 
 use crate::kit::alloc::Global;
@@ -22,7 +22,7 @@ impl Rebuilding {
     pub(crate) fn new(alloc: Global, config: Config) -> Result<Rebuilding, Stuck> {
         Ok(Rebuilding {
             hall: Hall::new(alloc, config)?,
-            slots: SlotsCopy::new(alloc, config.k)?,
+            slots: SlotsCopy::new(alloc, config.world.most_numbers(), config.k)?,
             view: View::new(),
         })
     }

@@ -1,4 +1,4 @@
-// Erased by bindings/rust/erase from crates/service_hall/src/rules.rt, sha256 abcd2ff5a284d4566177a29acc3cde6ff7b71b32ca287806772395e4f8f1449b.
+// Erased by bindings/rust/erase from crates/service_hall/src/rules.rt, sha256 5b9bc1165f38e2be24f1959cdb04dda9ce533c293746bbc14acdf698cf223871.
 //! What clients of a hall may ask for.
 
 use crate::proved::model_asked::event::Event;
@@ -59,7 +59,11 @@ impl Rules {
             Event::Begin(_) | Event::Step(_) => applied_if(self.naming),
             Event::Widen(_) => applied_if(self.widening),
             Event::Get(id) => way_of_read(self.reads, id),
-            Event::Enter(_) | Event::Probe(_) | Event::Leave(_) | Event::Put(_, _) => Way::Applied,
+            Event::Enter(_)
+            | Event::Probe(_)
+            | Event::Seek(_)
+            | Event::Leave(_)
+            | Event::Put(_, _) => Way::Applied,
         }
     }
 }

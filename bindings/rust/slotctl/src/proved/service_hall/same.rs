@@ -1,4 +1,4 @@
-// Erased by bindings/rust/erase from crates/service_hall/src/same.rt, sha256 978714bad5ea48d2215ed291be5f10684f83b36a82af02d10ed663af7b2e4d28.
+// Erased by bindings/rust/erase from crates/service_hall/src/same.rt, sha256 2abe818107cd89c761845dcd870cfad1dfd09d6324e9ca5b253ba685123139ab.
 //! Comparison of events and of exchanges.
 
 use crate::proved::model_asked::event::Event;
@@ -13,6 +13,7 @@ pub fn is_same_event(a: Event, b: Event) -> bool {
         (Event::Step(p), Event::Step(q)) => p == q,
         (Event::Enter(p), Event::Enter(q)) => p == q,
         (Event::Probe(p), Event::Probe(q)) => p == q,
+        (Event::Seek(p), Event::Seek(q)) => p == q,
         (Event::Leave(p), Event::Leave(q)) => p == q,
         (Event::Put(p, value), Event::Put(q, other)) => p == q && value == other,
         (Event::Get(p), Event::Get(q)) => p == q,

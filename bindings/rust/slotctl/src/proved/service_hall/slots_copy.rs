@@ -1,17 +1,18 @@
-// Erased by bindings/rust/erase from crates/service_hall/src/slots_copy.rt, sha256 6486c57a7866b52c4a47dc1f77e56a4f8d3ac688d7bc9e1c842997df10fc7411.
+// Erased by bindings/rust/erase from crates/service_hall/src/slots_copy.rt, sha256 6c1038d07c42d819a12e5440c9eca60869e801bb7c1d4aa837984cce23bc91a1.
 //! A copy of a pool and its slots, as plain values.
 
 use crate::kit::alloc::Global;
 use crate::kit::Vec;
 use crate::proved::model_asked::event::Event;
 use crate::proved::model_pool::competitor::Competitor;
-use crate::proved::model_pool::pool::MOST_NUMBERS;
 use crate::proved::model_pool::stay::Stay;
 use crate::proved::service_hall::stuck::Stuck;
 
 /// A copy of a pool and its slots, which follows accepted events.
 pub(crate) struct SlotsCopy {
-    pub(crate) size: u8,
+    /// The most numbers that the pool may get.
+    most: u32,
+    pub(crate) size: u32,
     pub(crate) bits: Vec<bool>,
     pub(crate) competitors: Vec<Competitor>,
     pub(crate) values: Vec<u64>,
@@ -49,7 +50,7 @@ fn put_stay(competitors: &mut [Competitor], id: u64, stay: Stay) {
 }
 
 /// Whether a competitor in this state holds a number.
-fn holds(stay: Stay, number: u8) -> bool {
+fn holds(stay: Stay, number: u32) -> bool {
     match stay {
         Stay::Seeking(_) => false,
         Stay::Settled(held) => held == number,
@@ -88,7 +89,7 @@ fn remove(competitors: &mut Vec<Competitor>, id: u64) {
 }
 
 /// Whether a competitor holds this number.
-fn is_held(competitors: &[Competitor], number: u8) -> bool {
+fn is_held(competitors: &[Competitor], number: u32) -> bool {
     for competitor in competitors {
         if holds(competitor.stay, number) {
             return true;
@@ -98,8 +99,8 @@ fn is_held(competitors: &[Competitor], number: u8) -> bool {
 }
 
 /// Sets a bit, and returns whether it was set.
-fn set(bits: &mut [bool], number: u8) -> bool {
-    let at = usize::from(number);
+fn set(bits: &mut [bool], number: u32) -> bool {
+    let at = number as usize;
     if at >= bits.len() {
         return false;
     }
@@ -109,23 +110,23 @@ fn set(bits: &mut [bool], number: u8) -> bool {
 }
 
 /// Clears the bit of a number that is given back, in a pool of this size.
-fn release(bits: &mut [bool], size: u8, number: u8) {
-    let at = usize::from(number);
+fn release(bits: &mut [bool], size: u32, number: u32) {
+    let at = number as usize;
     if number < size && at < bits.len() {
         bits[at] = false;
     }
 }
 
 /// Sets the bit of the number that was the last one of a pool, if it is held.
-fn keep_last(bits: &mut [bool], competitors: &[Competitor], size: u8) {
+fn keep_last(bits: &mut [bool], competitors: &[Competitor], size: u32) {
     if is_held(competitors, size) {
         let _ = set(bits, size);
     }
 }
 
 /// Puts a value into the slot of a number.
-fn put_value(values: &mut [u64], number: u8, value: u64) {
-    let at = usize::from(number).saturating_sub(1);
+fn put_value(values: &mut [u64], number: u32, value: u64) {
+    let at = (number as usize).saturating_sub(1);
     if at < values.len() {
         values[at] = value;
     }
@@ -141,7 +142,7 @@ fn lengthen(values: &mut Vec<u64>, count: usize) -> Result<(), Stuck> {
 }
 
 /// Returns the state of a competitor after a probe of this number, whose bit is then set.
-fn probed(bits: &mut [bool], size: u8, next: u8) -> Stay {
+fn probed(bits: &mut [bool], size: u32, next: u32) -> Stay {
     if size <= next {
         return Stay::Settled(size);
     }
@@ -155,12 +156,40 @@ fn probed(bits: &mut [bool], size: u8, next: u8) -> Stay {
     }
 }
 
+/// Returns the number that probes from this one on give, whose bit is then set.
+fn sought(bits: &mut [bool], size: u32, next: u32) -> u32 {
+    let mut stay = Stay::Seeking(next);
+    let mut left = size;
+    while left > 0 {
+        stay = probed_on(bits, size, stay);
+        left -= 1;
+    }
+    number_at(stay, size)
+}
+
+/// Returns the state of a competitor after a probe, which it makes while it seeks.
+fn probed_on(bits: &mut [bool], size: u32, stay: Stay) -> Stay {
+    match stay {
+        Stay::Seeking(next) => probed(bits, size, next),
+        Stay::Settled(number) => Stay::Settled(number),
+    }
+}
+
+/// Returns the number that is held, or the last where none is.
+fn number_at(stay: Stay, size: u32) -> u32 {
+    match stay {
+        Stay::Seeking(_) => size,
+        Stay::Settled(number) => number,
+    }
+}
+
 impl SlotsCopy {
-    /// Makes a copy of a fresh pool of `size` numbers. Each slot holds 0.
-    pub(crate) fn new(alloc: Global, size: u64) -> Result<SlotsCopy, Stuck> {
+    /// Makes a copy of a fresh pool of `size` numbers, which may get up to `most`. Each slot holds 0.
+    pub(crate) fn new(alloc: Global, most: u64, size: u64) -> Result<SlotsCopy, Stuck> {
         Ok(SlotsCopy {
-            size: size as u8,
-            bits: Vec::from_elem(alloc, false, MOST_NUMBERS + 1)?,
+            most: most as u32,
+            size: size as u32,
+            bits: Vec::from_elem(alloc, false, most as usize + 1)?,
             competitors: Vec::new(alloc),
             values: Vec::from_elem(alloc, 0u64, size as usize)?,
         })
@@ -171,6 +200,14 @@ impl SlotsCopy {
         if let Some(Stay::Seeking(next)) = stay_of(&self.competitors, id) {
             let stay = probed(&mut self.bits, self.size, next);
             put_stay(&mut self.competitors, id, stay);
+        }
+    }
+
+    /// Follows probes until a number is had.
+    fn seek(&mut self, id: u64) {
+        if let Some(Stay::Seeking(next)) = stay_of(&self.competitors, id) {
+            let number = sought(&mut self.bits, self.size, next);
+            put_stay(&mut self.competitors, id, Stay::Settled(number));
         }
     }
 
@@ -191,12 +228,12 @@ impl SlotsCopy {
 
     /// Follows a pool that gets more numbers.
     fn widen(&mut self, size: u64) -> Result<(), Stuck> {
-        if size > MOST_NUMBERS as u64 {
+        if size > u64::from(self.most) {
             return Err(Stuck);
         }
         lengthen(&mut self.values, size as usize)?;
         keep_last(&mut self.bits, &self.competitors, self.size);
-        self.size = size as u8;
+        self.size = size as u32;
         Ok(())
     }
 
@@ -210,6 +247,7 @@ impl SlotsCopy {
                 stay: Stay::Seeking(1),
             })?,
             Event::Probe(id) => self.probe(id),
+            Event::Seek(id) => self.seek(id),
             Event::Leave(id) => self.leave(id),
             Event::Put(id, value) => self.put(id, value),
             Event::Get(_) => {}
@@ -219,7 +257,7 @@ impl SlotsCopy {
     }
 
     /// Whether a competitor holds this number. Not proved: it only chooses events.
-    pub(crate) fn holds(&self, number: u8) -> bool {
+    pub(crate) fn holds(&self, number: u32) -> bool {
         is_held(&self.competitors, number)
     }
 
@@ -229,6 +267,9 @@ impl SlotsCopy {
         let competitors = is_one_row(&self.competitors, &other.competitors);
         let values = self.values == other.values;
         if !bits || !competitors || !values {
+            return false;
+        }
+        if self.most != other.most {
             return false;
         }
         self.size == other.size

@@ -1,4 +1,4 @@
-// Erased by bindings/rust/erase from crates/service_host/src/failure.rt, sha256 da10e28f751219dcffc7d340da67bff83013b70f5c5be9b145f85a3c26d3c03a.
+// Erased by bindings/rust/erase from crates/service_host/src/failure.rt, sha256 2eb0363d261dd5172973bbfa96c4515176da05a470dcf5942c4c8aa66ec3ea2c.
 //! Why a hall is not hosted, or no more.
 
 use crate::kit::alloc::AllocError;
@@ -69,6 +69,9 @@ pub enum HostFailure {
     /// The pool of the hall has so many numbers, and fewer were asked for.
     #[error("this hall has {0} numbers, and --k asks for fewer: numbers are never taken away; start it with --k {0}")]
     Wider(u64),
+    /// The pool of the hall may get so many numbers at most, and more were asked for.
+    #[error("this hall can have {0} numbers at most, and --k asks for more: one that begins with more than {0} can have up to 65536")]
+    AtMost(u64),
     /// The history of the hall is full, so that its pool was not widened.
     #[error("the history of this hall is full, so that --k does not widen its pool")]
     NotWidened,

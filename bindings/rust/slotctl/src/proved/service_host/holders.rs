@@ -1,15 +1,14 @@
-// Erased by bindings/rust/erase from crates/service_host/src/holders.rt, sha256 06e4662cc1e5a2b005404a95264a493196236bd2c206aa09295aad965e75bf5e.
+// Erased by bindings/rust/erase from crates/service_host/src/holders.rt, sha256 19e439cb387130f8fdf80cfe660473d100715e001cccceb3ccb9a6f8f21bc81f.
 //! Who holds numbers by the record of a hall.
 
 use crate::kit::alloc::Global;
 use crate::kit::io::{Read, Write};
 use crate::kit::Vec;
 use crate::proved::model_asked::config::Config;
+use crate::proved::model_pool::slots::slots::Slots;
 use crate::proved::service_hall::hall::Hall;
 use crate::proved::service_host::failure::HostFailure;
 use crate::proved::service_journal::opening::recovered;
-use crate::proved::text_lines::held::query::HeldQuery;
-use crate::proved::text_lines::held::telling::put_held;
 use crate::proved::text_lines::replies::Replies;
 use crate::proved::text_player::as_record::print_header;
 use crate::proved::text_records::record_line::read_header;
@@ -64,17 +63,41 @@ fn recorded_hall(alloc: Global, bytes: &[u8]) -> Result<Hall, HostFailure> {
     }
 }
 
-// Writes who holds numbers in a hall.
-fn write_held<W: Write>(alloc: Global, hall: &Hall, output: &mut W) -> Result<(), HostFailure> {
-    let mut text = Replies::new(alloc)?;
-    put_held(hall.slots(), HeldQuery::All, &mut text);
-    match output.write_all(text.as_slice()) {
+// Writes the lines of so many numbers behind this one that are held.
+fn write_page<W: Write>(
+    slots: &Slots<u64, Global>,
+    before: u32,
+    count: u32,
+    text: &mut Replies<Global>,
+    output: &mut W,
+) -> Result<(), HostFailure> {
+    crate::proved::text_lines::held::telling::put_lines(slots, before, count, text);
+    let written = output.write_all(text.as_slice());
+    text.clear();
+    match written {
         Ok(()) => Ok(()),
         Err(_) => Err(HostFailure::Output),
     }
 }
 
-/// Writes who holds numbers in the hall whose record a reader gives, as `held` is answered of that hall: a last line that was cut off is dropped,
+// Writes who holds numbers in a hall.
+fn write_held<W: Write>(alloc: Global, hall: &Hall, output: &mut W) -> Result<(), HostFailure> {
+    let slots = hall.slots();
+    let size = slots.pool().size() as u32;
+    let mut text = Replies::new(alloc)?;
+    let mut told = 0;
+    while told < size {
+        let count = (size - told).min(64);
+        write_page(slots, told, count, &mut text, output)?;
+        told += count;
+    }
+    match output.write_all(b"ok\n") {
+        Ok(()) => Ok(()),
+        Err(_) => Err(HostFailure::Output),
+    }
+}
+
+/// Writes who holds numbers in the hall whose record a reader gives, as `held` is answered of that hall, all in one page: a last line that was cut off is dropped,
 /// as at the opening of a journal.
 ///
 /// # Errors

@@ -1,4 +1,4 @@
-// Erased by bindings/rust/erase from crates/service_host/src/keepers.rt, sha256 435b03c29b6a4a7b2848edaea2812831a6e1ad0f1cb9782120e36a6ea8a3a896.
+// Erased by bindings/rust/erase from crates/service_host/src/keepers.rt, sha256 b4ec5195391525a5d2a8dd6fe060ebab13f7069f1247ea3fb8075947c133dd59.
 //! Who keeps the stays of a hall at the start of its server.
 
 use crate::kit::alloc::{AllocError, Global};
@@ -33,6 +33,7 @@ pub fn stays_at_start(
     if grace.is_none() {
         return Ok(Stays::new(alloc));
     }
-    let ids = identities_of(alloc, hall.slots().pool().competitors())?;
+    let competitors = hall.slots().pool().competitors(alloc)?;
+    let ids = identities_of(alloc, &competitors)?;
     Ok(Stays::all_gone(alloc, &ids, START)?)
 }

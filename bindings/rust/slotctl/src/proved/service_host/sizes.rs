@@ -1,9 +1,10 @@
-// Erased by bindings/rust/erase from crates/service_host/src/sizes.rt, sha256 6230cdf56182aab6321430f89fc9361de9a1e0607790622852f3aeda962b5862.
+// Erased by bindings/rust/erase from crates/service_host/src/sizes.rt, sha256 65f735eefd104701e56c8aa00b1381eb70db5362982f1c14d1803db0b7371d43.
 //! How many numbers the pool of a hall has, and how many it is to have.
 
 use crate::kit::alloc::{AllocError, Global};
 use crate::kit::Vec;
 use crate::proved::model_asked::config::Config;
+use crate::proved::model_asked::kind::WorldKind;
 use crate::proved::service_follow::log_fault::LogFault;
 use crate::proved::service_follow::log_persister::is_first_line;
 use crate::proved::service_follow::pause::Pause;
@@ -12,8 +13,8 @@ use crate::proved::service_host::failure::HostFailure;
 use crate::proved::service_log::store::Store;
 use crate::proved::service_log::store_fault::StoreFault;
 
-/// The most numbers of a pool.
-const MOST_NUMBERS: u64 = 64;
+/// What stands before the size of the pool in the first entry of a log.
+const SIZE_NAME: &[u8] = b" k ";
 
 /// How often a store is asked for one entry, at most; a `Pause` ends it before.
 const MOST_TRIES: u32 = 1_000_000;
@@ -51,17 +52,44 @@ pub fn choose_sizing(hall: &Hall, asked: u64, by_clients: bool) -> Sizing {
     Sizing::Exceeds
 }
 
-/// Returns true only if two configs are the same, but for the size of the pool.
-pub(crate) fn are_alike_but_size(config: Config, other: Config) -> bool {
-    other.world == config.world && other.m == config.m && other.limit == config.limit
+// Whether names are given in both worlds or in none, and over places of one kind.
+fn are_alike_worlds(kind: WorldKind, other: WorldKind) -> bool {
+    other.gives_names() == kind.gives_names() && other.is_tree() == kind.is_tree()
 }
 
-// A config that is this one, but for the size of the pool.
-fn resized(config: Config, size: u64) -> Option<Config> {
-    match Config::new(config.world, config.m, size, config.limit) {
-        Ok(resized) => Some(resized),
-        Err(_) => None,
+/// Returns true only if two configs are the same, but for the pool: its size, and whether it may have many numbers.
+pub(crate) fn are_alike_but_size(config: Config, other: Config) -> bool {
+    are_alike_worlds(config.world, other.world)
+        && other.m == config.m
+        && other.limit == config.limit
+}
+
+// A config of this world, whose pool has this size, and which is else like another.
+fn resized(config: Config, world: WorldKind, size: u64) -> Option<Config> {
+    match Config::new(world, config.m, size, config.limit) {
+        Ok(resized) if are_alike_but_size(config, resized) => Some(resized),
+        _ => None,
     }
+}
+
+// The number behind the name of the size, where the entry tells one. The caller compares the whole entry.
+fn size_told(entry: &[u8]) -> u64 {
+    let at = entry
+        .windows(SIZE_NAME.len())
+        .position(|name| name == SIZE_NAME);
+    let Some(at) = at else {
+        return 0;
+    };
+    let mut size: u64 = 0;
+    for byte in &entry[at + SIZE_NAME.len()..] {
+        if !byte.is_ascii_digit() {
+            break;
+        }
+        size = size
+            .saturating_mul(10)
+            .saturating_add(u64::from(*byte - b'0'));
+    }
+    size
 }
 
 // Whether an entry is the first one of a log of halls of such a config.
@@ -72,8 +100,8 @@ fn begins(alloc: Global, config: Option<Config>, entry: &[u8]) -> Result<bool, A
     }
 }
 
-/// Returns the config that the hall of a log was made with, as the first entry of the log tells. Returns `None` if that differs from this one in more than the
-/// size of the pool.
+/// Returns the config that the hall of a log was made with, as the first entry of the log tells. Returns `None` if that differs from this one in more than
+/// the pool.
 ///
 /// # Errors
 ///
@@ -83,8 +111,9 @@ pub fn config_of_log(
     config: Config,
     entry: &[u8],
 ) -> Result<Option<Config>, AllocError> {
-    for size in 1..=MOST_NUMBERS {
-        let tried = resized(config, size);
+    let size = size_told(entry);
+    for world in [config.world, WorldKind::Rename, WorldKind::Wide] {
+        let tried = resized(config, world, size);
         if begins(alloc, tried, entry)? {
             return Ok(tried);
         }

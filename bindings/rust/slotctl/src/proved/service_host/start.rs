@@ -1,4 +1,4 @@
-// Erased by bindings/rust/erase from crates/service_host/src/start.rt, sha256 914ad8c05c704bb657ef3674d3963ae960020d69dd777fd82fc451381d0c7baf.
+// Erased by bindings/rust/erase from crates/service_host/src/start.rt, sha256 881bc76c9eaadf19ecd728a719e259e866d24564bc50eb74193374be9711cc6c.
 //! A whole server of a hall, by its plan.
 
 use crate::kit::alloc::{AllocGlobal, Global};
@@ -10,6 +10,7 @@ use crate::kit::sync::Wait;
 use crate::kit::time::Duration;
 use crate::kit::String;
 use crate::proved::model_asked::config::Config;
+use crate::proved::model_asked::kind::WorldKind;
 use crate::proved::model_pool::stays::stays::Stays;
 use crate::proved::service_follow::hall_terms::HallTerms;
 use crate::proved::service_follow::log_persister::LogPersister;
@@ -85,10 +86,10 @@ pub struct HostPlan<'a> {
 }
 
 impl HostPlan<'_> {
-    // What the loop serves.
-    fn options(&self) -> HostOptions {
+    // What the loop serves, over a hall of this world.
+    fn options(&self, kind: WorldKind) -> HostOptions {
         HostOptions {
-            kind: self.config.world,
+            kind,
             clients: self.clients,
             idle: self.idle,
             grace: self.grace,
@@ -231,6 +232,7 @@ fn host_recorded<R: Net + Wait + Clock + Files, D: Disk, L: AuditLog, W: Write, 
         Ok(stays) => stays,
         Err(failure) => return Err(failure),
     };
+    let kind = reading.service.hall().config().world;
     let mut attended = Attended::new(reading, stays, plan.grace.is_some(), plan.audit(alloc));
     let Listening { listeners, file } = match listen(rt, alloc, plan.listen) {
         Ok(listening) => listening,
@@ -239,7 +241,7 @@ fn host_recorded<R: Net + Wait + Clock + Files, D: Disk, L: AuditLog, W: Write, 
     let hosted = host(
         rt,
         alloc,
-        plan.options(),
+        plan.options(kind),
         listeners,
         &mut attended,
         &mut persister,
@@ -279,7 +281,7 @@ fn host_unrecorded<R: Net + Wait + Clock + Files, L: AuditLog, W: Write, E: Writ
     let hosted = host(
         rt,
         alloc,
-        plan.options(),
+        plan.options(plan.config.world),
         listeners,
         &mut attended,
         &mut persister,
@@ -387,6 +389,7 @@ where
         Err(fault) => return Err(HostFailure::from(fault)),
     };
     persister.choose_rules(plan.rules);
+    let kind = persister.hall().config().world;
     let mut attended = Attended::new(
         reply_queue,
         Stays::new(alloc),
@@ -396,7 +399,7 @@ where
     let hosted = host(
         rt,
         alloc,
-        plan.options(),
+        plan.options(kind),
         listeners,
         &mut attended,
         &mut persister,

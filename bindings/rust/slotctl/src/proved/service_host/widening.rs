@@ -1,4 +1,4 @@
-// Erased by bindings/rust/erase from crates/service_host/src/widening.rt, sha256 59299724cdadbb3533b3e99bf95c4ffea742804ef75356d12400cd22fc3a5e63.
+// Erased by bindings/rust/erase from crates/service_host/src/widening.rt, sha256 8c0f70e8a525b1f8d30bdd52f30c9fb3035032506503bab1004eb8a7a548b324.
 //! How a hall gets more numbers before it is served.
 
 use crate::kit::alloc::Global;
@@ -37,15 +37,22 @@ pub struct SizeAsked {
     pub by_clients: bool,
 }
 
-/// Returns an error if the pool of a hall has more numbers than are asked for.
+/// Returns an error if the pool of a hall has more numbers than are asked for, or may not get as many.
 ///
 /// # Errors
 ///
-/// `Wider`: it has.
+/// - `Wider`: it has more.
+/// - `AtMost`: it may not get as many.
 pub(crate) fn check_size(hall: &Hall, asked: SizeAsked) -> Result<(), HostFailure> {
     match choose_sizing(hall, asked.size, asked.by_clients) {
         Sizing::Fits => Ok(()),
-        Sizing::Widens => Ok(()),
+        Sizing::Widens => {
+            let most = hall.slots().pool().most();
+            if most < asked.size {
+                return Err(HostFailure::AtMost(most));
+            }
+            Ok(())
+        }
         Sizing::Exceeds => Err(HostFailure::Wider(size_of(hall))),
     }
 }
@@ -107,7 +114,7 @@ fn tell_wider<E: Write>(
 ///
 /// # Errors
 ///
-/// - `Wider`: the pool has more numbers. Nothing changed.
+/// - `Wider`: the pool has more numbers. `AtMost`: it may not get as many. Nothing changed.
 /// - `NotWidened`: the history is full. Nothing changed.
 /// - Those of the journal, and `Memory`.
 pub(crate) fn widen_recorded<R, D: Disk, E: Write>(
@@ -118,6 +125,7 @@ pub(crate) fn widen_recorded<R, D: Disk, E: Write>(
     persister: &mut Recorded<D>,
     errors: &mut E,
 ) -> Result<(), HostFailure> {
+    check_size(reading.service.hall(), asked)?;
     let size = size_of(reading.service.hall());
     match choose_sizing(reading.service.hall(), asked.size, asked.by_clients) {
         Sizing::Fits => return Ok(()),
@@ -136,7 +144,7 @@ pub(crate) fn widen_recorded<R, D: Disk, E: Write>(
 ///
 /// # Errors
 ///
-/// - `Wider`: the pool has more numbers. Nothing changed.
+/// - `Wider`: the pool has more numbers. `AtMost`: it may not get as many. Nothing changed.
 /// - `NotWidened`: the history is full. Nothing changed.
 /// - Those of the log, and `Memory`.
 pub(crate) fn widen_followed<R, S: Store, P: Pause, E: Write>(
@@ -147,6 +155,7 @@ pub(crate) fn widen_followed<R, S: Store, P: Pause, E: Write>(
     persister: &mut LogPersister<S, P>,
     errors: &mut E,
 ) -> Result<(), HostFailure> {
+    check_size(persister.hall(), asked)?;
     let line = widen_line(alloc, asked.size)?;
     for _ in 0..MOST_TRIES {
         let size = size_of(persister.hall());

@@ -1,4 +1,4 @@
-// Erased by bindings/rust/erase from crates/service_loop/src/audit.rt, sha256 56b6a21100d19764a4c8c667d0ee6ff0cc76b152f5aeb0eaa445f882d1c86e4c.
+// Erased by bindings/rust/erase from crates/service_loop/src/audit.rt, sha256 bdea57cf7e55d275d63b78e54d436fe783a135cb5bfb49916741554de050c53a.
 //! What is counted of refusals and of numbers that were given back, and told of them in a log.
 
 use crate::kit::alloc::{AllocError, Global};
@@ -188,7 +188,7 @@ impl Audit {
     }
 
     // Notes that a number was taken.
-    fn note_got(&mut self, speaker: u64, event: Event, number: u8) {
+    fn note_got(&mut self, speaker: u64, event: Event, number: u32) {
         let speaker = self.speaker(speaker);
         if let Asker::Taker { .. } = self.asker {
             self.asker = Asker::Taker { answered: true };
@@ -201,7 +201,7 @@ impl Audit {
     }
 
     // Notes that a number was given back.
-    fn note_left(&mut self, speaker: u64, event: Event, number: u8) {
+    fn note_left(&mut self, speaker: u64, event: Event, number: u32) {
         let speaker = self.speaker(speaker);
         let cause = match self.asker {
             Asker::Grace => Cause::Grace,

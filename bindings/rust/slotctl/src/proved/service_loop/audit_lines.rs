@@ -1,4 +1,4 @@
-// Erased by bindings/rust/erase from crates/service_loop/src/audit_lines.rt, sha256 81062715224f934a6022c8434c606fbd99d10ad090b334583c8f63f12daf495f.
+// Erased by bindings/rust/erase from crates/service_loop/src/audit_lines.rt, sha256 f4152fcbad7800baa87e500dcddd940abf1835bc43811fd6d4669bee00f65a59.
 //! The lines of a log of who took numbers, who gave them back, and who was refused.
 
 use crate::kit::alloc::{AllocError, Global};
@@ -53,6 +53,7 @@ pub(crate) fn identity_of(event: Event) -> u64 {
         | Event::Step(id)
         | Event::Enter(id)
         | Event::Probe(id)
+        | Event::Seek(id)
         | Event::Leave(id)
         | Event::Put(id, _)
         | Event::Get(id)
@@ -67,6 +68,7 @@ fn word_of(event: Event) -> &'static str {
         Event::Step(_) => "step",
         Event::Enter(_) => "enter",
         Event::Probe(_) => "probe",
+        Event::Seek(_) => "seek",
         Event::Leave(_) => "leave",
         Event::Put(_, _) => "put",
         Event::Get(_) => "get",

@@ -1,4 +1,4 @@
-// Erased by bindings/rust/erase from crates/service_loop/src/connection.rt, sha256 9a92a55e83bd00f3085ce6d5a31fb8761cb9da000fbb3b0c5d0ae39cd158b696.
+// Erased by bindings/rust/erase from crates/service_loop/src/connection.rt, sha256 1c13a372c8bb1996dfff8345b0e2b3c4d8a37bc5b9a32b175bef859385c1779a.
 //! A connection: its stream, and what is held of it.
 
 use crate::kit::alloc::Allocator;
@@ -375,6 +375,7 @@ impl<S: Stream, A: Allocator> Connection<S, A> {
         rt: &R,
         service: &mut D,
         shared: &mut SharedBuffers<B>,
+        wide: bool,
         ahead: bool,
     ) {
         self.stage = ConnectionStage::Taken;
@@ -382,7 +383,7 @@ impl<S: Stream, A: Allocator> Connection<S, A> {
             return;
         }
         if let Some((identity, count)) = self.buffers.taking() {
-            let reply = say_taking(rt, service, &mut shared.view, identity, ahead);
+            let reply = say_taking(rt, service, &mut shared.view, identity, wide, ahead);
             print_reply(reply, &shared.view, &mut shared.replies);
             self.buffers.answer(count, &mut shared.replies);
         }

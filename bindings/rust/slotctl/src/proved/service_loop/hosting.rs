@@ -1,4 +1,4 @@
-// Erased by bindings/rust/erase from crates/service_loop/src/hosting.rt, sha256 306d56959ecfa597bf62226f4a1464a03e49da3bd19303103515bc7f2e589d46.
+// Erased by bindings/rust/erase from crates/service_loop/src/hosting.rt, sha256 b84e185a1ee84651be5ba8833c98f3a86779e513a2fa49968f464be985406633.
 //! A server in one thread, by the readiness of its sockets.
 
 use crate::kit::alloc::{AllocError, Global};
@@ -167,9 +167,11 @@ where
     let mut hosting = Hosting::new(rt, alloc, options, listeners, persister.most_prefetched())?;
     hosting.tell_listening(output)?;
     hosting.tell_trouble(persister.trouble(), errors);
+    let wide = options.kind.is_wide();
     for _ in rt.forever() {
         hosting.go_round(
             rt,
+            wide,
             options.grace,
             service,
             persister,
@@ -286,6 +288,7 @@ impl Hosting {
     fn go_round<R: Clock, D: Service<R>, K: Persist<D>, L: AuditLog, E: Write>(
         &mut self,
         rt: &R,
+        wide: bool,
         grace: Option<u64>,
         service: &mut Attended<D>,
         persister: &mut K,
@@ -297,7 +300,7 @@ impl Hosting {
         self.accept_all(&mut service.audit)?;
         self.tell_full(errors);
         self.tell_tick(&mut service.service, persister)?;
-        self.serve_all(rt, grace, service, persister, shared)?;
+        self.serve_all(rt, wide, grace, service, persister, shared)?;
         self.tell_trouble(persister.trouble(), errors);
         self.tell_room(persister.lasting_tenths(), errors);
         self.tell_lost(errors);
@@ -474,19 +477,21 @@ impl Hosting {
     fn serve_all<R, D: Service<R>, K: Persist<D>>(
         &mut self,
         rt: &R,
+        wide: bool,
         grace: Option<u64>,
         service: &mut Attended<D>,
         persister: &mut K,
         shared: &mut SharedBuffers<Global>,
     ) -> Result<(), HostFault<K::Fault>> {
-        self.end_stays(rt, grace, service, persister, shared)?;
-        self.serve(rt, service, persister, shared)
+        self.end_stays(rt, wide, grace, service, persister, shared)?;
+        self.serve(rt, wide, service, persister, shared)
     }
 
     // Gives each connection that is due its turn.
     fn serve<R, D: Service<R>, K: Persist<D>>(
         &mut self,
         rt: &R,
+        wide: bool,
         service: &mut Attended<D>,
         persister: &mut K,
         shared: &mut SharedBuffers<Global>,
@@ -494,7 +499,7 @@ impl Hosting {
         match self.iterate_all(rt, service, persister, shared) {
             Ok(called) => {
                 self.note_lost(called);
-                self.take_numbers(rt, service, persister, shared, called)?;
+                self.take_numbers(rt, wide, service, persister, shared, called)?;
                 self.answer(&service.service, persister, shared, called);
                 self.settle(called.count())
             }
@@ -534,6 +539,7 @@ impl Hosting {
     fn take_numbers<R, D: Service<R>, K: Persist<D>>(
         &mut self,
         rt: &R,
+        wide: bool,
         service: &mut Attended<D>,
         persister: &mut K,
         shared: &mut SharedBuffers<Global>,
@@ -545,7 +551,7 @@ impl Hosting {
         if !shared.waits {
             return Ok(());
         }
-        match self.take_numbers_of(rt, service, persister, shared, count) {
+        match self.take_numbers_of(rt, wide, service, persister, shared, count) {
             Ok(taken) => {
                 self.note_lost(taken);
                 Ok(())
@@ -558,6 +564,7 @@ impl Hosting {
     fn take_numbers_of<R, D: Service<R>, K: Persist<D>>(
         &mut self,
         rt: &R,
+        wide: bool,
         service: &mut Attended<D>,
         persister: &mut K,
         shared: &mut SharedBuffers<Global>,
@@ -576,12 +583,14 @@ impl Hosting {
         }
         match &mut self.batch {
             None => {
-                serve_takings(rt, service, persister, shared, seats, numbers, first, false)?;
+                serve_takings(
+                    rt, service, persister, shared, seats, numbers, first, wide, false,
+                )?;
                 Ok(Called::Served(count))
             }
-            Some(batch) => {
-                prefetch_takings(rt, service, persister, batch, shared, seats, numbers, first)
-            }
+            Some(batch) => prefetch_takings(
+                rt, service, persister, batch, shared, seats, numbers, first, wide,
+            ),
         }
     }
 
@@ -616,6 +625,7 @@ impl Hosting {
     fn end_stays<R, D: Service<R>, K: Persist<D>>(
         &mut self,
         rt: &R,
+        wide: bool,
         grace: Option<u64>,
         service: &mut Attended<D>,
         persister: &mut K,
@@ -624,13 +634,14 @@ impl Hosting {
         let ended = self.has_ended();
         self.connections.note_ended(service, self.lost, self.tick);
         self.connections.check_keepers(persister, &service.stays)?;
-        self.end_if_due(rt, grace, service, persister, shared, ended)
+        self.end_if_due(rt, wide, grace, service, persister, shared, ended)
     }
 
     // Ends the stays that are due, where a second has passed or connections have ended, and any are to end.
     fn end_if_due<R, D: Service<R>, K: Persist<D>>(
         &mut self,
         rt: &R,
+        wide: bool,
         grace: Option<u64>,
         service: &mut Attended<D>,
         persister: &mut K,
@@ -653,6 +664,7 @@ impl Hosting {
             service,
             persister,
             &mut shared.view,
+            wide,
             grace,
             self.tick,
         )

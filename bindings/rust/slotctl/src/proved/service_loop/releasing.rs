@@ -1,16 +1,16 @@
-// Erased by bindings/rust/erase from crates/service_loop/src/releasing.rt, sha256 26581318d2b41f4fbb44fb74dc12320f0a9654720ff9961a7c86b89349e673b9.
+// Erased by bindings/rust/erase from crates/service_loop/src/releasing.rt, sha256 41f42bd9a8b2b3cd7532b3f22363603d0966b1e83f353a307e5f2eabcc3daf12.
 //! Stays that a server ends.
 
 use crate::kit::alloc::Global;
 use crate::proved::model_asked::event::Event;
 use crate::proved::model_asked::reply::Reply;
-use crate::proved::model_pool::pool::MOST_NUMBERS;
 use crate::proved::model_steps::refusal::Refusal;
 use crate::proved::model_steps::view::View;
 use crate::proved::service_loop::attended::Attended;
 use crate::proved::service_loop::audit::{Asker, Audit};
 use crate::proved::service_loop::host_fault::HostFault;
 use crate::proved::service_loop::persist::Persist;
+use crate::proved::service_loop::searching::{most_said, searching};
 use crate::proved::text_player::service::Service;
 
 // Whether a `probe` was missed, by the reply to it.
@@ -23,15 +23,17 @@ fn lacks_number(reply: &Reply<()>) -> bool {
     matches!(reply, Reply::Refused(Refusal::NotHolding))
 }
 
-// Says `probe` of an identity as often as it takes to hold a number, and no more often than there are numbers.
-fn probe_to_number<R, D: Service<R>>(
+// Searches for a number of an identity: says `seek` once in the wide world, elsewhere `probe` as often as it takes to hold one, and no more often than
+// there are numbers.
+fn search_to_number<R, D: Service<R>>(
     rt: &R,
     service: &mut Attended<D>,
     view: &mut View,
     identity: u64,
+    wide: bool,
 ) {
-    for _tries in 0..MOST_NUMBERS {
-        let reply = service.apply(rt, Event::Probe(identity), view);
+    for _tries in 0..most_said(wide) {
+        let reply = service.apply(rt, searching(wide, identity), view);
         if !is_missed(&reply) {
             break;
         }
@@ -52,17 +54,18 @@ fn say_leave<R, D: Service<R>>(
     reply
 }
 
-/// Ends the stay of an identity by events of the service: `leave`; or, where it competes and holds no number, `probe` until it holds one, and then
-/// `leave`. Where `leave` is refused since an allocation failed or the history is full, the stay goes on.
+/// Ends the stay of an identity by events of the service: `leave`; or, where it competes and holds no number, in the wide world one `seek`, elsewhere
+/// `probe` until it holds one, and then `leave`. Where `leave` is refused since an allocation failed or the history is full, the stay goes on.
 pub fn release<R, D: Service<R>>(
     rt: &R,
     service: &mut Attended<D>,
     view: &mut View,
     identity: u64,
+    wide: bool,
 ) {
     let reply = say_leave(rt, service, view, identity);
     if lacks_number(&reply) {
-        probe_to_number(rt, service, view, identity);
+        search_to_number(rt, service, view, identity, wide);
         say_leave(rt, service, view, identity);
     }
 }
@@ -73,9 +76,10 @@ pub fn release_all<R, D: Service<R>>(
     service: &mut Attended<D>,
     view: &mut View,
     due: &[u64],
+    wide: bool,
 ) {
     for identity in due {
-        release(rt, service, view, *identity);
+        release(rt, service, view, *identity, wide);
     }
 }
 
@@ -112,6 +116,7 @@ fn end_these<R, D: Service<R>, K: Persist<D>>(
     persister: &mut K,
     view: &mut View,
     due: &[u64],
+    wide: bool,
 ) -> Result<(), K::Fault> {
     if persister.shares_stays() {
         note_due(&mut service.audit, &service.service, persister, due);
@@ -124,7 +129,7 @@ fn end_these<R, D: Service<R>, K: Persist<D>>(
         return Ok(());
     }
     service.audit.listen_to(Asker::Grace);
-    release_all(rt, service, view, due);
+    release_all(rt, service, view, due, wide);
     service.audit.listen_to(Asker::Client);
     persister.persist(&mut service.service)
 }
@@ -142,13 +147,14 @@ pub fn end_due<R, D: Service<R>, K: Persist<D>>(
     service: &mut Attended<D>,
     persister: &mut K,
     view: &mut View,
+    wide: bool,
     grace: u64,
     tick: u64,
 ) -> Result<(), HostFault<K::Fault>> {
     let Ok(due) = service.stays.due(alloc, grace, tick) else {
         return Err(HostFault::Memory);
     };
-    match end_these(rt, service, persister, view, &due) {
+    match end_these(rt, service, persister, view, &due, wide) {
         Ok(()) => Ok(()),
         Err(fault) => Err(HostFault::Persist(fault)),
     }

@@ -1,11 +1,11 @@
-// Erased by bindings/rust/erase from crates/service_loop/src/taking.rt, sha256 825ecef4558ebc4aba7378dc8a65bfa7dc04dff38fa79c955de6f125c1a518dc.
-//! Lines that take a number, after a turn of the loop: `take ID` is `enter ID`, and `probe ID` as often as it takes.
+// Erased by bindings/rust/erase from crates/service_loop/src/taking.rt, sha256 68e2a65cdcd1a7d5f5879bd711649e92eb5473fe985a5e8bc13462fc9ced7b7f.
+//! Lines that take a number, after a turn of the loop: `take ID` is `enter ID`, and then in the wide world one `seek ID`, elsewhere `probe ID` as often
+//! as it takes.
 
 use crate::kit::alloc::{AllocError, Allocator};
 use crate::kit::Vec;
 use crate::proved::model_asked::event::Event;
 use crate::proved::model_asked::reply::Reply;
-use crate::proved::model_pool::pool::MOST_NUMBERS;
 use crate::proved::model_steps::view::View;
 use crate::proved::service_loop::attended::Attended;
 use crate::proved::service_loop::audit::Asker;
@@ -13,6 +13,7 @@ use crate::proved::service_loop::connection::{Connection, ConnectionStage};
 use crate::proved::service_loop::gathering::{prefetch, Batch, Called};
 use crate::proved::service_loop::losing::note_lost;
 use crate::proved::service_loop::persist::{Persist, Prefetch};
+use crate::proved::service_loop::searching::{most_said, searching};
 use crate::proved::service_loop::shared::SharedBuffers;
 use crate::proved::service_loop::stream::Stream;
 use crate::proved::service_loop::turns::{number_at, send_replies};
@@ -23,56 +24,64 @@ use crate::proved::text_player::service::Service;
 /// What ends a line.
 const LF: u8 = 10;
 
-/// The most bytes of the lines that take a number: `enter`, and `probe` as often as there are numbers. Each has a word of 5 letters, a space, a number of
-/// at most 20 digits, and LF.
-const TAKING_ROOM: usize = 27 * (MOST_NUMBERS + 1);
+/// The most bytes of a line that takes a number: a word of 5 letters, a space, a number of at most 20 digits, and LF.
+const LINE_ROOM: usize = 27;
 
-// Whether `probe` is said behind this reply: `enter` was accepted, or a `probe` missed.
-fn wants_probe(reply: &Reply<()>) -> bool {
+// Whether a number is searched for behind this reply: `enter` was accepted, or a `probe` missed.
+fn wants_search(reply: &Reply<()>) -> bool {
     matches!(reply, Reply::Ok | Reply::Missed)
 }
 
-// What `take` of an identity said, and how often it said `probe`.
+// What `take` of an identity said, and how often it searched for a number.
 #[derive(Clone, Copy, Debug)]
 struct Took {
     answer: Reply<()>,
-    probes: usize,
+    searches: usize,
 }
 
-// Says `enter` of an identity, and then `probe` as long as a reply wants it, and no more often than there are numbers.
-fn take_one<R, D: Service<R>>(rt: &R, service: &mut D, view: &mut View, identity: u64) -> Took {
+// Says `enter` of an identity, and then searches for a number as long as a reply wants it, and no more often than that may be said.
+fn take_one<R, D: Service<R>>(
+    rt: &R,
+    service: &mut D,
+    view: &mut View,
+    identity: u64,
+    wide: bool,
+) -> Took {
+    let most = most_said(wide);
     let mut answer = service.apply(rt, Event::Enter(identity), view);
-    let mut probes = 0;
-    while probes < MOST_NUMBERS && wants_probe(&answer) {
-        answer = service.apply(rt, Event::Probe(identity), view);
-        probes += 1;
+    let mut searches = 0;
+    while searches < most && wants_search(&answer) {
+        answer = service.apply(rt, searching(wide, identity), view);
+        searches += 1;
     }
-    Took { answer, probes }
+    Took { answer, searches }
 }
 
-// Says `probe` of an identity so many times, whatever is said to it.
-fn probe_on<R, D: Service<R>>(rt: &R, service: &mut D, identity: u64, count: usize) {
+// Searches for a number of an identity so many times, whatever is said to it.
+fn search_on<R, D: Service<R>>(rt: &R, service: &mut D, identity: u64, wide: bool, count: usize) {
     let mut view = View::new();
     let mut said = 0;
     while said < count {
-        service.apply(rt, Event::Probe(identity), &mut view);
+        service.apply(rt, searching(wide, identity), &mut view);
         said += 1;
     }
 }
 
-/// Takes a number for an identity by events of the service, one after another: `enter`; and then `probe` until it holds a number or is refused, and no
-/// more often than there are numbers. Returns the last reply: a refusal of `enter` is answered as it is, and nothing is probed. Where the answers were
-/// prefetched, so many more are said behind it, and answered to nobody, that `probe` is said as often as there are numbers.
+/// Takes a number for an identity by events of the service, one after another: `enter`; and then in the wide world one `seek`, elsewhere `probe` until
+/// it holds a number or is refused, and no more often than there are numbers. Returns the last reply: a refusal of `enter` is answered as it is, and no
+/// number is searched for. Where the answers were prefetched, so many more are said behind it, and answered to nobody, that `seek` is said once, or
+/// `probe` as often as there are numbers.
 pub fn say_taking<R, D: Service<R>>(
     rt: &R,
     service: &mut D,
     view: &mut View,
     identity: u64,
+    wide: bool,
     ahead: bool,
 ) -> Reply<()> {
-    let took = take_one(rt, service, view, identity);
+    let took = take_one(rt, service, view, identity, wide);
     if ahead {
-        probe_on(rt, service, identity, MOST_NUMBERS - took.probes);
+        search_on(rt, service, identity, wide, most_said(wide) - took.searches);
     }
     took.answer
 }
@@ -85,6 +94,7 @@ fn take_number_at<R, D: Service<R>, S: Stream, A: Allocator, B: Allocator>(
     seats: &mut [Option<Connection<S, A>>],
     number: u64,
     key: usize,
+    wide: bool,
     ahead: bool,
 ) {
     if key < seats.len() {
@@ -92,7 +102,7 @@ fn take_number_at<R, D: Service<R>, S: Stream, A: Allocator, B: Allocator>(
             if let ConnectionStage::Idle = connection.stage {
                 service.listen_to(number);
                 service.audit.listen_to(Asker::Taker { answered: false });
-                connection.take_number(rt, service, shared, ahead);
+                connection.take_number(rt, service, shared, wide, ahead);
                 service.audit.listen_to(Asker::Client);
             }
         }
@@ -113,6 +123,7 @@ fn take_numbers<R, D: Service<R>, K: Persist<D>, S: Stream, A: Allocator, B: All
     seats: &mut [Option<Connection<S, A>>],
     numbers: &[u64],
     called: &[usize],
+    wide: bool,
     ahead: bool,
 ) {
     for key in called {
@@ -126,6 +137,7 @@ fn take_numbers<R, D: Service<R>, K: Persist<D>, S: Stream, A: Allocator, B: All
             seats,
             number_at(numbers, *key),
             *key,
+            wide,
             ahead,
         );
     }
@@ -146,10 +158,11 @@ pub fn serve_takings<R, D: Service<R>, K: Persist<D>, S: Stream, A: Allocator, B
     seats: &mut [Option<Connection<S, A>>],
     numbers: &[u64],
     called: &[usize],
+    wide: bool,
     ahead: bool,
 ) -> Result<(), K::Fault> {
     take_numbers(
-        rt, service, persister, shared, seats, numbers, called, ahead,
+        rt, service, persister, shared, seats, numbers, called, wide, ahead,
     );
     persister.persist(&mut service.service)?;
     send_replies(seats, called);
@@ -173,13 +186,15 @@ fn add_event<B: Allocator>(
 // The lines that take a number for an identity are added to others.
 fn add_taking<B: Allocator>(
     identity: u64,
+    wide: bool,
     words: &mut Replies<B>,
     lines: &mut Vec<u8, B>,
 ) -> Result<(), AllocError> {
+    let most = most_said(wide);
     add_event(Event::Enter(identity), words, lines)?;
     let mut said = 0;
-    while said < MOST_NUMBERS {
-        add_event(Event::Probe(identity), words, lines)?;
+    while said < most {
+        add_event(searching(wide, identity), words, lines)?;
         said += 1;
     }
     Ok(())
@@ -198,9 +213,14 @@ fn taking_at<S: Stream, A: Allocator>(
     None
 }
 
+// The most bytes of the lines that take one number.
+fn taking_room(wide: bool) -> usize {
+    LINE_ROOM * (most_said(wide) + 1)
+}
+
 // Whether there is room in a batch for the lines that take one number more. In an empty one there is.
-fn has_room<B: Allocator>(batch: &Batch<B>) -> bool {
-    batch.lines.is_empty() || batch.lines.len() <= batch.most.saturating_sub(TAKING_ROOM)
+fn has_room<B: Allocator>(batch: &Batch<B>, wide: bool) -> bool {
+    batch.lines.is_empty() || batch.lines.len() <= batch.most.saturating_sub(taking_room(wide))
 }
 
 // The lines of the connection of a seat are added to the batch, where it takes a number. Says whether there was room for them, and memory.
@@ -209,15 +229,16 @@ fn add_taking_at<S: Stream, A: Allocator, B: Allocator>(
     words: &mut Replies<B>,
     seats: &[Option<Connection<S, A>>],
     key: usize,
+    wide: bool,
 ) -> bool {
     let Some(identity) = taking_at(seats, key) else {
         return true;
     };
-    if !has_room(batch) {
+    if !has_room(batch, wide) {
         return false;
     }
     let before = batch.lines.len();
-    if add_taking(identity, words, &mut batch.lines).is_err() {
+    if add_taking(identity, wide, words, &mut batch.lines).is_err() {
         batch.lines.truncate(before);
         return false;
     }
@@ -230,11 +251,12 @@ fn gather_takings<S: Stream, A: Allocator, B: Allocator>(
     words: &mut Replies<B>,
     seats: &[Option<Connection<S, A>>],
     called: &[usize],
+    wide: bool,
 ) -> usize {
     batch.lines.clear();
     batch.holds = false;
     let mut seen = 0;
-    while seen < called.len() && add_taking_at(batch, words, seats, called[seen]) {
+    while seen < called.len() && add_taking_at(batch, words, seats, called[seen], wide) {
         seen += 1;
     }
     seen
@@ -260,7 +282,8 @@ fn give_up_takings<S: Stream, A: Allocator>(
 }
 
 /// Takes numbers as `serve_takings` does, over a service that prefetches its answers: the lines go to the persister first, for as many of the seats as there
-/// is room, one at least. `probe` is said as often as there are numbers, whatever is said to it: an identity that holds a number is refused more of them.
+/// is room, one at least. In the wide world `seek` is said once, elsewhere `probe` as often as there are numbers, whatever is said to it: an identity
+/// that holds a number is refused more of them.
 /// Where the answers are not prefetched in time, those whose lines went are at fault, and nothing is sent: of each `enter` it is noted that nobody keeps
 /// the stay, unless a connection does. The lines that went are those of the seats that are counted, in their order, and no others.
 ///
@@ -276,12 +299,15 @@ pub fn prefetch_takings<R, D: Service<R>, K: Persist<D>, S: Stream, A: Allocator
     seats: &mut [Option<Connection<S, A>>],
     numbers: &[u64],
     called: &[usize],
+    wide: bool,
 ) -> Result<Called, K::Fault> {
-    let seen = gather_takings(batch, &mut shared.replies, seats, called);
+    let seen = gather_takings(batch, &mut shared.replies, seats, called, wide);
     let few = &called[..seen];
     match prefetch(&mut service.service, persister, batch)? {
         Prefetch::Known => {
-            serve_takings(rt, service, persister, shared, seats, numbers, few, true)?;
+            serve_takings(
+                rt, service, persister, shared, seats, numbers, few, wide, true,
+            )?;
             Ok(Called::Served(seen))
         }
         Prefetch::Lost => {

@@ -1,4 +1,4 @@
-// Erased by bindings/rust/erase from crates/text_checker/src/checker.rt, sha256 c1f2660eb62782b4735b0d94077a5e3fbe050748b1c8ffdc3032a00eff78d09b.
+// Erased by bindings/rust/erase from crates/text_checker/src/checker.rt, sha256 562e8bda70495981d4d9cbf47f26bea5d703678aeba70c36d5b8ba582db71b4f.
 //! Judges lines one after the other.
 
 use crate::kit::alloc::{AllocError, Global};
@@ -47,7 +47,7 @@ impl Checker {
     /// `AllocError`: the allocation failed.
     pub fn new(alloc: Global, config: Config, lines: usize) -> Result<Checker, AllocError> {
         Ok(Checker {
-            stays: Stays::new(alloc, config.k)?,
+            stays: Stays::new(alloc, config.world.most_numbers(), config.k)?,
             names: Names::new(alloc, config.m, config.limit, lines)?,
             grows: config.world.is_tree(),
         })
@@ -59,7 +59,7 @@ impl Checker {
             Event::Begin(id) => self.names.begin_refusal(id),
             Event::Step(id) => self.names.step_refusal(id),
             Event::Enter(id) => self.stays.enter_refusal(id),
-            Event::Probe(id) => self.stays.probe_refusal(id),
+            Event::Probe(id) | Event::Seek(id) => self.stays.probe_refusal(id),
             Event::Leave(id) => self.stays.number_of(id).err(),
             Event::Put(id, _) => self.stays.number_of(id).err(),
             Event::Get(id) => self.stays.number_of(id).err(),
@@ -142,7 +142,7 @@ impl Checker {
         Ok(())
     }
 
-    /// Judges that an identity, which may probe, gets a number.
+    /// Judges that an identity, which may probe, gets a number, by one probe or by as many as it takes.
     fn gain(&mut self, id: u64, number: u64) -> Result<(), Fault> {
         if !self.stays.is_free(number) {
             return Err(Fault::Unlawful(Reason::Pool));
@@ -223,6 +223,10 @@ impl Checker {
                 _ => Ok(()),
             },
             Event::Probe(id) => self.probe(id, reported),
+            Event::Seek(id) => match reported {
+                Reported::Got(number) => self.gain(id, *number),
+                _ => Ok(()),
+            },
             Event::Leave(id) => match reported {
                 Reported::Left(number) => self.leave(id, *number),
                 _ => Ok(()),

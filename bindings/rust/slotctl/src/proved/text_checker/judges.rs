@@ -1,4 +1,4 @@
-// Erased by bindings/rust/erase from crates/text_checker/src/judges.rt, sha256 41b58f7c29816e24fd2dadc69ccfea9fe3a00233ffa1415237cbfea02d3e3eca.
+// Erased by bindings/rust/erase from crates/text_checker/src/judges.rt, sha256 2e4e926d9bd02c411dd4dc091b8ed1c15b74dd35ab3f41bd53b820103d7628e0.
 //! The state of the objects that a checker of records keeps, in tables, and its answers to questions.
 //!
 //! `Names` is the state of the renaming object: the participants with places, names and proposals, and the moments, as
@@ -12,7 +12,7 @@
 //! From `text_checker/src/checker.rt`:
 //!
 //! ```text
-//! stays: Stays::new(alloc, config.k)?,
+//! stays: Stays::new(alloc, MOST_NUMBERS as u64, config.k)?,
 //! names: Names::new(alloc, config.m, config.limit, lines)?,
 //! ..
 //! if !self.stays.is_free(number) {

@@ -1,4 +1,4 @@
-// Erased by bindings/rust/erase from crates/text_lines/src/events.rt, sha256 ff6e11223c313caf5998708e8293ba4549133db8f861028e205c6b9bd5868572.
+// Erased by bindings/rust/erase from crates/text_lines/src/events.rt, sha256 d9f0bf4380c225d41608092bc234e9bf19a3717b308270eccbc640dc9999ed25.
 //! From events to the lines that ask for them.
 
 use crate::kit::alloc::Allocator;
@@ -16,6 +16,7 @@ pub fn print_event<A: Allocator>(event: Event, out: &mut Replies<A>) {
         Event::Step(id) => put_word(b"step ", id, out),
         Event::Enter(id) => put_word(b"enter ", id, out),
         Event::Probe(id) => put_word(b"probe ", id, out),
+        Event::Seek(id) => put_word(b"seek ", id, out),
         Event::Leave(id) => put_word(b"leave ", id, out),
         Event::Put(id, value) => {
             put_word(b"put ", id, out);

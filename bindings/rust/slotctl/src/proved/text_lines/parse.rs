@@ -1,4 +1,4 @@
-// Erased by bindings/rust/erase from crates/text_lines/src/parse.rt, sha256 bbaac5faee49697a4fd67aa76cefcf0a9321b572c4ac7aa998b9e33dbd57eca5.
+// Erased by bindings/rust/erase from crates/text_lines/src/parse.rt, sha256 5458023f954659659c8c309075280518e0cd5d4bb8e9b8dcda1e7f3fb80330c5.
 //! From the bytes of a line to the command that they mean.
 
 use crate::proved::model_asked::bad::Bad;
@@ -47,13 +47,13 @@ fn command_of(word: &[u8], others: Option<&[u8]>, world: WorldKind) -> Result<Co
         return Ok(Command::Quit);
     }
     if world.gives_names() {
-        return desk_command_of(word, others);
+        return desk_command_of(word, others, world);
     }
     Err(Bad::UnknownWord)
 }
 
 // The same for a first word that only a desk knows.
-fn desk_command_of(word: &[u8], others: Option<&[u8]>) -> Result<Command, Bad> {
+fn desk_command_of(word: &[u8], others: Option<&[u8]>, world: WorldKind) -> Result<Command, Bad> {
     if is_word(word, b"enter") {
         return Ok(Command::Event(Event::Enter(only_number(others)?)));
     }
@@ -63,11 +63,11 @@ fn desk_command_of(word: &[u8], others: Option<&[u8]>) -> Result<Command, Bad> {
     if is_word(word, b"leave") {
         return Ok(Command::Event(Event::Leave(only_number(others)?)));
     }
-    slot_command_of(word, others)
+    slot_command_of(word, others, world)
 }
 
-// The same for the words of slots, and for those that ask for more numbers or for an owner.
-fn slot_command_of(word: &[u8], others: Option<&[u8]>) -> Result<Command, Bad> {
+// The same for the words of slots, and for those that ask for more numbers or for an owner; and for `seek`.
+fn slot_command_of(word: &[u8], others: Option<&[u8]>, world: WorldKind) -> Result<Command, Bad> {
     if is_word(word, b"put") {
         let (id, value) = two_numbers(others)?;
         return Ok(Command::Event(Event::Put(id, value)));
@@ -80,6 +80,9 @@ fn slot_command_of(word: &[u8], others: Option<&[u8]>) -> Result<Command, Bad> {
     }
     if is_word(word, b"owner") {
         return Ok(Command::Owner(only_number(others)?));
+    }
+    if is_word(word, b"seek") && world.is_wide() {
+        return Ok(Command::Event(Event::Seek(only_number(others)?)));
     }
     Err(Bad::UnknownWord)
 }

@@ -1,4 +1,4 @@
-// Erased by bindings/rust/erase from crates/text_lines/src/print.rt, sha256 a6e4e686bf97e543e6a1646a23260671cc77dc2bad50e727950f554ad5e9b3ce.
+// Erased by bindings/rust/erase from crates/text_lines/src/print.rt, sha256 79cfd088376e041b392655c5cd1a0da8a921f53cd4927b2adcee11b4c04b8654.
 //! From replies to the text that is written.
 
 use crate::kit::alloc::Allocator;
@@ -55,12 +55,16 @@ pub fn print_words<A: Allocator>(reply: Reply<()>, view: &View, out: &mut Replie
 
 // Appends a word with its space, a small number in decimal, and an LF.
 #[inline(always)]
-fn put_small<A: Allocator>(word: &[u8], number: u8, out: &mut Replies<A>) {
+fn put_small<A: Allocator>(word: &[u8], number: u32, out: &mut Replies<A>) {
     out.put(word);
     if number < 10 {
-        out.put(&[b'0' + number, b'\n']);
+        out.put(&[b'0' + number as u8, b'\n']);
     } else if number < 100 {
-        out.put(&[b'0' + number / 10, b'0' + number % 10, b'\n']);
+        out.put(&[
+            b'0' + (number / 10) as u8,
+            b'0' + (number % 10) as u8,
+            b'\n',
+        ]);
     } else {
         put_number(u64::from(number), out);
         out.put(b"\n");
@@ -70,7 +74,7 @@ fn put_small<A: Allocator>(word: &[u8], number: u8, out: &mut Replies<A>) {
 // Appends the text of a refusal with its LF.
 #[inline(always)]
 fn put_refusal<A: Allocator>(refusal: Refusal, out: &mut Replies<A>) {
-    put_small(b"refused ", refusal.number(), out);
+    put_small(b"refused ", u32::from(refusal.number()), out);
 }
 
 /// Appends the answer to a bad line, one line with its LF.

@@ -1,4 +1,4 @@
-// Erased by bindings/rust/erase from crates/text_player/src/as_record.rt, sha256 5190f9d6a6d3390df52e1d5a6cc0260fc7e84980f162a25d9131d2e41b5f0409.
+// Erased by bindings/rust/erase from crates/text_player/src/as_record.rt, sha256 81a14cc2de76cd7662b68ceba5f302993f6da9acb3f9a46dd8ae34e523a501a7.
 //! The form of records.
 
 use crate::kit::alloc::Allocator;
@@ -59,7 +59,7 @@ fn put_replied<A: Allocator>(reply: Reply<()>, view: &View, out: &mut Replies<A>
         Reply::Got(number) => put_small_end(b"\",\"reply\":\"got ", number, out),
         Reply::Left(number) => put_small_end(b"\",\"reply\":\"left ", number, out),
         Reply::Refused(refusal) => {
-            put_small_end(b"\",\"reply\":\"refused ", refusal.number(), out);
+            put_small_end(b"\",\"reply\":\"refused ", u32::from(refusal.number()), out);
         }
         _ => put_any_replied(reply, view, out),
     }
@@ -67,12 +67,18 @@ fn put_replied<A: Allocator>(reply: Reply<()>, view: &View, out: &mut Replies<A>
 
 /// Appends these bytes, a number of few digits in decimal, and the end of a line that shows no view.
 #[inline(always)]
-fn put_small_end<A: Allocator>(front: &[u8], number: u8, out: &mut Replies<A>) {
+fn put_small_end<A: Allocator>(front: &[u8], number: u32, out: &mut Replies<A>) {
     out.put(front);
     if number < 10 {
-        out.put(&[b'0' + number, b'"', b'}', b'\n']);
+        out.put(&[b'0' + number as u8, b'"', b'}', b'\n']);
     } else if number < 100 {
-        out.put(&[b'0' + number / 10, b'0' + number % 10, b'"', b'}', b'\n']);
+        out.put(&[
+            b'0' + (number / 10) as u8,
+            b'0' + (number % 10) as u8,
+            b'"',
+            b'}',
+            b'\n',
+        ]);
     } else {
         put_number(u64::from(number), out);
         out.put(b"\"}\n");

@@ -1,4 +1,4 @@
-// Erased by bindings/rust/erase from crates/text_records/src/compact.rt, sha256 4ccc5c5efc6ef38613723522b28aeeae09411523a6b5017cba8cde18254d851d.
+// Erased by bindings/rust/erase from crates/text_records/src/compact.rt, sha256 627f59a325ad133f9b43270bc5c248436994d56c9f99f6039e248345517bc696.
 //! The compact spelling of the lines of a record, as they are written.
 
 use crate::kit::alloc::AllocError;
@@ -22,6 +22,7 @@ pub fn put_event(event: Event, out: &mut Text) -> Result<(), AllocError> {
         Event::Step(id) => out.put_word(b"step ", id),
         Event::Enter(id) => out.put_word(b"enter ", id),
         Event::Probe(id) => out.put_word(b"probe ", id),
+        Event::Seek(id) => out.put_word(b"seek ", id),
         Event::Leave(id) => out.put_word(b"leave ", id),
         Event::Put(id, value) => {
             out.put_word(b"put ", id)?;

@@ -1,4 +1,4 @@
-// Erased by bindings/rust/erase from crates/text_records/src/reported.rt, sha256 0f436b663712c53880343ef7055cf6ac9b6c13bfccd925b5fcac0aebd22478ff.
+// Erased by bindings/rust/erase from crates/text_records/src/reported.rt, sha256 b6e759b26805a24a679c29baccc62704a71d48ceda914f7d803d181c98ae4e30.
 //! What a record reports of the reply to an event.
 
 use crate::proved::model_asked::event::Event;
@@ -75,7 +75,7 @@ impl Reported {
             Reported::Named(_, _) => is_step(event),
             Reported::Spent => is_step(event),
             Reported::Missed => matches!(event, Event::Probe(_)),
-            Reported::Got(_) => matches!(event, Event::Probe(_)),
+            Reported::Got(_) => matches!(event, Event::Probe(_) | Event::Seek(_)),
             Reported::Left(_) => matches!(event, Event::Leave(_)),
             Reported::Value(_) => matches!(event, Event::Get(_)),
             Reported::Owner(_) => false,

@@ -1,4 +1,4 @@
-// Erased by bindings/rust/erase from crates/text_worlds/src/grid_world.rt, sha256 a17394adf52ec7f3e9a2aada0b14941c0e599338686a67643362a9b06c092698.
+// Erased by bindings/rust/erase from crates/text_worlds/src/grid_world.rt, sha256 10c9d4a7308dc6f878c65794ee9090efb8c9fd7b0b78b4374e3e54ed92134f7a.
 //! A grid as a world: it answers events.
 
 use crate::kit::alloc::Allocator;
@@ -21,6 +21,7 @@ impl<A: Allocator + Clone> Service<Unshared> for GridWorld<A> {
             Event::Step(id) => walk_reply(self.step(id)),
             Event::Enter(_)
             | Event::Probe(_)
+            | Event::Seek(_)
             | Event::Leave(_)
             | Event::Put(_, _)
             | Event::Get(_)

@@ -1,4 +1,4 @@
-// Erased by bindings/rust/erase from crates/text_worlds/src/playing.rt, sha256 9b1c795ef261ebec83b7fc1cabc7e816a072394c84d459b4d1e6a54239764760.
+// Erased by bindings/rust/erase from crates/text_worlds/src/playing.rt, sha256 ace09b6438d014675713a2ef553cbf8d2a93c4fa29838bff6237a41dbac18e20.
 //! Runs of a world, from a reader to a writer.
 
 use crate::kit::alloc::Allocator;
@@ -41,7 +41,7 @@ pub fn play<A: Allocator + Clone, R: Source, W: Sink>(
         WorldKind::Grid => {
             play_in::<GridWorld<A>, _, A, R, W>(alloc, &Unshared, reader, writer, config)
         }
-        WorldKind::Rename | WorldKind::Tree => {
+        WorldKind::Rename | WorldKind::Tree | WorldKind::Wide => {
             play_in::<Desk<A>, _, A, R, W>(alloc, &Unshared, reader, writer, config)
         }
     }

@@ -1,4 +1,4 @@
-// Erased by bindings/rust/erase from crates/text_worlds/src/splitter_world.rt, sha256 838a877a7ada079dc811728af2687e20b247978c5f003b6b009832ebbdaa0e2a.
+// Erased by bindings/rust/erase from crates/text_worlds/src/splitter_world.rt, sha256 48e97407571fe3b2fa851eec7dfe882b5a39fc5711f01219ba7b8fe1a9cec964.
 //! A splitter as a world: it answers events.
 
 use crate::kit::alloc::Allocator;
@@ -21,6 +21,7 @@ impl<A: Allocator + Clone> Service<Unshared> for SplitterWorld<A> {
             Event::Step(id) => visit_reply(self.step(id)),
             Event::Enter(_)
             | Event::Probe(_)
+            | Event::Seek(_)
             | Event::Leave(_)
             | Event::Put(_, _)
             | Event::Get(_)

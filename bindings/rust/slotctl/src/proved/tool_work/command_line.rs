@@ -1,4 +1,4 @@
-// Erased by bindings/rust/erase from crates/tool_work/src/command_line.rt, sha256 84833935576356ad761c8129bcfa6b865c9e475e7cae94513c7f81e1d99a65a6.
+// Erased by bindings/rust/erase from crates/tool_work/src/command_line.rt, sha256 b0abcc99db635503cb315bb315b32a90ea41e569805b917d0aa38063f14c2987.
 //! The command line of the program, for `clap`.
 
 use crate::kit::alloc::{AllocError, Global};
@@ -260,8 +260,8 @@ const HOST: Manual = Manual {
         MOST_PARTICIPANTS,
         Choice {
             name: "k",
-            takes: Takes::Number(1, 64, "4"),
-            help: "the size of the pool, from 1 to 64; a smaller one that is there is widened, and a larger one is refused",
+            takes: Takes::Number(1, 65_536, "4"),
+            help: "the size of the pool, from 1 to 65536, or to 64 in the world tree; a smaller one that is there is widened, and a larger one is refused",
         },
         PROPOSAL_LIMIT,
         Choice {

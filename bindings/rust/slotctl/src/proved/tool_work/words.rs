@@ -1,4 +1,4 @@
-// Erased by bindings/rust/erase from crates/tool_work/src/words.rt, sha256 a2817e29f8e4c5bcae4370a5a584648aa7060d74c202e640da24e8def9702f2f.
+// Erased by bindings/rust/erase from crates/tool_work/src/words.rt, sha256 e62933d52cc8c0f7a9cef830e7036a89b055b08aa50985a12737f53229678923.
 //! What the words of a command line ask for.
 
 use crate::kit::alloc::Global;
@@ -16,9 +16,17 @@ use crate::proved::tool_work::asked::{
 use crate::proved::tool_work::command_line::slotctl_command;
 use crate::proved::tool_work::misuse::Misuse;
 
+// The world with this name, where it is one that may be typed: the wide world is none.
+fn typed_world(name: &str) -> Option<WorldKind> {
+    match WorldKind::named(name) {
+        Some(world) if !world.is_wide() => Some(world),
+        _ => None,
+    }
+}
+
 // The world that is matched.
 fn world_given(matches: &ArgMatches<'_>) -> Option<WorldKind> {
-    WorldKind::named(matches.get_str("world")?)
+    typed_world(matches.get_str("world")?)
 }
 
 // The number that is matched for an option.
@@ -206,21 +214,29 @@ fn reads_given(matches: &ArgMatches<'_>) -> Option<bool> {
     }
 }
 
-// The world of the hall that the options of `host` give.
+// The world that the options of `host` ask for.
 fn hall_world_given(matches: &ArgMatches<'_>) -> Option<WorldKind> {
     match text_given(matches, "world") {
-        Some(name) => WorldKind::named(name),
+        Some(name) => typed_world(name),
         None => Some(WorldKind::Rename),
+    }
+}
+
+// The world of the hall, where this world and so many numbers are asked for.
+fn hall_world(asked: WorldKind, k: u64) -> WorldKind {
+    match asked {
+        WorldKind::Rename if asked.most_numbers() < k => WorldKind::Wide,
+        _ => asked,
     }
 }
 
 // The config of the hall that the options of `host` give, where they give one.
 fn hall_given(matches: &ArgMatches<'_>) -> Option<Config> {
-    let world = hall_world_given(matches)?;
+    let asked = hall_world_given(matches)?;
     let m = number_given(matches, "m")?;
     let k = number_given(matches, "k")?;
     let limit = number_given(matches, "limit")?;
-    Config::new(world, m, k, limit).ok()
+    Config::new(hall_world(asked, k), m, k, limit).ok()
 }
 
 // What the options of `host` have clients ask for, where they say so.
@@ -302,6 +318,9 @@ fn asked<'a>(matches: &ArgMatches<'a>) -> Option<Ask<'a>> {
 fn why_nothing_in(world: WorldKind, options: &ArgMatches<'_>) -> &'static str {
     if world.most() < number_given(options, "m").unwrap_or(0) {
         return "error: '--m' is at most 16, or 64 in the world tree\n";
+    }
+    if world.is_tree() && world.most_numbers() < number_given(options, "k").unwrap_or(0) {
+        return "error: '--k' is at most 64 in the world tree\n";
     }
     if !world.gives_names() {
         return "error: no names are given in this world: '--record', draw, serve and host want rename or tree\n";

@@ -1,9 +1,9 @@
-// Erased by bindings/rust/erase from crates/model_pool/src/slots/slots.rt, sha256 2fee492dfaafc389bf7c0494ee6e40bb9f22eccdd1b9b676b7b661deee89685b.
+// Erased by bindings/rust/erase from crates/model_pool/src/slots/slots.rt, sha256 38d0f78b5e079b7a9d2f6f6351450662e671e671167aeaeda642526766404841.
 //! Slots over a pool.
 
 use crate::kit::alloc::Allocator;
 use crate::kit::Vec;
-use crate::proved::model_pool::pool::{Pool, MOST_NUMBERS};
+use crate::proved::model_pool::pool::Pool;
 use crate::proved::model_pool::probe::Probe;
 use crate::proved::model_steps::refusal::{NoMemory, Refusal};
 
@@ -23,14 +23,14 @@ fn fill<T: Copy, A: Allocator>(values: &mut Vec<T, A>, more: usize, value: T) {
 impl<T, A: Allocator> Slots<T, A> {
     /// Makes slots over a pool, one for each of its numbers. The slot of number 1 holds the first of `values`.
     ///
-    /// It allocates room for 64 values, unless `values` has it.
+    /// It allocates room for a value of each number that the pool may get, unless `values` has it.
     ///
     /// # Errors
     ///
     /// `NoMemory`: the allocation failed.
     pub fn new(pool: Pool<A>, values: Vec<T, A>) -> Result<Self, NoMemory> {
         let mut values = values;
-        let spare = MOST_NUMBERS - pool.size() as usize;
+        let spare = (pool.most() - pool.size()) as usize;
         match values.reserve(spare) {
             Ok(()) => Ok(Slots { pool, values }),
             Err(_) => Err(NoMemory),
@@ -72,6 +72,15 @@ impl<T, A: Allocator> Slots<T, A> {
         self.pool.probe(id)
     }
 
+    /// Lets competitor `id` probe until it has a number, as `Pool::seek` does.
+    ///
+    /// # Errors
+    ///
+    /// Those of `probe`, in that order. An error changes nothing.
+    pub fn seek(&mut self, id: u64) -> Result<u32, Refusal> {
+        self.pool.seek(id)
+    }
+
     /// Gives back the number that `id` holds, as `Pool::leave` does: at most one access. The number's slot keeps its
     /// value.
     ///
@@ -81,7 +90,7 @@ impl<T, A: Allocator> Slots<T, A> {
     ///
     /// - `NotCompeting`: `id` does not compete.
     /// - `NotHolding`: `id` competes and holds no number.
-    pub fn leave(&mut self, id: u64) -> Result<u8, Refusal> {
+    pub fn leave(&mut self, id: u64) -> Result<u32, Refusal> {
         self.pool.leave(id)
     }
 
@@ -95,7 +104,7 @@ impl<T, A: Allocator> Slots<T, A> {
     /// - `NotHolding`: `id` competes and holds no number.
     pub fn put(&mut self, id: u64, value: T) -> Result<(), Refusal> {
         let number = self.pool.number_of(id)?;
-        self.values[usize::from(number) - 1] = value;
+        self.values[number as usize - 1] = value;
         Ok(())
     }
 
@@ -109,7 +118,7 @@ impl<T, A: Allocator> Slots<T, A> {
     /// - `NotHolding`: `id` competes and holds no number.
     pub fn get(&self, id: u64) -> Result<&T, Refusal> {
         let number = self.pool.number_of(id)?;
-        Ok(&self.values[usize::from(number) - 1])
+        Ok(&self.values[number as usize - 1])
     }
 }
 
@@ -121,7 +130,7 @@ impl<T: Copy, A: Allocator> Slots<T, A> {
     ///
     /// # Errors
     ///
-    /// `OutOfRange`: `size` is not above the present size, or is above 64. Nothing has changed.
+    /// `OutOfRange`: `size` is not above the present size, or is above the most. Nothing has changed.
     pub fn widen(&mut self, size: u64, value: T) -> Result<(), Refusal> {
         self.pool.widen(size)?;
         let more = size as usize - self.values.len();

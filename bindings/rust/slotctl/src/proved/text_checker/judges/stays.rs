@@ -1,4 +1,4 @@
-// Erased by bindings/rust/erase from crates/text_checker/src/judges/stays.rt, sha256 d8c7548f2dc9129f196eae14f22fc2b87213c2f2098f953edca0819d1f5d6f1e.
+// Erased by bindings/rust/erase from crates/text_checker/src/judges/stays.rt, sha256 4966e0f8ee05ae77cb2b20942207257177f64b3deec0163327aa56b5c5544301.
 //! The state of the pool and the slots.
 
 use crate::kit::alloc::{AllocError, Global};
@@ -19,6 +19,7 @@ pub struct Stay {
 
 /// The state of the pool and the slots: the competitors, what they hold, and the values in the slots.
 pub struct Stays {
+    most: u64,
     size: u64,
     competitors: People<Stay>,
     values: Vec<u64>,
@@ -32,14 +33,15 @@ fn is_taken(competitors: &[Participant<Stay>], number: u64) -> bool {
 }
 
 impl Stays {
-    /// Makes the state in which nobody competes and each slot holds 0.
+    /// Makes the state in which nobody competes and each slot holds 0. The pool may get up to `most` numbers.
     ///
     /// # Errors
     ///
     /// `AllocError`: the allocation failed.
-    pub fn new(alloc: Global, size: u64) -> Result<Stays, AllocError> {
+    pub fn new(alloc: Global, most: u64, size: u64) -> Result<Stays, AllocError> {
         let values = Vec::from_elem(alloc, 0u64, size as usize)?;
         Ok(Stays {
+            most,
             size,
             competitors: People::new(alloc),
             values,
@@ -90,7 +92,7 @@ impl Stays {
 
     /// Returns the error that a widening to `more` numbers must return, or `None`.
     pub fn widen_refusal(&self, more: u64) -> Option<Refusal> {
-        if more <= self.size || 64 < more {
+        if more <= self.size || self.most < more {
             Some(Refusal::OutOfRange)
         } else {
             None

@@ -1,5 +1,5 @@
-// Erased by bindings/rust/erase from crates/text_worlds/src/desk/outcomes.rt, sha256 4fd19a49d9605b010e2bf905d0c72ca2a03b7d4aa73063b6214548c39093f5a9.
-//! The replies for the outcomes of steps and probes.
+// Erased by bindings/rust/erase from crates/text_worlds/src/desk/outcomes.rt, sha256 56d7f50ea99d109d0b63a16e5350236f9deaaa69eca9edeaa02ee733c38c4808.
+//! The replies for the outcomes of steps, and of one probe or many.
 
 use crate::proved::model_asked::reply::Reply;
 use crate::proved::model_pool::probe::Probe;
@@ -24,6 +24,14 @@ pub(crate) fn of_probe(outcome: Result<Probe, Refusal>) -> Reply<()> {
     match outcome {
         Ok(Probe::Missed) => Reply::Missed,
         Ok(Probe::Got(number)) => Reply::Got(number),
+        Err(refusal) => Reply::Refused(refusal),
+    }
+}
+
+/// The reply for the outcome of probes until a number is had.
+pub(crate) fn of_seek(outcome: Result<u32, Refusal>) -> Reply<()> {
+    match outcome {
+        Ok(number) => Reply::Got(number),
         Err(refusal) => Reply::Refused(refusal),
     }
 }

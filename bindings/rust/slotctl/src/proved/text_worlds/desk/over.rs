@@ -1,4 +1,4 @@
-// Erased by bindings/rust/erase from crates/text_worlds/src/desk/over.rt, sha256 9511471e1073c8fe2c21b298dadd2de95fda2eb71a06e62c98ca9723d60884a5.
+// Erased by bindings/rust/erase from crates/text_worlds/src/desk/over.rt, sha256 6b6531902e5c68a4be35f8faec03a012b479b8f16e9bb7a0606389e1f79c7230.
 //! A desk over places of one kind.
 
 use crate::kit::alloc::Allocator;
@@ -16,7 +16,7 @@ use crate::proved::model_steps::place::Place;
 use crate::proved::model_steps::program::StepProgram;
 use crate::proved::model_steps::refusal::{NoMemory, Refusal};
 use crate::proved::model_steps::view::View;
-use crate::proved::text_worlds::desk::outcomes::{of_probe, of_step};
+use crate::proved::text_worlds::desk::outcomes::{of_probe, of_seek, of_step};
 
 /// A renaming world over these places, and slots over a pool.
 pub(crate) struct DeskOver<W: RenamePlaces<A>, A: Allocator> {
@@ -24,11 +24,15 @@ pub(crate) struct DeskOver<W: RenamePlaces<A>, A: Allocator> {
     pub(crate) slots: Slots<u64, A>,
 }
 
-/// Slots over a pool of `size` numbers, each of which holds 0. The pool is made last, so that a failed allocation drops
+/// Slots over a pool of `size` numbers, which may get `most`. Each holds 0. The pool is made last, so that a failed allocation drops
 /// the values alone.
-fn zero_slots<A: Allocator + Clone>(alloc: &A, size: u64) -> Result<Slots<u64, A>, Refusal> {
+fn zero_slots<A: Allocator + Clone>(
+    alloc: &A,
+    most: u64,
+    size: u64,
+) -> Result<Slots<u64, A>, Refusal> {
     let values = Vec::from_elem(alloc.clone()?, 0u64, size as usize)?;
-    match Pool::new(alloc.clone()?, size) {
+    match Pool::new(alloc.clone()?, most, size) {
         Ok(pool) => match Slots::new(pool, values) {
             Ok(slots) => Ok(slots),
             Err(NoMemory) => Err(Refusal::NoMemory),
@@ -49,7 +53,7 @@ where
         if !config.world.is_played_over(W::world()) {
             return Err(Refusal::OutOfRange);
         }
-        let Ok(slots) = zero_slots(&alloc, config.k) else {
+        let Ok(slots) = zero_slots(&alloc, config.world.most_numbers(), config.k) else {
             return Err(Refusal::NoMemory);
         };
         match RenameWorld::new(alloc, config) {
@@ -72,7 +76,7 @@ impl<W: RenamePlaces<A>, A: Allocator> DeskOver<W, A> {
             Event::Begin(id) => self.names.begin_refusal(id),
             Event::Step(id) => self.names.step_refusal(id),
             Event::Enter(id) => pool.enter_refusal(id),
-            Event::Probe(id) => pool.probe_refusal(id),
+            Event::Probe(id) | Event::Seek(id) => pool.probe_refusal(id),
             Event::Leave(id) | Event::Put(id, _) | Event::Get(id) => pool.number_of(id).err(),
             Event::Widen(size) => pool.widen_refusal(size),
         }
@@ -110,6 +114,7 @@ where
             Event::Step(id) => of_step(self.names.step_short(id, view)),
             Event::Enter(id) => Reply::of_done(self.slots.enter(id)),
             Event::Probe(id) => of_probe(self.slots.probe(id)),
+            Event::Seek(id) => of_seek(self.slots.seek(id)),
             Event::Leave(id) => Reply::of_leave(self.slots.leave(id)),
             Event::Put(id, value) => Reply::of_done(self.slots.put(id, value)),
             Event::Get(id) => Reply::of_value(self.slots.get(id).copied()),

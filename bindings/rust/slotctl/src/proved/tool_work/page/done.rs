@@ -1,4 +1,4 @@
-// Erased by bindings/rust/erase from crates/tool_work/src/page/done.rt, sha256 927a904ccb7033b20d84dfcd025d301eab5c9cab101e1860d3e3d44ebe34b4b0.
+// Erased by bindings/rust/erase from crates/tool_work/src/page/done.rt, sha256 32c48072333db73aa545f5bea1350934c9c2370b5cde2e83b883ad368213c37b.
 //! What a desk does at an event.
 
 use crate::kit::alloc::{AllocError, Global};
@@ -35,6 +35,7 @@ pub(crate) fn identity_of(event: Event) -> u64 {
         Event::Step(id) => id,
         Event::Enter(id) => id,
         Event::Probe(id) => id,
+        Event::Seek(id) => id,
         Event::Leave(id) => id,
         Event::Put(id, _) => id,
         Event::Get(id) => id,
@@ -54,6 +55,7 @@ fn access_at(desk: &Desk<Global>, event: Event) -> Option<Coming> {
         Event::Begin(_) => None,
         Event::Enter(_) => None,
         Event::Probe(_) => None,
+        Event::Seek(_) => None,
         Event::Leave(_) => None,
         Event::Put(_, _) => None,
         Event::Get(_) => None,

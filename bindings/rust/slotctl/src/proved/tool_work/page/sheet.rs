@@ -1,4 +1,4 @@
-// Erased by bindings/rust/erase from crates/tool_work/src/page/sheet.rt, sha256 d968a95a75c619d3808482d022cf24a6aad4d9572aa97eb0cf5fe5f69dc10f49.
+// Erased by bindings/rust/erase from crates/tool_work/src/page/sheet.rt, sha256 66888f4f3a7f48da3c5a7ab0e2e1cd9467533de70f48049a056c386fdbbbc23b.
 //! From the lines of a record to a page.
 
 use crate::kit::alloc::{AllocError, Global};
@@ -25,6 +25,7 @@ use std::mem;
 /// A page so far: up to its rows, the state before them, and the items that come after. Beside it a desk on which the lines so far
 /// were replayed, with what it did at the last of them, who has begun, and which places were reached.
 pub(crate) struct Sheet {
+    alloc: Global,
     desk: Desk<Global>,
     begun: Vec<u64>,
     reached: Vec<Place>,
@@ -56,6 +57,7 @@ fn put_closing_data(before: &Text, events: u64, out: &mut Text) -> Result<(), Al
 
 /// Appends what stands after the last row: of which texts, and of which desk.
 fn put_ending(
+    alloc: Global,
     before: &Text,
     desk: &Desk<Global>,
     begun: &[u64],
@@ -66,7 +68,7 @@ fn put_ending(
 ) -> Result<(), AllocError> {
     put_closing_data(before, events, out)?;
     out.put(middle())?;
-    put_state(Form::Item, desk, begun, reached, out)?;
+    put_state(alloc, Form::Item, desk, begun, reached, out)?;
     out.put(between())?;
     out.put(listed.as_slice())?;
     out.put(tail())?;
@@ -91,6 +93,7 @@ impl Sheet {
         let mut text = Text::new(alloc);
         put_opening(config, stretch, &mut text)?;
         Ok(Sheet {
+            alloc,
             // the last that may be refused, since a desk is taken apart at each way out behind it
             desk: fresh(alloc, config)?,
             begun: Vec::new(alloc),
@@ -112,6 +115,7 @@ impl Sheet {
         }
         let is_past = self.stretch.is_past(self.seen);
         put_state_where_asked(
+            self.alloc,
             is_past,
             &self.desk,
             &self.begun,
@@ -119,6 +123,7 @@ impl Sheet {
             &mut self.before,
         )?;
         put_ending(
+            self.alloc,
             &self.before,
             &self.desk,
             &self.begun,
@@ -146,6 +151,7 @@ impl Gather for Sheet {
         let is_first = self.stretch.begins_after(self.seen);
         let is_shown = self.stretch.has(self.seen);
         put_state_where_asked(
+            self.alloc,
             is_first,
             &self.desk,
             &self.begun,

@@ -1,4 +1,4 @@
-// Erased by bindings/rust/erase from crates/tool_work/src/page/state.rt, sha256 1647112ea896acfbeaa2758350a60e887b5f028270f09657dc92d013757021b2.
+// Erased by bindings/rust/erase from crates/tool_work/src/page/state.rt, sha256 a75892ffe7904e717bea115e970ffc508e179701e8bfff25e672dd74616777da.
 //! All that a desk holds.
 
 use crate::kit::alloc::{AllocError, Global};
@@ -155,6 +155,7 @@ fn put_size(form: Form, size: u64, out: &mut Text) -> Result<(), AllocError> {
 /// Appends all that a desk holds, on which these have begun and these places were reached. An error where a growth was
 /// refused.
 pub(crate) fn put_state(
+    alloc: Global,
     form: Form,
     desk: &Desk<Global>,
     begun: &[u64],
@@ -163,7 +164,10 @@ pub(crate) fn put_state(
 ) -> Result<(), AllocError> {
     let slots = desk.slots();
     put_people(form, desk, begun, out)?;
-    put_strangers(form, desk, slots.pool().competitors(), out)?;
+    let Ok(competitors) = slots.pool().competitors(alloc) else {
+        return Err(AllocError);
+    };
+    put_strangers(form, desk, &competitors, out)?;
     put_registers(form, desk, reached, out)?;
     put_names(form, desk, MOST_NAMES, out)?;
     put_slots(form, slots.values(), out)?;
@@ -172,6 +176,7 @@ pub(crate) fn put_state(
 
 /// Appends all that a desk holds, as data, where that is asked for. An error where a growth was refused.
 pub(crate) fn put_state_where_asked(
+    alloc: Global,
     is_asked: bool,
     desk: &Desk<Global>,
     begun: &[u64],
@@ -179,7 +184,7 @@ pub(crate) fn put_state_where_asked(
     out: &mut Text,
 ) -> Result<(), AllocError> {
     if is_asked {
-        put_state(Form::Data, desk, begun, reached, out)?;
+        put_state(alloc, Form::Data, desk, begun, reached, out)?;
     }
     Ok(())
 }

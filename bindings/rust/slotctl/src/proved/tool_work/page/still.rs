@@ -1,4 +1,4 @@
-// Erased by bindings/rust/erase from crates/tool_work/src/page/still.rt, sha256 329e89e4d982ab6c324c890498fb24bdc6437d2facc98b7d250d8d1d50e3c219.
+// Erased by bindings/rust/erase from crates/tool_work/src/page/still.rt, sha256 5021a3f6481848afe2d9d8e1d5f15bc386220de337f7c5df505938c6fbc38354.
 //! What a page tells of the events where no script runs: they as a list.
 
 use crate::kit::alloc::AllocError;
@@ -20,6 +20,7 @@ fn beginner_at(line: &Line) -> Option<u64> {
         Event::Step(_) => None,
         Event::Enter(_) => None,
         Event::Probe(_) => None,
+        Event::Seek(_) => None,
         Event::Leave(_) => None,
         Event::Put(_, _) => None,
         Event::Get(_) => None,

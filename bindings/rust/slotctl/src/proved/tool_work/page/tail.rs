@@ -1,4 +1,4 @@
-// Erased by bindings/rust/erase from crates/tool_work/src/page/tail.rt, sha256 26e1df9f16778e57f9e3b76e8f839e9c853941d57f7509e3daa38f5b6c11c68f.
+// Erased by bindings/rust/erase from crates/tool_work/src/page/tail.rt, sha256 32a93dd37ac190d5b9d618a0d5c62fca1c7ec42a5ec47a23d5fb93bef25f71e5.
 //! What a page ends with.
 
 /// What a page ends with: the script that draws the data.
@@ -125,6 +125,7 @@ function deedWords(r) {
     case 'step': return r.id + ' ' + accessWords(r.access);
     case 'enter': return r.id + ' begins to compete for the pool';
     case 'probe': return r.id + ' probes the next number';
+    case 'seek': return r.id + ' probes until it has a number';
     case 'leave': return r.id + ' gives its number back';
     case 'put': return r.id + ' puts ' + r.value + ' into its slot';
     case 'get': return r.id + ' gets what is in its slot';
