@@ -60,6 +60,7 @@ _FORMS = {
     "": "bad 3",
     "enter": "ok|refused N",
     "probe": "missed|got N|refused N",
+    "seek": "got N|refused N|bad 3",
     "put": "ok|refused N",
     "held": "none|N N N",
     "leave": "left N|refused N",
@@ -69,7 +70,7 @@ _FORMS = {
     "terms": "terms (?:forever|connection) N N|bad 3",
 }
 _REPLIES = {word: re.compile(form.replace("N", "(?:0|[1-9][0-9]{0,19})")) for word, form in _FORMS.items()}
-# How many probes are sent at once: a pool has at most 64 numbers, and a competitor has one after as many probes.
+# How many probes are sent at once: a competitor has a number after as many probes, unless the pool may have more than 64. There `seek` is known.
 _PROBES = (8, 16, 40)
 # How many steps of renaming are sent at once; the most names, which are at most 2m - 1, where m is at most 64; the longest reply, in bytes.
 _STEPS, _MOST_NAMES, _LONGEST = 64, 127, 8192
@@ -155,6 +156,7 @@ class _Connection:
         self.identity = identity
         self.serial = 0  # of the last connection: what was said on an earlier one counts no more
         self.terms = _ASSUMED  # those of the last connection
+        self.is_wide: Optional[bool] = None  # whether the pool may have more than 64 numbers, as far as it is known
         self.sent = -math.inf  # when the last lines that were answered were sent, by `time.monotonic`
         self._addresses, self._timeout, self._at = addresses, timeout, 0
         self._stream: Optional[socket.socket] = None
@@ -245,8 +247,9 @@ class _Connection:
 
     def give_back(self) -> None:
         """Gives back what the identity holds, or would get, by one try that may fail."""
+        tried = [f"seek {self.identity}"] if self.is_wide else [f"probe {self.identity}"] * sum(_PROBES)
         try:
-            self.exchange(*[f"probe {self.identity}"] * sum(_PROBES), f"leave {self.identity}")
+            self.exchange(*tried, f"leave {self.identity}")
         except _Fault:
             pass
 
@@ -456,18 +459,32 @@ class Number:
         if os.getpid() != self._process:
             raise BeglushanError("a number is not taken into a process that was forked")
 
+    def _search(self, last: str) -> str:
+        """Has the identity, which competes and holds no number, hold one: by one line where the pool may have many, and else by more probes."""
+        exchange, probe, held = self._connection.exchange, f"probe {self.identity}", f"held {self.identity}"
+        if self._connection.is_wide is None:
+            sought, last = exchange(f"seek {self.identity}", held)
+            self._connection.is_wide = sought != "bad 3"
+            _raise_refusal("missed" if sought == "bad 3" else sought)
+        for count in _PROBES[1:]:
+            if last == "none":
+                *probes, last = exchange(*[probe] * count, held)
+                if last == "none":
+                    _raise_refusal(next((reply for reply in probes if reply != "missed"), "missed"))
+        return last
+
     def _acquire(self) -> None:
         """An attempt to get a number and its token. It goes on where an earlier one has ended."""
-        exchange, probe, held = self._connection.exchange, f"probe {self.identity}", f"held {self.identity}"
-        entered, *probes, last = exchange(f"enter {self.identity}", *[probe] * _PROBES[0], held)
+        exchange, held = self._connection.exchange, f"held {self.identity}"
+        tried = [f"seek {self.identity}"] if self._connection.is_wide else [f"probe {self.identity}"] * _PROBES[0]
+        entered, *probes, last = exchange(f"enter {self.identity}", *tried, held)
         if entered == f"refused {_CROWDED}":
             raise NumbersExhausted()
         _raise_refusal(entered, _ALREADY_COMPETING)
         self._is_own = self._is_own or entered == "ok"
-        for count in _PROBES[1:]:
-            if last == "none":
-                _raise_refusal(next((reply for reply in probes if reply != "missed"), "missed"))
-                *probes, last = exchange(*[probe] * count, held)
+        if last == "none":
+            _raise_refusal(next((reply for reply in probes if reply != "missed"), "missed"))
+            last = self._search(last)
         now = _as_held(last)
         if now is None:
             raise _Fault(f"no number after {sum(_PROBES)} probes")
