@@ -18,11 +18,12 @@
 //!
 //! ```text
 //! let values = Vec::from_elem(alloc.clone()?, 0u64, size as usize)?;
-//! match Pool::new(alloc.clone()?, size) {
+//! match Pool::new(alloc.clone()?, most, size) {
 //!     Ok(pool) => match Slots::new(pool, values) {
 //! ..
 //! Event::Enter(id) => Reply::of_done(self.slots.enter(id)),
 //! Event::Probe(id) => of_probe(self.slots.probe(id)),
+//! Event::Seek(id) => of_seek(self.slots.seek(id)),
 //! Event::Leave(id) => Reply::of_leave(self.slots.leave(id)),
 //! Event::Put(id, value) => Reply::of_done(self.slots.put(id, value)),
 //! Event::Get(id) => Reply::of_value(self.slots.get(id).copied()),

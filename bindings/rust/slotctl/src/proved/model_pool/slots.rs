@@ -1,4 +1,4 @@
-// Erased by bindings/rust/erase from crates/model_pool/src/slots.rt, sha256 61da489fbf02b61ee0a77af571f4ce9ee68aed8cea9082d53311c0637d5679db.
+// Erased by bindings/rust/erase from crates/model_pool/src/slots.rt, sha256 c9917282ec6aba5f5b51f4369aa5dc30361cd2da51bef47e6d81ac97fb263d6a.
 //! A slot for each number of a pool, used by the holder of the number.
 //!
 //! A competitor of a pool takes a number, works with the slot of that number alone, and gives the number back. The slot
@@ -19,11 +19,12 @@
 //!
 //! ```text
 //! let values = Vec::from_elem(alloc.clone()?, 0u64, size as usize)?;
-//! match Pool::new(alloc.clone()?, size) {
+//! match Pool::new(alloc.clone()?, most, size) {
 //!     Ok(pool) => match Slots::new(pool, values) {
 //! ..
 //! Event::Enter(id) => Reply::of_done(self.slots.enter(id)),
 //! Event::Probe(id) => of_probe(self.slots.probe(id)),
+//! Event::Seek(id) => of_seek(self.slots.seek(id)),
 //! Event::Leave(id) => Reply::of_leave(self.slots.leave(id)),
 //! Event::Put(id, value) => Reply::of_done(self.slots.put(id, value)),
 //! Event::Get(id) => Reply::of_value(self.slots.get(id).copied()),
